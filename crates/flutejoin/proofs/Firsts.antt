@@ -6,32 +6,44 @@ use Rattle.std.proofs.lemmas.List.{length-take-le}
 use Rattle.std.proofs.lemmas.Option.{slice_get_within}
 use Rattle.flutejoin.specs.JoinFaults.{FirstInput}
 
-split_at : {X : Type 0} (xs : List X) (k : ℕ) (x : X) → slice_get xs k ≡ Some x → xs ≡ take k xs ++ x ∷ drop (suc k) xs
+split_at : {X : Type 0} (xs : List X) (k : ℕ) (x : X) → slice_get xs k ≡ Some x
+    → xs ≡ take k xs ++ x ∷ drop (suc k) xs
 split_at [] k x e = let within = slice_get_within [] k x e in absurd (omega (arith, within))
 split_at (y ∷ ys) zero x e = cc
 split_at (y ∷ ys) (suc k) x e = ap (λ zs. y ∷ zs) (split_at ys k x e)
 
-taken_many : {X : Type 0} (xs : List X) (k : ℕ) (x : X) → slice_get xs k ≡ Some x → length (take k xs) ≡ k
-taken_many xs k x e = length-take-le k xs (let within = slice_get_within xs k x e in omega (arith, within))
+taken_many : {X : Type 0} (xs : List X) (k : ℕ) (x : X) → slice_get xs k ≡ Some x
+    → length (take k xs) ≡ k
+taken_many xs k x e = length-take-le k xs
+    (let within = slice_get_within xs k x e in omega (arith, within))
 
--- what stands at a place
-pub at_place : {X : Type 0} (xs : List X) (k : ℕ) → k < length xs → (x : X) × (slice_get xs k ≡ Some x)
+-- a list has an element at each number below its length
+pub at_place : {X : Type 0} (xs : List X) (k : ℕ) → k < length xs
+    → (x : X) × (slice_get xs k ≡ Some x)
 at_place [] k within = absurd (omega (arith, within))
 at_place (x ∷ xs) zero within = (x, refl)
 at_place (x ∷ xs) (suc k) within = at_place xs k (omega (arith, within))
 
 -- what holds at each place before this one
-pub all_before : {X : Type 0} (P : X → Type 0) (k : ℕ) (xs : List X) → ((j : ℕ) (x : X) → j < k → slice_get xs j ≡ Some x → P x) → AllByRecursion P (take k xs)
+pub all_before : {X : Type 0} (P : X → Type 0) (k : ℕ) (xs : List X)
+    → ((j : ℕ) (x : X) → j < k → slice_get xs j ≡ Some x → P x)
+    → AllByRecursion P (take k xs)
 all_before P zero xs each = tt
 all_before P (suc k) [] each = tt
-all_before P (suc k) (x ∷ xs) each = (each 0 x (omega arith) refl, all_before P k xs (λ j y below e. each (suc j) y (omega (arith, below)) e))
+all_before P (suc k) (x ∷ xs) each = (
+  each 0 x (omega arith) refl,
+  all_before P k xs
+      (λ j y below e. each (suc j) y (omega (arith, below)) e),
+)
 
-pub all_at : {X : Type 0} (P : X → Type 0) (xs : List X) → ((j : ℕ) (x : X) → slice_get xs j ≡ Some x → P x) → AllByRecursion P xs
+pub all_at : {X : Type 0} (P : X → Type 0) (xs : List X)
+    → ((j : ℕ) (x : X) → slice_get xs j ≡ Some x → P x) → AllByRecursion P xs
 all_at P [] each = tt
 all_at P (x ∷ xs) each = (each 0 x refl, all_at P xs (λ j y e. each (suc j) y e))
 
 -- the input at a place is the first with P, where all before it have Q
-pub first_at : (Q P : List ℕ → Type 0) (inputs : List (List ℕ)) (k : ℕ) (bytes : List ℕ) → slice_get inputs k ≡ Some bytes → AllByRecursion Q (take k inputs) → P bytes
+pub first_at : (Q P : List ℕ → Type 0) (inputs : List (List ℕ)) (k : ℕ) (bytes : List ℕ)
+    → slice_get inputs k ≡ Some bytes → AllByRecursion Q (take k inputs) → P bytes
     → FirstInput Q P (k + 1) inputs
 first_at Q P inputs k bytes e all one = record {
   before = take k inputs;
@@ -43,7 +55,22 @@ first_at Q P inputs k bytes e all one = record {
   here = one;
 }
 
-pub first_with : (Q P R : List ℕ → Type 0) (number : ℕ) (inputs : List (List ℕ)) → (first : FirstInput Q P number inputs) → R first.bytes → FirstInput Q R number inputs
+-- so it is with one more before it
+pub first_after : {Q P : List ℕ → Type 0} {number : ℕ} {inputs : List (List ℕ)}
+    (bytes : List ℕ) → Q bytes → FirstInput Q P number inputs
+    → FirstInput Q P (number + 1) (bytes ∷ inputs)
+first_after bytes one first = record {
+  before = bytes ∷ first.before;
+  bytes = first.bytes;
+  after = first.after;
+  split = ap (λ l. bytes ∷ l) first.split;
+  number_is = omega (arith, first.number_is);
+  earlier = (one, first.earlier);
+  here = first.here;
+}
+
+pub first_with : (Q P R : List ℕ → Type 0) (number : ℕ) (inputs : List (List ℕ))
+    → (first : FirstInput Q P number inputs) → R first.bytes → FirstInput Q R number inputs
 first_with Q P R number inputs first here = record {
   before = first.before;
   bytes = first.bytes;

@@ -1,4 +1,4 @@
--- What a stream writes of a journal from which entries are taken out.
+-- forget: the journal without the entries that are taken out (specs/Forget).
 use Rattle.std.proofs.Common.{◌≡◌, ℕ, ◌+◌, ◌<◌, ◌^◌, Bool, true, false, List}
 use Rattle.std.proofs.Common.{arith, Option, Some, None, refl, ap, ◌∙◌, subst}
 use Rattle.std.specs.Prelude.{IfSome, not}

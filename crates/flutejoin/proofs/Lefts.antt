@@ -1,4 +1,4 @@
--- A journal from which nothing is taken out, or the same again.
+-- forget: nothing is taken out of a journal, or the same is taken out again (specs/Laws).
 use Rattle.std.proofs.Common.{◌≡◌, ℕ, suc, Bool, List, [], ◌∷◌, length}
 use Rattle.std.proofs.Common.{arith, refl, sym, ap, ◌∙◌, subst, inl, inr}
 use Rattle.std.specs.Prelude.{not, filter}

@@ -4,7 +4,6 @@ mod SelectedFacts
 mod Shown
 mod Mapped
 mod join_lemmas
-mod Blobs
 mod Firsts
 mod extract_lemmas
 mod command_line_lemmas

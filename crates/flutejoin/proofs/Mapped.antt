@@ -1,4 +1,4 @@
--- What was read of an input, whose fault was mapped.
+-- What was read of an input if its fault was mapped to one of the command.
 use Rattle.std.proofs.Common.{◌≡◌, ℕ, Result, Ok, Err, refl}
 use Rattle.std.specs.Prelude.{MatchResult}
 use Rattle.flute_journal.specs.declared.fault.ReadFault.{ReadFault}

@@ -1,4 +1,4 @@
--- The entries that are selected.
+-- The entries that are selected, entry by entry (specs/Selected).
 use Rattle.std.proofs.Common.{◌≡◌, ◌≤◌, Bool, true, false, List, [], ◌∷◌, ◌++◌, length, inl, inr}
 use Rattle.std.proofs.Common.{refl, sym, ap, ◌∙◌, subst, append-nil}
 use Rattle.std.specs.Prelude.{filter}

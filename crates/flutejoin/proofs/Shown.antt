@@ -1,4 +1,4 @@
--- A journal whose entries are printed as they are read.
+-- show: a journal whose entries are printed as they are read (specs/Show).
 use Rattle.std.proofs.Common.{◌≡◌, ℕ, ◌+◌, ◌≤◌, Bool, true, false, List, [], ◌∷◌, ◌++◌, length}
 use Rattle.std.proofs.Common.{Option, Some, None, Result, Ok, Err, ap, sym, ◌∙◌, subst, arith}
 use Rattle.std.specs.Prelude.{IfSome}
@@ -28,7 +28,7 @@ use Rattle.flutejoin.specs.declared.command_fault.CommandFault.TheVariants.{Inpu
 use Rattle.flutejoin.specs.declared.limits.TheConstants.{MAX_ENTRIES}
 use Rattle.flutejoin.proofs.SelectedFacts.{few_selected, selected_more}
 
--- The end behind the entries.
+-- The end of a journal, after its entries.
 
 pub whole : (u v w : Option (List ℕ)) (from to : ReaderState Before) (es : List Fact)
     → Sofar journal_framing MAX_ENTRIES u v from es → GivesEnd journal_framing from to v w
@@ -91,7 +91,7 @@ module _ {choice : Selection} {u v : Option (List ℕ)} (w : Option (List ℕ))
         (AppendsPart-second s t t' (entry_lines (selected choice h.entries))
         (entry_lines (selected choice (f ∷ []))) h.written part))
 
-  -- The fault behind the entries.
+  -- A fault after the entries.
   pub shown-fault : (f : ReadFault) → GivesFault journal_framing MAX_ENTRIES from to v w f
       → ShowsUntil choice u w s t f
   shown-fault f g = record {

@@ -1,4 +1,4 @@
--- Lists of which an item was set.
+-- Lists of which one element was set.
 use Rattle.std.proofs.Common.{◌≡◌, ℕ, zero, suc, ◌<◌, List, [], ◌∷◌, length, Option, Some, refl}
 use Rattle.std.proofs.Common.{ap, arith}
 use Rattle.std.proofs.Math.ListN.{set}

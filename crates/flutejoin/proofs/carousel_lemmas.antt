@@ -1,3 +1,4 @@
+-- Lemmas on the command `carousel`.
 pub mod SentPackets
 pub mod SentSoFar
 pub mod SentObjects

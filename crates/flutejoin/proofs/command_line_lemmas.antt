@@ -1,3 +1,4 @@
+-- Lemmas on the command line.
 pub mod CommandWords
 pub mod JoinLines
 pub mod Options

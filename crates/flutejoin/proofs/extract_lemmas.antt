@@ -1,3 +1,4 @@
+-- Lemmas on the commands `extract` and `extract --all`.
 pub mod Extracted
 pub mod ObjectFacts
 pub mod ObjectWriters

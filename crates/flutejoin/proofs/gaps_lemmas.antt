@@ -1,3 +1,4 @@
+-- Lemmas on the command `gaps`.
 pub mod Sessions
 pub mod Closing
 pub mod MovedAside

@@ -1,3 +1,4 @@
+-- Lemmas on the commands `info` and `info --list`.
 pub mod AddedFacts
 pub mod LineNumbers
 pub mod LinePieces

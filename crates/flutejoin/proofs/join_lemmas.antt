@@ -1,3 +1,4 @@
+-- Lemmas on the command `join`.
 pub mod Receptions
 pub mod Runs
 pub mod Taking

@@ -1,3 +1,4 @@
+-- Lemmas on lines that are printed.
 pub mod Encoded
 pub mod Senders
 pub mod WrittenPieces

@@ -20,7 +20,7 @@ use Rattle.flutejoin.specs.declared.command_fault.CommandFault.TheVariants.{OutO
 abbrev pub info_of : ℕ → ℕ → List ℕ → Information
 info_of symbol block content = information (length content) symbol block
 
--- the datagrams are those of the object: its packets in turn, which tell its information
+-- the datagrams are those of the object: its packets in turn, which contain its information
 -- and its symbols
 pub record SendsObject (key : Key) (symbol block : ℕ) (content : List ℕ)
     (datagrams : List (List ℕ)) : Type 0 where
@@ -30,13 +30,15 @@ pub record SendsObject (key : Key) (symbol block : ℕ) (content : List ℕ)
       ≡ facts_sent key (info_of symbol block content) content
 
 -- the file of so many datagrams was written
-pub record WritesFile (datagrams : List (List ℕ)) (n : ℕ) (old new : Option (List ℕ)) : Type 0 where
-  pub appended : Appends old new (file_header ++ flat_map record_of datagrams)
-  pub file : IsFileOf (file_header ++ flat_map record_of datagrams) datagrams
-  pub count : n ≡ length datagrams
+pub record WritesFile (datagrams : List (List ℕ)) (n : ℕ) (old new : Option (List ℕ)) : Type 0
+  where
+    pub appended : Appends old new (file_header ++ flat_map record_of datagrams)
+    pub file : IsFileOf (file_header ++ flat_map record_of datagrams) datagrams
+    pub count : n ≡ length datagrams
 
 -- P holds of the datagrams of an object of this content
-abbrev pub OfDatagrams : Key → ℕ → ℕ → List ℕ → (List (List ℕ) → Type 0) → Type 0
+abbrev pub OfDatagrams : Key → ℕ → ℕ → List ℕ → (List (List ℕ) → Type 0)
+    → Type 0
 OfDatagrams key symbol block content P =
     (datagrams : List (List ℕ)) × SendsObject key symbol block content datagrams × P datagrams
 

@@ -100,16 +100,19 @@ IsLine name rows (Merge out force a b) =
     × IsWord (codes "A") rows a × IsWord (codes "B") rows b × (is_out_an_input rows ≡ false)
 IsLine name rows (Forget out force selection j) =
     (name ≡ codes "forget") × IsWord (codes "OUT") rows out × IsFlag (codes "force") rows force
-    × IsSelection rows selection × (is_everything selection ≡ false) × IsWord (codes "J") rows j
+    × IsSelection rows selection × (is_everything selection ≡ false)
+    × IsWord (codes "J") rows j
 IsLine name rows (Carousel out force key symbol block file) =
-    (name ≡ codes "carousel") × IsWord (codes "OUT") rows out × IsFlag (codes "force") rows force
+    (name ≡ codes "carousel") × IsWord (codes "OUT") rows out
+    × IsFlag (codes "force") rows force
     × IsKey IsZero rows key × IsNumber (codes "symbol") (2 ^ 16) rows symbol
     × IsNumber (codes "block") (2 ^ 32) rows block × IsWord (codes "FILE") rows file
 
--- ---- faults: each is told only if none of those before it in the order of faults is
+-- ---- faults: each is reported only if none of those before it in the order of faults is
 
 -- of a command that names an object, and its options with their limits
-abbrev pub IsKeyFault : List (List ℕ × ℕ) → (ℕ → Type 0) → List Row → CommandFault → Type 0
+abbrev pub IsKeyFault : List (List ℕ × ℕ) → (ℕ → Type 0) → List Row → CommandFault
+    → Type 0
 IsKeyFault options IsMeant rows (BadNumber option) = first_wrong options rows ≡ Some option.now
 IsKeyFault options IsMeant rows BadSource =
     (first_wrong options rows ≡ None) × ((sender : ℕ) → IsMeant sender → ⊥)
@@ -155,7 +158,8 @@ IsAllFault rows (BadNumber option) =
     × (option.now ≡ codes "tsi") × (are_sessions (words (codes "tsi") rows) ≡ false)
 IsAllFault rows BadSource =
     (first_unfit all_form rows ≡ None) × IsFlag (codes "force") rows false
-    × ((tsis : List ℕ) × HasSessions rows tsis) × ((sender : ℕ) → HasSource rows sender → ⊥)
+    × ((tsis : List ℕ) × HasSessions rows tsis)
+    × ((sender : ℕ) → HasSource rows sender → ⊥)
 IsAllFault rows _ = ⊥
 
 abbrev pub IsOneFault : List Row → CommandFault → Type 0
@@ -216,7 +220,7 @@ IsFaultOf (Some found) fault = IsFault found.0 found.1 fault
 
 -- ---- words
 
--- what is told of the parser's error
+-- what is returned for the parser's error
 abbrev pub IsParserFault : Error → CommandFault → Type 0
 IsParserFault error (CommandLine told) =
     (told ≡ error) × (kind_of error ≡ kind.OutOfMemory → ⊥)

@@ -1,4 +1,4 @@
--- What the command `extract` answers and writes.
+-- What the command `extract` returns and writes.
 use Rattle.std.specs.Prelude.{◌≡◌, ℕ, ◌+◌, ◌⊎◌, List, take, Option, Some, IfSome, Result, Ok, Err}
 use Rattle.std.specs.Io.KnownBytes.{Appends, IsAtEnd}
 use Rattle.flute_parts.specs.Information.{Information}
@@ -31,15 +31,15 @@ pub record OfJournal (most : Limits) (input left : Option (List ℕ))
   pub holds : P entries
 
 -- the fault is that of the journal, as when it is loaded; else P holds of its entries
-abbrev pub AnswersFrom : Limits → Option (List ℕ) → Option (List ℕ) → (List Fact → Type 0)
-    → Result ℕ CommandFault → Type 0
+abbrev pub AnswersFrom : Limits → Option (List ℕ) → Option (List ℕ)
+    → (List Fact → Type 0) → Result ℕ CommandFault → Type 0
 AnswersFrom most input left P (Err (Input number fault)) =
     LoadFails most 1 input left (Input number fault)
 AnswersFrom most input left P (Err Full) = LoadFails most 1 input left Full
 AnswersFrom most input left P _ = OfJournal most input left P
 
--- the object that facts make whole was written; or why it is not whole; or a first part was
--- written, and not all
+-- the object that facts make whole was written; or why it is not whole; or a proper prefix was
+-- written
 abbrev pub Extracts : {W : Type 0} → (W → Option (List ℕ)) → List Fact → Key → W → W
     → Result ℕ CommandFault → Type 0
 Extracts written F key old new (Ok n) = WritesWhole written F key old new n
@@ -68,13 +68,13 @@ pub record FirstWritten (input old new : Option (List ℕ)) (key : Key) : Type 0
   pub appended : Appends old new (take count bytes)
 
 -- nothing was written, or these
-abbrev pub WritesFirst : {W : Type 0} → (W → Option (List ℕ)) → Option (List ℕ) → Key → W → W
-    → Type 0
+abbrev pub WritesFirst : {W : Type 0} → (W → Option (List ℕ)) → Option (List ℕ) → Key
+    → W → W → Type 0
 WritesFirst written input key old new =
     (new ≡ old) ⊎ FirstWritten input (written old) (written new) key
 
--- how often the sink failed: once if the answer says so, never if the object was written,
--- and at most once if another fault is told
+-- how often the sink failed: once if the result says so, never if the object was written,
+-- and at most once with another fault
 abbrev pub SinkFails : ℕ → ℕ → Result ℕ CommandFault → Type 0
 SinkFails old new (Ok n) = new ≡ old
 SinkFails old new (Err CannotWrite) = new ≡ old + 1

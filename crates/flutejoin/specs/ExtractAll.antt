@@ -1,4 +1,4 @@
--- What the command `extract --all` writes and answers.
+-- What the command `extract --all` writes and returns.
 use Rattle.std.specs.Prelude.{ℕ, Bool, true, ◌&&◌, ◌==◌, List, [], ◌∷◌, ◌++◌, filter, Option, Some}
 use Rattle.std.specs.Prelude.{None, IfSome}
 use Rattle.std.specs.Io.KnownBytes.{IsAtEnd}
@@ -42,7 +42,8 @@ pub record ExtractsAll (most : Limits) (input left : Option (List ℕ)) (picked 
   pub taken : TakesAll (picked_facts picked entries) count old new lines_old lines_new
 
 -- why it failed: as the lines of `gaps` are not written; the folder or the lines failed
-abbrev pub ExtractAllFails : Limits → Option (List ℕ) → Option (List ℕ) → CommandFault → Type 0
+abbrev pub ExtractAllFails : Limits → Option (List ℕ) → Option (List ℕ) → CommandFault
+    → Type 0
 ExtractAllFails = GapsFail
 
 -- the fact may come next, and those that are picked of the facts before it came

@@ -1,4 +1,4 @@
--- What the command `forget` writes and answers.
+-- What the command `forget` writes and returns.
 use Rattle.std.specs.Prelude.{◌≡◌, ℕ, List, Option, Some, ⊤, IfSome}
 use Rattle.std.specs.Io.KnownBytes.{Appends}
 use Rattle.flute_parts.specs.declared.fact.Fact.{Fact}
@@ -27,8 +27,8 @@ pub record Forgets (selection : Selection) (counts : ForgetCounts)
   pub journal : IfSome input (IsForgetful selection counts.forgotten entries)
   pub writes : WritesJournal old new (left selection entries) counts.entries
 
--- What was appended is no journal of any version. If the input is a journal, it is a first part of
--- the journal of what the selection leaves of it, and not all of that.
+-- What was appended is no journal of any version. If the input is a journal, it is a proper prefix
+-- of the journal of what the selection leaves of it.
 pub record ForgetsPart (selection : Selection) (input old new : Option (List ℕ)) : Type 0 where
   pub bytes : List ℕ
   pub appended : Appends old new bytes

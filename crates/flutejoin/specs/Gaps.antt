@@ -1,4 +1,4 @@
--- What the command `gaps` answers and writes, given a journal.
+-- What the command `gaps` returns and writes, given a journal.
 use Rattle.std.specs.Prelude.{ℕ, ◌⊎◌, List, Option, IfSome}
 use Rattle.std.specs.Io.KnownBytes.{Consumes, IsAtEnd}
 use Rattle.flute_parts.specs.declared.fact.Fact.{Fact}
@@ -16,7 +16,7 @@ use Rattle.flutejoin.specs.Selected.{selected}
 use Rattle.flutejoin.specs.Limits.{Limits, IsOver}
 use Rattle.flutejoin.specs.Told.{AreTold, Told}
 
--- the input is a journal within the limits, and P holds of what is told of its objects, of which
+-- the input is a journal within the limits, and P holds of the report of its objects, of which
 -- only what is selected counts
 pub record ListsJournal (most : Limits) (s : Selection) (input : Option (List ℕ))
     (P : List Told → Type 0) : Type 0 where

@@ -13,7 +13,8 @@ use Rattle.flutejoin.specs.Limits.{Limits, IsOver}
 
 -- the bytes are a journal of some entries, and the journal of them and of these facts was written,
 -- which has so many entries
-abbrev pub AddsFacts : Option (List ℕ) → List Fact → Option (List ℕ) → Option (List ℕ) → ℕ → Type 0
+abbrev pub AddsFacts : Option (List ℕ) → List Fact → Option (List ℕ) → Option (List ℕ)
+    → ℕ → Type 0
 AddsFacts input facts old new count =
     IfSome input (λ bytes. (entries : List Fact) × IsJournalWithin MAX_ENTRIES bytes entries
     × WritesJournal old new (entries ++ facts) count)

@@ -11,15 +11,15 @@ use Rattle.flutejoin.specs.Limits.{Limits}
 use Rattle.flutejoin.specs.declared.command_fault.CommandFault.{CommandFault}
 use Rattle.flutejoin.specs.declared.command_fault.CommandFault.TheVariants.{Input}
 
--- the list tells some facts, and the journal of the input's entries and of these was written, which
--- has so many entries
-abbrev pub AddsList : Option (List ℕ) → Option (List ℕ) → ℕ → Option (List ℕ) → Option (List ℕ)
-    → Type 0
+-- the list contains some facts, and the journal of the input's entries and of these was written,
+-- which has so many entries
+abbrev pub AddsList : Option (List ℕ) → Option (List ℕ) → ℕ → Option (List ℕ)
+    → Option (List ℕ) → Type 0
 AddsList input list count old new =
     IfSome list (λ text. (facts : List Fact) × ListTells text facts
     × AddsFacts input facts old new count)
 
--- why it was not: the list's fault, or its source failed; or the list tells some facts, and they
+-- why it was not: the list's fault, or its source failed; or the list contains some facts, and they
 -- were not added to the input
 pub data AddListFails (most : Limits) (input list : Option (List ℕ))
     (fault : CommandFault) : Type 0 where
@@ -37,6 +37,6 @@ module _ {S : Type 0} (b : Behaviour S) where
     pub few : b.most s ≤ 2 ^ 63
     pub goes_on : (fault : LoadFault) → b.stops s fault → ⊥
 
-  -- what it tells is the same as these facts
+  -- the facts it contains have the same values as these
   abbrev pub TellsSame : S → List Fact → Type 0
   TellsSame s facts = (told : List Fact) → b.tells s told → Same told facts

@@ -1,4 +1,4 @@
--- The lines of a list of information, what they tell, and why they tell nothing.
+-- The lines of a list of information, the facts they contain, and why they contain none.
 use Rattle.std.specs.Prelude.{◌≡◌, ℕ, ◌+◌, ◌<◌, ◌≤◌, ◌^◌, List, [], ◌∷◌, ◌++◌, length, ◌≢◌}
 use Rattle.std.specs.Prelude.{Some, Bool, true, false, ⊤}
 use Rattle.std.specs.List.{flat_map, All}
@@ -18,7 +18,7 @@ use Rattle.flutejoin.specs.declared.command_fault.CommandFault.TheVariants.{OutO
 use Rattle.flutejoin.specs.declared.info.information_line.InfoNumbers.{InfoNumbers}
 use Rattle.flutejoin.specs.declared.info.information_list.InformationList.{InformationList}
 
--- numbers that a line may tell of an object, whether or not they are valid
+-- numbers that a line may contain of an object, whether or not they are valid
 abbrev pub HasNumbers : Information → Type 0
 HasNumbers i = (i.transfer_length < 2 ^ 64) × HasInfoFields i
 
@@ -33,30 +33,31 @@ pub record Shows (words : List ℕ) (key : Key) (info : Information) : Type 0 wh
   pub numbers : HasNumbers info
   pub words_are : words ≡ fact_words (Info key info)
 
--- what a line tells: nothing if it is passed over, else the information that it shows
+-- what a line contains: nothing if it is passed over, else the information that it shows
 pub data LineTells (words : List ℕ) (facts : List Fact) : Type 0 where
   passed_over : IsPassedOver words → facts ≡ [] → LineTells words facts
   shown : (key : Key) (info : Information) → IsFact (Info key info)
-      → words ≡ fact_words (Info key info) → facts ≡ Info key info ∷ [] → LineTells words facts
+      → words ≡ fact_words (Info key info) → facts ≡ Info key info ∷ []
+      → LineTells words facts
 
 -- no line feed is in it
 abbrev pub IsOneLine : List ℕ → Type 0
 IsOneLine words = All (λ byte. byte ≢ 10) words
 
--- lines, and what they tell together, in their order
+-- lines, and the facts they contain together, in their order
 unfoldable pub LinesTell : List (List ℕ) → List Fact → Type 0
 LinesTell [] facts = facts ≡ []
 LinesTell (words ∷ lines) facts =
     (here : List Fact) × (later : List Fact) × IsOneLine words × LineTells words here
     × LinesTell lines later × (facts ≡ here ++ later)
 
--- a list is lines that each end with a line feed, and tell these facts
+-- a list is lines that each end with a line feed, and contain these facts
 pub record ListTells (bytes : List ℕ) (facts : List Fact) : Type 0 where
   pub lines : List (List ℕ)
   pub text : bytes ≡ flat_map line lines
   pub tell : LinesTell lines facts
 
--- the list begins with lines that tell these facts, as many as are before the line with this
+-- the list begins with lines that contain these facts, as many as are before the line with this
 -- number, from 1, and then has other bytes
 pub record BeginsLine (bytes : List ℕ) (number : ℕ) (facts : List Fact)
     (rest : List ℕ) : Type 0 where
@@ -102,7 +103,7 @@ pub record ListIsOver (most : Limits) (bytes : List ℕ) : Type 0 where
   pub begins : BeginsLine bytes number facts rest
   pub over : IsOver most facts
 
--- why a list tells no facts: its first line at fault, which may have no end; a list of 2^64 - 1
+-- why a list contains no facts: its first line at fault, which may have no end; a list of 2^64 - 1
 -- bytes or more is not read to its end
 pub data ListFails (most : Limits) (bytes : List ℕ) (fault : CommandFault) : Type 0 where
   nothing : (number : ℕ) → fault ≡ ListLine number → HasLine TellsNothing bytes number
@@ -116,7 +117,7 @@ pub data ListFails (most : Limits) (bytes : List ℕ) (fault : CommandFault) : T
   over : fault ≡ Full → ListIsOver most bytes → ListFails most bytes fault
   no_memory : fault ≡ OutOfMemory → ListFails most bytes fault
 
--- What the parts of a list's reader answer.
+-- What the parts of a list's reader return.
 
 abbrev pub numbers_of : InfoNumbers → Information
 numbers_of numbers = information numbers.length numbers.symbol numbers.block
@@ -127,13 +128,13 @@ IsKept false kept words = kept ≡ words
 IsKept true kept words =
     (more : List ℕ) × (words ≡ kept ++ more) × (512 ≤ length kept) × (0 < length more)
 
--- why the line with this number tells nothing
+-- why the line with this number contains nothing
 pub data LineFails (number : ℕ) (words : List ℕ) (fault : CommandFault) : Type 0 where
   no_line : fault ≡ ListLine number → TellsNothing words → LineFails number words fault
   not_valid : (why : InfoFault) → fault ≡ ListInformation number why → TellsInvalid why words
       → LineFails number words fault
 
--- why what it tells is not taken beside these facts
+-- why what it contains is not taken in addition to these facts
 pub data TakingFails (most : Limits) (told : List Fact) (number : ℕ) (words : List ℕ)
     (fault : CommandFault) : Type 0 where
   of_line : LineFails number words fault → TakingFails most told number words fault

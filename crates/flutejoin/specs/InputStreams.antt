@@ -47,12 +47,13 @@ module _ {R : Type 0} (unread : R → Option (List ℕ)) (failures : R → ℕ) 
   stops_input Unknown fault = ⊥
 
   -- the facts of a journal; of another input, none
-  abbrev pub of_entries : (JournalInput R → List Fact → Type 0) → JoinInput R → List Fact → Type 0
+  abbrev pub of_entries : (JournalInput R → List Fact → Type 0) → JoinInput R → List Fact
+      → Type 0
   of_entries P (Journal journal) F = P journal F
   of_entries P (Datagrams source) F = F ≡ []
   of_entries P Unknown F = F ≡ []
 
-  -- so it is with two states of a journal; another input is as it was, and nothing comes of it
+  -- P holds of two states of a journal; any other input is unchanged, and gives nothing
   abbrev pub of_states : {X : Type 0} → (JournalInput R → JournalInput R → X → Type 0) → X
       → JoinInput R → JoinInput R → X → Type 0
   of_states P nothing (Journal start) (Journal now) x = P start now x

@@ -9,14 +9,14 @@ use Rattle.flute_journal.specs.declared.kind.Kind.TheVariants as kinds
 
 -- the bytes of a source that were read ahead
 abbrev pub front_of : {R : Type 0} → PeekedSource R → List ℕ
-front_of source = take source.first.count source.first.bytes
+front_of source = take source.count source.first
 
 module _ {R : Type 0} (unread : R → Option (List ℕ)) where
   -- what a source has left: of the bytes that were read ahead, and after them
   abbrev pub left : PeekedSource R → Option (List ℕ)
   left source = prepend_known (drop source.given (front_of source)) (unread source.source)
 
-  -- the input is these bytes, and of the kind that their first four tell
+  -- the input is these bytes, and of the kind that their first four are of
   abbrev pub IsInput : JoinInput R → List ℕ → Type 0
   IsInput (Journal journal) bytes =
       HasKind kinds.Journal bytes × (left journal.stream.source ≡ Some bytes)
@@ -26,5 +26,6 @@ module _ {R : Type 0} (unread : R → Option (List ℕ)) where
   -- each of the inputs is the bytes at its place
   pub record AreInputs (inputs : List (JoinInput R)) (contents : List (List ℕ)) : Type 0 where
     pub as_many : length inputs ≡ length contents
-    pub each : (k : ℕ) (input : JoinInput R) (bytes : List ℕ) → slice_get inputs k ≡ Some input
-        → slice_get contents k ≡ Some bytes → IsInput input bytes
+    pub each : (k : ℕ) (input : JoinInput R) (bytes : List ℕ)
+        → slice_get inputs k ≡ Some input → slice_get contents k ≡ Some bytes
+        → IsInput input bytes

@@ -1,5 +1,5 @@
--- What the parts of a join answer.
-use Rattle.std.specs.Prelude.{◌≡◌, ℕ, ◌+◌, List, [], ◌∷◌, ◌++◌, ◌≤◌, length, Option, Some, None}
+-- What the parts of a join return.
+use Rattle.std.specs.Prelude.{◌≡◌, ℕ, ◌+◌, ◌*◌, List, [], ◌∷◌, ◌++◌, ◌≤◌, length, Option, Some}
 use Rattle.std.specs.Prelude.{◌^◌, Bool}
 use Rattle.std.specs.Prelude.{true, false, if◌then◌else◌, ⊤, ◌⊎◌}
 use Rattle.std.specs.List.{flat_map, count_by, sum_by, AllByRecursion}
@@ -48,7 +48,8 @@ module _ {s o y : ℕ} where
       (now : Joined s o y) : Type 0 where
     pub content : Same now.store (before.store ++ told)
     pub datagrams : now.datagrams ≡ before.datagrams + 1
-    pub refused : now.refused ≡ (if is_refused datagram then before.refused + 1 else before.refused)
+    pub refused : now.refused
+        ≡ (if is_refused datagram then before.refused + 1 else before.refused)
 
 module _ {s o y : ℕ} {R : Type 0} (unread : R → Option (List ℕ)) where
   -- these datagrams are counted, and their facts held, in memory or aside
@@ -60,37 +61,40 @@ module _ {s o y : ℕ} {R : Type 0} (unread : R → Option (List ℕ)) where
     pub count : held.told.datagrams ≡ length datagrams
     pub refused : held.told.refused ≡ count_by is_refused datagrams
 
-  -- so it is; or their facts alone are over the limits
+  -- the facts of these datagrams are held; or, alone, they are over the limits
   abbrev pub HoldsAll : Choice → Bool → HeldFiles s o y R → List (List ℕ) → Type 0
   HoldsAll choice true held datagrams = HoldsFacts choice held datagrams
   HoldsAll choice false held datagrams = IsOver choice.most (flat_map (facts_by choice) datagrams)
 
-  -- datagrams are held as what they tell
+  -- the facts of these datagrams are held
   pub record HoldsDatagrams (choice : Choice) (held : HeldFiles s o y R)
       (datagrams : List (List ℕ)) : Type 0 where
     pub others : held.fits ≡ true → held.others ≡ count_by (is_of_others choice) datagrams
     pub holds : HoldsAll choice held.fits held datagrams
 
   -- these datagrams are held too
-  abbrev pub HoldsMore : Choice → HeldFiles s o y R → HeldFiles s o y R → List (List ℕ) → Type 0
+  abbrev pub HoldsMore : Choice → HeldFiles s o y R → HeldFiles s o y R → List (List ℕ)
+      → Type 0
   HoldsMore choice old new datagrams =
       (before : List (List ℕ)) → HoldsDatagrams choice old before
       → HoldsDatagrams choice new (before ++ datagrams)
 
-  -- the facts of these datagrams are held so
+  -- the facts of these datagrams are in the store, or in the run
   abbrev pub HoldsRun : Choice → HeldFiles s o y R → Option (OwnedJournalStream R)
       → List (List ℕ) → Type 0
   HoldsRun choice held run datagrams =
       (facts : List Fact) × AreHeld unread held.told.store run facts
       × Same facts (flat_map (facts_by choice) datagrams)
 
-  -- no more datagrams are refused, or of others, than there are; and there are few runs, all new
+  -- no more datagrams are refused, or of others, than there are; and there are few runs, all new,
+  -- and none without a datagram
   abbrev pub IsSound : (R → ℕ) → HeldFiles s o y R → Type 0
   IsSound failures held =
       (held.told.refused ≤ held.told.datagrams) × (held.others ≤ held.told.datagrams)
-      × (length held.runs.items ≤ 64) × AllByRecursion (IsNewRun unread failures) held.runs.items
+      × (length held.runs.items ≤ 64) × (length held.runs.items ≤ 64 * held.told.datagrams)
+      × AllByRecursion (IsNewRun unread failures) held.runs.items
 
-  -- so it is, with at most so many datagrams more
+  -- the numbers are sound, and there are at most so many datagrams more
   abbrev pub CountsUpTo : (R → ℕ) → ℕ → HeldFiles s o y R → HeldFiles s o y R → Type 0
   CountsUpTo failures most old new =
       (new.told.datagrams ≤ old.told.datagrams + most) × IsSound failures new
@@ -103,7 +107,7 @@ FileFails number input OutOfMemory = ⊤
 FileFails number input CannotPutAside = ⊤
 FileFails number input _ = ⊥
 
--- the number that a fault of reading tells is that of the input
+-- the number in a fault of reading is that of the input
 abbrev pub NamesOnly : ℕ → CommandFault → Type 0
 NamesOnly number (Input told fault) = told ≡ number
 NamesOnly number (UnknownKind told) = told ≡ number
@@ -116,7 +120,7 @@ pub data InspectionFails (number : ℕ) (bytes : List ℕ) (fault : CommandFault
   of_file : HasKind kinds.Datagrams bytes → FileFails number (Some bytes) fault
       → InspectionFails number bytes fault
 
--- so it is with an input, and those before it are known
+-- an inspection failed, and all inputs before that one are known
 abbrev pub SomeInspectionFails : List (List ℕ) → CommandFault → Type 0
 SomeInspectionFails inputs fault =
     (number : ℕ)
@@ -134,8 +138,9 @@ module _ {R : Type 0} (unread : R → Option (List ℕ)) where
       IsFileWithin MAX_ENTRIES bytes datagrams
   IsInspected choice Unknown bytes datagrams = ⊥
 
-  -- so it is with each of them, and these are the datagrams of all
-  abbrev pub AreInspected : Choice → List (JoinInput R) → List (List ℕ) → List (List ℕ) → Type 0
+  -- each input was inspected, and these are the datagrams of all
+  abbrev pub AreInspected : Choice → List (JoinInput R) → List (List ℕ) → List (List ℕ)
+      → Type 0
   AreInspected choice [] [] datagrams = datagrams ≡ []
   AreInspected choice (input ∷ inputs) (bytes ∷ contents) datagrams =
       (own : List (List ℕ)) × (others : List (List ℕ))
@@ -161,7 +166,8 @@ module _ {R : Type 0} (unread : R → Option (List ℕ)) where
     IsReady Unknown = Unit {0}
 
     -- what is said of inputs as streams, with one before them
-    abbrev pub joined_behaviour : {S : Type 0} → Behaviour S → Behaviour (Either S (JoinInput R))
+    abbrev pub joined_behaviour : {S : Type 0} → Behaviour S
+        → Behaviour (Either S (JoinInput R))
     joined_behaviour b = either_behaviour b (input_behaviour unread failures)
 
 -- nothing was read of the stream of what is held, and its facts can be counted
@@ -179,8 +185,9 @@ NeverStops b held = (fault : LoadFault) → b.stops held fault → ⊥
 
 -- The journals among inputs that were inspected were joined with what is held, and so many entries
 -- of them were passed over; the others are datagram files with these datagrams.
-pub record JoinsInspected (choice : Choice) (contents datagrams : List (List ℕ)) (held : List Fact)
-    (passed : ℕ) (joined : MergedJournal) (old new : Option (List ℕ)) : Type 0 where
+pub record JoinsInspected (choice : Choice) (contents datagrams : List (List ℕ))
+    (held : List Fact) (passed : ℕ) (joined : MergedJournal) (old new : Option (List ℕ))
+    : Type 0 where
   pub told : List InputContent
   pub tell : TellAll contents told
   pub datagrams_are : flat_map content_datagrams told ≡ datagrams

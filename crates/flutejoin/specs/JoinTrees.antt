@@ -6,14 +6,14 @@ use Rattle.flutejoin.specs.Joined.{Choice, InputContent, content_facts, Tells}
 use Rattle.flutejoin.specs.Joining.{JoinsTo}
 use Rattle.flutejoin.specs.declared.join.join_counts.JoinCounts.{JoinCounts}
 
--- a join of these inputs wrote these bytes, behind whatever was there before
+-- a join of these inputs wrote these bytes, after whatever was there before
 abbrev pub Joined : Choice → List (List ℕ) → List ℕ → Type 0
 Joined choice inputs bytes =
     (counts : JoinCounts) × (before : List ℕ)
     × JoinsTo choice inputs counts (Some before) (Some (before ++ bytes))
 
--- The inputs of a join: the first of them, with what it tells, or with the join that wrote it and
--- that join's inputs; and the others.
+-- The inputs of a join: the first of them, with what it contains, or with the join that wrote it
+-- and that join's inputs; and the others.
 pub data Inputs : Type 0 where
   none : Inputs
   leaf : (bytes : List ℕ) → InputContent → Inputs → Inputs

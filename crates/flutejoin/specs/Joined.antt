@@ -1,4 +1,4 @@
--- What the inputs of several stations tell together.
+-- What the inputs of several stations contain together.
 use Rattle.std.specs.Prelude.{ℕ, List, [], ◌∷◌, Option, Some, None, Bool, true, false, not}
 use Rattle.std.specs.List.{flat_map, count_by}
 use Rattle.flute_parts.specs.declared.fact.Fact.{Fact}
@@ -13,7 +13,7 @@ use Rattle.flute_journal.specs.Records.{IsFileWithin}
 use Rattle.flutejoin.specs.Limits.{Limits, limits_of}
 use Rattle.flutejoin.specs.declared.limits.TheConstants.{MAX_ENTRIES}
 
--- what an input tells: the facts of a journal, or the datagrams of a file
+-- what an input contains: the facts of a journal, or the datagrams of a file
 pub data InputContent : Type 0 where
   of_journal : (entries : List Fact) → InputContent
   of_file : (datagrams : List (List ℕ)) → InputContent
@@ -66,7 +66,7 @@ abbrev pub Tells : List ℕ → InputContent → Type 0
 Tells bytes (of_journal entries) = IsJournalWithin MAX_ENTRIES bytes entries
 Tells bytes (of_file datagrams) = IsFileWithin MAX_ENTRIES bytes datagrams
 
--- each input tells what is at its place
+-- each input contains what the other list has at its place
 unfoldable pub TellAll : List (List ℕ) → List InputContent → Type 0
 TellAll [] [] = Unit {0}
 TellAll (bytes ∷ inputs) (one ∷ told) = Tells bytes one × TellAll inputs told

@@ -1,4 +1,4 @@
--- What a join of inputs writes and answers.
+-- What a join of inputs writes and returns.
 use Rattle.std.specs.Prelude.{◌≡◌, ℕ, List, length, Option}
 use Rattle.std.specs.List.{flat_map, count_by, sum_by}
 use Rattle.flutejoin.specs.Limits.{IsOver}
@@ -8,7 +8,8 @@ use Rattle.flutejoin.specs.declared.join.join_counts.JoinCounts.{JoinCounts}
 use Rattle.flutejoin.specs.Joined.{InputContent, Choice, content_facts, content_datagrams}
 use Rattle.flutejoin.specs.Joined.{content_others, TellAll}
 
--- Each input tells some facts. The journal of all of them was appended, and the numbers are right.
+-- Each input contains some facts. The journal of all of them was appended, and the numbers are
+-- right.
 pub record JoinsTo (choice : Choice) (inputs : List (List ℕ)) (counts : JoinCounts)
     (old new : Option (List ℕ)) : Type 0 where
   pub told : List InputContent

@@ -4,7 +4,7 @@ use Rattle.flute_journal.specs.declared.choice.selection.Selection.{Selection}
 use Rattle.flutejoin.specs.Forget.{Forgets}
 use Rattle.flutejoin.specs.declared.forget.ForgetCounts.{ForgetCounts}
 
--- a journal of these bytes, without what is selected, was written as those, behind whatever was
+-- a journal of these bytes, without what is selected, was written as those, after whatever was
 -- there before
 abbrev pub Leaves : Selection → List ℕ → List ℕ → ForgetCounts → Type 0
 Leaves selection bytes written counts =

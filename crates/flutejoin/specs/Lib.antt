@@ -17,7 +17,7 @@ pub mod ObjectWriters
 pub mod Refused
 pub mod Laws
 pub mod OutputGuard
-pub mod Blob
+pub mod InputAside
 pub mod Digits
 pub mod Examples
 pub mod Merge

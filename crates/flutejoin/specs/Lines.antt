@@ -66,7 +66,7 @@ key_words key =
     source_words key.session.sender ++ codes "session " ++ decimal key.session.tsi ++ codes " "
     ++ object_words key.object
 
--- what is told of a part of an object
+-- the words of a fact's line
 abbrev pub fact_words : Fact → List ℕ
 fact_words (Info key info) = key_words key ++ codes " " ++ information_words info
 fact_words (InfoConflict key) = key_words key ++ codes " info conflict"

@@ -79,7 +79,7 @@ pub record AreClosed (style : Style) (objects : List Told) (lines : List ℕ)
   pub all_whole : closed.all_whole ≡ are_whole style objects
   pub theirs : AreTheirs style style.summary (listed_by style objects) lines closed.sums
 
--- the sums are within what so many objects can come to
+-- the sums are at most those of so many objects
 abbrev pub AreFew : ℕ → Option SessionSums → Type 0
 AreFew n sums = IfSome sums (AreWithin n)
 
@@ -108,10 +108,11 @@ abbrev pub IsFirstOf : List Fact → Key → Type 0
 IsFirstOf before key = (f : Fact) → Contains before f → (address f).key ≡ key → ⊥
 
 module _ (style : Style) where
-  -- what these facts of an object tell of it, and the lines of the gaps that were found
+  -- the state of an object with these facts, and the lines of the gaps that were found
   abbrev pub StateIs : Key → List Fact → List ℕ → ObjectState → Type 0
   StateIs key mine gap_lines NoInformation =
-      ((f : Fact) → Contains mine f → (address f).part ≡ InfoPart → ⊥) × (gap_lines ≡ [])
+      ((f : Fact) → Contains mine f → (address f).part ≡ InfoPart → ⊥)
+      × (gap_lines ≡ [])
   StateIs key mine gap_lines ConflictingInformation =
       Contains mine (InfoConflict key) × (gap_lines ≡ [])
   StateIs key mine gap_lines (OneInformation scan) =
@@ -142,7 +143,8 @@ module _ (style : Style) where
     pub all_whole : closed.all_whole ≡ true
     pub no_sums : closed.sums ≡ None
 
-  abbrev pub ListsWith : List Fact → List ℕ → List ℕ → ClosedObjects → Option OpenObject → Type 0
+  abbrev pub ListsWith : List Fact → List ℕ → List ℕ → ClosedObjects → Option OpenObject
+      → Type 0
   ListsWith F lines gap_lines closed None = HasNothing F lines gap_lines closed
   ListsWith F lines gap_lines closed (Some object) = HasOpen F lines gap_lines closed object
 
@@ -194,9 +196,10 @@ module _ (style : Style) where
       × ((lines gap_lines : List ℕ)
       × ListsWith (selected s F) lines gap_lines listing.closed listing.open)
 
-  -- some facts of an object tell this
+  -- the state of an object with some facts
   abbrev pub IsState : ObjectState → Type 0
-  IsState state = (key : Key) × (mine : List Fact) × (gaps : List ℕ) × StateIs key mine gaps state
+  IsState state = (key : Key) × (mine : List Fact) × (gaps : List ℕ)
+      × StateIs key mine gaps state
 
   -- the symbol may be the next of the object
   abbrev pub CanPass : SymbolId × Option (Bor (List ℕ)) → ObjectState → Type 0
@@ -215,4 +218,5 @@ abbrev pub Passes : Scanned → Option (SymbolId × Option (Bor (List ℕ))) →
 Passes s (Some next) t =
     (t.key ≡ s.key) × (t.facts ≡ s.facts ++ next_fact s.key next ∷ []) × (t.coming ≡ None)
 Passes s None t =
-    (t.key ≡ s.key) × (t.facts ≡ s.facts) × ((F : List Fact) → Follows t None F → GaveAll t F)
+    (t.key ≡ s.key) × (t.facts ≡ s.facts)
+    × ((F : List Fact) → Follows t None F → GaveAll t F)

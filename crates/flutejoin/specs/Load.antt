@@ -9,7 +9,8 @@ use Rattle.flutejoin.specs.declared.command_fault.CommandFault.TheVariants.{Inpu
 
 -- the input with this number has this fault after entries within the limits, or begins with
 -- entries beyond them; memory may run out at any entry
-abbrev pub LoadFails : Limits → ℕ → Option (List ℕ) → Option (List ℕ) → CommandFault → Type 0
+abbrev pub LoadFails : Limits → ℕ → Option (List ℕ) → Option (List ℕ) → CommandFault
+    → Type 0
 LoadFails most number input left (Input told fault) =
     (told ≡ number)
     × ((entries : List Fact) × (¬ IsOver most entries)

@@ -38,7 +38,8 @@ use Rattle.flutejoin.specs.declared.extract.object_files.ObjectFile.{ObjectFile}
 use Rattle.flutejoin.specs.declared.extract.object_files.ObjectFiles.{ObjectFiles}
 
 -- the file of an object with this one information of which these symbols are wanted, if it is whole
-abbrev pub file_wanting : List Fact → Key → Information → List (SymbolId × Reason) → List NamedFile
+abbrev pub file_wanting : List Fact → Key → Information → List (SymbolId × Reason)
+    → List NamedFile
 file_wanting F key info [] =
     record { name = file_name key; bytes = object_of F key info } ∷ []
 file_wanting F key info (w ∷ ws) = []
@@ -52,7 +53,7 @@ file_at F key o = []
 unfoldable pub object_file : List Fact → Key → List NamedFile
 object_file F key = file_at F key (fact_at F (info_address key))
 
--- how much is held of an object: the first line that is told of it
+-- the first line of an object: how much of it is held
 unfoldable pub first_line : List Fact → Key → List ℕ
 first_line F key = status_line key (status_at F key (fact_at F (info_address key)))
 
@@ -67,7 +68,7 @@ pub record AreTaken (F : List Fact) (files : List NamedFile) (told : List ℕ) :
 abbrev pub Next : Type 0
 Next = Option (SymbolId × Option (Bor (List ℕ)))
 
--- in all facts where these stand, and what follows them, the object is not whole
+-- the object is not whole in any facts that contain these in a row, whatever follows them
 abbrev pub IsBroken : Key → List Fact → Type 0
 IsBroken key mine = (F before rest : List Fact) → F ≡ before ++ (mine ++ rest) → IsRising F
     → (first : SymbolId) × IsNotWhole F key first
@@ -81,7 +82,8 @@ PassedAs s None passed.Fitting t = ⊥
 PassedAs s next passed.Beside t = (t.info ≡ s.info) × (t.bytes ≡ s.bytes)
 PassedAs s next passed.Broken t =
     IfSome s.bytes
-    (λ bytes. (F : List Fact) → Follows s next F → (first : SymbolId) × IsNotWhole F s.key first)
+    (λ bytes. (F : List Fact) → Follows s next F
+    → (first : SymbolId) × IsNotWhole F s.key first)
 
 -- the file of an object, with these of its bytes
 abbrev pub first_bytes : Key → Information → List ℕ → NamedFile
@@ -92,7 +94,8 @@ first_bytes key info bytes =
 -- and the object is not whole
 abbrev pub FileIs : Scanned → ℕ → Bool → Option NamedFile → Type 0
 FileIs s left true open_file =
-    (bytes : List ℕ) × (s.bytes ≡ Some bytes) × (open_file ≡ Some (first_bytes s.key s.info bytes))
+    (bytes : List ℕ) × (s.bytes ≡ Some bytes)
+    × (open_file ≡ Some (first_bytes s.key s.info bytes))
     × (left ≡ s.info.transfer_length - length bytes)
 FileIs s left false open_file = (open_file ≡ None) × IsBroken s.key s.facts
 
@@ -106,23 +109,24 @@ pub record HasScanned (key : Key) (mine : List Fact) (scan : FileScan)
   pub free : scanned.coming ≡ None
   pub file : FileIs scanned scan.left scan.whole open_file
 
--- what these facts of an object tell of it, and the file that is open
+-- the state of an object with these facts, and the file that is open
 abbrev pub FileStateIs : Key → List Fact → FileState → Option NamedFile → Type 0
 FileStateIs key mine NoInformation open_file =
-    ((f : Fact) → Contains mine f → (address f).part ≡ InfoPart → ⊥) × (open_file ≡ None)
+    ((f : Fact) → Contains mine f → (address f).part ≡ InfoPart → ⊥)
+    × (open_file ≡ None)
 FileStateIs key mine ConflictingInformation open_file =
     Contains mine (InfoConflict key) × (open_file ≡ None)
 FileStateIs key mine (OneInformation scan) open_file = HasScanned key mine scan open_file
 
--- so it is, and these files and the one that is open are in a folder that was as p0 says
-abbrev pub ScansInto : Key → List Fact → FileScan → List NamedFile → Option Places → Option Places
-    → Type 0
+-- the object was scanned so far; these files and the open one are in the folder, which was p0
+abbrev pub ScansInto : Key → List Fact → FileScan → List NamedFile → Option Places
+    → Option Places → Type 0
 ScansInto key mine scan files p0 p =
     (open_file : Option NamedFile) × HasScanned key mine scan open_file
     × LeadsTo (Fills files open_file) p0 p
 
-abbrev pub StandsInto : Key → List Fact → FileState → List NamedFile → Option Places → Option Places
-    → Type 0
+abbrev pub StandsInto : Key → List Fact → FileState → List NamedFile → Option Places
+    → Option Places → Type 0
 StandsInto key mine state files p0 p =
     (open_file : Option NamedFile) × FileStateIs key mine state open_file
     × LeadsTo (Fills files open_file) p0 p
@@ -169,8 +173,8 @@ pub record HasOpenFile (F : List Fact) (files : List NamedFile) (told : List ℕ
   pub some : (f : Fact) × Contains mine f
   pub state_is : FileStateIs object.key mine object.state open_file
 
-abbrev pub HasTaken : List Fact → List NamedFile → List ℕ → Option ObjectFile → Option NamedFile
-    → Type 0
+abbrev pub HasTaken : List Fact → List NamedFile → List ℕ → Option ObjectFile
+    → Option NamedFile → Type 0
 HasTaken F files told None open_file =
     (F ≡ []) × (files ≡ []) × (told ≡ []) × (open_file ≡ None)
 HasTaken F files told (Some object) open_file = HasOpenFile F files told object open_file

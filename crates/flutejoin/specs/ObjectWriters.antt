@@ -37,7 +37,7 @@ Settled P X = (F rest : List Fact) → F ≡ P ++ rest → IsRising F → X F
 abbrev pub IsOther : Key → Fact → Type 0
 IsOther key f = (address f).key ≡ key → ⊥
 
--- a first part of the symbols that are held was written, whatever follows
+-- a prefix of the symbols that are held was written, whatever follows
 pub record WroteFirst (P : List Fact) (key : Key) (start now : Option (List ℕ)) : Type 0 where
   pub info : Information
   pub bytes : List ℕ
@@ -67,20 +67,21 @@ pub record Scanning (P : List Fact) (key : Key) (failed : Bool) (start now : Opt
   pub left : object.left ≡ object.size - length bytes
   pub written : Written failed start now (take object.size bytes)
 
--- a scan went on, or it is settled that this symbol is the first that is not held
+-- a scan continued, or it is settled that this symbol is the first that is not held
 -- as one fitting value
-abbrev pub ScansOn : List Fact → Key → Bool → Option (List ℕ) → Option (List ℕ) → WholeSoFar
-    → Option SymbolId → Type 0
+abbrev pub ScansOn : List Fact → Key → Bool → Option (List ℕ) → Option (List ℕ)
+    → WholeSoFar → Option SymbolId → Type 0
 ScansOn P key failed start now object None = Scanning P key failed start now object
 ScansOn P key failed start now object (Some first) =
     Settled P (λ F. IsNotWhole F key first) × WroteFirst P key start now
 
 -- the object is whole, and was written as far as the sink took it; or this symbol is the first
 -- that is not held so
-abbrev pub EndsScan : List Fact → Key → Bool → Option (List ℕ) → Option (List ℕ) → WholeSoFar
-    → Option SymbolId → Type 0
+abbrev pub EndsScan : List Fact → Key → Bool → Option (List ℕ) → Option (List ℕ)
+    → WholeSoFar → Option SymbolId → Type 0
 EndsScan P key failed start now object None =
-    (info : Information) × Whole P key info × (object.size ≡ info.transfer_length) × IsValid info
+    (info : Information) × Whole P key info × (object.size ≡ info.transfer_length)
+    × IsValid info
     × Written failed start now (object_of P key info)
 EndsScan P key failed start now object (Some first) = IsNotWhole P key first
 
@@ -90,7 +91,8 @@ pub record NoneWritten (failed : Bool) (start now : Option (List ℕ)) : Type 0 
   pub same : now ≡ start
 
 -- what is found of an object by these facts, and what was written since the start
-abbrev pub HasFound : List Fact → Key → Bool → Option (List ℕ) → Option (List ℕ) → Found → Type 0
+abbrev pub HasFound : List Fact → Key → Bool → Option (List ℕ) → Option (List ℕ)
+    → Found → Type 0
 HasFound P key failed start now found.Nothing =
     AllByRecursion (IsOther key) P × NoneWritten failed start now
 HasFound P key failed start now found.Symbols =
@@ -101,7 +103,8 @@ HasFound P key failed start now (found.NotWhole first) =
     Settled P (λ F. IsNotWhole F key first) × WroteFirst P key start now
 HasFound P key failed start now (found.Whole object) = Scanning P key failed start now object
 
-abbrev pub Stands : List Fact → ObjectWriter → Option (List ℕ) → Option (List ℕ) → Type 0
+abbrev pub Stands : List Fact → ObjectWriter → Option (List ℕ) → Option (List ℕ)
+    → Type 0
 Stands P writer start now = HasFound P writer.key writer.failed start now writer.found
 
 -- nothing was handed to the sink
@@ -117,7 +120,7 @@ TellsUntouched what NoInformation = WritesNothing what
 TellsUntouched what ConflictingInformation = WritesNothing what
 TellsUntouched what _ = ⊤
 
--- whether the sink has failed, as the answer tells
+-- whether the sink has failed, as the result says
 abbrev pub FailedBy : Bool → Result ℕ CommandFault → Type 0
 FailedBy failed (Ok n) = failed ≡ false
 FailedBy failed (Err CannotWrite) = failed ≡ true

@@ -1,4 +1,4 @@
--- What the command `gaps` tells of each object.
+-- What the command `gaps` reports of each object.
 use Rattle.std.specs.Prelude.{ℕ, List, [], ◌∷◌, ◌++◌, Option, Some, None, Contains, ◌↔◌}
 use Rattle.std.specs.List.{flat_map}
 use Rattle.std.specs.List.Sorted.{IsStrictlySortedBy}
@@ -26,7 +26,8 @@ use Rattle.flutejoin.specs.declared.command_fault.CommandFault.TheVariants.{Cann
 abbrev pub status_wanting : Information → List (SymbolId × Reason) → Status
 status_wanting info [] = Whole info.transfer_length
 status_wanting info (w ∷ ws) =
-    Partial (how_many Missing (w ∷ ws)) (how_many Conflicting (w ∷ ws)) (how_many Misfit (w ∷ ws))
+    Partial (how_many Missing (w ∷ ws)) (how_many Conflicting (w ∷ ws))
+    (how_many Misfit (w ∷ ws))
 
 -- how much is held of an object of which something is, by the value at the address
 -- of its information
@@ -53,7 +54,7 @@ pub record OfObjects (F : List Fact) (P : List ℕ → Type 0) : Type 0 where
   pub held : (key : Key) → Contains keys key ↔ HoldsObject F key
   pub lines : P (flat_map (object_lines F) keys)
 
--- only a failed write is answered, and then the rest is so
+-- the only fault that is returned is a failed write, and then P holds
 abbrev pub FailsToWrite : Type 0 → CommandFault → Type 0
 FailsToWrite P CannotWrite = P
 FailsToWrite P _ = ⊥

@@ -27,7 +27,7 @@ use Rattle.flutejoin.specs.declared.command_line.key_numbers.KeyNumbers.{KeyNumb
 abbrev pub found_rows : ArgMatches → List Row
 found_rows matches = rows_of (found_of matches)
 
--- the word behind an option, or at a place; the empty text if there is none
+-- the word after an option, or at a place; the empty text if there is none
 abbrev pub word : List ℕ → List Row → List ℕ
 word id rows = unwrap_or (first_of id rows) []
 
@@ -57,9 +57,9 @@ abbrev pub IsBadOption : List ℕ → CommandFault → Type 0
 IsBadOption option (BadOption name) = name.now ≡ option
 IsBadOption option _ = ⊥
 
--- the fault tells of that option, or is another
-abbrev pub IsFormFault : List (List ℕ × ℕ) → (CommandFault → Type 0) → List Row → CommandFault
-    → Type 0
+-- the fault names that option, or is another
+abbrev pub IsFormFault : List (List ℕ × ℕ) → (CommandFault → Type 0) → List Row
+    → CommandFault → Type 0
 IsFormFault options IsOther rows (BadOption name) = first_unfit options rows ≡ Some name.now
 IsFormFault options IsOther rows fault = (first_unfit options rows ≡ None) × IsOther fault
 
@@ -100,7 +100,7 @@ abbrev pub is_below : ℕ → Option ℕ → Bool
 is_below limit None = false
 is_below limit (Some n) = nat_lt n limit
 
--- the word behind an option spells a number below the limit
+-- the word after an option is a number below the limit
 abbrev pub has_number : List ℕ → ℕ → List Row → Bool
 has_number option limit rows = is_below limit (number_in (word option rows))
 
@@ -118,7 +118,7 @@ abbrev pub IsBadNumber : List ℕ → CommandFault → Type 0
 IsBadNumber option (BadNumber name) = name.now ≡ option
 IsBadNumber option _ = ⊥
 
--- the fault tells of that option
+-- the fault names that option
 abbrev pub IsFirstWrong : List (List ℕ × ℕ) → List Row → CommandFault → Type 0
 IsFirstWrong options rows (BadNumber name) = first_wrong options rows ≡ Some name.now
 IsFirstWrong options rows _ = ⊥
@@ -172,7 +172,7 @@ HasSessions rows tsis = AreNumbers (2 ^ 48) (words (codes "tsi") rows) tsis
 
 -- ---- senders
 
--- an address as a number; an IPv4 address stands for the IPv4-mapped one (RFC 4291, 2.5.5.2)
+-- an address as a number; for an IPv4 address, the IPv4-mapped one (RFC 4291, 2.5.5.2)
 abbrev pub address_number : IpAddr → ℕ
 address_number (V4 address) = 65535 * 2 ^ 32 + ipv4_bits address
 address_number (V6 address) = ipv6_bits address

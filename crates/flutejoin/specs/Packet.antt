@@ -1,4 +1,4 @@
--- What the command `packet` answers and writes.
+-- What the command `packet` returns and writes.
 use Rattle.std.specs.Prelude.{◌≡◌, ℕ, ◌%◌, List, length, Option, Result, Ok, Err}
 use Rattle.std.specs.Io.KnownBytes.{Keeps}
 use Rattle.hex.specs.Hex.{decode_of}
@@ -28,9 +28,10 @@ pub record HasRefusal (text : List ℕ) (P : List ℕ → Type 0) : Type 0 where
   pub hex : IsHexOf text datagram
   pub refused : P datagram
 
--- why it failed, and what was written: nothing, or after a failed write a first part of the lines;
+-- why it failed, and what was written: nothing, or after a failed write a prefix of the lines;
 -- memory is asked for the bytes of an even number of digits
-abbrev pub FailsWith : List ℕ → Option (List ℕ) → Option (List ℕ) → CommandFault → Type 0
+abbrev pub FailsWith : List ℕ → Option (List ℕ) → Option (List ℕ) → CommandFault
+    → Type 0
 FailsWith text old new BadHex = ((bytes : List ℕ) → ¬ IsHexOf text bytes) × Keeps old new
 FailsWith text old new (Refused r) = HasRefusal text (λ d. Refuses d r) × Keeps old new
 FailsWith text old new OutOfMemory = (length text % 2 ≡ 0) × Keeps old new
@@ -43,7 +44,7 @@ IsHexFault text BadHex = (bytes : List ℕ) → ¬ IsHexOf text bytes
 IsHexFault text OutOfMemory = length text % 2 ≡ 0
 IsHexFault text _ = ⊥
 
--- a failed write is the one failure of a device that it answers
+-- a failed write is the one failure of a device that it returns
 abbrev pub write_failures : {T : Type 0} → Result T CommandFault → ℕ
 write_failures (Err CannotWrite) = 1
 write_failures _ = 0

@@ -1,4 +1,4 @@
--- What the parser of the command line is told, and what it finds in the words.
+-- The commands and options of the command line's parser, and what it finds in the words.
 use Rattle.std.specs.Prelude.{◌≡◌, ◌∷◌, ◌++◌, [], List, Option, Some, true, false, codes}
 use Rattle.clap.specs.Faults.{fault_of}
 use Rattle.clap.specs.Kinds.{Kinds}
@@ -63,7 +63,8 @@ key_rules =
 -- what selects objects of a journal
 abbrev pub object_rules : List Rule
 object_rules =
-    option (codes "source") ∷ session_list ∷ option (codes "toi") ∷ option (codes "fdt") ∷ []
+    option (codes "source") ∷ session_list ∷ option (codes "toi") ∷ option (codes "fdt")
+    ∷ []
 
 -- what selects its entries
 abbrev pub selection_rules : List Rule
@@ -110,8 +111,8 @@ info_rules =
 abbrev pub join_rules : List Rule
 join_rules =
     out ∷ force_flag ∷ size_flag ∷ option (codes "memory") ∷ option (codes "source")
-    ∷ session_list ∷ option (codes "toi") ∷ option (codes "fdt") ∷ long_flag (codes "no-fdt")
-    ∷ input_list ∷ []
+    ∷ session_list ∷ option (codes "toi") ∷ option (codes "fdt")
+    ∷ long_flag (codes "no-fdt") ∷ input_list ∷ []
 
 abbrev pub merge_rules : List Rule
 merge_rules = out ∷ force_flag ∷ place (codes "A") ∷ place (codes "B") ∷ []

@@ -6,7 +6,7 @@ use Rattle.flute_journal.specs.declared.choice.scope.Scope.{Scope}
 use Rattle.flutejoin.specs.Options.{HasSessions, IsFlag, are_sessions, first_wrong, words}
 use Rattle.flutejoin.specs.Selecting.{NamesObject, object_options}
 
--- those of the sessions, of the object, and of the kind that they tell
+-- the objects of the sessions, of the object name and of the kind that the options give
 pub record IsScope (rows : List Row) (scope : Scope) : Type 0 where
   pub sessions : HasSessions rows (listed_tsis scope.sessions)
   pub object : NamesObject rows (Some scope.object)
@@ -15,7 +15,8 @@ pub record IsScope (rows : List Row) (scope : Scope) : Type 0 where
 -- each number is one of its range
 abbrev pub AreScopeNumbers : List Row → Type 0
 AreScopeNumbers rows =
-    ((tsis : List ℕ) × HasSessions rows tsis) × (first_wrong (object_options rows) rows ≡ None)
+    ((tsis : List ℕ) × HasSessions rows tsis)
+    × (first_wrong (object_options rows) rows ≡ None)
 
 -- the option with this name is the first that is no number of its range
 abbrev pub IsWrongOfScope : List Row → List ℕ → Type 0

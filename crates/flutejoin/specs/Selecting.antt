@@ -112,10 +112,11 @@ IsSelectionFault rows (BadNumber name) = IsWrong rows name.now
 IsSelectionFault rows BadSource =
     AreNumbersRight rows × ((sender : ℕ) → HasSource rows sender → ⊥)
 IsSelectionFault rows BadKey =
-    AreNumbersRight rows × ((sender : Option ℕ) × IsSourceIf rows sender) × NamesObject rows None
+    AreNumbersRight rows × ((sender : Option ℕ) × IsSourceIf rows sender)
+    × NamesObject rows None
 IsSelectionFault rows _ = ⊥
 
--- of a command that is to select something: no option is given, and `--conflicts` is told
+-- of a command that has to select something: `--conflicts` is reported if no option is given
 abbrev pub IsChoiceFault : List Row → CommandFault → Type 0
 IsChoiceFault rows (BadOption name) =
     (name.now ≡ codes "conflicts")

@@ -4,7 +4,7 @@ use Rattle.hex.specs.Hex.{decode_of}
 use Rattle.hex.specs.declared.error.FromHexError.{FromHexError}
 use Rattle.flute_parts.specs.BigEndian.{big_endian}
 
--- 16 bytes are an address, and 4 are an IPv4 address, which stands for the IPv4-mapped one
+-- 16 bytes are an address, and 4 are an IPv4 address, for which the IPv4-mapped one is taken
 -- (RFC 4291, 2.5.5.2)
 abbrev pub address_in : List ℕ → Option ℕ
 address_in bytes =

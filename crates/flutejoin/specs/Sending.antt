@@ -72,12 +72,13 @@ IsSendingFault fault = IsNextFault fault ⊎ (fault ≡ CannotWrite)
 
 -- P of the datagrams of these packets
 abbrev pub OfPackets : List Content → (List (List ℕ) → Type 0) → Type 0
-OfPackets packets P = (datagrams : List (List ℕ)) × AllZip IsWritten datagrams packets × P datagrams
+OfPackets packets P = (datagrams : List (List ℕ)) × AllZip IsWritten datagrams packets
+    × P datagrams
 
 -- what comes of the packets of an object: their file, or the first that is not written; or all
 -- could be, but not to the sink, or there was no memory
-abbrev pub SendsPackets : List Content → Option (List ℕ) → Option (List ℕ) → Result ℕ CommandFault
-    → Type 0
+abbrev pub SendsPackets : List Content → Option (List ℕ) → Option (List ℕ)
+    → Result ℕ CommandFault → Type 0
 SendsPackets packets old new (Ok n) = OfPackets packets (λ d. WritesFile d n old new)
 SendsPackets packets old new (Err (CannotSend fault)) = first_object_fault packets ≡ Some fault
 SendsPackets packets old new (Err CannotWrite) =
@@ -89,8 +90,9 @@ SendsPackets packets old new (Err _) = ⊤
 abbrev pub Grows : Bool → Option (List ℕ) → Option (List ℕ) → List ℕ → Type 0
 Grows failed old new bytes = MatchBool failed (AppendsPart old new bytes) (Appends old new bytes)
 
--- so it is now, or the sink had failed before, and was left alone
-abbrev pub GrowsOn : Bool → Bool → Option (List ℕ) → Option (List ℕ) → List ℕ → Type 0
+-- the bytes were appended now; or the sink had failed before, and was not called
+abbrev pub GrowsOn : Bool → Bool → Option (List ℕ) → Option (List ℕ) → List ℕ
+    → Type 0
 GrowsOn true failed old new bytes = (failed ≡ true) × (new ≡ old)
 GrowsOn false failed old new bytes = Grows failed old new bytes
 
@@ -107,10 +109,10 @@ file_up_to (d ∷ ds) = file_header ++ flat_map record_of (d ∷ ds)
 abbrev pub HasLeft : Option (List ℕ) → ℕ → Type 0
 HasLeft known n = IfSome known (λ bytes. length bytes ≡ n)
 
--- what is told of what was done: that the input cannot be read; or it, and then so many bytes
--- were left, or it is such a fault itself
-abbrev pub Ends : {T : Type 0} → Option (List ℕ) → ℕ → Result T CommandFault → Result T CommandFault
-    → Type 0
+-- the result after sending: that the input cannot be read; or the result of sending, and then so
+-- many bytes were left, unless that is such a fault itself
+abbrev pub Ends : {T : Type 0} → Option (List ℕ) → ℕ → Result T CommandFault
+    → Result T CommandFault → Type 0
 Ends known left sent result =
     (result ≡ Err (Input 1 Read))
     ⊎ ((result ≡ sent) × UnlessRead sent (HasLeft known left))
@@ -119,23 +121,23 @@ Ends known left sent result =
 abbrev pub HasNot : Option (List ℕ) → ℕ → Type 0
 HasNot known n = IfSome known (λ bytes. length bytes ≢ n)
 
--- How often a source failed that is to have so many bytes: once, or it has more or fewer, if it is
--- told that it cannot be read; and else never.
-abbrev pub ReadFailures : {T : Type 0} → ℕ → ℕ → Option (List ℕ) → ℕ → Result T CommandFault
-    → Type 0
+-- How often a source failed that should have so many bytes: if the result says that the input
+-- cannot be read, once, or never and it has more or fewer; else never.
+abbrev pub ReadFailures : {T : Type 0} → ℕ → ℕ → Option (List ℕ) → ℕ
+    → Result T CommandFault → Type 0
 ReadFailures old new known n (Err (Input number fault)) =
     (new ≡ old + 1) ⊎ ((new ≡ old) × HasNot known n)
 ReadFailures old new known n _ = new ≡ old
 
 -- the same of so many bytes that more may follow
-abbrev pub ReadsEnough : {T : Type 0} → ℕ → ℕ → Option (List ℕ) → ℕ → Result T CommandFault
-    → Type 0
+abbrev pub ReadsEnough : {T : Type 0} → ℕ → ℕ → Option (List ℕ) → ℕ
+    → Result T CommandFault → Type 0
 ReadsEnough old new known n result = MatchResult result (λ _. new ≡ old)
     (λ _. (new ≡ old + 1) ⊎ ((new ≡ old) × IfSome known (λ bytes. length bytes < n)))
 
--- the same of what is told once it was read to its end, unless that was told before
-abbrev pub EndsReading : {T : Type 0} → ℕ → ℕ → Option (List ℕ) → ℕ → Result T CommandFault
-    → Result T CommandFault → Type 0
+-- the same of the result once it was read to its end, unless it had failed before
+abbrev pub EndsReading : {T : Type 0} → ℕ → ℕ → Option (List ℕ) → ℕ
+    → Result T CommandFault → Result T CommandFault → Type 0
 EndsReading old new known left (Err (Input number fault)) result = new ≡ old
 EndsReading old new known left _ result = ReadFailures old new known left result
 

@@ -1,4 +1,4 @@
--- What the command `show` answers and writes.
+-- What the command `show` returns and writes.
 use Rattle.std.specs.Prelude.{◌≡◌, ℕ, List, ◌++◌, length, Option, Result, Err, IfSome}
 use Rattle.std.specs.List.{flat_map}
 use Rattle.std.specs.Io.KnownBytes.{Appends, Consumes}
@@ -39,8 +39,8 @@ pub record ShowsUntil (s : Selection) (input left old new : Option (List ℕ)) (
   pub stops : StopsAfter MAX_ENTRIES entries input left fault
   pub written : Appends old new (entry_lines (selected s entries))
 
--- a first part of the lines was written, and not all: of the selected entries that were read,
--- or of those of a whole journal
+-- a proper prefix of the lines was written: of the selected entries that were read, or of those
+-- of a whole journal
 pub data ShowsPart (s : Selection) (input left old new : Option (List ℕ)) : Type 0 where
   of_entries : (entries : List Fact) → (a : AreItems journal_frame MAX_ENTRIES entries)
       → Consumes input left (without_end_in a.told entries)

@@ -25,8 +25,6 @@ use Rattle.flute_journal.specs.declared.fault.ReadFault.{ReadFault}
 use Rattle.flute_journal.specs.declared.fault.ReadFault.TheVariants as faults
 use Rattle.flute_journal.specs.declared.fault.LoadFault.{LoadFault}
 use Rattle.flute_journal.specs.declared.fault.LoadFault.TheVariants as loads
-use Rattle.flutejoin.specs.declared.blob.BlobFault.{BlobFault}
-use Rattle.flutejoin.specs.declared.blob.BlobFault.TheVariants as blobs
 
 -- a journal at fault is wrong, and a failed device or want of memory is not its fault
 abbrev pub read_status : ReadFault → ℕ
@@ -67,12 +65,6 @@ exit_status CannotWrite = 3
 exit_status CannotPutAside = 3
 exit_status NotOnDisk = 3
 exit_status NotAllWhole = 1
-
--- why an input was not kept
-abbrev pub of_blob : ℕ → BlobFault → CommandFault
-of_blob number blobs.Read = Input number faults.Read
-of_blob number blobs.TooLarge = TooLarge number
-of_blob number blobs.OutOfMemory = OutOfMemory
 
 -- what the fault of a journal with this number, read into a store, is
 abbrev pub of_load : ℕ → LoadFault → CommandFault

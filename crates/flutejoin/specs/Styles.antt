@@ -18,7 +18,7 @@ abbrev pub is_whole : Status → Bool
 is_whole (Whole length) = true
 is_whole _ = false
 
--- two values were told of its information, or of some of its symbols
+-- its information has two values, or some of its symbols have
 abbrev pub has_conflict : Status → Bool
 has_conflict ConflictingInformation = true
 has_conflict (Partial missing conflicting misfit) = nat_lt 0 conflicting

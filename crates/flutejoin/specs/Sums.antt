@@ -102,7 +102,7 @@ pub record AddsObject (status : Status) (old new : SessionSums) : Type 0 where
   pub misfit : new.misfit ≡ old.misfit + misfit_in status
   pub unknown : new.unknown ≡ old.unknown + unknown_in status
 
--- none is above what so many objects can come to
+-- none is above what so many objects can add
 pub record AreWithin (n : ℕ) (sums : SessionSums) : Type 0 where
   pub objects : sums.objects ≤ n * 2 ^ 64
   pub whole : sums.whole ≤ n * 2 ^ 64

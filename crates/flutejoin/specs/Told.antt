@@ -1,4 +1,4 @@
--- What is told of objects: how much of each is held, and its gaps.
+-- What `gaps` reports of objects: how much of each is held, and its gaps.
 use Rattle.std.specs.Prelude.{◌≡◌, List, map, Contains, ◌↔◌}
 use Rattle.std.specs.List.Sorted.{IsStrictlySortedBy}
 use Rattle.flute_parts.specs.Addresses.{info_address}
@@ -16,7 +16,7 @@ pub record Told : Type 0 where
   pub status : Status
   pub gaps : List Gap
 
--- what facts tell of an object of which something is held
+-- the report of an object of which facts hold something
 abbrev pub told_of : List Fact → Key → Told
 told_of F key = record {
   key = key;
@@ -24,7 +24,7 @@ told_of F key = record {
   gaps = gaps_at F key (fact_at F (info_address key));
 }
 
--- this is told of all objects of which something is held, in the order of their keys
+-- these are the reports of all objects of which something is held, in the order of their keys
 pub record AreTold (F : List Fact) (objects : List Told) : Type 0 where
   pub keys : List Key
   pub rising : IsStrictlySortedBy key_cmp keys

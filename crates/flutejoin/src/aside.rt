@@ -34,7 +34,7 @@ pub trait Asides {
 
     type Input: Source + Drop;
 
-    // Whether contracts are told which bytes are put aside.
+    // Whether contracts see which bytes are put aside.
     ghost tells: { Self → Bool };
 
     // How often something was to be put aside so far.

@@ -19,7 +19,7 @@ use std::alloc::Global;
 /// How many bytes are read at once where none is written.
 const PIECE: usize = 65_536;
 
-/// Writes the file of the datagrams of an object, and answers how many they are. Its content is all
+/// Writes the file of the datagrams of an object, and returns how many they are. Its content is all
 /// that the source has, which is to be `size` bytes, in symbols of `symbol` bytes and blocks of at
 /// most `block` symbols. There is a datagram for each symbol of its partition, in that order, with
 /// the transmission information; of no content one, with the information alone. They are written
@@ -33,7 +33,7 @@ const PIECE: usize = 65_536;
 /// - `BadInformation` if the three numbers are no transmission information;
 /// - `CannotSend` if a datagram cannot be written, with the reason of the first;
 /// - `OutOfMemory` if there was none for a datagram;
-/// - `CannotWrite` if the sink failed: it took a first part of the file, and not all.
+/// - `CannotWrite` if the sink failed: it took a proper prefix of the file.
 pub fn send_to<R: Source, W: Sink>(
     alloc: Global,
     key: &Key,
@@ -66,8 +66,8 @@ pub fn send_to<R: Source, W: Sink>(
     at_end(source, sending.left, sent)
 }
 
-// What was done with a source, of which so many bytes should be left: they are read, and if it
-// fails, or has more or fewer, that is told in the place of what was done.
+// The result after sending from a source, of which so many bytes should be left: they are read, and
+// if it fails, or has more or fewer, that is returned in place of the result.
 fn at_end<R: Source>(
     source: &mut R,
     left: u64,

@@ -1,8 +1,7 @@
-//! What a command answers when it fails.
+//! The faults of commands.
 ghost use Rattle.std.specs.Prelude.{◌≡◌, Ok, Err, MatchResult};
-ghost use Rattle.flutejoin.specs.Status.{of_blob, of_load};
+ghost use Rattle.flutejoin.specs.Status.{of_load};
 
-use crate::blob::BlobFault;
 use flute_journal::{LoadFault, ReadFault};
 use flute_parts::{DeviceFault, InfoFault};
 use flute_wire::{Refusal, WriteFault};
@@ -87,7 +86,7 @@ pub enum CommandFault {
     /// Symbols of the object are held, and no information.
     #[error("no information")]
     NoInformation,
-    /// Two values of the object's information were told.
+    /// Two values of the object's information are known.
     #[error("conflicting information")]
     ConflictingInformation,
     /// Some symbol of the object is not held as one fitting value: this one is the first, by its
@@ -106,7 +105,7 @@ pub enum CommandFault {
     /// What is not held in memory could not be put aside, or not be read again.
     #[error("cannot write what is put aside")]
     CannotPutAside,
-    /// The output was written, and the disk did not tell that it has its name: a lost power may
+    /// The output was written, and the disk did not confirm that it has its name: a lost power may
     /// leave what was there before.
     #[error("output may not be on the disk")]
     NotOnDisk,
@@ -166,17 +165,6 @@ impl From<DeviceFault> for CommandFault {
 
     fn from(_why: DeviceFault) -> CommandFault {
         CommandFault::CannotWrite
-    }
-}
-
-/// Why the input with this number, from 1, was not kept.
-pub fn blob_fault(number: usize, fault: BlobFault) -> CommandFault
-    ensures { result ≡ of_blob number fault }
-{
-    match fault {
-        BlobFault::Read => CommandFault::Input(number, ReadFault::Read),
-        BlobFault::TooLarge => CommandFault::TooLarge(number),
-        BlobFault::OutOfMemory => CommandFault::OutOfMemory,
     }
 }
 

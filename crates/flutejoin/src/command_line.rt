@@ -92,8 +92,8 @@ pub enum Line<'a> {
         block: u32,
         j: &'a str,
     },
-    /// Write the journal `j` with the information that the lines of the file `list` tell added to
-    /// the file `out`.
+    /// Write the journal `j`, with the information in the lines of the file `list` added, to the
+    /// file `out`.
     InfoList {
         out: &'a str,
         force: bool,
@@ -169,7 +169,7 @@ fn matches_in(alloc: Global, words: &[String]) -> Result<ArgMatches<'_>, Command
     command.try_get_matches_from(words).map_err(parser_fault)
 }
 
-// The line that is told by what the parser found.
+// The line that follows from what the parser found.
 fn line_in<'a>(alloc: Global, matches: &ArgMatches<'a>) -> Result<Line<'a>, CommandFault>
     ensures { let found = subcommand_rows_of matches.now in
         MatchResult result (IsLineOf found) (IsFaultOf found) }
@@ -265,7 +265,8 @@ fn join_of<'a>(alloc: Global, matches: &ArgMatches<'a>) -> Result<Line<'a>, Comm
 
 // The inputs of a join, at most 64.
 fn inputs_of<'a>(alloc: Global, inputs: &[&'a str]) -> Result<Vec<&'a str>, CommandFault>
-    ensures { MatchResult result (λ taken. (taken.items ≡ inputs.now) × (length taken.items ≤ 64))
+    ensures { MatchResult result (λ taken. (taken.items ≡ inputs.now)
+        × (length taken.items ≤ 64))
         (IsManyInputs (length inputs.now)) }
 {
     if inputs.len() > MAX_INPUTS {

@@ -26,10 +26,10 @@ use flute_journal::{JournalReader, LoadFault};
 use flute_parts::{Key, Sink, Source, Tally};
 use std::alloc::Global;
 
-/// Writes the object that a journal of at most 16,777,216 entries makes whole, and answers how many
+/// Writes the object that a journal of at most 16,777,216 entries makes whole, and returns how many
 /// bytes it has: its symbols in the order of the partition, without the padding of the last one.
 /// They are written as they are read, and one entry is held. Of any facts with the same values as
-/// the journal's, it is the same object that is written, and the same fault that is told.
+/// the journal's, the same object is written, and the same fault returned.
 ///
 /// # Errors
 ///
@@ -38,11 +38,11 @@ use std::alloc::Global;
 /// - `Input` with the fault of the journal, as input 1, and `Full` if it has more than `SESSIONS`
 ///   sessions, `OBJECTS` objects of one or `SYMBOLS` symbols of one, whichever is met first;
 /// - `NoObject` if nothing of the object is held, `NoInformation` if no information of it is,
-///   `ConflictingInformation` if two values of it were told: nothing was written then;
+///   `ConflictingInformation` if it has two values: nothing was written then;
 /// - `NotWhole` with the first symbol of its partition that is not held as one fitting value;
-/// - `CannotWrite` if the sink failed: it took a first part of the object, and not all.
+/// - `CannotWrite` if the sink failed: it took a proper prefix of the object.
 ///
-/// What was written is then a first part of the symbols that are held, and no symbol after one
+/// What was written is then a prefix of the symbols that are held, and no symbol after one
 /// that is not.
 pub fn extract_to<const SESSIONS: u32, const OBJECTS: u32, const SYMBOLS: u32, R: Source, W: Sink>(
     alloc: Global,
@@ -56,7 +56,8 @@ pub fn extract_to<const SESSIONS: u32, const OBJECTS: u32, const SYMBOLS: u32, R
     ensures as_others { (others : List Known)
         → AnswersFrom (at_most SESSIONS OBJECTS SYMBOLS)
         (R.unread source.old) (R.unread source.new)
-        (λ F. Same F others → Extracts W.written others key.now sink.old sink.new result) result }
+        (λ F. Same F others → Extracts W.written others key.now sink.old sink.new result)
+        result }
     ensures short { IfErr result
         (λ _. WritesFirst W.written (R.unread source.old) key.now sink.old sink.new) }
     ensures read_failures { FailsToRead (R.failures source.old) (R.failures source.new) result }
@@ -91,7 +92,8 @@ fn read_into<const SESSIONS: u32, const OBJECTS: u32, const SYMBOLS: u32, R: Sou
     ensures untouched { WritesNothing writer.new.found → sink.new ≡ sink.old }
     ensures read_failures { FailsToLoad (R.failures (source_of reader.old).now)
         (R.failures (source_of reader.new).now) result }
-    ensures failures { W.failures sink.new ≡ W.failures sink.old + times_failed writer.new.failed }
+    ensures failures { W.failures sink.new ≡ W.failures sink.old
+        + times_failed writer.new.failed }
 {
     let mut tally = Tally::<SESSIONS, OBJECTS, SYMBOLS>::new();
     let mut spare = Vec::new(alloc);

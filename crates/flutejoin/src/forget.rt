@@ -35,8 +35,8 @@ pub fn forget_input<R: Source>(source: R, selection: Selection) -> ForgetInput<R
 }
 
 /// Writes the journal of the entries of a journal, of at most 16,777,216, that are not selected,
-/// and answers how many are and how many are not. The journal is what the input's source has left.
-/// One entry is held. This is no join: what is forgotten is told anew by the next input of a join
+/// and returns how many are and how many are not. The journal is what the input's source has left.
+/// One entry is held. This is no join: what is forgotten comes back with the next input of a join
 /// that has it.
 ///
 /// # Errors

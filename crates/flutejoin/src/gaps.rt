@@ -1,4 +1,4 @@
-//! The command `gaps`: what is held of each object of a journal, told as it is read.
+//! The command `gaps`: how much is held of each object of a journal, listed as it is read.
 ghost use Rattle.std.specs.Prelude.{◌≡◌, ◌≢◌, ◌+◌, ◌⊎◌, ◌∷◌, ◌++◌, [], List, ℕ, Bool, Some};
 ghost use Rattle.std.specs.Prelude.{IfErr, IfOk, Ok, OnOk, if◌then◌else◌, is_ok};
 ghost use Rattle.std.specs.Io.KnownBytes.{Appends, IsAtEnd, Keeps};
@@ -32,7 +32,7 @@ use std::alloc::Global;
 /// 16,777,216 entries, hold of each of their objects, in the order of the keys: a line for the
 /// object, and if some symbols are missing, in conflict or of a length that does not fit, a line
 /// for each longest run of those; or what the style has in place of that, whose `check` changes
-/// nothing here. Answers whether all objects that are listed are whole. A selection of objects
+/// nothing here. Returns whether all objects that are listed are whole. A selection of objects
 /// takes all of them or nothing.
 /// One entry is held. The lines are put aside as `lines`, and those of the gaps of one object as
 /// `gap_lines`, both of which are empty at first; they are written once the whole journal was read.

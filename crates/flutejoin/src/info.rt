@@ -19,8 +19,8 @@ use flute_journal::{FactStream, JournalReader};
 use flute_parts::{Fact, Info, Key, Sink, Source};
 use std::alloc::Global;
 
-/// Writes the journal of all that a journal tells, of at most 16,777,216 entries, and the
-/// information of an object with it, and answers the number of its entries. If the journal tells
+/// Writes the journal of all that a journal contains, of at most 16,777,216 entries, and the
+/// information of an object with it, and returns the number of its entries. If the journal contains
 /// other information of that object, the two are in conflict from then on. One entry is held.
 ///
 /// # Errors

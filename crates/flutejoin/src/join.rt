@@ -1,6 +1,6 @@
 //! The command `join`: inputs, joined as streams.
 ghost use Rattle.std.specs.Prelude.{◌≡◌, true, false, ◌≤◌, ◌<◌, ◌+◌, ◌-◌, ◌^◌, List, ℕ, length};
-ghost use Rattle.std.specs.Prelude.{flat_map, min, sum_by, None, OnOk, IfOk, IfErr, IfSome};
+ghost use Rattle.std.specs.Prelude.{flat_map, min, sum_by, None, OnOk, IfOk, IfErr, IfSome, ◌⊎◌};
 ghost use Rattle.std.specs.List.{AllByRecursion};
 ghost use Rattle.flute_parts.specs.Devices.{times_failed};
 ghost use Rattle.flute_parts.specs.declared.fact.Fact.{Fact};
@@ -19,14 +19,13 @@ ghost use Rattle.flutejoin.specs.JoinInputs.{AreInputs};
 ghost use Rattle.flutejoin.specs.InputStreams.{passed_over, NoneFailed, OneFailed};
 ghost use Rattle.flutejoin.specs.Joined.{Choice, choice_of, facts_by};
 ghost use Rattle.flutejoin.specs.Joining.{JoinsTo};
-ghost use Rattle.flutejoin.specs.JoinFaults.{JoinToFails, NamesOneOf};
+ghost use Rattle.flutejoin.specs.JoinFaults.{JoinToFails, NamesOneOf, WantsAside};
 ghost use Rattle.flutejoin.specs.JoinParts.{AreInspected, IsReady, JoinsInspected};
 ghost use Rattle.flutejoin.specs.JoinParts.{joined_behaviour};
 ghost use Rattle.flutejoin.specs.JoinParts.{IsHeld, Ends, NeverStops};
 ghost use Rattle.flutejoin.specs.Limits.{IsCountable, IsOver, at_most};
 ghost use Rattle.flutejoin.specs.Status.{of_stop};
 
-pub(crate) mod first_bytes;
 pub(crate) mod held_files;
 pub(crate) mod inspecting;
 pub(crate) mod join_counts;
@@ -49,14 +48,14 @@ use flute_parts::{Sender, Sink, Source};
 use flute_store::Store;
 use std::alloc::Global;
 
-/// Writes the journal of all that the inputs tell together of these objects, each a journal or a
-/// datagram file, as its first four bytes say. What they tell of other objects is passed over, and
-/// counted: entries, and datagrams that are packets.
-/// There may be up to 64 inputs, and none tells nothing. A datagram that is refused tells nothing,
-/// and is counted. Whatever else tells the same facts, in any order, number and grouping: its
-/// journal is the same, byte for byte.
+/// Writes the journal of all that the inputs contain of these objects, each a journal or a
+/// datagram file, as its first four bytes say. What they contain of other objects is passed over,
+/// and counted: entries, and datagrams that are packets.
+/// There may be up to 64 inputs; of none the journal is empty. A datagram that is refused contains
+/// nothing, and is counted. Any inputs with the same facts, in any order, number and grouping, have
+/// the same journal, byte for byte.
 ///
-/// First the datagram files are read, record by record, and held as what they tell together: up to
+/// First the datagram files are read, record by record, and their facts are held: up to
 /// about `memory` bytes in memory, and the rest aside, as journals. Then the journals are read, and
 /// the journal of all is written meanwhile: one entry of each is held.
 ///
@@ -203,6 +202,7 @@ fn join_inspected<
         (sum_by passed_over inputs.new) joined (W.written sink.old) (W.written sink.new)) }
     ensures failed { (choice : Choice) (contents datagrams : List (List ℕ))
         → AreInspected R.unread choice inputs.old contents datagrams
+        → IfSome run (λ _. WantsAside contents)
         → IfErr result (JoinToFails choice contents) }
     ensures cut { IfOk result (λ joined. joined.cut ≡ true
         → AppendsNoJournal (W.written sink.old) (W.written sink.new)) }
@@ -255,6 +255,7 @@ fn join_held<
         (sum_by passed_over inputs.new) joined (W.written sink.old) (W.written sink.new)) }
     ensures failed { (choice : Choice) (contents datagrams : List (List ℕ))
         → AreInspected R.unread choice inputs.old contents datagrams
+        → NeverStops S.behaviour held.old ⊎ WantsAside contents
         → IfErr result (JoinToFails choice contents) }
     ensures cut { IfOk result (λ joined. joined.cut ≡ true
         → AppendsNoJournal (W.written sink.old) (W.written sink.new)) }

@@ -13,8 +13,8 @@ ghost use Rattle.flutejoin.specs.declared.limits.TheConstants.{MAX_ENTRIES};
 
 use flute_journal::laws::a_file_has_one_reading;
 
-/// What is read of the journal of some facts has the values of any facts that come to the same.
-/// So `extract_to` writes the same of the journal of any inputs that tell these facts.
+/// A journal of some facts is read as any facts with the same value at each address.
+/// So `extract_to` writes the same of the journal of any inputs with these facts.
 pub fn a_journal_is_read_as_what_was_joined()
     ensures { (held joined others : List Known) (bs : List ℕ) → IsJournalOf MAX_ENTRIES bs held
         → IsJournal bs joined → Same joined others → Same held others }
@@ -33,13 +33,13 @@ pub fn forgetting_leaves_the_rest()
         → (again.forgotten ≡ 0) × (twice ≡ once) }
 {}
 
-/// Joins of inputs that tell the same write equal bytes, in whatever order, however often and in
-/// whatever groups it is told.
+/// Joins of inputs with the same facts write equal bytes, in whatever order, however often and in
+/// whatever groups the facts come.
 ///
 /// - `bytes`: so it is with two joins of any inputs.
-/// - `read`: what a join wrote is read as what its inputs told, conflicts of them as conflicts.
+/// - `read`: what a join wrote is read as the facts of its inputs, their conflicts as conflicts.
 /// - `trees`: so it is with joins of what joins wrote, to any depth, each of its own sender and
-///   objects, if the facts of all that was joined in the first place come to the same.
+///   objects, if the facts of all that was joined in the first place have the same values.
 pub fn joins_of_the_same_write_the_same()
     ensures bytes { (one two : Choice) (inputs others : List (List ℕ))
         (told further : List InputContent) (bs cs : List ℕ)
@@ -50,9 +50,10 @@ pub fn joins_of_the_same_write_the_same()
         (bs : List ℕ) (held : List Known) → TellAll inputs told → Joined choice inputs bs
         → IsJournal bs held → Same held (flat_map (content_facts choice) told) }
     ensures trees { (one two : Choice) (inputs others : Inputs) (bs cs : List ℕ)
-        → AreMade inputs → AreMade others → Same (leaf_facts one inputs) (leaf_facts two others)
-        → Joined one (bytes_of inputs) bs → Joined two (bytes_of others) cs → bs ≡ cs }
+        → AreMade inputs → AreMade others
+        → Same (leaf_facts one inputs) (leaf_facts two others) → Joined one (bytes_of inputs) bs
+        → Joined two (bytes_of others) cs → bs ≡ cs }
 {
-    // By this the proof knows that a datagram file tells one thing.
+    // By this the proof knows that a datagram file contains one list of datagrams.
     a_file_has_one_reading();
 }

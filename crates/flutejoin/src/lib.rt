@@ -1,6 +1,6 @@
 //! The commands of the program `flutejoin`, each over any source and sink, and its command line.
 //!
-//! [`join_to`] joins journals and datagram files, [`gaps_from`] tells what is missing, and
+//! [`join_to`] joins journals and datagram files, [`gaps_from`] lists what is missing, and
 //! [`extract_to`] writes an object exactly if it is whole. Replicas that take steps, and the
 //! commands over a store, are in `flutejoin_replicas`.
 //!
@@ -20,7 +20,6 @@
 #![tactic(auto)]
 
 mod aside;
-mod blob;
 mod carousel;
 mod command_fault;
 mod command_line;
@@ -28,6 +27,7 @@ mod extract;
 mod forget;
 mod gaps;
 mod info;
+mod input_aside;
 mod join;
 pub mod laws;
 mod limits;
@@ -40,9 +40,8 @@ mod sender;
 mod show;
 
 pub use aside::{Aside, Asides, MemoryAside};
-pub use blob::{Blob, BlobFault, is_too_large, put_aside};
 pub use carousel::send_to;
-pub use command_fault::{CommandFault, at_input, blob_fault, load_fault};
+pub use command_fault::{CommandFault, at_input, load_fault};
 pub use command_line::{Line, line_of};
 pub use extract::extract_all::extract_all_to;
 pub use extract::extract_to;
@@ -53,6 +52,7 @@ pub use gaps::gaps_from;
 pub use gaps::held_lines::{gap_text, status_text};
 pub use info::info_list::info_list_to;
 pub use info::info_to;
+pub use input_aside::{is_too_large, put_aside};
 pub use join::join_counts::JoinCounts;
 pub use join::join_input::{JoinInput, JournalInput};
 pub use join::join_to;

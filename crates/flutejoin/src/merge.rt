@@ -11,8 +11,8 @@ use flute_journal::{MergeFault, merge_streams};
 use flute_parts::{Sink, Source};
 use std::alloc::Global;
 
-/// Writes the journal of all that two journals tell, of at most 16,777,216 entries each, and
-/// answers the number of its entries. It holds one entry of each.
+/// Writes the journal of all that two journals contain, of at most 16,777,216 entries each, and
+/// returns the number of its entries. It holds one entry of each.
 ///
 /// # Errors
 ///

@@ -58,8 +58,8 @@ impl Overwrites {
             → result ≡ Err CommandFault.OutputIsInput }
         ensures journals { self ≡ Overwrites.Journals → ¬ HasKind Datagrams first.now
             → is_ok result ≡ true }
-        ensures others { self ≡ Overwrites.OtherFiles → IsNeither first.now → is_input ≡ false
-            → is_ok result ≡ true }
+        ensures others { self ≡ Overwrites.OtherFiles → IsNeither first.now
+            → is_input ≡ false → is_ok result ≡ true }
         ensures spared { OnOk result (IsOverwritten self first.now) }
         ensures kept { IfErr result IsKeptOutput }
     {

@@ -23,7 +23,7 @@ use std::alloc::Global;
 ///
 /// `BadHex` if `text` is not an even number of hexadecimal digits, `Refused` if the datagram
 /// is refused, and `OutOfMemory`: nothing was written then. `CannotWrite` if the sink failed: it
-/// took a first part of the lines, and not all.
+/// took a proper prefix of the lines.
 pub fn packet_to<W: Sink>(alloc: Global, text: &str, sink: &mut W) -> Result<(), CommandFault>
     ensures printed { OnOk result
         (HasLines text.now (Appends (W.written sink.old) (W.written sink.new))) }
@@ -56,7 +56,8 @@ fn datagram_of(alloc: Global, text: &str) -> Result<Vec<u8>, CommandFault>
 fn write_packet<W: Sink>(sink: &mut W, packet: &Packet<'_>) -> Result<(), DeviceFault>
     ensures lines { Writes (W.written sink.old) (W.written sink.new)
         (packet_lines packet.now) result }
-    ensures failures { W.failures sink.new ≡ W.failures sink.old + (if is_ok result then 0 else 1) }
+    ensures failures { W.failures sink.new ≡ W.failures sink.old
+        + (if is_ok result then 0 else 1) }
 {
     let head = head_of(packet);
     write_line(sink, &HexDigits::new(), &head, payload(packet))
@@ -66,7 +67,7 @@ fn write_packet<W: Sink>(sink: &mut W, packet: &Packet<'_>) -> Result<(), Device
 fn head_of(packet: &Packet<'_>) -> Text
     ensures { result ≡ packet_head packet.now }
 {
-    // No line names the sender, which a datagram does not tell.
+    // No line names the sender, which a datagram does not contain.
     let key = packet.key(Sender::new(0));
     let mut text = Text::new();
     text.push("session ");

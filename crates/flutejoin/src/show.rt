@@ -25,8 +25,8 @@ use std::alloc::Global;
 ///
 /// `Input` with the fault of the journal, or if the source failed or there was no memory for a
 /// symbol: the lines of the selected entries that were read before it were written, and no more.
-/// `CannotWrite` if the sink failed: it took a first part of the lines of the selected entries
-/// that were read, and not all.
+/// `CannotWrite` if the sink failed: it took a proper prefix of the lines of the selected entries
+/// that were read, or of the whole journal's.
 pub fn show_to<R: Source, W: Sink>(
     alloc: Global,
     source: &mut R,
@@ -57,7 +57,7 @@ pub fn show_to<R: Source, W: Sink>(
     }
 }
 
-// Writes the line of an entry if that is selected, and answers how many lines these are.
+// Writes the line of an entry if that is selected, and returns how many lines these are.
 fn write_selected<W: Sink>(
     sink: &mut W,
     digits: &HexDigits,
@@ -68,7 +68,8 @@ fn write_selected<W: Sink>(
         (entry_lines (selected selection.now (fact.now ∷ []))) result }
     ensures count { IfOk result (λ lines.
         lines ≡ length (selected selection.now (fact.now ∷ []))) }
-    ensures failures { W.failures sink.new ≡ W.failures sink.old + (if is_ok result then 0 else 1) }
+    ensures failures { W.failures sink.new ≡ W.failures sink.old
+        + (if is_ok result then 0 else 1) }
 {
     if !selection.selects(&fact.as_ref()) {
         return Ok(0);
@@ -79,7 +80,8 @@ fn write_selected<W: Sink>(
 
 fn write_fact<W: Sink>(sink: &mut W, digits: &HexDigits, fact: &Fact) -> Result<(), DeviceFault>
     ensures line { Writes (W.written sink.old) (W.written sink.new) (fact_line fact.now) result }
-    ensures failures { W.failures sink.new ≡ W.failures sink.old + (if is_ok result then 0 else 1) }
+    ensures failures { W.failures sink.new ≡ W.failures sink.old
+        + (if is_ok result then 0 else 1) }
 {
     let head = head_of(fact);
     write_line(sink, digits, &head, bytes_of(fact))

@@ -23,12 +23,12 @@ const CHUNK: usize = 65_536;
 pub enum Kept {
     /// All of them in memory.
     Held(Vec<u8>),
-    /// All of them in a file, which stands at its beginning.
+    /// All of them in a file, whose position is at its beginning.
     File(File),
 }
 
-/// Bytes that are put aside: up to 128 KiB in memory, and what came before them in a file, which has
-/// no name. Contracts see nothing of its bytes.
+/// Bytes that are put aside: up to 128 KiB in memory, and what came before them in a file, which
+/// has no name. Contracts see nothing of its bytes.
 #[derive(Drop)]
 pub struct FileAside<'a> {
     rt: &'a HostRuntime,

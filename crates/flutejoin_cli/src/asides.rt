@@ -12,7 +12,7 @@ use std::io::{self, Cursor};
 const NAME: &str = "flutejoin.";
 
 /// What a command puts aside, in files without names: beside its output, or in the folder for
-/// temporary files. They tell contracts nothing of their bytes.
+/// temporary files. Contracts see none of their bytes.
 #[derive(Drop)]
 pub struct FileAsides<'a> {
     rt: &'a HostRuntime,

@@ -18,7 +18,7 @@ use std::mem;
 /// one, and fewer bytes are soon read.
 const LEAST_SIZE: u64 = 65_536;
 
-/// The path that stands for standard input, and for standard output.
+/// The path that means standard input, and standard output.
 const STANDARD: &str = "-";
 
 /// What is standard input, whatever the program was started with.

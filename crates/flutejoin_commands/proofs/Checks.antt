@@ -1,4 +1,4 @@
--- What is printed of a journal's objects, and whether they pass their check.
+-- gaps --check: what is printed of a journal's objects, and whether they pass (specs/Prints).
 use Rattle.std.proofs.Common.{◌≡◌, ◌||◌, ℕ, Bool, true, false, List, Option, Result, Ok, Err, IfErr}
 use Rattle.std.proofs.Common.{ap, sym, ◌∙◌}
 use Rattle.std.specs.Prelude.{not}

@@ -1,4 +1,4 @@
--- What became of an output that was closed.
+-- What became of an output that was closed (specs/Closings).
 use Rattle.std.proofs.Common.{◌≡◌, ℕ, List, Option, Some, None, inl, inr, refl, subst}
 use Rattle.flute_output.specs.Entries.{Entries}
 use Rattle.flutejoin_commands.specs.Closings.{Closing, ClosesWhole, IsNoted}
@@ -20,7 +20,7 @@ closed_whole name files (Some old) new first (Some e) h w n = inr (record {
   whole = (first, h, w);
 })
 
--- the same, told of what was before
+-- the same, stated of the files and closed outputs before
 pub closes_since : (name : List ℕ) (files now : Option Files)
     (old between new : Option (List Closing)) → now ≡ files → between ≡ old
     → ClosesWhole name now between new → ClosesWhole name files old new

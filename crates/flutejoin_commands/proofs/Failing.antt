@@ -1,11 +1,11 @@
--- Why something failed, for all that may be known of it.
+-- Why a command failed, for each value that may be known of its inputs.
 use Rattle.std.proofs.Common.{◌≡◌, ◌⊎◌, ℕ, List, Option, Result, Ok, Err, IfOk, IfErr, inl, inr}
 use Rattle.std.proofs.Common.{Bool, true, subst, sym}
 use Rattle.std.specs.Prelude.{MatchResult}
 use Rattle.flutejoin.specs.declared.command_fault.CommandFault.{CommandFault}
 use Rattle.flutejoin_commands.specs.Commands.{CouldBeDone}
 
--- what holds of a fault for each thing that may be known, if it is told, and what always holds
+-- a fault's clauses: what holds for each value that may be known, if it is, and what always holds
 pub if_told : {A E C : Type 0} (r : Result A E) (tells : Bool) (D : C → Type 0)
     (P : C → E → Type 0) (N : E → Type 0)
     → (tells ≡ true → (x : C) → D x → IfErr r (P x)) → IfErr r N
@@ -13,7 +13,7 @@ pub if_told : {A E C : Type 0} (r : Result A E) (tells : Bool) (D : C → Type 0
 if_told (Ok a) tells D P N f n = tt
 if_told (Err e) tells D P N f n = (f, n)
 
--- what holds of an answer for each thing that may be known, if it is told
+-- a result's clause: what holds for each value that may be known, if it is
 pub if_done : {A E C : Type 0} (r : Result A E) (tells : Bool) (D : C → Type 0)
     (P : C → A → Type 0) → (tells ≡ true → (x : C) → D x → IfOk r (P x))
     → IfOk r (λ a. tells ≡ true → (x : C) → D x → P x a)

@@ -1,4 +1,4 @@
--- A line that words say has few inputs.
+-- A line that words are parsed as has at most 64 inputs.
 use Rattle.std.proofs.Common.{ℕ, List, Option, Some, None}
 use Rattle.clap.specs.Walk.{Row}
 use Rattle.flutejoin.specs.CommandLine.{IsLineIn, IsLineOf}

@@ -1,4 +1,4 @@
--- A new folder that a command makes, fills and ends.
+-- extract_all_into: a new folder that a command makes, fills and ends (specs/Folders).
 use Rattle.std.proofs.Common.{◌≡◌, ℕ, List, [], ◌++◌, length, Option, Some, None, Result, Ok, Err}
 use Rattle.std.proofs.Common.{inl, inr, refl, sym, ap, ◌∙◌, subst}
 use Rattle.std.specs.Prelude.{◌⊎◌, IfSome, OnOk, IfOk, IfErr, codes}
@@ -61,7 +61,7 @@ all_files : (files : List NamedFile) (o m f : Places) → IsMade o m → Fills f
     files_beside f ≡ files
 all_files files o m f h l = l.beside ∙ ap (λ (p : Places). files_beside p ++ files) h.made
 
--- OUT at the end
+-- OUT at the end: the folder, kept as it was, or nothing.
 
 pub is_folder : (files : List NamedFile) (o m f n : Option Places) → LeadsTo IsMade o m → LeadsTo
     (Fills files None) m f
@@ -124,7 +124,7 @@ one_always (Some o) (Some m) (Some f) (Some n) h s b = (
   record { stopped = b.stopped; lost_power = λ e. b.lost_power (named_as o m f h s ∙ e) },
 )
 
--- what the journal told
+-- the journal contains the files that were written, and what is reported of its objects
 pub tells_files : {most : Limits} (input left : Option (List ℕ)) (picked : Picked) (m f : Option
     Places)
     (r r' : Option (List ℕ)) (count : ℕ) (e : ExtractsAll most input left picked m f r r' count)

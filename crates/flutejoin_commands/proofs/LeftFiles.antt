@@ -1,4 +1,4 @@
--- What is left where an output has a name.
+-- What is left where the output is a file with a name (specs/Worlds: Leaves, FailsToLeave).
 use Rattle.std.proofs.Common.{◌≡◌, ℕ, List, Option, Some, None, Result, Ok, Err, IfErr, inl, inr}
 use Rattle.std.proofs.Common.{refl, sym, ap, subst, ◌∙◌}
 use Rattle.std.specs.Prelude.{option_map, OnOk}
@@ -47,6 +47,7 @@ kept_file name (Some old) (Some new) (Some f) (Some l) h (inr k) c = (
   },
 )
 
+-- Where an output was closed, OUT has what was written, or what it had before.
 module _ (Q : List ℕ → Entries → Type 0) (P : Option (List ℕ) → Option (List ℕ) → Type 0) where
   file_is : (name : List ℕ) (old new : Option Files) (found left : Option Entries)
       → HasOut old name found → BecomesWritten Q P (option_map created found) left
@@ -72,6 +73,7 @@ module _ (Q : List ℕ → Entries → Type 0) (P : Option (List ℕ) → Option
     ),
   )
 
+-- an output that was closed: the file of its name is what was written
 becomes : (P : Option (List ℕ) → Option (List ℕ) → Type 0) (name : List ℕ) (old new : Option Files)
     (found left : Option Entries) → HasOut old name found
     → BecomesWritten IsForGood P (option_map created found) left → Closes name left old new
@@ -120,6 +122,7 @@ module _ {A : Type 0} (writes puts : A → Option (List ℕ) → Option (List �
       p.out p.told
   left_output out out' told now m k t u (Err e) standard same p = tt
 
+-- Where the work failed, or the file, the disk or the report.
 module _ {A : Type 0} (writes : A → Option (List ℕ) → Option (List ℕ) → Type 0)
     (fails : CommandFault → Type 0) (name : List ℕ) (old new : Option Files) where
   failed_to_file : (lines : A → List ℕ) (before : Type 0) (found left : Option Entries)

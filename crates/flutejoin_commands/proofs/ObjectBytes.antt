@@ -1,4 +1,4 @@
--- What `extract` writes, told of the bytes alone.
+-- extract: what it writes, stated of the bytes alone and not of the sink (specs/Works).
 use Rattle.std.proofs.Common.{ℕ, List, Option, Result, Ok, Err, IfErr, IfOk, ap}
 use Rattle.flute_parts.specs.Facts.{Same}
 use Rattle.flute_parts.specs.declared.key.Key.{Key}
@@ -28,6 +28,7 @@ use Rattle.flutejoin.specs.declared.command_fault.CommandFault.TheVariants.{NotA
 use Rattle.flutejoin.specs.declared.command_fault.CommandFault.TheVariants.{CannotPutAside}
 use Rattle.flutejoin_commands.specs.Works.{WritesObject, ExtractFails}
 
+-- the result stated of the sink follows from that stated of its bytes
 of_bytes : {W : Type 0} (written : W → Option (List ℕ)) (F : List Fact) (key : Key) (old new : W)
     (r : Result ℕ CommandFault) → Extracts written F key old new r
     → Extracts (λ x. x) F key (written old) (written new) r
@@ -348,6 +349,7 @@ answers_map most input left P Q (Err CannotCreate) f a =
           f a.entries a.holds;
     }
 
+-- what extract writes, for the journal's facts and for any with the same values
 told_of_bytes : {W : Type 0} (written : W → Option (List ℕ)) (most : Limits)
     (input left : Option (List ℕ))
     (key : Key) (old new : W) (r : Result ℕ CommandFault) (others : List Fact)

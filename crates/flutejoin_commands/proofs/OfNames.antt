@@ -1,4 +1,4 @@
--- What was done with opened inputs, told by the names that were opened.
+-- What a command did with opened inputs, stated of the names that were opened (specs/Named).
 use Rattle.std.proofs.Common.{◌≡◌, ◌⊎◌, ℕ, zero, suc, List, [], ◌∷◌, length, Option, Some, None}
 use Rattle.std.proofs.Common.{Result, Ok, Err, IfErr, inl, inr, refl, sym, ap, subst, arith, rules}
 use Rattle.std.specs.Prelude.{slice_get, Bool, OnOk, IsSome, IfSome}
@@ -76,6 +76,7 @@ module _ {R : Type 0} (files : Files) (unread : R → Option (List ℕ)) where
       let first = content_of n o (e zero n o refl refl) in
       (first.0 ∷ rest.0, (first.1, rest.1), (first.2, rest.2))
 
+-- the inputs that were opened, and what their names have
 module _ {R : Type 0} (unread : R → Option (List ℕ)) where
   as_many_inputs : (opened : List (JoinInput R)) (contents : List (List ℕ))
       → AllZip (λ input bytes. IsInput unread input bytes) opened contents
@@ -110,6 +111,7 @@ module _ {R : Type 0} (unread : R → Option (List ℕ)) where
 
   module _ (tells : Bool) (most : Limits) (sender : ℕ) (scope : Scope) (names : List (List ℕ))
       (opened : List (JoinInput R)) where
+    -- what join_to joined of the inputs, stated of the names
     joins_told : (files : Option Files) → AreOpened files unread names opened
         → TellsAsides files tells → (counts : JoinCounts) (old new : Option (List ℕ))
         → JoinsAll unread tells most sender scope opened counts old new
@@ -176,6 +178,7 @@ told_of_two None a b first second h i P p = tt
 told_of_two (Some files) a b first second h i P p = subst (λ y. P (files a) y) i.0
     (subst (λ x. P x second) h.0 p)
 
+-- a command of one input: what it left, and why it failed
 module _ {A : Type 0} (P Q : Option (List ℕ) → A → Option (List ℕ) → Option (List ℕ) → Type 0)
     (F : Option (List ℕ) → CommandFault → Type 0) (files : Option Files) (name : List ℕ)
     (known : Option (List ℕ)) (h : HasBytes files name known) (out : List ℕ) (old new : Outside)
@@ -206,6 +209,7 @@ module _ {A : Type 0} (P Q : Option (List ℕ) → A → Option (List ℕ) → O
         ⊎ IfFiles files (λ f. F (f name) fault))
         old new e (λ w. inr (told_of files name known h (λ k. F k e) w)) l
 
+-- a command of two inputs: what it left, and why it failed
 module _ {A : Type 0} (P : Option (List ℕ) → Option (List ℕ) → A → Option (List ℕ) → Option (List ℕ)
     → Type 0)
     (F : Option (List ℕ) → Option (List ℕ) → CommandFault → Type 0) (files : Option Files)

@@ -1,4 +1,4 @@
--- What is printed of opened inputs, told by the names that were opened.
+-- What is printed of opened inputs, stated of the names that were opened (specs/Printed).
 use Rattle.std.proofs.Common.{◌≡◌, ◌⊎◌, ℕ, List, [], Option, Some, None, Result, Ok, Err, IfErr}
 use Rattle.std.proofs.Common.{Bool, true, inr, refl, subst}
 use Rattle.std.specs.Prelude.{OnOk}
@@ -30,7 +30,7 @@ pub both : (P Q : CommandFault → Type 0) (r : Result (Unit {0}) CommandFault) 
 both P Q (Ok u) p q = tt
 both P Q (Err e) p q = (p, q)
 
--- a fault that tells of what a folder is
+-- a fault that depends on what a folder is
 pub of_place : {S : Type 0} (P : S → CommandFault → Type 0) (after : S)
     (r : Result (Unit {0}) CommandFault) → IfErr r (P after) → IfErr r (λ fault. (a : S) × P a fault)
 of_place P after (Ok u) p = tt
@@ -51,8 +51,9 @@ if_told (Some files) name known h P p = subst P h.0 p
 
 -- a fact of what is put aside, which is empty if the files are known
 pub if_empty : (files : Option Files) (tells : Bool) (a b : Option (List ℕ)) (P : Type 0)
-    → TellsAsides files tells → (tells ≡ true → a ≡ Some []) → (tells ≡ true → b ≡ Some [])
-    → (a ≡ Some [] → b ≡ Some [] → P) → IfFiles files (λ f. P)
+    → TellsAsides files tells → (tells ≡ true → a ≡ Some [])
+    → (tells ≡ true → b ≡ Some []) → (a ≡ Some [] → b ≡ Some [] → P)
+    → IfFiles files (λ f. P)
 if_empty None tells a b P told d e p = tt
 if_empty (Some files) tells a b P told d e p = p (d told) (e told)
 

@@ -1,4 +1,4 @@
--- What was sent of an opened input, told by its name.
+-- carousel: what was sent of an opened input, stated of its name.
 use Rattle.std.proofs.Common.{rules, ◌⊎◌, ℕ, List, Option, Some, None, Result, Ok, Err}
 use Rattle.std.proofs.Common.{IfErr}
 use Rattle.std.proofs.Common.{inl, inr, sym, subst}

@@ -1,4 +1,4 @@
--- What is known of an output when it is finished, told of it when it was made.
+-- What is known of an output when it is finished, stated from when it was made.
 use Rattle.std.proofs.Common.{◌≡◌, ◌+◌, ◌<◌, ℕ, List, [], ◌∷◌, Option, Some, None, Result, Ok, Err, IfOk, IfErr, inr, refl, sym, ap, subst, ◌∙◌, arith}
 use Rattle.std.specs.Prelude.{option_map, OnOk, OnErr, is_ok, if◌then◌else◌}
 use Rattle.flute_output.specs.Entries.{Entries, Leads, Does, created, OutIsAsFound, OutBecomes, IsEitherAlways, Ends, found_in, named_in, taken, whole}

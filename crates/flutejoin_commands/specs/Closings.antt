@@ -13,7 +13,7 @@ pub record Closing : Type 0 where
 abbrev pub closing : List ℕ → Entries → Closing
 closing name e = record { name = name; entries = e }
 
--- one output more is closed, if that is told
+-- one output more is closed, if closed outputs are known
 abbrev pub IsNoted : List ℕ → Option Entries → Option (List Closing) → Option (List Closing)
     → Type 0
 IsNoted name entries None new = new ≡ None
@@ -35,7 +35,7 @@ pub record IsClosedWhole (name : List ℕ) (files : Option Files)
   pub is : new ≡ Some (closing name entries ∷ before)
   pub whole : WasWhole files (closing name entries)
 
--- it is so closed, or nothing is, or that is not told
-abbrev pub ClosesWhole : List ℕ → Option Files → Option (List Closing) → Option (List Closing)
-    → Type 0
+-- the output is closed as a whole file, or no output is; or closed outputs are not known
+abbrev pub ClosesWhole : List ℕ → Option Files → Option (List Closing)
+    → Option (List Closing) → Type 0
 ClosesWhole name files old new = (new ≡ old) ⊎ IsClosedWhole name files old new

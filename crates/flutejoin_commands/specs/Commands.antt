@@ -6,8 +6,8 @@ use Rattle.flute_output.specs.Entries.{Entries, Leads, OutStays, IsEitherAlways,
 use Rattle.flutejoin.specs.declared.command_fault.CommandFault.{CommandFault}
 use Rattle.flutejoin.specs.declared.command_fault.CommandFault.TheVariants.{CannotCreate, CannotWrite, NotOnDisk}
 
--- the devices of a command at one moment: the folder of its output and its report, what they
--- tell of themselves, and how often each has failed
+-- the devices of a command at one moment: the folder of its output and its report, as far as they
+-- are known, and how often each has failed
 pub record Devices : Type 0 where
   pub folder : Option Entries
   pub folder_failures : ℕ
@@ -23,10 +23,11 @@ abbrev pub with_beside : Devices → Devices
 with_beside d = record d { folder = option_map created d.folder }
 
 -- OUT became a file of what was written from nothing, of which Q holds too, and was that or what
--- it was before at any moment. If the folder tells nothing, so much was written to a sink that does
--- not tell.
+-- it was before at any moment. If the folder is not known, so much was written to a sink of unknown
+-- bytes.
 abbrev pub BecomesWritten : (List ℕ → Entries → Type 0)
-    → (Option (List ℕ) → Option (List ℕ) → Type 0) → Option Entries → Option Entries → Type 0
+    → (Option (List ℕ) → Option (List ℕ) → Type 0) → Option Entries → Option Entries
+    → Type 0
 BecomesWritten Q P None None = P None None
 BecomesWritten Q P None (Some new) = ⊥
 BecomesWritten Q P (Some made) None = ⊥
@@ -50,7 +51,7 @@ OutIsKept old new = Leads OutStays old new ⊎ Leads OutIsAsFound (option_map cr
 abbrev pub NothingBeside : Option Entries → Option Entries → Type 0
 NothingBeside old new = Leads (λ before after. after.beside ≡ None) old new
 
--- it is gone, unless the folder failed more often than the fault tells of: in removing it
+-- it is gone, unless the folder failed more often than the fault says: in removing it
 pub record IsCleared (old new : Devices) (fault : CommandFault) : Type 0 where
   pub none : new.folder_failures ≡ old.folder_failures → NothingBeside old.folder new.folder
   pub one : fault ≡ CannotWrite → new.folder_failures ≡ old.folder_failures + 1
@@ -79,8 +80,8 @@ module _ {A : Type 0} (writes : A → Option (List ℕ) → Option (List ℕ) �
     pub folder_works : new.folder_failures ≡ made.folder_failures
     pub report_fails : new.report_failures ≡ made.report_failures + 1
 
-  -- OUT is what the work wrote, but the disk did not tell that it has the name, and nothing was
-  -- told
+  -- OUT is what the work wrote, but the disk did not confirm that it has the name, and nothing was
+  -- reported
   pub record IsNotOnDisk (made new : Devices) : Type 0 where
     pub answer : A
     pub out : BecomesWritten IsThere (writes answer) made.folder new.folder
@@ -90,30 +91,32 @@ module _ {A : Type 0} (writes : A → Option (List ℕ) → Option (List ℕ) �
     pub untold : IsUntold made new
 
 -- the work could be done, so that nothing is wrong with its inputs
-abbrev pub CouldBeDone : {A : Type 0} → (A → Option (List ℕ) → Option (List ℕ) → Type 0) → Type 0
+abbrev pub CouldBeDone : {A : Type 0} → (A → Option (List ℕ) → Option (List ℕ) → Type 0)
+    → Type 0
 CouldBeDone {A} writes = (answer : A) × (old : Option (List ℕ)) × (new : Option (List ℕ))
     × writes answer old new
 
 module _ {A : Type 0} (writes : A → Option (List ℕ) → Option (List ℕ) → Type 0)
     (fails : CommandFault → Type 0) (lines : A → List ℕ) where
-  -- Once the file beside OUT was made: the work failed, or it could be done and the file failed.
-  -- OUT is then what was found, and nothing was told. Or the disk did not tell that it has the name
+  -- Once the file beside OUT was made: the work failed, or it succeeded and the file failed. OUT is
+  -- then what was found, and nothing was reported. Or the disk did not confirm that it has the name
   -- OUT; or the report failed.
   pub data FailsWriting (made new : Devices) (fault : CommandFault) : Type 0 where
     by_work : fails fault
         → (fault ≡ CannotWrite → made.folder_failures < new.folder_failures)
-        → Leads OutIsAsFound made.folder new.folder → IsCleared made new fault → IsUntold made new
-        → FailsWriting made new fault
+        → Leads OutIsAsFound made.folder new.folder → IsCleared made new fault
+        → IsUntold made new → FailsWriting made new fault
     by_file : fault ≡ CannotWrite → CouldBeDone writes
         → made.folder_failures < new.folder_failures
-        → Leads OutIsAsFound made.folder new.folder → IsCleared made new fault → IsUntold made new
+        → Leads OutIsAsFound made.folder new.folder → IsCleared made new fault
+        → IsUntold made new → FailsWriting made new fault
+    by_disk : fault ≡ NotOnDisk → IsNotOnDisk writes lines made new
         → FailsWriting made new fault
-    by_disk : fault ≡ NotOnDisk → IsNotOnDisk writes lines made new → FailsWriting made new fault
     by_report : fault ≡ CannotWrite → FailsToTell writes lines made new
         → FailsWriting made new fault
 
-  -- So it is; or the output could not be made. The work failed then, or what is told before a
-  -- fault of the output does not keep it from being told.
+  -- So it is; or the output could not be made, and the work failed or had no fault to report before
+  -- a fault of the output.
   pub data Fails (before : Type 0) (old new : Devices) (fault : CommandFault) : Type 0 where
     of_work : fails fault
         → (fault ≡ CannotWrite → old.folder_failures < new.folder_failures)
@@ -134,7 +137,8 @@ module _ {A : Type 0} (writes : A → Option (List ℕ) → Option (List ℕ) �
 -- at any moment since the file beside it was made, OUT was what it was or one new file, whole
 abbrev pub WasWholeAlways : Option Entries → Option Entries → Type 0
 WasWholeAlways made new =
-    Leads (λ before after. (bytes : List ℕ) × IsEitherAlways (whole bytes) before after) made new
+    Leads
+    (λ before after. (bytes : List ℕ) × IsEitherAlways (whole bytes) before after) made new
 
 -- so it was; or the file beside it was not made, and OUT has been nothing else
 abbrev pub IsWholeAlways : Option Entries → Option Entries → Type 0

@@ -58,7 +58,7 @@ finish_fault finish.Write = CannotWrite
 finish_fault finish.NotOnDisk = NotOnDisk
 
 -- Why it failed: the folder could not be made; or the work failed, or the disk or the report: there
--- is no OUT. Or OUT is the folder, but the disk did not tell that it has the name, or the report
+-- is no OUT. Or OUT is the folder, but the disk did not confirm that it has the name, or the report
 -- failed to take the number of files.
 pub data FolderFails (most : Limits) (input left : Option (List ℕ)) (picked : Picked)
     (old new : Option Places) (fault : CommandFault) : Type 0 where

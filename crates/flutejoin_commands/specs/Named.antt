@@ -1,4 +1,4 @@
--- What the commands write and why they fail, told by the names of their inputs.
+-- What the commands write and why they fail, stated of the names of their inputs.
 use Rattle.std.specs.Prelude.{◌≡◌, ◌⊎◌, ◌+◌, ◌<◌, ℕ, List, [], ◌∷◌, length, slice_get, Option}
 use Rattle.std.specs.Prelude.{Some, IfSome}
 use Rattle.std.specs.List.{AllZip}
@@ -61,34 +61,37 @@ MeasureFails input fault =
     ⊎ ((fault ≡ Input 1 Read) ⊎ ((fault ≡ CannotWrite) ⊎ (fault ≡ OutOfMemory)))
 
 module _ (files : Option Files) where
-  -- the one journal of all that the files of these names tell of the chosen objects
-  abbrev pub JoinsNames : Limits → ℕ → Scope → List (List ℕ) → JoinCounts → Option (List ℕ)
-      → Option (List ℕ) → Type 0
+  -- the one journal of all that the files of these names contain of the chosen objects
+  abbrev pub JoinsNames : Limits → ℕ → Scope → List (List ℕ) → JoinCounts
+      → Option (List ℕ) → Option (List ℕ) → Type 0
   JoinsNames most sender scope names counts old new = IfFiles files (λ f. OfContents f names
       (λ contents. JoinsTo (choice_of most sender scope) contents counts old new))
 
-  abbrev pub JoinNamesFails : Limits → ℕ → Scope → List (List ℕ) → CommandFault → Type 0
+  abbrev pub JoinNamesFails : Limits → ℕ → Scope → List (List ℕ) → CommandFault
+      → Type 0
   JoinNamesFails most sender scope names fault =
       IsBefore files names fault
       ⊎ (IfFiles files (λ f. OfContents f names (λ contents.
       JoinToFails (choice_of most sender scope) contents fault))
       × NamesOneOf (length names) fault)
 
-  -- the journal of all that the files of two names tell
-  abbrev pub MergesNames : List ℕ → List ℕ → ℕ → Option (List ℕ) → Option (List ℕ) → Type 0
+  -- the journal of all that the files of two names contain
+  abbrev pub MergesNames : List ℕ → List ℕ → ℕ → Option (List ℕ) → Option (List ℕ)
+      → Type 0
   MergesNames a b n old new = IfFiles files (λ f. Merged MAX_ENTRIES n (f a) (f b) old new)
 
   abbrev pub MergeNamesFails : List ℕ → List ℕ → CommandFault → Type 0
   MergeNamesFails a b fault =
       IsBefore files (a ∷ b ∷ []) fault ⊎ IfFiles files (λ f. MergeFails (f a) (f b) fault)
 
-  -- the journal of all that the file of a name tells and of the information
-  abbrev pub AddsToName : List ℕ → Key → Information → ℕ → Option (List ℕ) → Option (List ℕ)
-      → Type 0
+  -- the journal of all that the file of a name contains and of the information
+  abbrev pub AddsToName : List ℕ → Key → Information → ℕ → Option (List ℕ)
+      → Option (List ℕ) → Type 0
   AddsToName j key info n old new =
       IfFiles files (λ f. AddsInformation (f j) key info n old new)
 
-  abbrev pub AddToNameFails : Limits → List ℕ → Key → Information → CommandFault → Type 0
+  abbrev pub AddToNameFails : Limits → List ℕ → Key → Information → CommandFault
+      → Type 0
   AddToNameFails most j key info fault =
       IsBefore files (j ∷ []) fault ⊎ IfFiles files (λ f. AddFails most (f j) key info fault)
 
@@ -102,8 +105,9 @@ module _ (files : Option Files) where
   ForgetInNameFails j fault =
       IsBefore files (j ∷ []) fault ⊎ IfFiles files (λ f. ForgetFails (f j) fault)
 
-  -- the journal of all that the file of one name tells and of the list that another has
-  abbrev pub AddsListOfNames : List ℕ → List ℕ → ℕ → Option (List ℕ) → Option (List ℕ) → Type 0
+  -- the journal of all that the file of one name contains and of the list that another has
+  abbrev pub AddsListOfNames : List ℕ → List ℕ → ℕ → Option (List ℕ)
+      → Option (List ℕ) → Type 0
   AddsListOfNames j list n old new = IfFiles files (λ f. AddsList (f j) (f list) n old new)
 
   abbrev pub AddListOfNamesFails : Limits → List ℕ → List ℕ → CommandFault → Type 0
@@ -112,11 +116,13 @@ module _ (files : Option Files) where
       ⊎ IfFiles files (λ f. AddListFails most (f j) (f list) fault)
 
   -- the object that the file of a name makes whole
-  abbrev pub WritesOfName : Limits → List ℕ → Key → ℕ → Option (List ℕ) → Option (List ℕ) → Type 0
+  abbrev pub WritesOfName : Limits → List ℕ → Key → ℕ → Option (List ℕ)
+      → Option (List ℕ) → Type 0
   WritesOfName most j key n old new = IfFiles files (λ f. WritesObject most (f j) key n old new)
 
   -- the same, held in memory first
-  abbrev pub HoldsOfName : Limits → List ℕ → Key → ℕ → Option (List ℕ) → Option (List ℕ) → Type 0
+  abbrev pub HoldsOfName : Limits → List ℕ → Key → ℕ → Option (List ℕ)
+      → Option (List ℕ) → Type 0
   HoldsOfName most j key n old new =
       IfFiles files (λ f. Held (WritesObject most (f j) key) n old new)
 
@@ -126,11 +132,13 @@ module _ (files : Option Files) where
       ⊎ IfFiles files (λ f. FailsHeld (ExtractFails most (f j) key) fault)
 
   -- the file of the datagrams of an object whose content is the file of a name
-  abbrev pub SendsName : List ℕ → Key → ℕ → ℕ → ℕ → Option (List ℕ) → Option (List ℕ) → Type 0
+  abbrev pub SendsName : List ℕ → Key → ℕ → ℕ → ℕ → Option (List ℕ)
+      → Option (List ℕ) → Type 0
   SendsName name key symbol block n old new =
       IfFiles files (λ f. SendsInput (f name) key symbol block n old new)
 
   abbrev pub SendNameFails : List ℕ → Key → ℕ → ℕ → CommandFault → Type 0
   SendNameFails name key symbol block fault =
       IsBefore files (name ∷ []) fault
-      ⊎ IfFiles files (λ f. MeasureFails (f name) fault ⊎ SendFails (f name) key symbol block fault)
+      ⊎ IfFiles files (λ f. MeasureFails (f name) fault
+      ⊎ SendFails (f name) key symbol block fault)

@@ -15,7 +15,7 @@ module _ {R : Type 0} (files : Option Files) (unread : R → Option (List ℕ)) 
       (source : R) × HasBytes files name (unread source)
       × IfSome (unread source) (IsInput unread input)
 
-  -- so it is with the first so many names, in their order
+  -- the first so many names were opened, in their order
   pub record AreFirstOpened (count : ℕ) (names : List (List ℕ))
       (opened : List (JoinInput R)) : Type 0 where
     pub as_many : length opened ≡ count
@@ -23,7 +23,7 @@ module _ {R : Type 0} (files : Option Files) (unread : R → Option (List ℕ)) 
     pub each : (k : ℕ) (name : List ℕ) (input : JoinInput R) → slice_get names k ≡ Some name
         → slice_get opened k ≡ Some input → IsOpened name input
 
-  -- with all of them
+  -- all names were opened
   abbrev pub AreOpened : List (List ℕ) → List (JoinInput R) → Type 0
   AreOpened names opened = AreFirstOpened (length names) names opened
 
@@ -34,7 +34,7 @@ module _ {R : Type 0} (files : Option Files) (unread : R → Option (List ℕ)) 
       ⊎ ((fault ≡ Input number Read) × ((source : R) × HasBytes files name (unread source))))
       ⊎ (fault ≡ OutOfMemory)
 
-  -- so it is with one of the names; those before it were opened, and nothing else was to be opened
+  -- one of the names was not opened; those before it were, and nothing else was to be opened
   pub record FirstNotOpened (names : List (List ℕ)) (old new : ℕ)
       (fault : CommandFault) : Type 0 where
     pub before : ℕ

@@ -6,7 +6,7 @@ use Rattle.flutejoin.specs.declared.command_fault.CommandFault.{CommandFault}
 use Rattle.flutejoin.specs.declared.command_fault.CommandFault.TheVariants.{CannotCreate, CannotWrite, OutOfMemory}
 
 -- the devices of the command at one moment: the bytes that its output took, and its report, if
--- they tell, and how often each has failed
+-- they are known, and how often each has failed
 pub record Outlets : Type 0 where
   pub output : Option (List ℕ)
   pub output_failures : ℕ
@@ -16,7 +16,7 @@ pub record Outlets : Type 0 where
 abbrev pub outlets : Option (List ℕ) → ℕ → Option (List ℕ) → ℕ → Outlets
 outlets o m r n = record { output = o; output_failures = m; report = r; report_failures = n }
 
--- no line was told
+-- no line was reported
 pub record IsUntoldOut (old new : Outlets) : Type 0 where
   pub report : new.report ≡ old.report
   pub failures : new.report_failures ≡ old.report_failures
@@ -50,16 +50,18 @@ module _ {A : Type 0} (writes : A → Option (List ℕ) → Option (List ℕ) �
     pub report_fails : new.report_failures ≡ old.report_failures + 1
 
 module _ {A : Type 0} (writes : A → Option (List ℕ) → Option (List ℕ) → Type 0)
-    (fails : CommandFault → Type 0) (lines : A → List ℕ) (before : Type 0) (could : Type 0) where
-  -- The work failed; or its output could not be opened, or failed. Nothing was told then. Or the
-  -- report failed.
-  pub data FailsOut (old new : Outlets) (fault : CommandFault) : Type 0 where
-    of_work : fails fault
-        → (fault ≡ CannotWrite → old.output_failures < new.output_failures)
-        → IsUntoldOut old new → FailsOut old new fault
-    of_open : fault ≡ CannotCreate → before
-        → new.output_failures ≡ old.output_failures + 1 → new.output ≡ old.output
-        → IsUntoldOut old new → FailsOut old new fault
-    of_output : fault ≡ CannotWrite → could → old.output_failures < new.output_failures
-        → IsUntoldOut old new → FailsOut old new fault
-    of_report : fault ≡ CannotWrite → PutsOutUntold writes lines old new → FailsOut old new fault
+    (fails : CommandFault → Type 0) (lines : A → List ℕ) (before : Type 0) (could : Type 0)
+  where
+    -- The work failed; or its output could not be opened, or failed. Nothing was told then. Or the
+    -- report failed.
+    pub data FailsOut (old new : Outlets) (fault : CommandFault) : Type 0 where
+      of_work : fails fault
+          → (fault ≡ CannotWrite → old.output_failures < new.output_failures)
+          → IsUntoldOut old new → FailsOut old new fault
+      of_open : fault ≡ CannotCreate → before
+          → new.output_failures ≡ old.output_failures + 1 → new.output ≡ old.output
+          → IsUntoldOut old new → FailsOut old new fault
+      of_output : fault ≡ CannotWrite → could → old.output_failures < new.output_failures
+          → IsUntoldOut old new → FailsOut old new fault
+      of_report : fault ≡ CannotWrite → PutsOutUntold writes lines old new
+          → FailsOut old new fault

@@ -1,4 +1,4 @@
--- What the commands print that leave no file, and why they fail, told by the names of their inputs.
+-- What the commands that leave no file print, and why they fail, stated of their inputs' names.
 use Rattle.std.specs.Prelude.{◌≡◌, ◌≢◌, ◌⊎◌, ℕ, Bool, true, false, List, [], ◌∷◌, Option}
 use Rattle.std.specs.Io.KnownBytes.{Appends, IsAtEnd}
 use Rattle.flute_journal.specs.declared.choice.selection.Selection.{Selection}
@@ -29,7 +29,8 @@ abbrev pub PrintsPacket : List ℕ → Option (List ℕ) → Option (List ℕ) �
 PrintsPacket text old new = HasLines text (Appends old new)
 
 -- why not, and what was printed
-abbrev pub PacketFails : List ℕ → Option (List ℕ) → Option (List ℕ) → CommandFault → Type 0
+abbrev pub PacketFails : List ℕ → Option (List ℕ) → Option (List ℕ) → CommandFault
+    → Type 0
 PacketFails text old new fault =
     FailsWith text old new fault ⊎ FailsToFlush (PrintsPacket text old new) fault
 
@@ -39,7 +40,8 @@ module _ (files : Option Files) (name : List ℕ) where
   ShowsName selection old new = IfFiles files (λ f. ShowsAll selection (f name) old new)
 
   -- why not, and what was printed
-  abbrev pub ShowNameFails : Selection → Option (List ℕ) → Option (List ℕ) → CommandFault → Type 0
+  abbrev pub ShowNameFails : Selection → Option (List ℕ) → Option (List ℕ) → CommandFault
+      → Type 0
   ShowNameFails selection old new fault =
       (IsUnread files name fault × (new ≡ old))
       ⊎ IfFiles files (λ f. (left : Option (List ℕ))
@@ -56,13 +58,14 @@ module _ (files : Option Files) (name : List ℕ) where
       × (passes_check style objects ≡ passes)))
 
   -- it was printed, and each object is whole that has to be
-  abbrev pub ListsName : Limits → Selection → Style → Option (List ℕ) → Option (List ℕ) → Type 0
+  abbrev pub ListsName : Limits → Selection → Style → Option (List ℕ) → Option (List ℕ)
+      → Type 0
   ListsName most selection style = ListsObjects most selection style true
 
   -- why not: all was printed, and an object is not whole that has to be; or nothing was printed,
   -- unless the fault is that of writing
-  abbrev pub ListNameFails : Limits → Selection → Style → Option (List ℕ) → Option (List ℕ)
-      → CommandFault → Type 0
+  abbrev pub ListNameFails : Limits → Selection → Style → Option (List ℕ)
+      → Option (List ℕ) → CommandFault → Type 0
   ListNameFails most selection style old new fault =
       ((fault ≡ NotAllWhole) × ListsObjects most selection style false old new)
       ⊎ ((IsUnread files name fault ⊎ IfFiles files (λ f. (left : Option (List ℕ))

@@ -14,4 +14,5 @@ FailsToFlush all_written fault = (fault ≡ CannotWrite) × all_written
 
 -- P if all was printed, of whether the objects passed their check
 abbrev pub IfPrinted : {T : Type 0} → Result T CommandFault → (Bool → Type 0) → Type 0
-IfPrinted result P = OnOk result (P true) × IfErr result (λ fault. fault ≡ NotAllWhole → P false)
+IfPrinted result P = OnOk result (P true)
+    × IfErr result (λ fault. fault ≡ NotAllWhole → P false)

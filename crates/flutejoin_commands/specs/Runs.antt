@@ -78,7 +78,8 @@ IsBadInformation l s b fault =
     (f : InfoFault) × (fault ≡ BadInformation f) × (info_fault (information l s b) ≡ Some f)
 
 -- why it is not done, and what changes all the same
-abbrev pub FailsToDo : (List ℕ → Option Places) → Line → Outside → Outside → CommandFault → Type 0
+abbrev pub FailsToDo : (List ℕ → Option Places) → Line → Outside → Outside
+    → CommandFault → Type 0
 FailsToDo folders (Packet hex) old new fault =
     OnlyPrints old new (PacketFails hex.now old.output new.output fault)
 FailsToDo folders (Show selection j) old new fault =
@@ -154,10 +155,12 @@ ClosesOut (Some name) files old new = ClosesWhole name files old new
 abbrev pub ClosesOutOfWords : List (List ℕ) → Option Files → Option (List Closing)
     → Option (List Closing) → Type 0
 ClosesOutOfWords words files old new =
-    (new ≡ old) ⊎ ((line : Line) × IsLineIn words line × ClosesOut (out_of line) files old new)
+    (new ≡ old) ⊎ ((line : Line) × IsLineIn words line
+    × ClosesOut (out_of line) files old new)
 
 -- the words are a line, and it is done; its output was one that may be overwritten
-abbrev pub DoesWords : (List ℕ → Option Places) → List (List ℕ) → Outside → Outside → Type 0
+abbrev pub DoesWords : (List ℕ → Option Places) → List (List ℕ) → Outside → Outside
+    → Type 0
 DoesWords folders words old new =
     (line : Line) × IsLineIn words line × SparesOut line old.files new.files
     × Does folders line old new

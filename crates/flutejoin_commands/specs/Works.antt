@@ -1,4 +1,4 @@
--- What the works of the commands write, why they fail, and what they tell.
+-- What the works of the commands write, why they fail, and what they report.
 use Rattle.std.specs.Prelude.{◌≡◌, ℕ, ◌++◌, ◌∷◌, List, [], if◌then◌else◌, length, Bool, true}
 use Rattle.std.specs.Prelude.{Option, codes, Ok, Err}
 use Rattle.flute_parts.specs.Facts.{Same}
@@ -23,7 +23,7 @@ use Rattle.flutejoin.specs.declared.join.join_counts.JoinCounts.{JoinCounts}
 use Rattle.flutejoin.specs.declared.join.join_input.JoinInput.{JoinInput}
 use Rattle.flutejoin.specs.declared.command_fault.CommandFault.{CommandFault}
 
--- the one line of a command that tells how many bytes or datagrams it wrote
+-- the one line of a command that reports how many bytes or datagrams it wrote
 abbrev pub bytes_line : ℕ → List ℕ
 bytes_line n = count_line (codes "bytes") n
 
@@ -49,15 +49,15 @@ abbrev pub ForgetsIn : Option (List ℕ) → Selection → ForgetCounts → Opti
 ForgetsIn input selection counts old new = Forgets selection counts input old new
 
 module _ {R : Type 0} (unread : R → Option (List ℕ)) where
-  -- what these inputs are, joined, if it is told what is put aside
+  -- these inputs, joined, if the bytes that are put aside are known
   abbrev pub JoinsAll : Bool → Limits → ℕ → Scope → List (JoinInput R) → JoinCounts
       → Option (List ℕ) → Option (List ℕ) → Type 0
   JoinsAll tells most sender scope inputs counts old new =
       tells ≡ true → (contents : List (List ℕ)) → AreInputs unread inputs contents
       → JoinsTo (choice_of most sender scope) contents counts old new
 
-  abbrev pub JoinAllFails : Bool → Limits → ℕ → Scope → List (JoinInput R) → CommandFault
-      → Type 0
+  abbrev pub JoinAllFails : Bool → Limits → ℕ → Scope → List (JoinInput R)
+      → CommandFault → Type 0
   JoinAllFails tells most sender scope inputs fault =
       (tells ≡ true → (contents : List (List ℕ)) → AreInputs unread inputs contents
       → JoinToFails (choice_of most sender scope) contents fault)
@@ -80,10 +80,11 @@ ExtractFails most input key fault =
     → AnswersFrom most input left
     (λ F. Same F others → Extracts (λ x. x) others key old new (Err fault)) (Err fault))
 
--- the journal of all that a journal tells and of the information was written
+-- the journal of all that a journal contains and of the information was written
 abbrev pub AddsInformation : Option (List ℕ) → Key → Information → ℕ → Option (List ℕ)
     → Option (List ℕ) → Type 0
 AddsInformation input key info n old new = AddsFacts input (Info key info ∷ []) old new n
 
-abbrev pub AddFails : Limits → Option (List ℕ) → Key → Information → CommandFault → Type 0
+abbrev pub AddFails : Limits → Option (List ℕ) → Key → Information → CommandFault
+    → Type 0
 AddFails most input key info fault = InfoFails most input (Info key info ∷ []) fault

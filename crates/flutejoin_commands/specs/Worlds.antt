@@ -22,19 +22,19 @@ HasOut None name entries = entries ≡ None
 HasOut (Some files) name None = ⊥
 HasOut (Some files) name (Some e) = option_map bytes_of e.out ≡ files name
 
--- the name stands for standard output, if the files are known
+-- the name is that of standard output, if the files are known
 abbrev pub IsStandard : Option Files → List ℕ → Type 0
 IsStandard None name = ⊤
 IsStandard (Some files) name = name ≡ codes "-"
 
--- the name stands for a file, if the files are known
+-- the name is that of a file, if the files are known
 abbrev pub IsFileName : Option Files → List ℕ → Type 0
 IsFileName None name = ⊤
 IsFileName (Some files) name = name ≢ codes "-"
 
 -- what the name of an output leads to: where the files are known, to a file, or standard output
-abbrev pub IsPlaced : {F D : Type 0} → (F → Option Entries) → Option Files → List ℕ → Place F D
-    → Type 0
+abbrev pub IsPlaced : {F D : Type 0} → (F → Option Entries) → Option Files → List ℕ
+    → Place F D → Type 0
 IsPlaced entries files name (File folder) =
     HasOut files name (entries folder) × IsFileName files name
 IsPlaced entries files name (Device device) = files ≡ None
@@ -57,7 +57,7 @@ MayOverwrite (Some files) overwrites name = IfSome (files name) (IsOverwritten o
 abbrev pub IsNotOverwritten : CommandFault → Type 0
 IsNotOverwritten fault = IsKeptOutput fault ⊎ (fault ≡ OutOfMemory)
 
--- contracts are told what is put aside, if the files are known
+-- the bytes that are put aside are known, if the files are
 abbrev pub TellsAsides : Option Files → Bool → Type 0
 TellsAsides None tells = ⊤
 TellsAsides (Some files) tells = tells ≡ true
@@ -72,11 +72,12 @@ abbrev pub beside_name : List ℕ → List ℕ
 beside_name name = name ++ codes ".partial"
 
 -- one name and the one beside it have these bytes, and all others have what they had
-pub record Replaced (name : List ℕ) (out beside : Option (List ℕ)) (old new : Files) : Type 0 where
-  pub here : new name ≡ out
-  pub next : new (beside_name name) ≡ beside
-  pub elsewhere : (other : List ℕ) → other ≢ name → other ≢ beside_name name
-      → new other ≡ old other
+pub record Replaced (name : List ℕ) (out beside : Option (List ℕ)) (old new : Files) : Type 0
+  where
+    pub here : new name ≡ out
+    pub next : new (beside_name name) ≡ beside
+    pub elsewhere : (other : List ℕ) → other ≢ name → other ≢ beside_name name
+        → new other ≡ old other
 
 -- the two names have what the entries of the folder are, and all others have what they had
 abbrev pub Closes : List ℕ → Option Entries → Option Files → Option Files → Type 0
@@ -98,20 +99,20 @@ abbrev pub Spares : Overwrites → List ℕ → Option Files → Option Files �
 Spares overwrites name old new = KeepsFiles name old new ⊎ MayOverwrite old overwrites name
 
 -- OUT has what is written from nothing, the name beside it these bytes, and each other name is as
--- before; if the files are not known, so much was written to a sink that does not tell
-abbrev pub FileIs : (Option (List ℕ) → Option (List ℕ) → Type 0) → List ℕ → Option (List ℕ)
-    → Option Files → Option Files → Type 0
+-- before; if the files are not known, so much was written to a sink whose bytes are not known
+abbrev pub FileIs : (Option (List ℕ) → Option (List ℕ) → Type 0) → List ℕ
+    → Option (List ℕ) → Option Files → Option Files → Type 0
 FileIs P name beside None new = P None None × (new ≡ None)
 FileIs P name beside (Some old) None = ⊥
 FileIs P name beside (Some old) (Some new) =
     (bytes : List ℕ) × P (Some []) (Some bytes) × Replaced name (Some bytes) beside old new
 
--- so it is, and nothing is beside it
-abbrev pub FileBecomes : (Option (List ℕ) → Option (List ℕ) → Type 0) → List ℕ → Option Files
-    → Option Files → Type 0
+-- OUT has what is written, and nothing is beside it
+abbrev pub FileBecomes : (Option (List ℕ) → Option (List ℕ) → Type 0) → List ℕ
+    → Option Files → Option Files → Type 0
 FileBecomes P name old new = FileIs P name None old new
 
--- what is outside of a command at one moment, so far as it tells: the files, what was written to
+-- what is outside of a command at one moment, as far as it is known: the files, what was written to
 -- standard output and to standard error
 pub record Outside : Type 0 where
   pub files : Option Files
@@ -128,9 +129,11 @@ module _ {A : Type 0} (writes puts : A → Option (List ℕ) → Option (List �
   pub data Leaves (old new : Outside) : Type 0 where
     in_file : (answer : A) → IsFileName old.files name
         → FileBecomes (writes answer) name old.files new.files
-        → Appends old.output new.output (lines answer) → new.errors ≡ old.errors → Leaves old new
+        → Appends old.output new.output (lines answer) → new.errors ≡ old.errors
+        → Leaves old new
     in_device : (answer : A) → old.files ≡ None → new.files ≡ None
-        → Appends old.output new.output (lines answer) → new.errors ≡ old.errors → Leaves old new
+        → Appends old.output new.output (lines answer) → new.errors ≡ old.errors
+        → Leaves old new
     in_output : (answer : A) → IsStandard old.files name → new.files ≡ old.files
         → puts answer old.output new.output → Appends old.errors new.errors (lines answer)
         → Leaves old new
@@ -138,7 +141,8 @@ module _ {A : Type 0} (writes puts : A → Option (List ℕ) → Option (List �
 -- why a command ends without its output: a fault of the work, or else of the output
 abbrev pub IsReason : (CommandFault → Type 0) → CommandFault → Type 0
 IsReason fails fault =
-    fails fault ⊎ ((fault ≡ CannotCreate) ⊎ ((fault ≡ CannotWrite) ⊎ (fault ≡ OutOfMemory)))
+    fails fault ⊎ ((fault ≡ CannotCreate)
+    ⊎ ((fault ≡ CannotWrite) ⊎ (fault ≡ OutOfMemory)))
 
 module _ {A : Type 0} (writes : A → Option (List ℕ) → Option (List ℕ) → Type 0)
     (fails : CommandFault → Type 0) (name : List ℕ) where

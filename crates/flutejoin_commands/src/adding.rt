@@ -62,8 +62,8 @@ impl<R: Source + Drop> Work for InfoWork<R> {
     }
 }
 
-/// Leaves as OUT the journal of all that a journal tells and the information of an object, and in
-/// the report the number of its entries. OUT may be the journal.
+/// Leaves as OUT the journal of all that a journal contains and the information of an object, and
+/// in the report the number of its entries. OUT may be the journal.
 ///
 /// # Errors
 ///

@@ -65,7 +65,7 @@ impl<R: Source + Drop> Work for InfoListWork<R> {
     }
 }
 
-/// Leaves as OUT the journal of all that a journal tells and of the information that a list tells,
+/// Leaves as OUT the journal of all that a journal contains and of the information in a list,
 /// and in the report the number of its entries. OUT may be the journal.
 ///
 /// # Errors

@@ -1,5 +1,5 @@
-//! What comes before the work of a command with an output: its inputs are opened, and then what
-//! stands at OUT is looked at.
+//! What comes before the work of a command with an output: its inputs are opened, and then it is
+//! checked what OUT is.
 ghost use Rattle.std.specs.Prelude.{◌≡◌, [], ◌∷◌, length, map, OnOk, IfOk, IfErr};
 ghost use Rattle.flutejoin_commands.specs.Files.{HasBytes};
 ghost use Rattle.flutejoin_commands.specs.Named.{IsBefore};

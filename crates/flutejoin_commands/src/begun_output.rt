@@ -8,10 +8,10 @@ use std::marker::{Brand, PhantomData};
 
 /// What was known when the file beside OUT was made. Only contracts see it.
 pub trait Begun {
-    // What OUT was, if the folder tells.
+    // What OUT was, if the folder's contracts say.
     ghost found: { Option (Option Stored) };
 
-    // Whether the disk had told that it has that name, if the folder tells.
+    // Whether the disk had confirmed that it has that name, if the folder's contracts say.
     ghost named: { Option Bool };
 
     // How often the folder had failed.

@@ -31,8 +31,8 @@ use flutejoin::{Asides, CommandFault, Overwrites, forget_input, is_too_large, pu
 use std::alloc::Global;
 
 /// Joins what the files of these names tell of the chosen objects into the output of this name,
-/// which may be one of them, and prints the numbers. About `memory` bytes of datagram files are held
-/// in memory, and the rest is put aside.
+/// which may be one of them, and prints the numbers. About `memory` bytes of datagram files are
+/// held in memory, and the rest is put aside.
 ///
 /// # Errors
 ///
@@ -170,7 +170,7 @@ pub fn info<W: World, O: Outlet, E: Sink>(
     leave(world, out, work, output, errors)
 }
 
-/// Adds the information that a list tells to a journal, both of these names, and prints the number
+/// Adds the information in a list to a journal, both of these names, and prints the number
 /// of entries.
 ///
 /// # Errors

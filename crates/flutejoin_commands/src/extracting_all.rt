@@ -26,7 +26,7 @@ use std::alloc::Global;
 ///
 /// `CannotCreate` if the folder could not be made; then those of [`extract_all_to`]; `CannotWrite`
 /// if the report or the disk failed, or the folder could not be put in its place: there is no OUT
-/// then. `NotOnDisk` if OUT is there, but the disk did not tell that it has this name. Last,
+/// then. `NotOnDisk` if OUT is there, but the disk did not confirm that it has this name. Last,
 /// `CannotWrite` if the report failed to take the number: OUT is there then.
 pub fn extract_all_into<D: NewFolder, R: Source, P: Report>(
     alloc: Global,
@@ -127,7 +127,7 @@ fn fill<D: NewFolder, R: Source, P: Report>(
     }
 }
 
-// Tells how many files were written.
+// Reports how many files were written.
 fn tell<P: Report>(report: &mut P, count: u64) -> Result<(), CommandFault>
     ensures told { OnOk result (Appends (P.written report.old) (P.written report.new)
         (count_line (codes "written") count)) }

@@ -87,7 +87,7 @@ impl<R: Source + Drop, A: Asides<Input = R>> Work for JoinWork<R, A> {
     }
 }
 
-/// Leaves as OUT the journal of all that the inputs tell of the chosen objects, and in the
+/// Leaves as OUT the journal of all that the inputs contain of the chosen objects, and in the
 /// report its numbers. OUT may be one of the inputs.
 ///
 /// # Errors
@@ -110,8 +110,8 @@ pub fn join_into<F: Folder + Drop, R: Source + Drop, A: Asides<Input = R> + Drop
     ensures failed { IfErr result.0 (Fails
         (JoinsAll R.unread (A.tells work.asides) (limits_of work.any_size) work.sender work.scope
         work.inputs.items)
-        (JoinAllFails R.unread (A.tells work.asides) (limits_of work.any_size) work.sender work.scope
-        work.inputs.items)
+        (JoinAllFails R.unread (A.tells work.asides) (limits_of work.any_size) work.sender
+        work.scope work.inputs.items)
         (join_lines work.scope)
         (CouldBeDone
         (JoinsAll R.unread (A.tells work.asides) (limits_of work.any_size) work.sender work.scope

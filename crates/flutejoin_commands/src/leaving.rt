@@ -16,7 +16,7 @@ use flutejoin::CommandFault;
 use std::alloc::Global;
 
 /// Does the work, leaves what it writes at the name of an output, and hands on its lines: they go
-/// to standard output, and to standard error if the name stands for standard output.
+/// to standard output, and to standard error if the name means standard output.
 ///
 /// # Errors
 ///

@@ -9,7 +9,7 @@
 //!
 //! Where an output is at a name, [`leave`] does one of these with what the name leads to, in a
 //! [`World`]; [`join`], [`merge`], [`info`], [`extract`], [`carousel`], [`show`], [`gaps`] and
-//! [`extract_all`] are told by names alone, and [`run`] by the words of a command line.
+//! [`extract_all`] take names alone, and [`run`] the words of a command line.
 //!
 //! Two journals, merged (from `commands.rt`):
 //!

@@ -48,7 +48,7 @@ impl<A: Source + Drop, B: Source + Drop> Work for MergeWork<A, B> {
     }
 }
 
-/// Leaves as OUT the journal of all that two journals tell, and in the report the number of its
+/// Leaves as OUT the journal of all that two journals contain, and in the report the number of its
 /// entries. OUT may be one of the two.
 ///
 /// # Errors

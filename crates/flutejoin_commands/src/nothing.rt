@@ -1,4 +1,4 @@
-//! What is told where an output could not be made.
+//! The work of a command whose output could not be made.
 ghost use Rattle.std.specs.Prelude.{◌≡◌, MatchResult};
 
 use flutejoin::CommandFault;

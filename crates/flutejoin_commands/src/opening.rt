@@ -25,16 +25,16 @@ pub enum NotOpened {
 pub trait Inputs {
     type Input: Source + Drop;
 
-    // The files that the names lead to, if that is told.
+    // The files that the names lead to, if they are known.
     ghost files: { Self → Option Files };
 
-    // What the name of a new folder leads to, if that is told.
+    // What the name of a new folder leads to, if that is known.
     ghost folders: { Self → List ℕ → Option Places };
 
     // How often an input was to be opened so far.
     ghost asked: { Self → ℕ };
 
-    // The outputs that were closed so far, the last first, if that is told.
+    // The outputs that were closed so far, the last first, if they are known.
     ghost closed: { Self → Option (List Closing) };
 
     /// Opens the input with this name: it gives the bytes that the name has. It is one of so many

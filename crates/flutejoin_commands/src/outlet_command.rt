@@ -16,8 +16,8 @@ use std::alloc::Global;
 /// # Errors
 ///
 /// The fault of the work, which comes first; `CannotCreate` if the output could not be opened, as
-/// [`Work::without_output`] says; `CannotWrite` if it failed. Nothing is told then, and it keeps
-/// what it took. Last, `CannotWrite` if the report failed.
+/// [`Work::without_output`] says; `CannotWrite` if it failed. Nothing is reported then, and the
+/// output keeps what it took. Last, `CannotWrite` if the report failed.
 pub fn write_through<O: Outlet, K: Work + Drop, P: Sink>(
     output: &mut O,
     mut work: K,

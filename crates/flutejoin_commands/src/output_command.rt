@@ -18,9 +18,9 @@ use std::marker::{Brand, PhantomData};
 /// The fault of the work, which comes first; `CannotCreate` if the output could not be made, as
 /// [`Work::without_output`] says; `CannotWrite` if only it could not be written or put in its
 /// place. OUT is then as it was, the file beside it is gone, unless the folder failed to remove it,
-/// and nothing is told. `NotOnDisk` if OUT is the new file, but the disk did not tell that it has
-/// this name: nothing is told either. Last, `CannotWrite` if the report failed: OUT is the new file
-/// then.
+/// and nothing is reported. `NotOnDisk` if OUT is the new file, but the disk did not confirm that
+/// it has this name: nothing is reported either. Last, `CannotWrite` if the report failed: OUT is
+/// the new file then.
 pub fn write_into<F: Folder + Drop, K: Work + Drop, P: Sink>(
     folder: F,
     mut work: K,

@@ -147,7 +147,7 @@ fn list_gaps<R: Source, A: Aside, W: Sink>(
     }
 }
 
-// What is answered after all was handed on.
+// What is returned after all was handed on.
 fn checked(style: Style, all_whole: bool) -> Result<(), CommandFault>
     ensures passes { IfPrinted result (λ passes. (not style.check || all_whole) ≡ passes) }
     ensures fault { IfErr result (λ fault. fault ≡ NotAllWhole) }

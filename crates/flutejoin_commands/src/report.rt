@@ -5,7 +5,7 @@ use flute_parts::{DeviceFault, Sink};
 
 /// A sink whose bytes may wait in memory until a flush hands them on.
 pub trait Report: Sink {
-    // The bytes that were handed on so far, if the report tells.
+    // The bytes that were handed on so far, if the report's contracts say.
     ghost handed_on: { Self → Option (List ℕ) };
 
     /// Hands on the bytes that wait.

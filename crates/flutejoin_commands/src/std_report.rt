@@ -5,7 +5,7 @@ use crate::report::Report;
 use flute_parts::{DeviceFault, Sink, StdSink};
 use std::io::Write;
 
-/// A report over a writer that buffers, as standard output. It tells contracts nothing of its
+/// A report over a writer that buffers, as standard output. Contracts see none of its
 /// bytes.
 #[derive(Debug, Drop)]
 pub struct StdReport<W> {

@@ -6,20 +6,20 @@ ghost use Rattle.flutejoin.specs.declared.command_fault.CommandFault.{CommandFau
 use flute_parts::Sink;
 use flutejoin::{CommandFault, Text};
 
-/// What a command does with its inputs: it writes an output, and tells of it in some lines.
+/// What a command does with its inputs: it writes an output, and reports its answer in some lines.
 pub trait Work {
     type Answer: Drop;
 
-    // What it writes, from what its sink had taken to what it has, if it answers this.
+    // What it writes, from what its sink had taken to what it has, if it returns this.
     ghost writes: { Self → Self.Answer → Option (List ℕ) → Option (List ℕ) → Type 0 };
 
     // Why it fails.
     ghost fails: { Self → Fault → Type 0 };
 
-    // The lines that tell of an answer.
+    // The lines that report an answer.
     ghost tells: { Self → Self.Answer → List ℕ };
 
-    // What is known of its inputs where it is told that there is no output.
+    // What is known of its inputs if the fault is that there is no output.
     ghost clears: { Self → Type 0 };
 
     /// Does the work.
@@ -36,13 +36,13 @@ pub trait Work {
         ensures cause { IfErr result (λ fault. fault ≡ CannotWrite
             → W.failures sink.new ≡ W.failures sink.old + 1) };
 
-    /// What is told where there is no output, for this reason: a fault of the work that comes
+    /// The fault if there is no output, for this reason: a fault of the work that comes
     /// before that, or the reason.
     fn without_output(&mut self, reason: CommandFault) -> CommandFault
         ensures first { fails self.old result ⊎ ((result ≡ reason) × clears self.old) }
         ensures nothing_failed { result ≡ CannotWrite → reason ≡ CannotWrite };
 
-    /// The lines that tell of an answer.
+    /// The lines that report an answer.
     fn lines(&self, answer: &Self::Answer) -> Text
         ensures { result ≡ tells self.now answer.now };
 }

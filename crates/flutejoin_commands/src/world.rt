@@ -11,7 +11,7 @@ use flutejoin::{Asides, CommandFault, Overwrites};
 
 /// The files of a system, by their names: the inputs of a command, and what it writes.
 ///
-/// The name `-` of an output stands for standard output.
+/// The name `-` of an output means standard output.
 pub trait World: Inputs {
     type Folder: Folder + Drop;
 

@@ -1,4 +1,4 @@
--- Steps in turn, refused or not.
+-- Replicas::drive: steps done in turn, some of them refused (specs/Runs).
 use Rattle.std.proofs.Common.{◌≡◌, ℕ, Bool, true, false, cond, eqb, ◌^◌, min, take, count_by, List}
 use Rattle.std.proofs.Common.{[], ◌∷◌, ◌++◌, refl, sym, ◌∙◌, ap, subst, arith, ◌<◌, ◌≤◌, ◌+◌, ◌-◌}
 use Rattle.std.proofs.Common.{length, ◌⊎◌, inl, inr, zero, suc, Option, Some, None, add-one}
@@ -312,7 +312,8 @@ step_there [] k within = absurd (omega arith)
 step_there (step ∷ steps) zero within = (step, refl)
 step_there (step ∷ steps) (suc k) within = step_there steps k (omega arith)
 
--- where the last step was done, the steps done gave what all steps give; else they and the last step did
+-- if the last step was done, the steps done gave what all steps give; else they and the last step
+-- did
 abbrev Settled : List (List Fact) → List Step → List Bool → (ℕ → List Fact) → ℕ → Type 0
 Settled held steps done origins zero = Unit {0}
 Settled held steps done origins (suc m) =

@@ -1,4 +1,4 @@
--- What replicas hold that were given the same.
+-- Replicas that were given the same hold the same (specs/Laws).
 use Rattle.std.proofs.Common.{◌≡◌, ℕ, List, Option, length, sym, ap, subst, ◌∙◌}
 use Rattle.std.specs.Io.KnownBytes.{Appends}
 use Rattle.flute_parts.specs.declared.key.Key.{Key}
@@ -63,7 +63,7 @@ store_same count steps origins r now F done fits is =
     let P : List Fact → Type 0 = λ G. Same G (known_by count steps origins r) in
     subst P (sym is) (run_leaves count steps origins r now done fits).same
 
--- its journal is that of what the replica was given, and of what any other was given with the same members
+-- its journal is that of the facts the replica was given, and of any with the same members
 pub written_as_given : (old new : Option (List ℕ)) (F K : List Fact) (count : ℕ) → Same F K
     → Appends old new (spelling F) → Journal (spelling F) F → IsRising F → count ≡ length F
     → WritesJournal old new K count
@@ -85,7 +85,7 @@ cut_as_given old new F K bytes same written only journal =
     let P : List ℕ → Type 0 = λ bs. AppendsPart old new bs in
     subst P (sym (only bytes (Journal-of_same bytes K F (Same-sym F K same) journal))) written
 
--- what is told of an object by lists that come to the same
+-- lists with the same values at each address give the same report of an object
 module _ {W : Type 0} (written : W → Option (List ℕ)) (F G : List Fact) (key : Key) (old new : W) (same : Same F G) where
   pub whole-same : (n : ℕ) → WritesWhole written F key old new n → WritesWhole written G key old new n
   whole-same n h =

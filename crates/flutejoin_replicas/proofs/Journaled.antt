@@ -1,4 +1,4 @@
--- Journals that were loaded, or written and read back.
+-- Replicas: journals that were loaded, or written and read back.
 use Rattle.std.proofs.Common.{◌≡◌, ◌≢◌, ℕ, List, [], ◌++◌, refl, sym, ◌∙◌, ap, subst, arith, ◌+◌}
 use Rattle.std.proofs.Common.{length, ◌⊎◌, inl, inr, Option, Some, Err}
 use Rattle.std.specs.Prelude.{IfSome}
@@ -99,7 +99,7 @@ loaded_refused limit before now i old content loaded bs F fault h journal same b
           )))
     ]
 
--- what a reader of known bytes that does not fail answers: want of memory, or the fault of the bytes
+-- a fault of a reader of known bytes that does not fail: no memory, or the fault of the bytes
 abbrev TellsFault : Capacity → List ℕ → ReadFault → Type 0
 TellsFault limit bs f =
     (fault_of_read f ≡ OutOfMemory) ⊎
@@ -196,7 +196,7 @@ not_reopened limit before i old bs left (load.Read f) held written cause other =
           let many = too_many bs old at.1.0 f written at.1.1 in (many.0, rw held many.1)))
     ]
 
--- the bytes that a source told
+-- the bytes that a source is known to have
 
 pub journal_known : (old : Option (List ℕ)) (bs cs : List ℕ) (F : List Fact) → old ≡ Some bs
     → bs ≡ cs → IfSome old (λ bytes. IsJournalOf MAX_ENTRIES bytes F) → IsJournalOf MAX_ENTRIES cs F

@@ -1,4 +1,4 @@
--- What was given in steps, one after the other.
+-- What replicas were given in steps, one after the other (specs/Known).
 use Rattle.std.proofs.Common.{◌≡◌, ℕ, zero, suc, ◌<◌, ◌+◌, Bool, List, length, Option, Some, refl}
 use Rattle.std.proofs.Common.{ap, ◌∙◌, arith, add-one}
 use Rattle.std.proofs.Math.ListN.{set}

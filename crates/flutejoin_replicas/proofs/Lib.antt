@@ -1,3 +1,4 @@
+mod Blobs
 mod Receptions
 mod Places
 mod Outcomes

@@ -53,7 +53,7 @@ pub listed-contains : {X : Type 0} (f : X → List ℕ) (all rest : List X) (x :
     (s t : Option (List ℕ)) → Listed f all (x ∷ rest) s t → Contains all x
 listed-contains f all rest x s t h = subst (λ l. Contains l x) (sym h.split) (contains_at h.done rest x)
 
--- what a write has left, by its answer
+-- what a write has left, by its result
 
 pub all_written : {T E : Type 0} (old new : Option (List ℕ)) (bytes : List ℕ) (r : Result T E)
     → is_err r ≡ false → Writes old new bytes r → Appends old new bytes

@@ -1,4 +1,4 @@
--- Inputs in memory, joined.
+-- join_inputs: inputs in memory, joined (specs/Memory).
 use Rattle.std.proofs.Common.{◌≡◌, ◌≢◌, ℕ, zero, suc, ◌+◌, ◌<◌, ◌≤◌, ◌^◌, List, [], ◌∷◌, ◌++◌}
 use Rattle.std.proofs.Common.{length, Option, Some, inl, inr, refl, sym, ap, ◌∙◌, subst, arith}
 use Rattle.std.proofs.Common.{Result, Ok, Err, is_ok, is_err, false, if◌then◌else◌}
@@ -52,8 +52,9 @@ module _ {R : Type 0} (unread : R → Option (List ℕ)) where
       (k : ℕ) : Type 0 where
     pub as_many : length inputs ≡ k
     pub few : k ≤ length contents
-    pub each : (j : ℕ) (input : JoinInput R) (bytes : List ℕ) → slice_get inputs j ≡ Some input
-        → slice_get contents j ≡ Some bytes → IsInput unread input bytes
+    pub each : (j : ℕ) (input : JoinInput R) (bytes : List ℕ)
+        → slice_get inputs j ≡ Some input → slice_get contents j ≡ Some bytes
+        → IsInput unread input bytes
 
   pub none_opened : (contents : List (List ℕ)) (inputs : List (JoinInput R)) → inputs ≡ []
       → OpenedSoFar contents inputs 0
@@ -102,7 +103,7 @@ module _ {choice : Choice} where
       → JoinToFails choice inputs fault → MemoryFails choice inputs (in_memory fault)
   memory_fails inputs fault (of_source number is first) = inl (ap in_memory is)
   memory_fails inputs fault (of_sink is all) = inl (ap in_memory is)
-  memory_fails inputs fault (of_aside is) = inl (ap in_memory is)
+  memory_fails inputs fault (of_aside is wants) = inl (ap in_memory is)
   memory_fails inputs (UnknownKind number) (of_inputs h) = inr h
   memory_fails inputs (Input number f) (of_inputs h) = read f h
     where
@@ -114,12 +115,14 @@ module _ {choice : Choice} where
   memory_fails inputs OutOfMemory (of_inputs h) = inr h
   memory_fails inputs fault (of_inputs h) = absurd h
 
-  -- the journal that was written is read as what it tells
-  pub joins_of : (inputs : List (List ℕ)) (counts : JoinCounts) (bytes : List ℕ) (store : List Fact)
+  -- reading the journal that was written gives the facts it was written of
+  pub joins_of : (inputs : List (List ℕ)) (counts : JoinCounts) (bytes : List ℕ)
+      (store : List Fact)
       → counts.entries < 2 ^ 64
       → ((bs : List ℕ) (F G : List Fact) → IsJournal bs F → IsJournal bs G → Same F G)
-      → ((bs : List ℕ) (limit : ℕ) (F : List Fact) → limit < 2 ^ 64 → IsJournalOf limit bs F
-      → IsJournal bs F) → JoinsTo choice inputs counts (Some []) (Some bytes)
+      → ((bs : List ℕ) (limit : ℕ) (F : List Fact) → limit < 2 ^ 64
+      → IsJournalOf limit bs F → IsJournal bs F)
+      → JoinsTo choice inputs counts (Some []) (Some bytes)
       → IsJournalOf counts.entries bytes store
       → Joins {s = MAX_SESSIONS} {o = MAX_OBJECTS} {y = MAX_SYMBOLS} choice inputs
       (record { store = store; datagrams = counts.datagrams; refused = counts.refused })

@@ -1,4 +1,4 @@
--- The lines of an object are what its facts say.
+-- gaps_to: the lines of an object are those of its facts.
 use Rattle.std.proofs.Common.{◌≡◌, ℕ, List, [], ◌++◌, Option, Result, sym, ap, ◌∙◌, subst}
 use Rattle.std.specs.List.{flat_map}
 use Rattle.std.specs.Io.KnownBytes.{Appends}
@@ -20,7 +20,7 @@ use Rattle.flutejoin.specs.Lines.{status_line, gap_line}
 use Rattle.flutejoin.specs.Objects.{status_at, gaps_at, object_lines}
 use Rattle.flutejoin.proofs.Public.{status_is}
 
--- what is told of the gaps
+-- the gaps that are listed of an object
 pub gaps_are : (F : List Fact) (key : Key) (left : GapsLeft) → GivesGaps F key left
     → left.gaps ≡ gaps_at F key (fact_at F (info_address key))
 gaps_are F key left h = h.gaps_are ∙ sym (ap (gaps_at F key) h.information)

@@ -1,4 +1,4 @@
--- From what a store did to what a step did.
+-- The outcome of a step, from that of its store (specs/Outcome).
 use Rattle.std.proofs.Common.{◌≡◌, ◌≢◌, ℕ, false, List, [], ◌∷◌, ◌++◌, map, cond, eqb, refl, sym}
 use Rattle.std.proofs.Common.{◌∙◌, ap, subst, arith, ◌<◌, length, get_or, ◌⊎◌, inl, inr, Result, Ok}
 use Rattle.std.proofs.Common.{Err, OnOk, OnErr, IfErr, ◌&&◌, eq-eqb}

@@ -60,7 +60,7 @@ EachBelow-set A B i x y within h below =
       each = each_set Below A B i x y within (omega (arith, h.count)) below (λ r _. h.each r);
     }
 
--- to set what stands there changes nothing
+-- setting an element to its own value changes nothing
 pub set_same : {X : Type 0} → (xs : List X) (i : ℕ) (x : X) → x ≡ get_or xs i x → set xs i x ≡ xs
 set_same xs i x e = ap (set xs i) e ∙ set-get_or xs i x
 

@@ -1,4 +1,4 @@
--- Lists of facts, what stands above them, and their journals.
+-- Lists of facts, facts above them, and their journals.
 use Rattle.std.proofs.Common.{◌≡◌, ◌≢◌, ℕ, List, [], ◌∷◌, ◌++◌, length, None, sym, ap, ◌∙◌, arith}
 use Rattle.std.specs.List.{AllByRecursion}
 use Rattle.flute_parts.specs.declared.address.Address.{Address}
@@ -31,7 +31,7 @@ Below-right F G =
 pub IsOver-below : (F G : List Fact) (c : Capacity) → Below F G → IsOver F c → IsOver G c
 IsOver-below F G c below over = Over-below F G c.sessions c.objects c.symbols below over
 
--- what stands stays where more is told
+-- an address that has a value keeps one if facts are added
 stays : (F G : List Fact) (a : Address) → Below F G → fact_at F a ≢ None → fact_at G a ≢ None
 stays F G a below some none =
     some (sym (joined-none a (fact_at F a)) ∙ ap (joined a (fact_at F a)) (sym none) ∙ sym
@@ -72,7 +72,7 @@ never_both bs entries es f j stops =
     j.are_items.in_order (omega (arith, j.are_items.few)) j.bytes_are stops in
     omega (arith, b.1, j.are_items.few)
 
--- a journal stops its reader behind too many entries alone
+-- a journal stops its reader only after too many entries
 pub too_many : (bs : List ℕ) (F es : List Fact) (f : ReadFault) → IsJournal bs F
     → Stops journal_framing bs MAX_ENTRIES es f → (f ≡ ReadFault.TooMany) × IsLonger F MAX_ENTRIES
 too_many bs F es f (v, journal) stops =
@@ -89,7 +89,7 @@ too_many bs F es f (v, journal) stops =
       },
     )
 
--- where more than so many addresses are told by one of two lists that are the same, they are by the other
+-- if one of two lists with the same values has more than so many addresses, the other has too
 pub IsLonger-same : (F G : List Fact) (limit : ℕ) → Same F G → IsLonger F limit → IsLonger G limit
 IsLonger-same F G limit same h =
     record {
@@ -108,7 +108,7 @@ not_longer F entries bs j same h =
     let n : length h.entries ≡ length entries = ap length e in
     omega (arith, h.many, n, j.are_items.few)
 
--- the entries that a journal begins with tell nothing more than it
+-- a journal that begins with these entries contains their facts
 pub begins_below : (bs : List ℕ) (F es : List Fact) → IsJournal bs F → BeginsWith MAX_ENTRIES bs es
     → Below es F
 begins_below bs F es (v, j) begins =

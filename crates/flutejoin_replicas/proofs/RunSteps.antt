@@ -1,4 +1,4 @@
--- A run so far.
+-- run: the steps done so far (specs/Runs).
 use Rattle.std.proofs.Common.{◌≡◌, ℕ, Bool, true, false, List, [], ◌∷◌, ◌++◌, take, cond, refl, sym}
 use Rattle.std.proofs.Common.{◌∙◌, ap, subst, arith, ◌<◌, ◌≤◌, ◌+◌, ◌-◌, ◌^◌, length, get_or, inl}
 use Rattle.std.proofs.Common.{inr, zero, suc, Some, add-one, min, count_by}

@@ -1,4 +1,4 @@
--- A datagram that was taken, or for which there was no room.
+-- Replica::take: a datagram that was taken, or for which there was no room.
 use Rattle.std.proofs.Common.{◌≡◌, ◌++◌, ◌↔◌, ℕ, List, Result, Ok, Err, IsOk, subst}
 use Rattle.std.specs.List.{AllByRecursion}
 use Rattle.flute_parts.specs.declared.fact.Fact.{Fact}
@@ -38,7 +38,7 @@ pub refused_within : (sender : ℕ) (s o y : ℕ) (old new : List Fact) (d : Lis
 refused_within sender s o y old new d result r applies same is full over =
     let e = full.1 (Over-below new (old ++ facts sender d) s o y (Below-from_Same new (old ++ facts sender d) (refused_same sender old new d r applies same)) over) in cc
 
--- where its facts stand at held addresses, a packet is taken
+-- a packet whose facts are all at held addresses is taken
 abbrev pub TakesHeld : ℕ → List Fact → List ℕ → Result Taken TakeFault → Type 0
 TakesHeld sender old d result = (p : Content) → Spells d p → AllByRecursion (HasCell old) (facts sender d) → IsOk result
 

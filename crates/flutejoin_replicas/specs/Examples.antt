@@ -76,7 +76,8 @@ loading = refl
 -- two values are a conflict, and stay one; steps that name no replica give nothing
 pub conflicting :
     told (known_by 1
-    (Add 0 letter_o ∷ Add 0 padded_o ∷ Add 0 letter_o ∷ Add 7 hell ∷ Merge 0 7 ∷ Merge 7 0 ∷ [])
+    (Add 0 letter_o ∷ Add 0 padded_o ∷ Add 0 letter_o ∷ Add 7 hell ∷ Merge 0 7 ∷ Merge 7 0
+    ∷ [])
     none 0)
     ≡ (None ∷ None ∷ Some (SymbolConflict key (id 1)) ∷ [])
 unfolding known_after fact_at
@@ -85,7 +86,8 @@ conflicting = refl
 -- if some steps are refused, what the others gave
 pub stopping :
     told (held_by
-    (known_of_done (nothing_held 1) (Add 0 hell ∷ Merge 0 1 ∷ Load 0 [] ∷ Add 0 letter_o ∷ [])
+    (known_of_done (nothing_held 1) (Add 0 hell ∷ Merge 0 1 ∷ Load 0 [] ∷ Add 0 letter_o
+    ∷ [])
     (true ∷ false ∷ false ∷ true ∷ []) loaded)
     0)
     ≡ (None ∷ Some hell ∷ Some letter_o ∷ [])
@@ -95,9 +97,10 @@ stopping = refl
 -- a datagram with the first symbol, and one of three bytes, which is refused and counted
 abbrev taking : List Step
 taking =
-    Take 0 0 (0x10 ∷ 0xA0 ∷ 0x04 ∷ 0x00 ∷ 0x00 ∷ 0x00 ∷ 0x00 ∷ 0x00 ∷ 0x00 ∷ 0x00 ∷ 0x00 ∷ 0x07
-    ∷ 0x00 ∷ 0x00 ∷ 0x00 ∷ 0x01 ∷ 0x00 ∷ 0x00 ∷ 0x00 ∷ 0x00 ∷ 0x68 ∷ 0x65 ∷ 0x6C ∷ 0x6C ∷ [])
-    ∷ Take 0 0 (0x10 ∷ 0xA0 ∷ 0x00 ∷ []) ∷ Merge 1 0 ∷ []
+    Take 0 0 (0x10 ∷ 0xA0 ∷ 0x04 ∷ 0x00 ∷ 0x00 ∷ 0x00 ∷ 0x00 ∷ 0x00 ∷ 0x00 ∷ 0x00
+    ∷ 0x00 ∷ 0x07 ∷ 0x00 ∷ 0x00 ∷ 0x00 ∷ 0x01 ∷ 0x00 ∷ 0x00 ∷ 0x00 ∷ 0x00
+    ∷ 0x68 ∷ 0x65 ∷ 0x6C ∷ 0x6C ∷ []) ∷ Take 0 0 (0x10 ∷ 0xA0 ∷ 0x00 ∷ [])
+    ∷ Merge 1 0 ∷ []
 
 pub taken : known_by 2 taking none 1 ≡ (hell ∷ [])
 unfolding known_after facts packet extensions_in

@@ -15,8 +15,8 @@ held_after_next held (Some step) origin = held_after_step held step origin
 
 -- what each replica was given in the first n steps, beginning with what it held;
 -- origins has a list for each step
-unfoldable pub known_after : List (List Fact) → (ℕ → Option Step) → (ℕ → List Fact) → ℕ
-    → List (List Fact)
+unfoldable pub known_after : List (List Fact) → (ℕ → Option Step) → (ℕ → List Fact)
+    → ℕ → List (List Fact)
 known_after held steps origins zero = held
 known_after held steps origins (suc n) =
     held_after_next (known_after held steps origins n) (steps n) (origins n)

@@ -1,3 +1,4 @@
+pub mod Blob
 pub mod Held
 pub mod Steps
 pub mod Known

@@ -48,7 +48,8 @@ pub record IsDone (capacity : Capacity) (before : Held) (step : Step) (now : Hel
   pub content : (origin : List Fact) → FitsStep step origin
       → EachSame (held_after_step before.contents step origin) now.contents
   -- the replicas that the step does not change are as they were
-  pub others : (r : ℕ) → r ≢ target_of step → held_by now.contents r ≡ held_by before.contents r
+  pub others : (r : ℕ) → r ≢ target_of step → held_by now.contents r
+      ≡ held_by before.contents r
   -- refused datagrams are counted
   pub refused : CountsRefused step before.refused now.refused
   -- the replica changed is within its capacity
@@ -106,7 +107,8 @@ pub record IsRefused (capacity : Capacity) (before : Held) (step : Step) (now : 
   -- nothing came but what the step gives
   pub no_more : (origin : List Fact) → FitsStep step origin
       → EachBelow now.contents (held_after_step before.contents step origin)
-  pub others : (r : ℕ) → r ≢ target_of step → held_by now.contents r ≡ held_by before.contents r
+  pub others : (r : ℕ) → r ≢ target_of step → held_by now.contents r
+      ≡ held_by before.contents r
   pub refused : now.refused ≡ before.refused
   pub unchanged : IsHarmless step fault → now ≡ before
 
@@ -116,7 +118,8 @@ abbrev pub NeedsNothing : List (List Fact) → Step → Type 0
 NeedsNothing held (Take replica sender datagram) =
     (replica < length held)
     × AllByRecursion (HasCell (held_by held replica)) (facts sender datagram)
-NeedsNothing held (Add replica fact) = (replica < length held) × HasCell (held_by held replica) fact
+NeedsNothing held (Add replica fact) = (replica < length held)
+    × HasCell (held_by held replica) fact
 NeedsNothing held (Merge into from) = (into < length held) × (into ≡ from)
 NeedsNothing held (Load replica journal) = ⊥
 NeedsNothing held (Reopen replica) = ⊥

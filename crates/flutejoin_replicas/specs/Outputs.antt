@@ -48,12 +48,14 @@ IsOutputNeed count steps _ = ⊤
 
 -- Whatever other steps give a replica q the same facts, in whatever order, however often,
 -- by whatever merges and journals: its journal is what was written of replica r.
-abbrev pub WritesAsOthers : ℕ → List Step → ℕ → Option (List ℕ) → Option (List ℕ) → Type 0
+abbrev pub WritesAsOthers : ℕ → List Step → ℕ → Option (List ℕ) → Option (List ℕ)
+    → Type 0
 WritesAsOthers count steps r old new =
-    (m : ℕ) (others : List Step) (q : ℕ) (origins further : ℕ → List Fact) → Fits steps origins
+    (m : ℕ) (others : List Step) (q : ℕ) (origins further : ℕ → List Fact)
+    → Fits steps origins
     → Fits others further
-    → SameMembers (known_by count steps origins r) (known_by m others further q) → (bytes : List ℕ)
-    → Journal bytes (known_by m others further q) → Appends old new bytes
+    → SameMembers (known_by count steps origins r) (known_by m others further q)
+    → (bytes : List ℕ) → Journal bytes (known_by m others further q) → Appends old new bytes
 
 -- how often the sink failed in a call with this result: once, if it is a failure of the sink
 abbrev pub output_failed : {T : Type 0} → Result T OutputFault → ℕ

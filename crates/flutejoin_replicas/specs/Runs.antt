@@ -22,7 +22,8 @@ new_held count = record { contents = nothing_held count; refused = replicate cou
 -- a run of all the steps on new replicas
 pub record IsRunDone (count : ℕ) (steps : List Step) (now : Held) : Type 0 where
   pub as_many : length now.contents ≡ count
-  pub named : (k : ℕ) (step : Step) → slice_get steps k ≡ Some step → NamesReplicas count step
+  pub named : (k : ℕ) (step : Step) → slice_get steps k ≡ Some step
+      → NamesReplicas count step
   pub journals : (k : ℕ) (step : Step) → slice_get steps k ≡ Some step
       → LoadsJournal MAX_ENTRIES step
   -- each replica has what it was given, whichever lists the journals are of
@@ -47,8 +48,8 @@ HasNoCause capacity held step origin =
 pub record IsFirstWithCause (capacity : Capacity) (count : ℕ) (steps : List Step) (k : ℕ)
     (fault : StepFault) : Type 0 where
   pub cause : HasCauseAt capacity count steps k fault
-  pub none_before : (origins : ℕ → List Fact) → Fits steps origins → (j : ℕ) (step : Step) → j < k
-      → slice_get steps j ≡ Some step
+  pub none_before : (origins : ℕ → List Fact) → Fits steps origins → (j : ℕ) (step : Step)
+      → j < k → slice_get steps j ≡ Some step
       → HasNoCause capacity (known_after (nothing_held count) (slice_get steps) origins j) step
       (origins j)
 
@@ -72,8 +73,8 @@ pub record IsDriven (before : Held) (steps : List Step) (done : List Bool)
   pub as_many : length now.contents ≡ length before.contents
   -- a step that was done names replicas that are there, and a `Load` read a journal
   -- within the bound
-  pub named : (k : ℕ) (step : Step) → slice_get steps k ≡ Some step → slice_get done k ≡ Some true
-      → NamesReplicas (length before.contents) step
+  pub named : (k : ℕ) (step : Step) → slice_get steps k ≡ Some step
+      → slice_get done k ≡ Some true → NamesReplicas (length before.contents) step
   pub journals : (k : ℕ) (step : Step) → slice_get steps k ≡ Some step
       → slice_get done k ≡ Some true → LoadsJournal MAX_ENTRIES step
   -- a step that takes no memory, by what was held at first or what the steps done before

@@ -39,7 +39,8 @@ fn write_object<W: Sink>(sink: &mut W, shelf: &Shelf, key: &Key) -> Result<(), D
     requires held { HoldsObject shelf.now key.now }
     ensures lines { Writes (W.written sink.old) (W.written sink.new)
         (object_lines shelf.now key.now) result }
-    ensures failures { W.failures sink.new ≡ W.failures sink.old + (if is_ok result then 0 else 1) }
+    ensures failures { W.failures sink.new ≡ W.failures sink.old
+        + (if is_ok result then 0 else 1) }
 {
     let status = shelf.status(key).unwrap();
     write_status(sink, key, status)?;
@@ -52,7 +53,8 @@ fn write_object<W: Sink>(sink: &mut W, shelf: &Shelf, key: &Key) -> Result<(), D
 fn write_status<W: Sink>(sink: &mut W, key: &Key, status: Status) -> Result<(), DeviceFault>
     ensures line { Writes (W.written sink.old) (W.written sink.new)
         (status_line key.now status) result }
-    ensures failures { W.failures sink.new ≡ W.failures sink.old + (if is_ok result then 0 else 1) }
+    ensures failures { W.failures sink.new ≡ W.failures sink.old
+        + (if is_ok result then 0 else 1) }
 {
     write_words(sink, status_text(key, status))
 }
@@ -60,7 +62,8 @@ fn write_status<W: Sink>(sink: &mut W, key: &Key, status: Status) -> Result<(), 
 fn write_gaps<W: Sink>(sink: &mut W, mut gaps: Gaps<'_>) -> Result<(), DeviceFault>
     ensures lines { Writes (W.written sink.old) (W.written sink.new)
         (flat_map gap_line gaps.entry.gaps) result }
-    ensures failures { W.failures sink.new ≡ W.failures sink.old + (if is_ok result then 0 else 1) }
+    ensures failures { W.failures sink.new ≡ W.failures sink.old
+        + (if is_ok result then 0 else 1) }
 {
     while let Some(gap) = next_of(&mut gaps) {
         write_gap(sink, &gap)?;
@@ -77,7 +80,8 @@ fn next_of(gaps: &mut Gaps<'_>) -> Option<Gap>
 
 fn write_gap<W: Sink>(sink: &mut W, gap: &Gap) -> Result<(), DeviceFault>
     ensures line { Writes (W.written sink.old) (W.written sink.new) (gap_line gap.now) result }
-    ensures failures { W.failures sink.new ≡ W.failures sink.old + (if is_ok result then 0 else 1) }
+    ensures failures { W.failures sink.new ≡ W.failures sink.old
+        + (if is_ok result then 0 else 1) }
 {
     write_words(sink, gap_text(gap))
 }

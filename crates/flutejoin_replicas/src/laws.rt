@@ -20,8 +20,8 @@ pub fn the_same_facts_make_the_same()
     ensures same { (F G : List Known) → GivenTheSame F G → Same F G }
     ensures journal { (F G : List Known) (bs : List ℕ) → GivenTheSame F G
         → Journal bs F → Journal bs G }
-    ensures one_journal { (F G : List Known) (bs cs : List ℕ) → GivenTheSame F G → Journal bs F
-        → Journal cs G → bs ≡ cs }
+    ensures one_journal { (F G : List Known) (bs cs : List ℕ) → GivenTheSame F G
+        → Journal bs F → Journal cs G → bs ≡ cs }
     ensures whole { (F G : List Known) (key : Name) (info : Information) → GivenTheSame F G
         → Whole F key info → Whole G key info }
     ensures bytes { (F G : List Known) (key : Name) (info : Information) → GivenTheSame F G
@@ -35,12 +35,14 @@ pub fn the_same_facts_make_the_same()
 pub fn runs_leave_what_was_given()
     ensures { (n m : ℕ) (steps others : List Doing) (origins further : ℕ → List Known)
         (r q : ℕ) (now then : Held)
-        → IsRunDone n steps now → IsRunDone m others then → Fits steps origins → Fits others further
+        → IsRunDone n steps now → IsRunDone m others then → Fits steps origins
+        → Fits others further
         → SameMembers (known_by n steps origins r) (known_by m others further q)
         → GivenTheSame (held_by now.contents r) (held_by then.contents q) }
 {}
 
 /// Replicas with equal journals hold the same.
 pub fn equal_journals_mean_one_content()
-    ensures { (F G : List Known) (bs : List ℕ) → IsJournal bs F → IsJournal bs G → Same F G }
+    ensures { (F G : List Known) (bs : List ℕ) → IsJournal bs F → IsJournal bs G
+        → Same F G }
 {}

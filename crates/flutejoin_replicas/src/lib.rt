@@ -15,6 +15,7 @@
 //! ```
 #![tactic(auto)]
 
+mod blob;
 mod gaps;
 pub mod laws;
 mod loaded_shelf;
@@ -26,6 +27,7 @@ mod runs;
 mod saved_shelf;
 mod steps;
 
+pub use blob::{Blob, BlobFault};
 pub use gaps::gaps_to;
 pub use loaded_shelf::load;
 pub use memory_inputs::join_inputs;

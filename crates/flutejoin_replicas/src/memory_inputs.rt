@@ -4,12 +4,13 @@ ghost use Rattle.flutejoin.specs.Joined.{everything};
 ghost use Rattle.flutejoin.specs.Joining.{JoinsTo};
 ghost use Rattle.flutejoin_replicas.specs.Memory.{Joins, in_memory, MemoryFails};
 
+use crate::blob::Blob;
 use crate::no_asides::NoAsides;
 use flute_journal::laws::{a_journal_has_one_content, a_journal_within_a_bound_is_one};
 use flute_journal::{ReadFault, Scope, read_store};
 use flute_parts::{MemorySink, MemorySource, Sender, Sink};
 use flutejoin::{
-    Blob, CommandFault, JoinCounts, JoinInput, Joined, JoinedShelf, MAX_OBJECTS, MAX_SESSIONS,
+    CommandFault, JoinCounts, JoinInput, Joined, JoinedShelf, MAX_OBJECTS, MAX_SESSIONS,
     MAX_SYMBOLS, join_to,
 };
 use std::alloc::Global;
@@ -56,7 +57,8 @@ fn join_blobs(
 ) -> Result<JoinCounts, CommandFault>
     requires { length inputs.now ≤ 64 }
     ensures joined { IfOk result (λ counts. JoinsTo (everything sender) inputs.now counts
-        (⟦<MemorySink as Sink>⟧.written sink.old) (⟦<MemorySink as Sink>⟧.written sink.new)) }
+        (⟦<MemorySink as Sink>⟧.written sink.old)
+        (⟦<MemorySink as Sink>⟧.written sink.new)) }
     ensures failed { IfErr result (MemoryFails (everything sender) inputs.now) }
 {
     let mut opened = Vec::new(alloc);

@@ -18,13 +18,14 @@ ghost use Rattle.flutejoin_replicas.specs.declared.steps.Step.TheVariants as doi
 ghost use Rattle.flutejoin_replicas.specs.declared.steps.StepFault.TheVariants as faults;
 ghost use Rattle.flute_join.specs.declared.refusal.JoinRefusal.TheVariants as refusals;
 
+use crate::blob::Blob;
 use crate::steps::{Step, StepFault};
 use flute_join::JoinRefusal;
 use flute_journal::{read_store, write_store};
 use flute_parts::{Fact, MemorySink, MemorySource, Sender};
 use flute_store::{Store, TakeFault};
 use flute_wire::{Datagram, one_reading};
-use flutejoin::{Blob, MAX_ENTRIES};
+use flutejoin::MAX_ENTRIES;
 use std::alloc::Global;
 use std::marker::Model;
 use std::mem;

@@ -1,10 +1,10 @@
 //! What replicas are to do.
 
+use crate::blob::Blob;
 use flute_join::JoinRefusal;
 use flute_journal::{LoadFault, ReadFault};
 use flute_parts::{Fact, Sender};
 use flute_wire::Datagram;
-use flutejoin::Blob;
 use thiserror::Error;
 
 /// One thing that is done to replicas. Replicas are numbered from 0.

@@ -1,4 +1,4 @@
--- Where one packet of an object can be written, and those before it, all can.
+-- carousel: if one packet of an object can be written, all can.
 use Rattle.std.proofs.Common.{◌≡◌, ℕ, zero, suc, ◌+◌, ◌-◌, ◌*◌, ◌^◌, ◌<◌, ◌≤◌, min, max, inl}
 use Rattle.std.proofs.Common.{inr, List, [], ◌∷◌, ◌++◌, length, take, drop, Bool, true, false, cond}
 use Rattle.std.proofs.Common.{leb, ltb, Option, Some, None, refl, sym, ap, subst, ◌∙◌, arith}

@@ -1,4 +1,4 @@
--- What is told of an object whose packets were sent.
+-- carousel: what send_to returns after the packets of an object were sent (specs/Carousel).
 use Rattle.std.proofs.Common.{◌≡◌, ℕ, inl, inr, Bool, List, ◌++◌, length, cond, Option, Some}
 use Rattle.std.proofs.Common.{None, Result, Ok, Err, IfErr, refl, sym, ap, subst, ◌∙◌, arith}
 use Rattle.std.proofs.Common.{length-append}
@@ -55,7 +55,7 @@ module _ (input mid old now : Option (List ℕ)) (left : ℕ) where
   Sent key i size sent = UnlessRead sent (ReadsOf input mid size left)
       × OfSize input size (λ content. SendsPackets (packets_of key i content) old now sent)
 
-  -- so it is by the values of which others were made
+  -- the same for equal values of the key, the information and the size
   pub sent_same : (k key : Key) (j i : Information) (n size : ℕ) (sent : Result ℕ CommandFault)
       → (k ≡ key) × (j ≡ i) × (n ≡ size) → Sent k j n sent → Sent key i size sent
   sent_same k key j i n size sent e s =
@@ -82,6 +82,8 @@ module _ (key : Key) (symbol block size : ℕ) (i : Information)
         p.2,
       )
 
+  -- the first packet with a fault is why an object of its own length is not sent; if none has one,
+  -- it could be sent
   not_sent : (content : List ℕ) (fault : WriteFault) → length content ≡ size
       → first_object_fault (packets_of key i content) ≡ Some fault
       → carousel_fault key (info_of symbol block content) content ≡ Some (Write fault)
@@ -110,6 +112,7 @@ module _ (key : Key) (symbol block size : ℕ) (i : Information)
     abbrev pub IsSent : Result ℕ CommandFault → Type 0
     IsSent = Sent input mid old now left key i size
 
+    -- what send_to returns: all was sent; a failed write; a fault
     pub told_sent : (result sent : Result ℕ CommandFault) → Ends mid left sent result → IsSent sent
         → IfOk result (λ n. SendsInput input key symbol block n old now)
     told_sent (Err e) sent ends s = tt

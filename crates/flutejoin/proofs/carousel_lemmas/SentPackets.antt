@@ -1,4 +1,4 @@
--- The packets of an object, which are sent one after another.
+-- carousel: the packets of an object, by their numbers (flute_wire: specs/Carousel).
 use Rattle.std.proofs.Common.{◌≡◌, ℕ, zero, suc, ◌+◌, ◌==◌, ◌<◌, ◌≤◌, max, min, inl, inr, List}
 use Rattle.std.proofs.Common.{[], ◌∷◌, ◌++◌, length, map, take, drop, Bool, true, false, cond}
 use Rattle.std.proofs.Common.{Option, Some, None, Result, Ok, Err, refl, sym, ap, subst, ◌∙◌, arith}
@@ -63,7 +63,7 @@ taken u v bytes rest left size known whole read count =
               )
         ]
 
--- ---- which packet stands where
+-- ---- which packet has which number
 
 -- the element at a place, with the place
 with_place : {X : Type 0} (n : ℕ) (xs : List X) (k : ℕ)
@@ -89,6 +89,7 @@ symbol_there i content k =
     twice (Some id) =
         let e : 0 + k ≡ k = omega arith in ap (λ (m : ℕ). Some (id, piece i content m)) e
 
+-- how many symbols, payloads and packets an object has
 length-symbols_of : (i : Information) (content : List ℕ)
     → length (symbols_of i content) ≡ length (ids i)
 unfolding symbols_of
@@ -133,6 +134,7 @@ wrapped [] k h = absurd (omega (arith, h))
 wrapped (x ∷ xs) zero h = refl
 wrapped (x ∷ xs) (suc k) h = wrapped xs k (omega (arith, h))
 
+-- payload k and packet k of an object
 payload_there : (i : Information) (content : List ℕ) (k : ℕ) → IsValid i
     → k < max (length (ids i)) 1
     → slice_get (payloads_of i content) k ≡ Some (slice_get (symbols_of i content) k)

@@ -1,4 +1,4 @@
--- How often the source of an object failed that is sent.
+-- carousel: how often the source of an object's content failed (specs/Sending: ReadFailures).
 use Rattle.std.proofs.Common.{◌≡◌, ℕ, ◌+◌, ◌==◌, ◌<◌, ◌≤◌, inl, inr, true, false}
 use Rattle.std.proofs.Common.{List, [], length, Option, Some, None, Result, Ok, Err, IfErr}
 use Rattle.std.proofs.Common.{sym, ap, subst, ◌∙◌, arith, length-append}
@@ -116,7 +116,7 @@ tells_more (Some x) (Some y) (Some z) part size left r p h = λ e.
       r.counted,
     ))
 
--- ---- what is told in the end
+-- ---- failures of the source once all packets were sent
 
 module _ (before old new size left : ℕ) (u v : Option (List ℕ)) where
   goes_on : (result : Result ℕ CommandFault) → old ≡ before → ReadsOf u v size left

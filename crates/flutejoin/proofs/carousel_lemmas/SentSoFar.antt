@@ -1,4 +1,4 @@
--- How far an object was sent.
+-- send_symbols: how far an object was sent (specs/Sending).
 use Rattle.std.proofs.Common.{◌≡◌, ℕ, ◌+◌, ◌*◌, ◌==◌, ◌<◌, max, inl, inr, List, [], ◌∷◌}
 use Rattle.std.proofs.Common.{◌++◌, length, take, drop, Bool, true, false, cond, Option, Some, None}
 use Rattle.std.proofs.Common.{Err, refl, sym, ap, subst, ◌∙◌, arith}
@@ -107,6 +107,7 @@ module _ (key : Key) (i : Information) (content : List ℕ) where
         (let e : 0 ≡ 0 * i.symbol_length = omega arith in e);
   }
 
+  -- One packet more: it was sent, or it was not.
   module _ (valid : IsValid i) (place : ℕ) (within : place < max (length (ids i)) 1) where
     abbrev pub packet : Content
     packet = packet_with key i place (piece i content place)
@@ -156,6 +157,7 @@ module _ (key : Key) (i : Information) (content : List ℕ) where
     fails_at CannotWrite whole s (inr h) = absurd h
     fails_at _ whole s h = tt
 
+  -- All packets were sent, or the sink failed.
   module _ (valid : IsValid i) (count : ℕ) (all : count ≡ max (length (ids i)) 1) where
     whole : take count (packets_of key i content) ≡ packets_of key i content
     whole = take_all count (packets_of key i content)
@@ -184,9 +186,9 @@ module _ (key : Key) (i : Information) (content : List ℕ) where
           subst (AppendsPart old now) is s.grown,
         )
 
--- ---- what is told
+-- ---- results with a fault
 
--- what holds unless the input cannot be read, of another answer
+-- what holds of a fault unless it says that the input can't be read, for another result type
 pub unless_on : (S T P Q : Type 0) (f : CommandFault) → (P → Q)
     → UnlessRead {T = S} (Err f) P → UnlessRead {T = T} (Err f) Q
 unless_on S T P Q (Input n f) go p = tt

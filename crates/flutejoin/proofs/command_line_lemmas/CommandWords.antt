@@ -1,4 +1,4 @@
--- Words of the command line.
+-- Words of the command line, and what they are looked up as (specs/Options).
 use Rattle.std.proofs.Common.{◌≡◌, ◌<◌, ◌≤◌, ◌^◌, ℕ, Bool, true, false, ◌&&◌, List, [], length, map}
 use Rattle.std.proofs.Common.{Option, Some, None, option_map, unwrap_or, nat_lt, nat_le, Result, Ok}
 use Rattle.std.proofs.Common.{Err, Bor, refl, sym, ap, ap₂, ◌∙◌, rules, true≢false}
@@ -25,7 +25,7 @@ use Rattle.clap.proofs.WalkLemmas.{raw_values-rows}
 use Rattle.flutejoin.specs.Options.{found_rows, is_numeral, number_in, times_of, words}
 use Rattle.flutejoin.specs.Sizes.{ends_in}
 
--- the default stands for no word
+-- the value of `unwrap_or` for an option's word: the word, or the default if there is none
 pub word_or : (found : Option (Bor (List ℕ))) (default : Bor (List ℕ)) →
     (unwrap_or found default).now ≡ unwrap_or (option_map (λ (w : Bor (List ℕ)). w.now) found)
     default.now
@@ -107,7 +107,8 @@ unfolding number_in
 no_number text is = rw is refl
 
 -- a text that does not end in a letter has not that suffix
-pub not_ended : (letter : ℕ) (text : List ℕ) → ((front : List ℕ) → text ≢ front ++ (letter ∷ []))
+pub not_ended : (letter : ℕ) (text : List ℕ)
+    → ((front : List ℕ) → text ≢ front ++ (letter ∷ []))
     → ends_in (letter ∷ []) text ≡ false
 not_ended letter text none = elim (cases_Bool (ends_in (letter ∷ []) text)) [
   | inl t ↦ absurd (none _ ((ends_is Decides-eqb text (letter ∷ []) _ refl).0 t))

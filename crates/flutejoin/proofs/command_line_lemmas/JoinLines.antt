@@ -1,6 +1,6 @@
--- The line of a join, and why there is none.
+-- join_of: the line of a join, and why there is none (specs/CommandLine).
 use Rattle.std.proofs.Common.{◌≡◌, ℕ, List, length, map, Bor, None, false, inl, inr, sym, ap, ◌∙◌}
-use Rattle.std.proofs.Common.{codes, true}
+use Rattle.std.proofs.Common.{codes}
 use Rattle.std.specs.Prelude.{Some, is_some}
 use Rattle.std.proofs.lemmas.List.{length-map}
 use Rattle.clap.specs.Walk.{Row}

@@ -1,4 +1,4 @@
--- How the parser is told the commands, and that its clauses hold of what it is told.
+-- Adding commands and arguments to the parser, and that its clauses hold of what was added.
 use Rattle.std.proofs.Common.{◌≡◌, List, [], ◌∷◌, ◌++◌, true, ◌||◌, Result, Ok, Err, IfOk}
 use Rattle.std.proofs.Common.{MatchResult, inl, inr, refl, ap, ap₂, ◌∙◌}
 use Rattle.std.specs.Prelude.{IsErrAnd}
@@ -60,7 +60,7 @@ refused : (app : App) (words : List Text) (read : Result ArgMatches Error) → a
 unfolding refusals_of
 refused app words read is has = rw (← is) (has (ap is_simple_and_free is ∙ is_free_program))
 
--- what is told of that
+-- the fault that is returned for an error of the parser
 told_of : (words : List Text) (error : Error) (fault : CommandFault) → HasKind (refusals_of words)
     error → IsParserFault error fault → IsRefusal words fault
 told_of words error (CommandLine told) has is = rw is.0

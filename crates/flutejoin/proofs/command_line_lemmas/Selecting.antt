@@ -1,4 +1,4 @@
--- What the options of a command select, and why they select nothing.
+-- selection: what the options of a command select, and their faults (specs/Selecting).
 use Rattle.std.proofs.Common.{◌≡◌, ℕ, ◌+◌, ◌^◌, true, false, List, [], length, arith}
 use Rattle.std.proofs.Common.{Option, Some, None, codes, refl, sym, ap, inl, inr}
 use Rattle.std.specs.Prelude.{is_some, unwrap_or}
@@ -31,6 +31,7 @@ module _ (rows : List Row) where
   has_instance None e t = absurd (let p = rw e at t in cc)
   has_instance (Some instance) is t = number_there (codes "fdt") (2 ^ 20) rows instance is
 
+  -- numbers, a symbol and an object that are right
   pub right_numbers : (numbers : ObjectNumbers) → AreNumbersOf rows numbers
       → first_wrong (object_options rows) rows ≡ None
   right_numbers numbers are = elim (cases_Bool (is_some (first_of (codes "toi") rows))) [
@@ -57,6 +58,7 @@ module _ (rows : List Row) where
       go (Some text) t e = ap is_some e
 
   module _ (tsis : List ℕ) (sessions : HasSessions rows tsis) where
+    -- the fault of a wrong object, symbol or key
     pub wrong_object : (fault : CommandFault) → IsNumbersFault rows fault
         → IsSelectionFault rows fault
     wrong_object (BadNumber name) wrong = of_object tsis sessions wrong

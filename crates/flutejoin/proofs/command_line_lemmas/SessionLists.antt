@@ -1,4 +1,4 @@
--- The sessions that several words name.
+-- sessions_of: the sessions that several words name (specs/Options: HasSessions).
 use Rattle.std.proofs.Common.{◌≡◌, ◌<◌, ◌≤◌, ◌^◌, ◌+◌, ℕ, Bool, false, List, [], ◌∷◌, ◌++◌, length}
 use Rattle.std.proofs.Common.{take, map, get_or, Some, Bor, refl, sym, ap, ap₂, ◌∙◌, arith}
 use Rattle.std.specs.List.{list_all}

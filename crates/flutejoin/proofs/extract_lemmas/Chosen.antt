@@ -1,4 +1,4 @@
--- The facts of one object are taken all, or none.
+-- A choice takes all facts of an object, or none (specs/Joined: Choice).
 use Rattle.std.proofs.Common.{◌≡◌, ℕ, Bool, true, false, not, List, [], ◌∷◌, ◌++◌, Option, Some}
 use Rattle.std.proofs.Common.{None, refl, sym, ap, ◌∙◌}
 use Rattle.flute_parts.specs.Addresses.{address}

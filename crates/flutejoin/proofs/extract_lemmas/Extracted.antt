@@ -1,4 +1,4 @@
--- What is written of an object, by the entries of a journal that passed.
+-- extract_to: what was written of an object, by the entries that were read (specs/Extract).
 use Rattle.std.proofs.Common.{◌≡◌, ℕ, ◌+◌, Bool, true, false, List, [], ◌∷◌, ◌++◌, length, Option, Some, None, Result, Ok, Err, inl, inr, refl, sym, ◌∙◌, subst, append-nil, arith}
 use Rattle.std.specs.Prelude.{◌⊎◌, IfSome, IfErr}
 use Rattle.std.specs.Io.KnownBytes.{Appends}
@@ -54,6 +54,7 @@ begins_at (Some x) (Some z) state (e ∷ es) s =
 
 module _ {a b d : ℕ} {u v w : Option (List ℕ)} {from to : ReaderState Before} {tally : Tally a b d}
     {writer : ObjectWriter} {s t : Option (List ℕ)} (p : Passing u v from tally writer s t) where
+  -- one entry more, a fault of the journal, an entry over the limits, and the end
   pub passing-next : (f : Fact) (next : Tally a b d) (new : ObjectWriter)
       (t' : Option (List ℕ)) → GivesItem journal_framing MAX_ENTRIES from to v w f
       → ((F : List Fact) → IsRising (F ++ f ∷ []) → Counts a b d F tally
@@ -118,7 +119,7 @@ module _ {a b d : ℕ} {u v w : Option (List ℕ)} {from to : ReaderState Before
         ended = (journal, end.at_end, p.counts.within);
       }
 
--- What a reader gave.
+-- What a call of the reader gave.
 
 pub given-fault : (limit bound : ℕ) (v w : Option (List ℕ)) (old new : ReaderState Before)
     (f : ReadFault) → bound ≡ limit → GivesFault journal_framing bound old new v w f
@@ -132,7 +133,7 @@ pub given-end : (bound : ℕ) (v w : Option (List ℕ)) (old new : ReaderState B
 given-end bound v w old new given e h =
     subst (λ (o : Option Fact). Gives journal_framing bound old new v w (Ok o)) e h
 
--- What the command answers.
+-- What the command returns.
 
 pub of_source : {R : Type 0} {most : Limits} (unread : R → Option (List ℕ)) (x y : R) (left :
     Option (List ℕ))
@@ -146,7 +147,7 @@ if_err (Ok n) X x = tt
 if_err (Err f) X x = x
 
 module _ {W : Type 0} (written : W → Option (List ℕ)) (key : Key) (old new : W) where
-  -- as with the sink
+  -- a result stated of the bytes is one stated of the sink
   pub lifted : (F : List Fact) (what : Found) (r : Result ℕ CommandFault)
       → Extracts (λ x. x) F key (written old) (written new) r → IfErr r (TellsUntouched what)
       → (WritesNothing what → new ≡ old) → Extracts written F key old new r
@@ -167,7 +168,7 @@ module _ {W : Type 0} (written : W → Option (List ℕ)) (key : Key) (old new :
       record { info = h.info; whole = h.whole; bytes = h.bytes }
   lifted F what (Err fault) h t same = absurd h
 
-  -- the same of all that comes to the same
+  -- facts with the same values at each address give the same result
   pub alike : (F G : List Fact) (r : Result ℕ CommandFault) → Same F G
       → Extracts written F key old new r → Extracts written G key old new r
   alike F G (Ok n) same h =
@@ -218,7 +219,7 @@ module _ {W : Type 0} (written : W → Option (List ℕ)) (key : Key) (old new :
   answered input left F (Err Full) P h o = absurd h
   answered input left F (Err fault) P h o = o
 
-  -- what is told by facts that are told the same
+  -- the result for the journal's facts, and for any facts with the same values
   pub record Answers (most : Limits) (input left : Option (List ℕ))
       (r : Result ℕ CommandFault) : Type 0 where
     pub extracts : AnswersFrom most input left (λ F. Extracts written F key old new r) r
@@ -227,12 +228,14 @@ module _ {W : Type 0} (written : W → Option (List ℕ)) (key : Key) (old new :
         (λ F. Same F others → Extracts written others key old new r) r
     pub reads : (n m : ℕ) → m ≡ n → FailsToRead n m r
 
+  -- a result that the writer gives has no failure of the source
   read_none : (F : List Fact) (r : Result ℕ CommandFault) → Extracts written F key old new r
       → (n m : ℕ) → m ≡ n → FailsToRead n m r
   read_none F (Ok n) h k m e = e
   read_none F (Err (Input number fault)) h k m e = absurd h
   read_none F (Err fault) h k m e = e
 
+  -- the result that the writer gives once the journal was read
   pub answers : {most : Limits} (input left : Option (List ℕ)) (writer : ObjectWriter)
       (x : Unit {0}) (r : Result ℕ CommandFault)
       → PassesAll most input left writer (written old) (written new) (Ok x)

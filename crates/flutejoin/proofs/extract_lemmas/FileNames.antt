@@ -1,4 +1,4 @@
--- The name of an object as a file, piece by piece.
+-- extract --all: the file name of an object, piece by piece (specs/FileNames).
 use Rattle.std.proofs.Common.{◌≡◌, ℕ, List, [], ◌++◌, codes, decimal, ap, ◌∙◌, append_assoc}
 use Rattle.std.specs.Int.{bytes_high_first}
 use Rattle.hex.specs.Hex.{encode_lower}

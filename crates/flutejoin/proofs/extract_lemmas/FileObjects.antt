@@ -1,4 +1,4 @@
--- The files of objects, whose facts come in the order of their addresses.
+-- ObjectFiles: the files of objects, whose facts come in rising order (specs/ObjectFiles).
 use Rattle.std.proofs.Common.{◌≡◌, ℕ, ◌+◌, Bool, true, false, List, [], ◌∷◌, ◌++◌, length, take}
 use Rattle.std.proofs.Common.{Option, Some, None, Result, Ok, Err, refl, sym, ap, ◌∙◌, subst, inl}
 use Rattle.std.proofs.Common.{inr, append_assoc}
@@ -58,7 +58,7 @@ use Rattle.flutejoin.proofs.gaps_lemmas.ObjectsListed.{sorted_more, wants_same, 
 use Rattle.flutejoin.proofs.gaps_lemmas.OpenObjects.{told_part}
 use Rattle.flutejoin.proofs.gaps_lemmas.StatusLines.{status_is}
 
--- ---- files and lines depend on what the facts come to at an object's addresses
+-- ---- an object's file and lines depend only on the values at its addresses
 
 module _ (F G : List Fact) (key : Key) (same : (part : Part) → fact_at F
     (record { key = key; part = part }) ≡ fact_at G (record { key = key; part = part })) where
@@ -89,7 +89,7 @@ module _ (F G : List Fact) (key : Key) (same : (part : Part) → fact_at F
   line_same = ap (status_line key) (status_same F G key same (fact_at F (info_address key)) ∙ ap
       (status_at G key) (same InfoPart))
 
--- facts of other objects do not change what an object's come to
+-- facts of other objects change no value at an address of this object
 apart_same : (F G : List Fact) (key : Key) → ((g : Fact) → Contains G g → (address g).key ≡ key →
     ⊥) → (part : Part)
     → fact_at F (record { key = key; part = part }) ≡ fact_at (F ++ G)
@@ -249,7 +249,7 @@ heard_open F files told object o h =
     holds-from F f.0 object.key (subst (λ l. Contains l f.0) (sym h.all)
     (Contains-append_right h.before h.mine f.0 f.1)) (h.of_object f.0 f.1)
 
--- ---- what facts tell of an object without one information
+-- ---- an object without one information
 
 pub begins_conflict : (key : Key) → FileStateIs key (InfoConflict key ∷ []) ConflictingInformation
     None

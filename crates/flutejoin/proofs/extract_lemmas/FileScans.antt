@@ -1,4 +1,4 @@
--- An object that is written to a file, symbol after symbol.
+-- FileScan: an object that is written to a file, symbol after symbol (specs/ObjectFiles).
 use Rattle.std.proofs.Common.{◌≡◌, ℕ, ◌-◌, Bool, true, false, List, [], ◌∷◌, ◌++◌, length, take}
 use Rattle.std.proofs.Common.{Option, Some, None, refl, sym, ap, ◌∙◌, subst, append_assoc}
 use Rattle.std.proofs.Common.{append-nil, arith}
@@ -67,7 +67,7 @@ pub follows_still : (s : Scanned) (next : Next) (scan : ScanState)
     → CanFollow h.1.t next
 follows_still s next scan h r = can_pass gap_line s next scan h.0 h.1 r
 
--- after a gap the same may come
+-- after a gap the same symbol may still come
 pub gave_gap : (s : Scanned) (next : Next) (scan scan' : ScanState) (gap : Gap) → Scans scan s →
     CanCome s next → (u : Scanned) → GaveGap s next gap u → Scans scan' u → CanFollow s next →
     CanFollow u next × CanCome u next
@@ -189,7 +189,7 @@ after_gaps s u next gap scan g p = (
 
 -- ---- the file of the object
 
--- a symbol of the object, as it is told to the scan
+-- a symbol of the object, in the form in which the scan takes it
 pub told_rising : (s : Scanned) (key : Key) (mine : List Fact)
     (n : SymbolId × Option (Bor (List ℕ))) → s.key ≡ key → s.facts ≡ mine → IsRising
     (mine ++ next_fact key n ∷ []) → CanFollow s (Some n)
@@ -320,6 +320,7 @@ whole_file F key info h =
     (whole-gapless F key info h) in
     ap (file_at F key) h.information ∙ ap (file_wanting F key info) none
 
+-- What is known of the object at its end.
 module _ (F before mine : List Fact) (key : Key) (all : F ≡ before ++ mine) (r : IsRising F)
     (scan : FileScan) (o : Option NamedFile) (h : HasScanned key mine scan o)
     (t : Scanned) (p : Passes h.scanned None t) where
@@ -345,6 +346,7 @@ module _ (F before mine : List Fact) (key : Key) (all : F ≡ before ++ mine) (r
   pub status_told : (status : Status) → TellsStatus F t.key status → TellsStatus F key status
   status_told status s = subst (λ k. TellsStatus F k status) (p.0 ∙ h.of_key) s
 
+  -- it has no file, had one that was dropped, or has one
   pub none_was : scan.whole ≡ false → (o ≡ None) × (object_file F key ≡ [])
   none_was w =
       let old = subst (λ (b : Bool). FileIs h.scanned scan.left b o) w h.file in

@@ -1,4 +1,4 @@
--- A journal of which the whole objects that are picked become files as it is read.
+-- extract --all: whole picked objects become files as the journal is read (specs/ExtractAll).
 use Rattle.std.proofs.Common.{◌≡◌, ℕ, ◌+◌, ◌<◌, ◌≤◌, ◌^◌, true, false, List, [], ◌∷◌, ◌++◌}
 use Rattle.std.proofs.Common.{length, arith, Option, None, Result, Ok, Err, inl, inr, refl, sym, ap}
 use Rattle.std.proofs.Common.{◌∙◌, subst, append-nil}

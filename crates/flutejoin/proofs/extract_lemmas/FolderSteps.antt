@@ -1,4 +1,4 @@
--- A folder that is filled, call after call.
+-- extract --all: a folder that is filled, call after call (flute_output: specs/NewFolders).
 use Rattle.std.proofs.Common.{◌≡◌, ℕ, List, [], ◌∷◌, ◌++◌, Option, Some, None, refl, sym, ap, ◌∙◌}
 use Rattle.std.proofs.Common.{subst, append_assoc, append-nil}
 use Rattle.std.specs.Prelude.{IsSome, IfSome, option_map}
@@ -74,6 +74,7 @@ fills_on f files files' o o' h (Some p0) (Some p) None l m = absurd m
 fills_on f files files' o o' h (Some p0) (Some p) (Some q) l m = subst (Fills files' o' p0) (sym m)
     (h p0 p l)
 
+-- a file is begun, bytes are put into it, it is dropped, or it is kept
 pub fills_begins : (name : List ℕ) (files : List NamedFile) (o : Option NamedFile)
     (p0 p q : Option Places) → LeadsTo (Fills files o) p0 p → Makes (begins name) p q
     → LeadsTo (Fills files (Some (record { name = name; bytes = [] }))) p0 q

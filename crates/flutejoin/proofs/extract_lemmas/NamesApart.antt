@@ -1,4 +1,4 @@
--- Different objects have different names as files.
+-- extract --all: different objects have different file names (specs/FileNames).
 use Rattle.std.proofs.Common.{◌≡◌, ℕ, zero, suc, ◌<◌, ◌^◌, ◌*◌, ◌/◌, List, [], ◌∷◌, ◌++◌, length}
 use Rattle.std.proofs.Common.{codes, decimal, refl, sym, ap, ◌∙◌, subst, arith}
 use Rattle.std.specs.List.{AllByRecursion}

@@ -42,11 +42,11 @@ others-none key [] h f m e = m
 others-none key (g ∷ P) h f (inl s) e = h.0 (sym (ap (λ x. (address x).key) s) ∙ e)
 others-none key (g ∷ P) h f (inr m) e = others-none key P h.1 f m e
 
--- nothing is told of an object where all facts are of others
+-- an object has no value at any address if all facts are of other objects
 pub unheard : (key : Key) (P : List Fact) → AllByRecursion (IsOther key) P → IsUnheard P key
 unheard key P h = λ part. fact_at-none P _ (λ f c e. others-none key P h f (Member-from P f c) (ap (λ (a : Address). a.key) e))
 
--- two values of its information were told, whatever follows
+-- two values of its information were read, whatever follows
 pub conflict-told : (key : Key) (P : List Fact) → Settled (P ++ InfoConflict key ∷ []) (λ F. HasConflict F key)
 conflict-told key P = λ F rest e r.
     rising_tells F (InfoConflict key) r (subst (λ l. Contains l (InfoConflict key)) (sym (e ∙ append_assoc P (InfoConflict key ∷ []) rest)) (here P rest (InfoConflict key)))
@@ -66,7 +66,7 @@ not-here key f id rest g after at same (inl s) = let e : SymbolPart id ≡ InfoP
 not-here key f id rest g after at same (inr m) =
     symbol-last key id (subst (λ a. address_cmp a (info_address key) ≡ Less) at (subst (λ a. address_cmp (address f) a ≡ Less) same (member-after (address f) g rest after m)))
 
--- a symbol was told before any information, and none can follow it
+-- a symbol was read before any information, and none can follow it
 pub symbol-told : (key : Key) (P : List Fact) (f : Fact) (id : SymbolId) → AllByRecursion (IsOther key) P → address f ≡ record { key = key; part = SymbolPart id }
     → Settled (P ++ f ∷ []) (λ F. LacksInformation F key)
 symbol-told key P f id others at = λ F rest e r.
@@ -79,7 +79,8 @@ symbol-told key P f id others at = λ F rest e r.
     ] in
     ((SymbolPart id, λ empty. none-some f (sym empty ∙ ap (fact_at F) (sym at) ∙ told)), fact_at-none F (info_address key) none)
 
--- all that is told of an object stands together: behind its information and another object nothing of it follows
+-- The facts of an object are adjacent: once its information and then a fact of another object were
+-- read, no fact of it follows.
 pub together : (key : Key) (before symbols after : List Fact) (i f : Fact) → (address i).key ≡ key → (address f).key ≡ key → AllByRecursion (IsOther key) after
     → IsRising ((before ++ (i ∷ symbols ++ after)) ++ f ∷ []) → after ≡ []
 together key before symbols [] i f is_i is_f others r = refl
@@ -92,14 +93,14 @@ together key before symbols (g ∷ after) i f is_i is_f others r =
     let p : key_cmp (address g).key key ≡ Greater → ⊥ = λ e. key-before (address g) (address f) high (ap (λ k. key_cmp (address g).key k) is_f ∙ e) in
     absurd (others.0 (key_same (address g).key key (ap is_eq (tied (key_cmp (address g).key key) (key_cmp key (address g).key) (key_total.antisymm (address g).key key) p q))))
 
--- and its information stands there once
+-- and its information is read at most once
 pub information-once : (key : Key) (P : List Fact) (i f : Fact) → Contains P i → address i ≡ address f → IsRising (P ++ f ∷ []) → ⊥
 information-once key P i f c e r =
     let low : address_cmp (address i) (address f) ≡ Less = before-next P f i r (Member-from P i c) in
     let same = address_itself (address f) in
     false≢true (sym (ap is_eq (subst (λ a. address_cmp a (address f) ≡ Less) e low)) ∙ same)
 
--- keys that a test tells apart
+-- keys that a test finds unequal are not equal
 pub not-same : (k l : Key) → false ≡ (((k.session.sender == l.session.sender) && (k.session.tsi == l.session.tsi)) && eq_by_cmp object_cmp k.object l.object) → k ≡ l → ⊥
 not-same k l e s =
     let Q : Key → Type 0 = λ m. (((k.session.sender == m.session.sender) && (k.session.tsi == m.session.tsi)) && eq_by_cmp object_cmp k.object m.object) ≡ true in

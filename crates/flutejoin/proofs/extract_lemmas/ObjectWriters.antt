@@ -1,4 +1,4 @@
--- A writer of an object, fact by fact.
+-- ObjectWriter: a writer of one object, fact by fact (specs/ObjectWriters).
 use Rattle.std.proofs.Common.{◌≡◌, ℕ, zero, suc, ◌-◌, Bool, true, false, List, [], ◌∷◌, ◌++◌}
 use Rattle.std.proofs.Common.{length, take, drop, Option, Some, None, inl, inr, refl, sym, ap, ◌∙◌}
 use Rattle.std.proofs.Common.{subst, append_assoc, append-nil, arith}
@@ -114,7 +114,7 @@ module _ {P : List Fact} {key : Key} {failed : Bool} {start now : Option (List �
   pub no-information : (f : Fact) → address f ≡ info_address key → IsRising (P ++ f ∷ []) → ⊥
   no-information f at r = information-once key P info_fact f has_information (sym at) r
 
-  -- a symbol of it stands behind those that passed, with nothing between
+  -- a symbol of it directly follows those that were read, with no fact between
   pub nothing-after : (f : Fact) → (address f).key ≡ key → IsRising (P ++ f ∷ []) → h.after ≡ []
   nothing-after f is r = together key h.before h.symbols h.after info_fact f refl is h.others
       (subst (λ l. IsRising (l ++ f ∷ [])) all_are r)
@@ -127,7 +127,7 @@ module _ {P : List Fact} {key : Key} {failed : Bool} {start now : Option (List �
       (append-nil h.scanned.facts))
       ∙ append_assoc h.before h.scanned.facts (f ∷ rest)
 
-  -- a first part of it was written, whatever follows
+  -- a prefix of it was written, whatever follows
   pub wrote-first : WroteFirst P key start now
   wrote-first =
       let w = some_written failed start now (take part.size h.bytes) (drop part.size h.bytes)
@@ -170,6 +170,7 @@ module _ {P : List Fact} {key : Key} {failed : Bool} {start now : Option (List �
           IsRising F → IsFirstPart F h.scanned.key h.scanned.info bytes) in
           subst Q e q
 
+  -- The next fact is a symbol of the object.
   module _ (n : SymbolId × Option (Bor (List ℕ))) (rises : IsRising (P ++ next_fact key n ∷ []))
     where
       told_key : (address (next_fact key n)).key ≡ key
@@ -347,7 +348,7 @@ ended-turn s t turns.Wanted gapless h = absurd h
 ended-turn s t turns.Passed gapless h = absurd h
 ended-turn s t turns.End gapless h = h
 
--- a symbol that is wanted is told as the first
+-- a symbol that is wanted is the first that is not held as one fitting value
 pub wanted-turn : (s t : Scanned) (n : SymbolId × Option (Bor (List ℕ))) (turn : Turn) →
     (turn ≡ turns.Wanted) ⊎ (turn ≡ turns.End) → Turned s (Some n) turn t
     → IfSome s.bytes (λ bytes. (F : List Fact) → Follows s (Some n) F → IsNotWhole F s.key n.0)
@@ -386,7 +387,7 @@ scan-begins P key info start part scans valid size left = record {
   written = subst (Appends start start) (sym (take-nil part.size)) (Appends-nil start);
 }
 
--- information is told of it once
+-- its information is read at most once
 pub information-passes : (P : List Fact) (f : Fact) (key : Key) (failed : Bool)
     (start now : Option (List ℕ)) (what : Found) → (what ≡ found.Nothing → ⊥) → address f ≡
     info_address key
@@ -424,7 +425,7 @@ wrote-some P key failed start now found.Conflict h = inl tt
 wrote-some P key failed start now (found.NotWhole first) h = inr h.1
 wrote-some P key failed start now (found.Whole object) h = inr (wrote-first h)
 
--- the answers at the end
+-- the results at the end
 
 pub whole-written : (P : List Fact) (key : Key) (start now : Option (List ℕ)) (part : WholeSoFar)
     (failed : Bool) → failed ≡ false → EndsScan P key failed start now part None

@@ -1,4 +1,4 @@
--- Objects that are closed one after another, as a style has them.
+-- ClosedObjects: objects closed one after another, listed as a style says (specs/Listing).
 use Rattle.std.proofs.Common.{◌≡◌, ℕ, Bool, true, false, ◌&&◌, List, [], ◌∷◌, ◌++◌, Option, Some}
 use Rattle.std.proofs.Common.{None, Result, Ok, Err, if◌then◌else◌, refl, sym, ap, ◌∙◌, subst}
 use Rattle.std.proofs.Common.{arith}
@@ -228,6 +228,7 @@ quiet_wanting info [] e = refl
 quiet_wanting info (w ∷ ws) e =
     omega (arith, ltb-false 0 (how_many Conflicting (w ∷ ws)) e)
 
+-- an object that `--conflicts` doesn't list has no gap in conflict, so none is printed
 pub no_stray : (style : Style) (F : List Fact) (key : Key) → HasNoStray style (told_of F key)
 no_stray style F key e =
     let n = no_conflict style (status_at F key (fact_at F (info_address key))) e in

@@ -1,4 +1,4 @@
--- A journal whose objects are listed as it is read.
+-- put_aside: a journal whose objects are listed as it is read (specs/Gaps).
 use Rattle.std.proofs.Common.{◌≡◌, ◌≤◌, ℕ, Bool, true, false, List, [], ◌∷◌, ◌++◌, Option, Some}
 use Rattle.std.proofs.Common.{None, inl, inr, refl, sym, subst, length, arith}
 use Rattle.std.specs.Prelude.{IfSome, IsTrue}

@@ -1,4 +1,4 @@
--- Keys that are told to be equal, or not.
+-- Two keys are equal exactly if the test of their fields returns true.
 use Rattle.std.proofs.Common.{◌≡◌, Bool, true, false, ◌&&◌, sym, ◌∙◌, subst}
 use Rattle.std.specs.Prelude.{◌==◌}
 use Rattle.std.proofs.lemmas.Bool.{false≢true, eqb-true}

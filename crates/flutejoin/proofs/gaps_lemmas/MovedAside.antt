@@ -1,4 +1,4 @@
--- Lines that are put aside.
+-- gaps: lines that are put aside, and what they are written from (specs/Listing).
 use Rattle.std.proofs.Common.{◌≡◌, ℕ, Bool, true, false, List, [], ◌++◌, Option, Some, None, Result}
 use Rattle.std.proofs.Common.{length}
 use Rattle.std.proofs.Common.{Ok, Err, is_ok, if◌then◌else◌, refl, sym, ap, subst}

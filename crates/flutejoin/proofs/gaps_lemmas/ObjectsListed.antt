@@ -1,4 +1,4 @@
--- What is told of objects, whose facts come in the order of their addresses.
+-- gaps: what is reported of objects whose facts come in rising order (specs/Told).
 use Rattle.std.proofs.Common.{◌≡◌, List, [], ◌∷◌, ◌++◌, Option, Some, None, refl, sym, ap, ◌∙◌}
 use Rattle.std.proofs.Common.{subst, inl, inr, arith}
 use Rattle.std.specs.Prelude.{Contains, filter_map, map, option_map}
@@ -39,7 +39,7 @@ use Rattle.flutejoin.specs.Listing.{IsFirstOf}
 pub in_nothing : {X : Type 0} (x : X) → Contains [] x → ⊥
 in_nothing x c = omega (arith, c.1)
 
--- ---- what is told of an object depends on what the facts come to at its addresses
+-- ---- the report of an object depends only on the values at its addresses
 
 module _ (F G : List Fact) (key : Key) (same : (part : Part) → fact_at F
     (record { key = key; part = part }) ≡ fact_at G (record { key = key; part = part })) where
@@ -89,7 +89,7 @@ named-from F key h = elim (fact_at-some_named F (record { key = key; part = h.0 
   | inr e ↦ absurd (h.1 e)
 ]
 
--- facts of other objects do not change what an object's come to
+-- facts of other objects do not change the report of this object
 other_objects : (F G : List Fact) (key : Key) → ((g : Fact) → Contains G g → (address g).key ≡ key
     → ⊥) → told_of F key ≡ told_of (F ++ G) key
 other_objects F G key h =
@@ -130,7 +130,7 @@ lesser_key a b l apart =
     ] e in
     cases (key_cmp a.key b.key) refl
 
--- between two facts of an object stand no others
+-- between two facts of an object there are no facts of others
 pub same_object_between : (a b c : Address) → address_cmp a b ≡ Less → address_cmp b c ≡ Less →
     a.key ≡ c.key → b.key ≡ c.key
 same_object_between a b c p q e =
@@ -143,7 +143,7 @@ no_part : (p : Part) → part_cmp p InfoPart ≡ Less → ⊥
 no_part InfoPart e = absurd cc
 no_part (SymbolPart n) e = absurd cc
 
--- information stands before all else of its object
+-- information comes before all other facts of its object
 pub information_first : (a b : Address) → address_cmp a b ≡ Less → b.part ≡ InfoPart → a.key ≡
     b.key → ⊥
 information_first a b l i e =
@@ -178,7 +178,7 @@ told_kept F G (k ∷ ks) h =
     let others = told_kept F G ks (λ x c. h x (Contains-append_right (k ∷ []) ks x c)) in
     λ i. one i ∷ others i
 
--- what is told of the objects before, and of one more, of which all other facts are
+-- the report of the objects before, and of one more, of which all other facts are
 pub one_more_told : (before mine : List Fact) (key : Key) (objects : List Told) → IsRising
     (before ++ mine) → AreTold before objects → IsFirstOf before key →
     ((f : Fact) → Contains mine f → (address f).key ≡ key)
@@ -222,7 +222,7 @@ one_more_told before mine key objects r l first own some =
           ∙ sym (map-append (told_of all) l.keys (key ∷ []));
     }
 
--- no facts tell of no object
+-- no facts: no object is reported
 pub none_told : AreTold [] []
 unfolding IsStrictlySortedBy
 none_told = record {

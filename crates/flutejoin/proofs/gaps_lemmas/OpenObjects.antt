@@ -1,4 +1,4 @@
--- What is known of the object that is open.
+-- Listing: the open object, whose facts are still to come (specs/Listing: HasOpen).
 use Rattle.std.proofs.Common.{◌≡◌, ◌≤◌, ◌+◌, ℕ, Bool, length, length-append, arith, List, [], ◌∷◌}
 use Rattle.std.proofs.Common.{◌++◌, Option, Some, None, Result, Ok, Err, refl, sym, ap, ◌∙◌, subst}
 use Rattle.std.proofs.Common.{inl, inr, append_assoc}
@@ -252,7 +252,7 @@ module _ (style : Style) (F before mine : List Fact) (key : Key) (all : F ≡ be
       (λ o. flat_map (shown_gap style) (gaps_at F t.key o)) (sym gave.information) in
       subst (λ k. TellsAll style F k status gap_lines) key_is (next_fact, here)
 
--- all that is told of the object, with those before it
+-- the report of the open object, with those before it
 pub one_more_closed : {style : Style} {F : List Fact} {lines gap_lines : List ℕ}
     {closed : ClosedObjects} {object : OpenObject} (h : HasOpen style F lines gap_lines closed
     object)

@@ -1,4 +1,4 @@
--- The gaps that a scan gives, and their lines.
+-- gaps: the gaps that a scan gives, and their lines.
 use Rattle.std.proofs.Common.{◌≡◌, ℕ, List, [], ◌∷◌, ◌++◌, Option, Some, None, refl, sym, ap, ◌∙◌}
 use Rattle.std.proofs.Common.{subst}
 use Rattle.std.specs.Prelude.{IfSome}

@@ -1,4 +1,4 @@
--- Objects that are cut by their sessions, and the sums of each.
+-- gaps --summary: objects cut by their sessions, and the sums of each session (specs/Sums).
 use Rattle.std.proofs.Common.{◌≡◌, ◌≤◌, ◌+◌, ℕ, Bool, true, false, List, [], ◌∷◌, ◌++◌}
 use Rattle.std.proofs.Common.{Option, Some, None, if◌then◌else◌, refl, sym, ap, ◌∙◌, subst, arith}
 use Rattle.std.proofs.Common.{append_assoc, append-nil}

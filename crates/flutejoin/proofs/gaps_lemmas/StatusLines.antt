@@ -1,4 +1,4 @@
--- What a store tells of an object is what its facts say.
+-- gaps: the status that a store gives of an object is the status of its facts (specs/Objects).
 use Rattle.std.proofs.Common.{◌≡◌, ◌≢◌, ℕ, List, [], ◌∷◌, refl, sym, ap, ◌∙◌}
 use Rattle.std.specs.List.{flat_map}
 use Rattle.flute_parts.specs.Information.{Information}
@@ -22,7 +22,7 @@ partial_is : (info : Information) (ws : List (SymbolId × Reason)) (m c f : ℕ)
 partial_is info [] m c f some p q r = absurd (some refl)
 partial_is info (w ∷ ws) m c f some p q r = λ i. Partial (p i) (q i) (r i)
 
--- what is told of how much is held
+-- a status says how much is held exactly as the facts do
 pub status_is : (F : List Fact) (key : Key) (status : Status) → TellsStatus F key status → status ≡ status_at F key (fact_at F (info_address key))
 status_is F key NoInformation h = sym (ap (status_at F key) h.1)
 status_is F key ConflictingInformation h = sym (ap (status_at F key) h)

@@ -1,4 +1,4 @@
--- What a join of a journal and of facts in memory comes to.
+-- info: the join of a journal with facts in memory, and its faults (specs/Info).
 use Rattle.std.proofs.Common.{◌≡◌, ℕ, zero, suc, ◌+◌, Bool, true, false, List, [], ◌∷◌, ◌++◌}
 use Rattle.std.proofs.Common.{Option, Some, None, Result, Ok, Err, refl, sym, subst, arith}
 use Rattle.std.proofs.Common.{append-nil}
@@ -168,7 +168,7 @@ module _ {R : Type 0} (unread : R → Option (List ℕ)) (failures : R → ℕ) 
           subst (λ n. InfoFails most bytes_of facts (of_load (n + 1) first.fault)) (sym o.0)
           (journal_stops most facts first.fault limit o.1)
 
-      -- its source failed as the fault tells, and it is lent as before
+      -- its source failed as the fault says, and it is lent as before
       module _ (j' : LentStream R) (f' : S) where
         abbrev new : List (Either (LentStream R) S)
         new = First j' ∷ Second f' ∷ []
@@ -210,7 +210,7 @@ load_failures number old new (load.Read read.OutOfMemory) h = h
 load_failures number old new load.Full h = h
 load_failures number old new load.OutOfMemory h = h
 
--- No fault of a journal is told of the second input.
+-- No fault of a journal is reported with the number 2.
 pub never_second : (most : Limits) (r : Result ℕ CommandFault) (input : Option (List ℕ))
     (facts : List Fact) (Q : Type 0) → IfErr r (InfoFails most input facts)
     → IfErr r (λ fault. fault ≡ Input 2 read.Read → Q)

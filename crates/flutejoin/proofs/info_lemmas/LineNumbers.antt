@@ -1,4 +1,4 @@
--- Words and numbers at the front of a text.
+-- information_line: words and numbers at the front of a text.
 use Rattle.std.proofs.Common.{◌≡◌, ◌≢◌, ℕ, ◌<◌, ◌≤◌, ◌^◌, true, false, List, [], ◌∷◌, ◌++◌, length}
 use Rattle.std.proofs.Common.{take, drop, get_or, decimal, Option, Some, None, MatchOption, IfSome}
 use Rattle.std.proofs.Common.{add-zero, Bor, sym, ap, ◌∙◌, arith}
@@ -53,7 +53,7 @@ pub record DigitsOf (s : List ℕ) (len : ℕ) : Type 0 where
   pub before : (k : ℕ) → k < len → is_ascii_digit (get_or s k 0) ≡ true
   pub stops : len < length s → is_ascii_digit (get_or s len 0) ≡ false
 
--- the digits of a number that stands first are those that a text begins with
+-- a text that begins with the digits of a number, and then no digit, has exactly these digits
 pub digits_end : (s tail : List ℕ) (n len : ℕ) → n < 2 ^ 128 → is_ascii_digit (get_or tail 0 0) ≡
     false → s ≡ decimal n ++ tail
     → DigitsOf s len → len ≡ length (decimal n)

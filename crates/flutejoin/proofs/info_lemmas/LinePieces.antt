@@ -1,4 +1,4 @@
--- The pieces of a line, one behind the other.
+-- The pieces of a line of information, one after the other (specs/InformationLines).
 use Rattle.std.proofs.Common.{◌≡◌, ℕ, ◌==◌, ◌<◌, ◌^◌, if◌then◌else◌, Bool, true, false, List, []}
 use Rattle.std.proofs.Common.{◌++◌, get_or, codes, decimal, Option, Some, None, MatchOption}
 use Rattle.std.proofs.Common.{append_assoc, refl, sym, ap, ◌∙◌, arith}
@@ -53,7 +53,7 @@ fact_chain key info = seven (source_words key.session.sender) (codes "session ")
         (b ++ (c ++ (d ++ (e ++ (f ++ g)))))
     seven a b c d e f g = simp append_assoc refl
 
--- what follows the word source, where a sender stands
+-- what follows the word source, if there is a sender
 pub source_chain : (n : ℕ) (tail : List ℕ) → (n == 0) ≡ false
     → source_words n ++ tail ≡ codes "source " ++ (encode_lower (bytes_high_first 16 n)
     ++ (codes " " ++ tail))
@@ -80,7 +80,7 @@ no_fdt n x rest small e =
 apart : (x y : List ℕ) → codes "session " ++ x ≡ codes "source " ++ y → ⊥
 apart x y e = true≢false (ap (λ (l : List ℕ). get_or l 1 0 == 101) e)
 
--- the digits stand behind the word source
+-- the digits follow the word source
 pub source_rest : (s tail rest : List ℕ) (n : ℕ) → s ≡ source_words n ++ (codes "session " ++ tail)
     → s ≡ codes "source " ++ rest
     → rest ≡ encode_lower (bytes_high_first 16 n) ++ (codes " " ++ (codes "session " ++ tail))
@@ -100,7 +100,7 @@ same_numbers info n x y z =
     ∙ ap (λ k. information info.transfer_length k n.block) y
     ∙ ap (λ k. information info.transfer_length info.symbol_length k) z
 
--- so it is if they were read as these
+-- the numbers that were read are those of the information
 pub numbers_found : (r : Option InfoNumbers) (info : Information) (l s b : ℕ)
     → l ≡ info.transfer_length → s ≡ info.symbol_length → b ≡ info.max_block_length
     → MatchOption r ⊥ (λ n. (n.length ≡ l) × (n.symbol ≡ s) × (n.block ≡ b))
@@ -125,7 +125,7 @@ pub by_name : (P : ObjectName → Type 0) → ((i : ℕ) → P (Instance i)) →
 by_name P i t (Instance n) = i n
 by_name P i t (File n) = t n
 
--- an object behind the words object fdt is no file
+-- an object after the words object fdt is no file
 pub no_file : (s tail rest : List ℕ) (n : ℕ) → n < 2 ^ 112 → s ≡ object_words (File n) ++ tail
     → s ≡ codes "object fdt " ++ rest → ⊥
 no_file s tail rest n small is found =

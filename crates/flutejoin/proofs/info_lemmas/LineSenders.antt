@@ -1,4 +1,4 @@
--- A sender in 32 digits.
+-- information_line: a sender in 32 digits.
 use Rattle.std.proofs.Common.{◌≡◌, ℕ, zero, suc, ◌*◌, ◌/◌, ◌<◌, ◌≤◌, ◌^◌, List, [], ◌++◌, length}
 use Rattle.std.proofs.Common.{take, drop, get_or, Ok, sym, ap, ◌∙◌, arith, lit<}
 use Rattle.std.specs.Int.{bytes_high_first, byte_at}

@@ -1,4 +1,4 @@
--- A list of information, read byte by byte.
+-- info --list: a list of information, read byte by byte (specs/InformationLines: ListTells).
 use Rattle.std.proofs.Common.{◌≡◌, ◌≢◌, ℕ, zero, suc, ◌+◌, ◌<◌, ◌≤◌, ◌^◌, ◌==◌, if◌then◌else◌}
 use Rattle.std.proofs.Common.{Option, Some, None, Bool, true, false, List, [], ◌∷◌, ◌++◌, length}
 use Rattle.std.proofs.Common.{codes, decimal, take, drop, get_or, add-one, drop-cons, Result, Ok}
@@ -143,7 +143,7 @@ some_kept false kept words some h = omega (arith, ap length h)
 some_kept true kept words some h =
     omega (arith, ap length h.1, length-append kept h.0)
 
--- What a line tells.
+-- The fact that a line contains.
 
 pub tells_shown : (words : List ℕ) (key : Key) (info numbers : Information)
     → Shows words key numbers → info ≡ numbers → info_fault info ≡ None
@@ -152,7 +152,7 @@ tells_shown words key info numbers shows e none =
     shown key info (shows.key_is, (subst HasInfoFields (sym e) shows.numbers.1, none))
     (subst (λ i. words ≡ fact_words (Info key i)) (sym e) shows.words_are) refl
 
--- A line of information is short.
+-- A line of information has at most 512 bytes.
 
 number_short : (n : ℕ) → n < 2 ^ 128 → length (decimal n) ≤ 39
 number_short n small = length-decimal-le_wide 39 n (omega arith) (omega arith) (omega arith)
@@ -206,6 +206,7 @@ information_short i numbers =
       number_short i.max_block_length (omega (arith, numbers.1.1)),
     )
 
+-- the words of information, all together, have at most 512 bytes
 fact_short : (key : Key) (info : Information) → IsKey key → HasNumbers info
     → length (fact_words (Info key info)) ≤ 512
 fact_short key info named numbers =
@@ -241,7 +242,7 @@ shows_short kept words key info h shows =
       h.3,
     )
 
--- What is held of a list.
+-- What an InformationList has read: HoldsList (specs/InformationLines), byte by byte.
 
 tell_none : LinesTell [] []
 unfolding LinesTell
@@ -258,6 +259,7 @@ holds_nothing list told kept long number = record {
   content = subst (λ F. Same F []) (sym told) (Same-itself []);
 }
 
+-- a line was ended, and its fact was put into the store
 pub line_ended : {s o y : ℕ} (old new : InformationList s o y) (bytes : List ℕ) → new.line ≡ [] →
     new.long ≡ false
     → new.number ≡ old.number + 1
@@ -279,6 +281,7 @@ line_ended old new bytes kept long number took h =
           (Same-append old.told h.facts t.0 t.0 h.content (Same-itself t.0));
     }
 
+-- a line was not taken: why the list fails
 pub line_failed : {s o y : ℕ} (most : Limits) (old : InformationList s o y)
     (bytes more : List ℕ) (fault : CommandFault)
     → ((words : List ℕ) → IsKept old.long old.line words
@@ -313,6 +316,7 @@ line_failed most old bytes more fault why h = go (why h.words h.kept)
     })
     go (no_memory_for e) = no_memory e
 
+-- one byte of a line was kept, or dropped after 512
 pub pushed : {s o y : ℕ} (old new : InformationList s o y) (bytes : List ℕ) (byte : ℕ) → byte ≢ 10
     → new.number ≡ old.number → new.told ≡ old.told
     → ((words : List ℕ) → IsKept old.long old.line words
@@ -334,6 +338,7 @@ pushed old new bytes byte other number told keeps h = record {
   content = subst (λ F. Same F h.facts) (sym told) h.content;
 }
 
+-- the list ends after a line: all its facts are held
 pub all_told : {s o y : ℕ} (list : InformationList s o y) (bytes : List ℕ) → list.line ≡ [] →
     HoldsList list bytes
     → (facts : List Fact) × ListTells bytes facts × Same list.told facts
@@ -355,6 +360,7 @@ some_length : (n : ℕ) (b : Bool) → b ≡ (n == 0) → b ≡ false → 0 < n
 some_length zero b is empty = absurd (let e : true ≡ false = sym is ∙ empty in cc)
 some_length (suc n) b is empty = omega arith
 
+-- the list ends within a line: why it fails
 pub not_ended : {s o y : ℕ} {most : Limits} (list : InformationList s o y) (kept : List ℕ) (b :
     Bool) (bytes : List ℕ)
     → kept ≡ list.line → b ≡ (length kept == 0) → b ≡ false → HoldsList list bytes
@@ -484,7 +490,7 @@ failed_once old now new fault e same h =
     let k : new ≡ now + 1 = subst (λ f. FailsToRead {T = ℕ} now new (Err f)) e h in
     subst (λ f. FailsToRead {T = List Fact} old new (Err f)) (sym e) (k ∙ ap (λ n. n + 1) same)
 
--- No input but the second is told.
+-- Only the second input is reported.
 
 pub names_fails : {most : Limits} (bytes : List ℕ) (fault : CommandFault)
     → ListFails most bytes fault

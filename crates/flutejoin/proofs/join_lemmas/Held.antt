@@ -1,4 +1,4 @@
--- Datagram files that are held as what they tell.
+-- HeldFiles: the store holds just the facts of the datagrams that were read (specs/JoinParts).
 use Rattle.std.proofs.Common.{◌≡◌, ℕ, ◌+◌, Bool, true, false, cond, List, [], ◌∷◌, ◌++◌, count_by}
 use Rattle.std.proofs.Common.{Result, Ok, Err, inl, inr, refl, sym, ap, subst, ◌∙◌, arith}
 use Rattle.std.proofs.Common.{append-nil, append_assoc}
@@ -41,7 +41,8 @@ turn F G H =
 
 -- the choice of all datagrams
 module _ {R : Type 0} (unread : R → Option (List ℕ)) (choice : Choice) where
-  flat_more : (ds : List (List ℕ)) (d : List ℕ) → flat_map (facts_by choice) (ds ++ d ∷ []) ≡
+  flat_more : (ds : List (List ℕ)) (d : List ℕ)
+      → flat_map (facts_by choice) (ds ++ d ∷ []) ≡
       flat_map (facts_by choice) ds ++ facts_by choice d
   flat_more ds d = flat_map-append (facts_by choice) ds (d ∷ []) ∙ ap
       (λ F. flat_map (facts_by choice) ds ++ F) (append-nil (facts_by choice d))
@@ -79,7 +80,9 @@ module _ {R : Type 0} (unread : R → Option (List ℕ)) (choice : Choice) where
       counted m k true e = omega (arith, e)
       counted m k false e = omega (arith, e)
 
-  over_more : (ds : List (List ℕ)) (d : List ℕ) → IsOver choice.most (flat_map (facts_by choice)
+  -- facts over the limits are so with one datagram more
+  over_more : (ds : List (List ℕ)) (d : List ℕ)
+      → IsOver choice.most (flat_map (facts_by choice)
       ds) →
       IsOver choice.most (flat_map (facts_by choice) (ds ++ d ∷ []))
   over_more ds d over = rw (flat_more ds d) (Over-below (flat_map (facts_by choice) ds)
@@ -87,6 +90,7 @@ module _ {R : Type 0} (unread : R → Option (List ℕ)) (choice : Choice) where
       choice.most.symbols
       (Below-left (flat_map (facts_by choice) ds) (facts_by choice d)) over)
 
+  -- if the store has no room for a datagram, all facts are over the limits
   over_with : {s o y : ℕ} (held : HeldFiles s o y R) (ds : List (List ℕ)) (d : List ℕ)
       → HoldsFacts unread choice held ds
       → IsOver choice.most (held.told.store ++ facts_by choice d)
@@ -107,17 +111,27 @@ module _ {R : Type 0} (unread : R → Option (List ℕ)) (choice : Choice) where
       (Over-below more (files ++ fresh) choice.most.sessions choice.most.objects
       choice.most.symbols (Below-from_Same more (files ++ fresh) same) all_over)
 
+  -- the same for an equal flag `fits`
   holding : {s o y : ℕ} (b c : Bool) (held : HeldFiles s o y R) (ds : List (List ℕ)) → b ≡ c
       → HoldsAll unread choice c held ds → HoldsAll unread choice b held ds
   holding b c held ds e h = subst (λ x. HoldsAll unread choice x held ds) (sym e) h
 
-  pub held_as : {s o y : ℕ} (b c : Bool) (held : HeldFiles s o y R) (ds : List (List ℕ)) → b ≡ c
-      → HoldsAll unread choice b held ds → HoldsAll unread choice c held ds
+  held_as : {s o y : ℕ} (b c : Bool) (held : HeldFiles s o y R) (ds : List (List ℕ))
+      → b ≡ c → HoldsAll unread choice b held ds → HoldsAll unread choice c held ds
   held_as b c held ds e h = subst (λ x. HoldsAll unread choice x held ds) e h
 
+  -- before the first datagram nothing is held
+  module _ {s o y : ℕ} (held : HeldFiles s o y R) (ds : List (List ℕ))
+      (h : HoldsDatagrams unread choice held ds) where
+    pub all_held : held.fits ≡ true → HoldsFacts unread choice held ds
+    all_held fits = held_as held.fits true held ds fits h.holds
+
+    pub all_over : held.fits ≡ false → IsOver choice.most (flat_map (facts_by choice) ds)
+    all_over over = held_as held.fits false held ds over h.holds
+
   pub holds_none : {s o y : ℕ} (file : HeldFiles s o y R) → file.told.store ≡ []
-      → file.told.datagrams ≡ 0 → file.told.refused ≡ 0 → file.others ≡ 0 → file.fits ≡ true
-      → file.runs.items ≡ [] → HoldsDatagrams unread choice file []
+      → file.told.datagrams ≡ 0 → file.told.refused ≡ 0 → file.others ≡ 0
+      → file.fits ≡ true → file.runs.items ≡ [] → HoldsDatagrams unread choice file []
   holds_none file store datagrams refused others fits none = record {
     others = λ e. others;
     holds = holding file.fits true file [] fits (record {
@@ -140,7 +154,7 @@ module _ {R : Type 0} (unread : R → Option (List ℕ)) (choice : Choice) where
         (sum_by_push (λ x. cond (is_of_others choice x) 1 0) ds d);
     holds =
         holding new.fits true new (ds ++ d ∷ []) still
-        (takes_more old new ds d (held_as old.fits true old ds fits h.holds) same one);
+        (takes_more old new ds d (all_held old ds h fits) same one);
   }
 
   -- it found no room
@@ -152,7 +166,7 @@ module _ {R : Type 0} (unread : R → Option (List ℕ)) (choice : Choice) where
   holds_over old new ds d told fault fits over e fails full h = record {
     others = λ fitting. absurd (false≢true (sym over ∙ fitting));
     holds = holding new.fits false new (ds ++ d ∷ []) over
-        (over_with old ds d (held_as old.fits true old ds fits h.holds)
+        (over_with old ds d (all_held old ds h fits)
         (subst (λ F. IsOver choice.most (old.told.store ++ F)) (sym e) (store_over choice.most _
         fault fails full)));
   }
@@ -164,13 +178,13 @@ module _ {R : Type 0} (unread : R → Option (List ℕ)) (choice : Choice) where
   holds_past file ds d fits h = record {
     others = λ fitting. absurd (false≢true (sym fits ∙ fitting));
     holds = holding file.fits false file (ds ++ d ∷ []) fits
-        (over_more ds d (held_as file.fits false file ds fits h.holds));
+        (over_more ds d (all_over file ds h fits));
   }
 
   -- a datagram of another session was counted
-  pub holds_passed : {s o y : ℕ} (old new : HeldFiles s o y R) (ds : List (List ℕ)) (d : List ℕ)
-      → old.fits ≡ true → new.fits ≡ true → new.runs ≡ old.runs → facts_by choice d ≡ []
-      → is_refused d ≡ false
+  pub holds_passed : {s o y : ℕ} (old new : HeldFiles s o y R) (ds : List (List ℕ))
+      (d : List ℕ) → old.fits ≡ true → new.fits ≡ true → new.runs ≡ old.runs
+      → facts_by choice d ≡ [] → is_refused d ≡ false
       → new.told ≡ record {
         store = old.told.store;
         datagrams = old.told.datagrams + 1;
@@ -187,11 +201,12 @@ module _ {R : Type 0} (unread : R → Option (List ℕ)) (choice : Choice) where
       })
       (rw other count) h
 
-  -- what a taken datagram comes to
+  -- the state after a datagram that was taken
   pub holds_taken : {s o y : ℕ} (r : Result (Unit {0}) CommandFault) (old new : HeldFiles s o y R)
-      (d : List ℕ) (told : List Fact) → old.fits ≡ true → new.fits ≡ true → new.runs ≡ old.runs
-      → facts_by choice d ≡ told → new.others ≡ old.others → is_of_others choice d ≡ false
-      → OnOk r (TakesDatagram told old.told d new.told)
+      (d : List ℕ) (told : List Fact) → old.fits ≡ true → new.fits ≡ true
+      → new.runs ≡ old.runs
+      → facts_by choice d ≡ told → new.others ≡ old.others
+      → is_of_others choice d ≡ false → OnOk r (TakesDatagram told old.told d new.told)
       → OnOk r ((ds : List (List ℕ)) → HoldsDatagrams unread choice old ds
       → HoldsDatagrams unread choice new (ds ++ d ∷ []))
   holds_taken (Ok t) old new d told fits still runs e same taken h = λ ds holds.
@@ -208,7 +223,7 @@ module _ {R : Type 0} (unread : R → Option (List ℕ)) (choice : Choice) where
       → HoldTogether unread new.runs.items (facts ++ old.told.store))
       → HoldsMore unread choice old new []
   holds_aside old new fits still empty datagrams refused others runs ds h =
-      let all = held_as old.fits true old ds fits h.holds in
+      let all = all_held old ds h fits in
       let files = flat_map (facts_by choice) ds in
       let more = runs all.aside all.runs in
       subst (HoldsDatagrams unread choice new) (sym (append-nil ds)) (record {
@@ -233,11 +248,12 @@ module _ {R : Type 0} (unread : R → Option (List ℕ)) (choice : Choice) where
       → ((facts : List Fact) → AreRunsOf unread old.runs.items facts
       → HoldTogether unread runs facts)
       → length runs ≤ 1 → runs ≡ rest ++ option_to_list popped
-      → (0 < length runs → IsSome popped) → (ds : List (List ℕ)) → HoldsDatagrams unread choice old ds
+      → (0 < length runs → IsSome popped) → (ds : List (List ℕ))
+      → HoldsDatagrams unread choice old ds
       → (facts : List Fact) × AreHeld unread store popped facts
       × Same facts (flat_map (facts_by choice) ds)
   holds_run old popped rest runs store fits empty none merged few split some ds h =
-      let all = held_as old.fits true old ds fits h.holds in
+      let all = all_held old ds h fits in
       let files = flat_map (facts_by choice) ds in
       let in_runs : Same all.aside files =
       subst (λ l. Same (l ++ all.aside) files) empty all.content in
@@ -298,14 +314,16 @@ module _ {R : Type 0} (unread : R → Option (List ℕ)) (choice : Choice) where
 -- A record that was read as the input with this number.
 
 pub read_some : (n : ℕ) (r : Result (Option (List ℕ)) ReadFault)
-    (s : Result (Option (List ℕ)) CommandFault) (d : List ℕ) → MatchResult r (λ x. s ≡ Ok x)
+    (s : Result (Option (List ℕ)) CommandFault) (d : List ℕ)
+    → MatchResult r (λ x. s ≡ Ok x)
     (λ f. s ≡ Err (Input n f)) → s ≡ Ok (Some d)
     → r ≡ Ok (Some d)
 read_some n (Ok x) s d h e = let k : Ok x ≡ Ok (Some d) = sym h ∙ e in cc
 read_some n (Err f) s d h e = let k : Err (Input n f) ≡ Ok (Some d) = sym h ∙ e in absurd cc
 
 -- its fault
-pub record ReadErr (n : ℕ) (r : Result (Option (List ℕ)) ReadFault) (fault : CommandFault) : Type 0
+pub record ReadErr (n : ℕ) (r : Result (Option (List ℕ)) ReadFault) (fault : CommandFault)
+    : Type 0
   where
     pub why : ReadFault
     pub was : r ≡ Err why

@@ -1,4 +1,4 @@
--- An input as a stream: a journal goes on, or stops, as it does by itself.
+-- JoinInput as a stream: a journal is advanced, or stops, as it does by itself.
 use Rattle.std.proofs.Common.{◌≡◌, ℕ, List, ◌++◌, Option, Some, None, Result, Ok, Err, sym, subst}
 use Rattle.std.specs.Prelude.{OnOk, IfErr, IfSome}
 use Rattle.flute_parts.specs.declared.fact.Fact.{Fact}

@@ -1,5 +1,5 @@
--- Inputs that are inspected, one after the other.
-use Rattle.std.proofs.Common.{◌≡◌, ℕ, zero, suc, ◌+◌, ◌*◌, ◌≤◌, List, [], ◌∷◌, ◌++◌, length, take}
+-- inspect_all: inputs that are inspected one after the other (specs/JoinParts).
+use Rattle.std.proofs.Common.{◌≡◌, ℕ, zero, suc, ◌+◌, ◌*◌, ◌<◌, ◌≤◌, List, [], ◌∷◌, ◌++◌, length, take}
 use Rattle.std.proofs.Common.{append-nil, append_assoc, Option, Some, Err, inl, inr, refl, sym, ap}
 use Rattle.std.proofs.Common.{◌∙◌, subst, arith, Bool, true}
 use Rattle.std.proofs.Math.ListN.{set}
@@ -21,7 +21,7 @@ use Rattle.flutejoin.specs.declared.join.join_input.JoinInput.TheVariants.{Journ
 use Rattle.flutejoin.specs.JoinInputs.{IsInput, AreInputs}
 use Rattle.flutejoin.specs.InputStreams.{failures_of, NoneFailed, OneFailed}
 use Rattle.flutejoin.specs.Joined.{Choice}
-use Rattle.flutejoin.specs.JoinFaults.{HasKnownKind, IsOfAKind}
+use Rattle.flutejoin.specs.JoinFaults.{HasKnownKind, IsOfAKind, WantsAside}
 use Rattle.flutejoin.specs.JoinParts.{HoldsDatagrams, HoldsMore}
 use Rattle.flutejoin.specs.JoinParts.{IsSound, CountsUpTo}
 use Rattle.flutejoin.specs.JoinParts.{NamesOnly, InspectionFails, SomeInspectionFails}
@@ -29,7 +29,8 @@ use Rattle.flutejoin.specs.JoinFaults.{NamesOneOf}
 use Rattle.flutejoin.specs.JoinParts.{IsInspected, AreInspected, Finds, IsReady}
 use Rattle.flutejoin.specs.Show.{FailsToRead}
 use Rattle.flutejoin.proofs.Slots.{slice_get-set_other, slice_get-set_same, some_same}
-use Rattle.flutejoin.proofs.Firsts.{at_place, first_at}
+use Rattle.flutejoin.proofs.Firsts.{at_place, first_after, first_at}
+use Rattle.flutejoin.proofs.join_lemmas.Held.{all_held}
 
 pub same_kind : (kind : Kind) (xs ys : List ℕ) → take 4 xs ≡ take 4 ys → HasKind kind xs
     → HasKind kind ys
@@ -47,7 +48,11 @@ pub of_a_kind : (bytes : List ℕ) → HasKnownKind bytes → IsOfAKind bytes
 of_a_kind bytes (inl journal) = inl journal
 of_a_kind bytes (inr file) = inr (ap (take 4) file.1.bytes_are)
 
--- so it is with one more of a list in which it stands then
+pub inspect_reads : (k : ℕ) (fault : CommandFault) → NamesOnly (k + 1) fault
+    → fault ≡ CannotWrite → ⊥
+inspect_reads k fault names e = subst (NamesOnly (k + 1)) e names
+
+-- if P holds of the first k, and of a new element k, then it holds of the first k + 1
 all_more : {X : Type 0} (P : X → Type 0) {x : X} (new : X) (k : ℕ) (xs : List X)
     → slice_get xs k ≡ Some x → AllByRecursion P (take k xs) → P new
     → AllByRecursion P (take (suc k) (set xs k new))
@@ -57,6 +62,7 @@ all_more P new zero (y ∷ xs) at h p = (p, tt)
 all_more P new (suc k) (y ∷ xs) at h p = (h.0, all_more P new k xs at h.1 p)
 
 module _ (choice : Choice) {R : Type 0} (unread : R → Option (List ℕ)) where
+  -- an input that was inspected is of a known kind
   is_known : (input : JoinInput R) (bytes : List ℕ) (datagrams : List (List ℕ))
       → IsInspected unread choice input bytes datagrams → HasKnownKind bytes
   is_known (Journal journal) bytes datagrams h = inl h.1
@@ -70,6 +76,40 @@ module _ (choice : Choice) {R : Type 0} (unread : R → Option (List ℕ)) where
       (is_known x bytes h.0 h.2, all_known xs contents h.1 h.4)
   all_known [] (bytes ∷ contents) datagrams h = absurd h
   all_known (x ∷ xs) [] datagrams h = absurd h
+
+  -- an input is a datagram file if there are datagrams
+  wants_aside : (xs : List (JoinInput R)) (contents datagrams : List (List ℕ))
+      → AreInspected unread choice xs contents datagrams → 0 < length datagrams
+      → WantsAside contents
+  wants_aside [] [] datagrams h some =
+      let none = ap length h in absurd (omega (arith, none, some))
+  wants_aside (Journal journal ∷ xs) (bytes ∷ contents) datagrams h some =
+      let others : datagrams ≡ h.1 = h.3 ∙ ap (λ own. own ++ h.1) h.2.0 in
+      let rest =
+      wants_aside xs contents h.1 h.4 (subst (λ l. 0 < length l) others some) in
+      (rest.0 + 1, first_after bytes (inl h.2.1) rest.1)
+  wants_aside (Datagrams source ∷ xs) (bytes ∷ contents) datagrams h some = (
+    1,
+    record {
+      before = [];
+      bytes = bytes;
+      after = contents;
+      split = refl;
+      number_is = refl;
+      earlier = tt;
+      here = ap (take 4) h.2.bytes_are;
+    },
+  )
+  wants_aside (Unknown ∷ xs) (bytes ∷ contents) datagrams h some = absurd h.2
+  wants_aside [] (bytes ∷ contents) datagrams h some = absurd h
+  wants_aside (x ∷ xs) [] datagrams h some = absurd h
+
+  pub finds_wants : {s o y : ℕ} (held : HeldFiles s o y R) (xs : List (JoinInput R))
+      (contents : List (List ℕ)) → Finds unread choice xs contents held → held.fits ≡ true
+      → 0 < held.told.datagrams → WantsAside contents
+  finds_wants held xs contents found fits some =
+      let all = all_held unread choice held found.0 found.2 fits in
+      wants_aside xs contents found.0 found.1 (subst (λ n. 0 < n) all.count some)
 
   -- one input more was inspected
   module _ {x : JoinInput R} (new : JoinInput R) {bytes : List ℕ} (own : List (List ℕ))
@@ -100,7 +140,7 @@ module _ (choice : Choice) {R : Type 0} (unread : R → Option (List ℕ)) where
     )
 
   module _ (failures : R → ℕ) where
-    -- the first inputs were inspected, and the others are as they were
+    -- the first k inputs were inspected, and the others are unchanged
     pub record InspectedSoFar {s o y : ℕ} (told : Bool) (start now : List (JoinInput R))
         (held : HeldFiles s o y R) (k : ℕ) : Type 0 where
       pub as_many : length now ≡ length start
@@ -131,20 +171,22 @@ module _ (choice : Choice) {R : Type 0} (unread : R → Option (List ℕ)) where
     }
 
     module _ {s o y : ℕ} {told : Bool} {start now : List (JoinInput R)}
-        {held : HeldFiles s o y R} {k : ℕ} (h : InspectedSoFar told start now held k) (one : JoinInput R)
+        {held : HeldFiles s o y R} {k : ℕ} (h : InspectedSoFar told start now held k)
+        (one : JoinInput R)
         (at : slice_get now k ≡ Some one) where
       was : slice_get start k ≡ Some one
       was = sym (h.later k (omega arith)) ∙ at
 
       -- the input at this place, and its bytes
       is_input : (contents : List (List ℕ)) → AreInputs unread start contents
-          → (bytes : List ℕ) × (slice_get contents k ≡ Some bytes) × IsInput unread one bytes
+          → (bytes : List ℕ) × (slice_get contents k ≡ Some bytes)
+          × IsInput unread one bytes
       is_input contents inputs =
           let within = slice_get_within start k one was in
           let here = at_place contents k (omega (arith, within, inputs.as_many)) in
           (here.0, here.1, inputs.each k one here.0 was here.1)
 
-      -- no source failed, the one that was read now neither
+      -- no source failed, nor did the one that was read now
       none_more : (new : JoinInput R) → failures_of failures new ≡ failures_of failures one
           → NoneFailed failures start (set now k new)
       none_more new failed =
@@ -160,7 +202,8 @@ module _ (choice : Choice) {R : Type 0} (unread : R → Option (List ℕ)) where
                       some_same _ new input (slice_get-set_same now k new within)
                       (subst P same it) in
                       ap (failures_of failures) (sym put) ∙ failed
-                      ∙ ap (failures_of failures) (one_is start k one before was (subst Q same is))
+                      ∙ ap (failures_of failures)
+                      (one_is start k one before was (subst Q same is))
                   | inr differs ↦ h.none_failed.each j before input is
                       (sym (slice_get-set_other now k j new differs) ∙ it)
                 ];
@@ -201,8 +244,9 @@ module _ (choice : Choice) {R : Type 0} (unread : R → Option (List ℕ)) where
           }
 
       pub inspect_fails : (fault : CommandFault)
-          → ((bytes : List ℕ) → IsInput unread one bytes → InspectionFails (k + 1) bytes fault)
-          → told ≡ true → (contents : List (List ℕ)) → AreInputs unread start contents
+          → ((bytes : List ℕ) → IsInput unread one bytes
+          → InspectionFails (k + 1) bytes fault) → told ≡ true
+          → (contents : List (List ℕ)) → AreInputs unread start contents
           → SomeInspectionFails contents fault
       inspect_fails fault fails is contents inputs =
           let own = is_input contents inputs in
@@ -212,6 +256,7 @@ module _ (choice : Choice) {R : Type 0} (unread : R → Option (List ℕ)) where
                 own.1 (all_known (take k now) (take k contents) all.0 all.1) (fails own.0 own.2),
           )
 
+      -- the inspection of input k + 1 failed: the fault is that of this input
       pub inspect_names : (fault : CommandFault) → NamesOnly (k + 1) fault
           → NamesOneOf (length start) fault
       inspect_names (Input number f) e =
@@ -243,23 +288,21 @@ module _ (choice : Choice) {R : Type 0} (unread : R → Option (List ℕ)) where
                 (failures_of failures new) (Err f)) e fails;
           }
 
-    pub inspect_reads : (k : ℕ) (fault : CommandFault) → NamesOnly (k + 1) fault
-        → fault ≡ CannotWrite → ⊥
-    inspect_reads k fault names e = subst (NamesOnly (k + 1)) e names
-
-    -- all were inspected
+    -- after the last input all were inspected
     module _ {s o y : ℕ} {told : Bool} {start now : List (JoinInput R)}
-        {held : HeldFiles s o y R} {k : ℕ} (h : InspectedSoFar told start now held k) (past : length start ≤ k) where
+        {held : HeldFiles s o y R} {k : ℕ} (h : InspectedSoFar told start now held k)
+        (past : length start ≤ k) where
       all_of_them : take k now ≡ now
       all_of_them = take_all k now (omega (arith, past, h.as_many))
 
       pub ready_all : AllByRecursion (IsReady unread failures) now
       ready_all = subst (AllByRecursion (IsReady unread failures)) all_of_them h.ready
 
-      pub finds_all : told ≡ true → (contents : List (List ℕ)) → AreInputs unread start contents
-          → Finds unread choice now contents held
+      pub finds_all : told ≡ true → (contents : List (List ℕ))
+          → AreInputs unread start contents → Finds unread choice now contents held
       finds_all is contents inputs =
           let every : take k contents ≡ contents =
           take_all k contents (omega (arith, past, inputs.as_many)) in
           subst (λ xs. Finds unread choice xs contents held) all_of_them
-          (subst (λ cs. Finds unread choice (take k now) cs held) every (h.finds is contents inputs))
+          (subst (λ cs. Finds unread choice (take k now) cs held) every
+          (h.finds is contents inputs))

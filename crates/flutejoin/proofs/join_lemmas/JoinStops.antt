@@ -1,4 +1,4 @@
--- How a join of inputs ends: which input stops it, what has failed, and what it comes to.
+-- join_to: which input stops the join, which devices failed, and what the join returns.
 use Rattle.std.proofs.Common.{◌≡◌, ℕ, zero, suc, ◌+◌, ◌-◌, ◌*◌, ◌^◌, ◌≤◌, Bool, true, false}
 use Rattle.std.proofs.Common.{List, [], ◌∷◌, ◌++◌, length, count_by, Option, Some}
 use Rattle.std.proofs.Common.{None, Result, Ok, Err, inl, inr, refl, sym, ap, ◌∙◌, subst, arith}
@@ -48,10 +48,10 @@ use Rattle.flutejoin.specs.JoinFaults.{IsFileAt, JoinFails}
 use Rattle.flutejoin.specs.JoinParts.{FileFails}
 use Rattle.flutejoin.specs.Joining.{JoinsTo}
 use Rattle.flutejoin.specs.JoinFaults.{JoinToFails, of_inputs, of_source, of_sink, of_aside}
-use Rattle.flutejoin.specs.JoinFaults.{NamesOneOf}
+use Rattle.flutejoin.specs.JoinFaults.{NamesOneOf, WantsAside}
 use Rattle.flutejoin.specs.JoinParts.{InspectionFails, of_kind, of_file as of_a_file}
 use Rattle.flutejoin.specs.JoinParts.{SomeInspectionFails, IsInspected, AreInspected, IsReady}
-use Rattle.flutejoin.specs.JoinParts.{JoinsInspected}
+use Rattle.flutejoin.specs.JoinParts.{JoinsInspected, NeverStops}
 use Rattle.flutejoin.specs.Refused.{is_refused}
 use Rattle.flutejoin.specs.Limits.{IsOver}
 use Rattle.flutejoin.specs.Status.{of_load, of_stop}
@@ -87,7 +87,7 @@ read_or_not f = inr (λ e. cc)
 
 -- Which input stops.
 
--- what holds of each holds of the one at a place
+-- what holds of each element holds of element k
 one_of : {X : Type 0} (P : X → Type 0) (k : ℕ) (xs : List X) (x : X) → AllByRecursion P xs
     → slice_get xs k ≡ Some x → P x
 one_of P k [] x h e = let within = slice_get_within [] k x e in absurd (omega (arith, within))
@@ -115,7 +115,7 @@ module _ {R : Type 0} (unread : R → Option (List ℕ)) (failures : R → ℕ) 
   one_at (x ∷ xs) (suc n) s e =
       let o = one_at xs n s e in record { input = o.input; own = o.own; is = o.is }
 
-  -- an input, with its place, that has this fault, and those before it tell facts
+  -- an input, with its place, that has this fault, while those before it contain facts
   pub record StopsIn (xs : List (JoinInput R)) (number : ℕ) (fault : LoadFault) : Type 0 where
     pub place : ℕ
     pub number_is : number ≡ suc place
@@ -130,6 +130,7 @@ module _ {R : Type 0} (unread : R → Option (List ℕ)) (failures : R → ℕ) 
   Stops w xs (suc n) fault = StopsIn xs (suc n) fault
 
   module _ (w : S) where
+    -- the stream that stops is what is held, or an input with those before it
     stops_at : (xs : List (JoinInput R)) (number : ℕ) (s : Either S (JoinInput R))
         (fault : LoadFault) → slice_get (chained w xs) number ≡ Some s → all.stops s fault
         → TellBefore all number (chained w xs) → Stops w xs number fault
@@ -145,7 +146,7 @@ module _ {R : Type 0} (unread : R → Option (List ℕ)) (failures : R → ℕ) 
           before = t.1;
         }
 
-    pub stops_in : (xs : List (JoinInput R)) → length xs ≤ 64
+    stops_in : (xs : List (JoinInput R)) → length xs ≤ 64
         → (now : List (Either S (JoinInput R))) (first : InputFault)
         → FirstFault all (chained w (taken xs)) now first
         → Stops w xs first.number first.fault
@@ -154,7 +155,7 @@ module _ {R : Type 0} (unread : R → Option (List ℕ)) (failures : R → ℕ) 
         stops_at xs first.number h.stopped.new first.fault h.stopped.was h.stopped.stop.stops
         h.before
 
-  -- it is a fault of reading
+  -- the fault is one of reading (LoadFault: Read)
   reads : (x : JoinInput R) (fault : LoadFault) → all.stops (Second x) fault
       → (f : ReadFault) × (fault ≡ load.Read f)
   reads (Journal x) (load.Read f) h = (f, refl)
@@ -165,6 +166,7 @@ module _ {R : Type 0} (unread : R → Option (List ℕ)) (failures : R → ℕ) 
 
   module _ {xs : List (JoinInput R)} {number : ℕ} {fault : LoadFault}
       (h : StopsIn xs number fault) where
+    -- so it is not `OutOfMemory`, `CannotWrite` or `CannotPutAside`, and names an input
     no_memory : of_load number fault ≡ OutOfMemory → ⊥
     no_memory e =
         let f = reads h.input fault h.stops in
@@ -218,6 +220,7 @@ module _ {R : Type 0} (unread : R → Option (List ℕ)) (failures : R → ℕ) 
       stops_one (Datagrams x) bytes own f r i s = absurd s
       stops_one Unknown bytes own f r i s = absurd s
 
+      -- the join fails with the first input's fault (specs/JoinFaults)
       first_fails : JoinToFails choice contents (of_load number fault)
       first_fails =
           let f = reads h.input fault h.stops in
@@ -249,39 +252,47 @@ module _ {R : Type 0} (unread : R → Option (List ℕ)) (failures : R → ℕ) 
           subst (λ n. JoinToFails choice contents (of_load n fault)) (sym at)
           (subst (λ g. JoinToFails choice contents (of_load (h.place + 1) g)) (sym f.1) told)
 
-  -- why a join stopped, whatever stream it was
-  module _ (w : S) (xs : List (JoinInput R)) where
-    pub stop_no_memory : (number : ℕ) (fault : LoadFault) → Stops w xs number fault
-        → of_stop number fault ≡ OutOfMemory → ⊥
-    stop_no_memory zero fault h e = cc
-    stop_no_memory (suc n) fault h e = no_memory h e
-
-    pub stop_no_sink : (number : ℕ) (fault : LoadFault) → Stops w xs number fault
-        → of_stop number fault ≡ CannotWrite → ⊥
-    stop_no_sink zero fault h e = cc
-    stop_no_sink (suc n) fault h e = no_sink h e
-
-    pub stop_names : (number : ℕ) (fault : LoadFault) → Stops w xs number fault
-        → NamesOneOf (length xs) (of_stop number fault)
-    stop_names zero fault h = tt
-    stop_names (suc n) fault h = names_one h
-
-    -- what is held has no fault
-    pub stop_no_aside : ((fault : LoadFault) → b.stops w fault → ⊥) → (number : ℕ)
-        (fault : LoadFault) → Stops w xs number fault → of_stop number fault ≡ CannotPutAside → ⊥
-    stop_no_aside never zero fault h e = never fault h
-    stop_no_aside never (suc n) fault h e = no_aside h e
-
-    pub stop_fails : (number : ℕ) (fault : LoadFault) → Stops w xs number fault
-        → (choice : Choice) (contents datagrams : List (List ℕ))
+  -- what a fault is with which a join stopped, whatever stream it was
+  pub record StopFault (w : S) (xs : List (JoinInput R)) (fault : CommandFault) : Type 0 where
+    pub no_memory : fault ≡ OutOfMemory → ⊥
+    pub no_sink : fault ≡ CannotWrite → ⊥
+    pub no_aside : NeverStops b w → fault ≡ CannotPutAside → ⊥
+    pub names : NamesOneOf (length xs) fault
+    pub fails : (choice : Choice) (contents datagrams : List (List ℕ))
         → are_ready unread failures b xs → AreInspected unread choice xs contents datagrams
-        → JoinToFails choice contents (of_stop number fault)
-    stop_fails zero fault h choice contents datagrams ready inspected = of_aside refl
-    stop_fails (suc n) fault h choice contents datagrams ready inspected =
-        first_fails h choice contents datagrams ready inspected
+        → NeverStops b w ⊎ WantsAside contents → JoinToFails choice contents fault
 
-  -- What has failed.
+  stop_fault : (w : S) (xs : List (JoinInput R)) (number : ℕ) (fault : LoadFault)
+      → Stops w xs number fault → StopFault w xs (of_stop number fault)
+  stop_fault w xs zero fault h = record {
+    no_memory = λ e. cc;
+    no_sink = λ e. cc;
+    no_aside = λ never e. never fault h;
+    names = tt;
+    fails = λ choice contents datagrams ready inspected why. elim why [
+      | inl never ↦ absurd (never fault h)
+      | inr wants ↦ of_aside refl wants
+    ];
+  }
+  stop_fault w xs (suc n) fault h = record {
+    no_memory = no_memory h;
+    no_sink = no_sink h;
+    no_aside = λ never. no_aside h;
+    names = names_one h;
+    fails = λ choice contents datagrams ready inspected why.
+        first_fails h choice contents datagrams ready inspected;
+  }
 
+  pub stopped : {w : S} (xs : List (JoinInput R)) → length xs ≤ 64
+      → {now : List (Either S (JoinInput R))} (first : InputFault)
+      → FirstFault all (chained w (taken xs)) now first
+      → StopFault w xs (of_stop first.number first.fault)
+  stopped {w} xs many {now} first f =
+      stop_fault w xs first.number first.fault (stops_in w xs many now first f)
+
+  -- Which sources have failed, from which streams have.
+
+  -- the source of one input, if its stream has not failed, and if it has
   fails_none : (x y : JoinInput R) → all.fails (Second x) (Second y) None
       → failures_of failures y ≡ failures_of failures x
   fails_none (Journal x) (Journal y) h = h
@@ -320,7 +331,8 @@ module _ {R : Type 0} (unread : R → Option (List ℕ)) (failures : R → ℕ) 
 
   pub none_failed : (w now : S) (xs ys : List (JoinInput R)) → length xs ≤ 64
       → length ys ≡ length xs
-      → NoneFails all (chained w (taken xs)) (chained now (taken ys)) → NoneFailed failures xs ys
+      → NoneFails all (chained w (taken xs)) (chained now (taken ys))
+      → NoneFailed failures xs ys
   none_failed w now xs ys many same f =
       let h =
       subst (λ l. NoneFails all (chained w l) (chained now ys)) (all_taken xs many)
@@ -328,6 +340,7 @@ module _ {R : Type 0} (unread : R → Option (List ℕ)) (failures : R → ℕ) 
       (all_taken ys (omega (arith, many, same))) f) in
       record { as_many = same; each = none_at xs ys h.1 }
 
+  -- one stream failed: only the source of that input did
   module _ {w : S} (now : S) (xs ys : List (JoinInput R)) (many : length xs ≤ 64)
       (same : length ys ≡ length xs) (first : InputFault) where
     pub read_failed : FirstFault all (chained w (taken xs)) (chained now (taken ys)) first
@@ -380,8 +393,9 @@ none_failed_more failures xs ys zs h k = record {
       k.each j y.0 z y.1 is ∙ h.each j x y.0 was y.1;
 }
 
-pub one_failed_more : {R : Type 0} (failures : R → ℕ) (number : ℕ) (xs ys zs : List (JoinInput R))
-    → NoneFailed failures xs ys → OneFailed failures number ys zs → OneFailed failures number xs zs
+pub one_failed_more : {R : Type 0} (failures : R → ℕ) (number : ℕ)
+    (xs ys zs : List (JoinInput R)) → NoneFailed failures xs ys
+    → OneFailed failures number ys zs → OneFailed failures number xs zs
 one_failed_more failures number xs ys zs h k =
     let x = at_place xs k.place
     (let within = slice_get_within ys k.place k.before k.was in
@@ -396,10 +410,10 @@ one_failed_more failures number xs ys zs h k =
       failed = k.failed ∙ ap (λ n. n + 1) (h.each k.place x.0 k.before x.1 k.was);
     }
 
--- What the whole join comes to.
+-- What the whole join returns.
 
-file_not_held : {choice : Choice} (P : List ℕ → Type 0) (inputs : List (List ℕ)) (number : ℕ)
-    (first : FirstInput HasKnownKind P number inputs) (fault : CommandFault)
+file_not_held : {choice : Choice} (P : List ℕ → Type 0) (inputs : List (List ℕ))
+    (number : ℕ) (first : FirstInput HasKnownKind P number inputs) (fault : CommandFault)
     → HasKind kinds.Datagrams first.bytes → FileFails number (Some first.bytes) fault
     → JoinToFails choice inputs fault
 file_not_held {choice} P inputs number first (Input told f) kind h =
@@ -413,7 +427,9 @@ file_not_held {choice} P inputs number first (Input told f) kind h =
     ]
 file_not_held {choice} P inputs number first OutOfMemory kind h =
     of_inputs (number, first_with HasKnownKind P IsOfAKind number inputs first (inr kind))
-file_not_held {choice} P inputs number first CannotPutAside kind h = of_aside refl
+file_not_held {choice} P inputs number first CannotPutAside kind h =
+    of_aside refl
+    (number, first_with HasKnownKind P (HasKind kinds.Datagrams) number inputs first kind)
 file_not_held {choice} P inputs number first fault kind h = absurd h
 
 pub not_inspected : {choice : Choice} (inputs : List (List ℕ)) (fault : CommandFault)
@@ -429,7 +445,7 @@ not_inspected {choice} inputs fault h = go h.1.here
     go (of_a_file kind fails) =
         file_not_held (λ bytes. InspectionFails h.0 bytes fault) inputs h.0 h.1 fault kind fails
 
--- inputs tell no more than so much of other objects
+-- inputs contain at most so many facts of other objects
 others_few : (choice : Choice) (inputs : List (List ℕ)) (told : List InputContent)
     → TellAll inputs told → sum_by (content_others choice) told ≤ length inputs * 16777216
 unfolding TellAll
@@ -467,7 +483,7 @@ full_of_files {choice} {inputs} {datagrams} h over =
 
 module _ {choice : Choice} {inputs datagrams : List (List ℕ)} {facts : List Fact} {passed : ℕ}
     {joined : MergedJournal} {w w' : Option (List ℕ)} where
-  -- all of them are held
+  -- all datagram files are held
   module _ (h : JoinsInspected choice inputs datagrams facts passed joined w w')
       (held : Same facts (flat_map (facts_by choice) datagrams)) where
     abbrev told : List Fact
@@ -494,6 +510,7 @@ module _ {choice : Choice} {inputs datagrams : List (List ℕ)} {facts : List Fa
         (subst (IsWithinLimits choice.most.sessions choice.most.objects choice.most.symbols
         written) e h.limits)
 
+    -- the join's result: `Full`, `CannotWrite`, or what JoinsTo says
     pub full_together : joined.within ≡ false → JoinToFails choice inputs Full
     full_together over = of_inputs (h.told, h.tell, within_limits false over)
 
@@ -504,8 +521,9 @@ module _ {choice : Choice} {inputs datagrams : List (List ℕ)} {facts : List Fa
 
     pub joins_to : length inputs ≤ 64 → joined.within ≡ true → joined.cut ≡ false
         → (counts : JoinCounts) → counts.entries ≡ joined.entries
-        → counts.datagrams ≡ length datagrams → counts.refused ≡ count_by is_refused datagrams
-        → (of_files : ℕ) → of_files ≡ count_by (is_of_others choice) datagrams
+        → counts.datagrams ≡ length datagrams
+        → counts.refused ≡ count_by is_refused datagrams → (of_files : ℕ)
+        → of_files ≡ count_by (is_of_others choice) datagrams
         → counts.others ≡ min (of_files + passed) (2 ^ 64 - 1)
         → JoinsTo choice inputs counts w w'
     joins_to few within whole counts entries all refused of_files counted sum =

@@ -1,4 +1,4 @@
--- Inputs that were inspected, as streams that are joined with what is held: what they tell.
+-- join_inspected: the inputs and what is held, merged as streams, and the facts they contain.
 use Rattle.std.proofs.Common.{◌≡◌, ℕ, zero, suc, ◌+◌, ◌*◌, ◌^◌, ◌<◌, ◌≤◌, not, List, [], ◌∷◌, ◌++◌}
 use Rattle.std.proofs.Common.{length, take, map, count_by, cond, append-nil, append_assoc, Option}
 use Rattle.std.proofs.Common.{refl, sym, ap, ◌∙◌, subst, arith}
@@ -52,7 +52,7 @@ regroup O D F G R h =
     (subst (λ l. Same (O ++ (F ++ R)) l) (sym (append_assoc O D (F ++ G)))
     (Same-append O O (F ++ R) (D ++ (F ++ G)) (Same-itself O) turned))
 
--- all inputs are taken
+-- no input is left out
 pub all_taken : {X : Type 0} (xs : List X) → length xs ≤ 64 → taken xs ≡ xs
 all_taken xs many = taken_all xs (omega (arith, many))
 
@@ -67,7 +67,7 @@ module _ {R : Type 0} (unread : R → Option (List ℕ)) (failures : R → ℕ) 
   abbrev pub as_streams : List (JoinInput R) → List (Either S (JoinInput R))
   as_streams xs = map Second xs
 
-  -- They are new, and few.
+  -- The streams are new, and hold few facts.
 
   new_input : (x : JoinInput R) → IsReady unread failures x → IsNew joins (Second x)
   new_input (Journal journal) h =
@@ -109,10 +109,10 @@ module _ {R : Type 0} (unread : R → Option (List ℕ)) (failures : R → ℕ) 
         subst (λ l. most_of joins (chained w l) < 2 ^ 64) (sym (all_taken xs many))
         (omega (arith, held.few, inputs_few xs h, many))
 
-  -- What they tell.
+  -- The facts that the inputs contain.
 
   module _ (choice : Choice) where
-    -- what one input tells, and how much of it was passed over
+    -- what one input contains, and how much of it was passed over
     record TellsOne (bytes : List ℕ) (own : List (List ℕ)) (F : List Fact)
         (passed : ℕ) : Type 0 where
       pub told : InputContent
@@ -121,6 +121,7 @@ module _ {R : Type 0} (unread : R → Option (List ℕ)) (failures : R → ℕ) 
       pub facts : content_facts choice told ≡ flat_map (facts_by choice) own ++ F
       pub others : passed + count_by (is_of_others choice) own ≡ content_others choice told
 
+    -- an inspected journal contains its facts, and a datagram file those that are held
     tells_one : (x y : JoinInput R) (bytes : List ℕ) (own : List (List ℕ)) (F : List Fact)
         → IsReady unread failures x → IsInspected unread choice x bytes own
         → (input_behaviour unread failures).ends x y F → TellsOne bytes own F (passed_over y)
@@ -160,7 +161,7 @@ module _ {R : Type 0} (unread : R → Option (List ℕ)) (failures : R → ℕ) 
     tells_one (Datagrams x) (Journal y) bytes own F ready inspected h = absurd h
     tells_one (Datagrams x) Unknown bytes own F ready inspected h = absurd h
 
-    -- what all tell
+    -- what all inputs contain
     record TellsEach (contents datagrams : List (List ℕ)) (F : List Fact)
         (passed : ℕ) : Type 0 where
       pub told : List InputContent
@@ -181,6 +182,7 @@ module _ {R : Type 0} (unread : R → Option (List ℕ)) (failures : R → ℕ) 
       others = refl;
     }
 
+    -- one input more adds its own facts
     one_more : {bytes : List ℕ} {contents own others : List (List ℕ)} {F G : List Fact} {m n : ℕ}
         → TellsOne bytes own F m → TellsEach contents others G n
         → TellsEach (bytes ∷ contents) (own ++ others) (F ++ G) (m + n)
@@ -206,6 +208,7 @@ module _ {R : Type 0} (unread : R → Option (List ℕ)) (failures : R → ℕ) 
           others = omega (arith, one.others, all.others, of_own, of_told);
         }
 
+    -- all inputs contain their facts, and those that are held
     tells_each : (xs ys : List (JoinInput R)) (contents datagrams : List (List ℕ))
         (given : List (List Fact)) → are_ready xs
         → AreInspected unread choice xs contents datagrams
@@ -239,7 +242,7 @@ module _ {R : Type 0} (unread : R → Option (List ℕ)) (failures : R → ℕ) 
     is_valid (Datagrams x) bytes own F ready inspected h = (of_file own, inspected)
     is_valid Unknown bytes own F ready inspected h = absurd inspected
 
-    -- those before an input that tell facts are valid
+    -- those before an input that contain facts are valid
     pub valid_before : (n : ℕ) (xs : List (JoinInput R)) (contents datagrams : List (List ℕ))
         → are_ready xs → AreInspected unread choice xs contents datagrams
         → TellBefore joins n (as_streams xs) → AllByRecursion IsValid (take n contents)
@@ -249,7 +252,7 @@ module _ {R : Type 0} (unread : R → Option (List ℕ)) (failures : R → ℕ) 
     valid_before (suc n) [] contents datagrams r h t = absurd t
     valid_before (suc n) (x ∷ xs) [] datagrams r h t = absurd h
 
-    -- what was joined
+    -- What the join of the streams wrote (specs/JoinParts: JoinsInspected).
     module _ (xs ys : List (JoinInput R)) (contents datagrams : List (List ℕ))
         (ready : are_ready xs) (inspected : AreInspected unread choice xs contents datagrams)
         {w : S} {store : List Fact} (held : Ends b w store) (joined : MergedJournal)

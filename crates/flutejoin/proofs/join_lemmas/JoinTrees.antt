@@ -1,4 +1,4 @@
--- Joins of what joins wrote.
+-- Joins of journals that joins wrote (specs/JoinTrees).
 use Rattle.std.proofs.Common.{◌≡◌, ℕ, List, [], ◌∷◌, None, inl, inr, refl, sym, ap, ◌∙◌, subst, append-nil, arith}
 use Rattle.std.specs.Prelude.{slice_index, Bool, true, false}
 use Rattle.std.specs.List.{flat_map}
@@ -22,7 +22,7 @@ use Rattle.flutejoin.specs.JoinTrees.{Joined, Inputs, none, leaf, node, bytes_of
 use Rattle.flutejoin.specs.declared.limits.TheConstants.{MAX_ENTRIES}
 use Rattle.flutejoin.proofs.join_lemmas.Receptions.{IsJournal-from_within, Journal-only, Same-from_journals}
 
--- What facts come to of the objects that are taken.
+-- The values of facts at the addresses of the objects that are taken.
 
 module _ (takes : Key → Bool) (a : Address) where
   of_address : (f : Fact) → same_address (address f) a ≡ true
@@ -61,7 +61,7 @@ same_chosen takes F G h = record {
   ];
 }
 
--- An input tells one thing.
+-- An input contains one thing: it is not both a journal and a datagram file.
 
 not_both : (bytes : List ℕ) (entries : List Fact) (datagrams : List (List ℕ))
     → IsJournalWithin MAX_ENTRIES bytes entries → IsFileWithin MAX_ENTRIES bytes datagrams → ⊥
@@ -108,7 +108,7 @@ module _ (one : OneReading) where
       (flat_map (content_facts choice) xs) (flat_map (content_facts choice) ys)
       (tells_same choice bytes x y h.0 k.0) (tell_same choice inputs xs ys h.1 k.1)
 
-  -- What a join wrote.
+  -- The journal that a join wrote.
 
   abbrev facts_told : Choice → List InputContent → List Fact
   facts_told choice told = flat_map (content_facts choice) told
@@ -141,7 +141,7 @@ module _ (one : OneReading) where
       (Same-trans (facts_told a told) (facts_told b further) y.0 same
       (Same-sym y.0 (facts_told b further) y.2))) x.1 y.1
 
-  -- it is read as what its inputs told
+  -- the written journal contains the facts of the inputs that were joined
   pub read_same : (choice : Choice) (inputs : List (List ℕ)) (told : List InputContent)
       (bytes : List ℕ) (held : List Fact) → TellAll inputs told → Joined choice inputs bytes
       → IsJournal bytes held → Same held (facts_told choice told)

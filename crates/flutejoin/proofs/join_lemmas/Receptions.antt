@@ -1,4 +1,4 @@
--- Lists of facts, what stands above them, and their journals.
+-- Lists of facts, facts above them, and their journals.
 use Rattle.std.proofs.Common.{◌≡◌, ℕ, ◌<◌, ◌^◌, List, ◌++◌, sym, ap, subst, ◌∙◌, append_assoc, arith}
 use Rattle.flute_parts.specs.declared.fact.Fact.{Fact}
 use Rattle.flute_parts.specs.Facts.{Same, Below}
@@ -26,8 +26,9 @@ Journal-only bs cs F G same j k =
     (Same-trans j.0 F k.0 (Same-sym F j.0 j.1.same) (Same-trans F G k.0 same k.1.same)) in
     j.3 ∙ ap spelling one ∙ sym k.3
 
-pub IsJournal-from_bound : (limit : ℕ) → limit < 2 ^ 64 → (bs : List ℕ) (entries : List Fact)
-    → IsJournalWithin limit bs entries → IsJournal bs entries
+pub IsJournal-from_bound : (limit : ℕ) → limit < 2 ^ 64
+    → (bs : List ℕ) (entries : List Fact) → IsJournalWithin limit bs entries
+    → IsJournal bs entries
 IsJournal-from_bound limit small bs entries j =
     let v = j.are_items.told in (
       v,
@@ -49,7 +50,7 @@ pub IsJournal-from_within : (bs : List ℕ) (entries : List Fact)
     → IsJournalWithin MAX_ENTRIES bs entries → IsJournal bs entries
 IsJournal-from_within = IsJournal-from_bound MAX_ENTRIES (omega arith)
 
--- what is read of the journal of facts comes to the same as others that do
+-- facts read of a journal have the values of any facts with that journal
 pub Same-read_of_joined : (held joined others : List Fact) (bs : List ℕ)
     → IsJournalOf MAX_ENTRIES bs held → IsJournal bs joined → Same joined others
     → Same held others

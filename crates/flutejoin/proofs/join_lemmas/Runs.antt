@@ -1,5 +1,5 @@
--- Runs: journals that are put aside.
-use Rattle.std.proofs.Common.{◌≡◌, ℕ, ◌+◌, ◌*◌, ◌^◌, ◌<◌, ◌≤◌, List, [], ◌∷◌, ◌++◌, length, Option}
+-- Runs: the journals that were put aside, as streams (specs/Asides).
+use Rattle.std.proofs.Common.{◌≡◌, ℕ, ◌*◌, ◌^◌, ◌<◌, ◌≤◌, List, [], ◌∷◌, ◌++◌, length, Option}
 use Rattle.std.proofs.Common.{Some, None, append-nil, append_assoc, refl, sym, ap, ◌∙◌, subst, arith}
 use Rattle.std.specs.Prelude.{IfSome, OnOk, Result, Ok, Err}
 use Rattle.std.specs.List.{AllByRecursion}
@@ -46,13 +46,13 @@ pub all_written : (bytes : List ℕ) (new : Option (List ℕ)) → Appends (Some
 all_written bytes (Some all) e = ap Some e
 all_written bytes None e = absurd e
 
-pub all_and_one : {X : Type 0} (P : X → Type 0) (xs : List X) (x : X) → AllByRecursion P xs → P x
-    → AllByRecursion P (xs ++ x ∷ [])
+pub all_and_one : {X : Type 0} (P : X → Type 0) (xs : List X) (x : X) → AllByRecursion P xs
+    → P x → AllByRecursion P (xs ++ x ∷ [])
 all_and_one P [] x h p = (p, tt)
 all_and_one P (y ∷ xs) x h p = (h.0, all_and_one P xs x h.1 p)
 
 module _ {R : Type 0} (unread : R → Option (List ℕ)) where
-  -- one run more
+  -- one more run, with its own facts
   pub run_more : (runs : List (OwnedJournalStream R)) (run : OwnedJournalStream R)
       (facts own : List Fact) → AreRunsOf unread runs facts → IsRunOf unread run own
       → AreRunsOf unread (runs ++ run ∷ []) (facts ++ own)
@@ -83,12 +83,13 @@ module _ {R : Type 0} (unread : R → Option (List ℕ)) where
     runs_new (run ∷ runs) h = (h.0.0, runs_new runs h.1)
 
     pub runs_few : (runs : List (OwnedJournalStream R))
-        → AllByRecursion (IsNewRun unread failures) runs → most_of b runs ≤ length runs * 2 ^ 57
+        → AllByRecursion (IsNewRun unread failures) runs
+        → most_of b runs ≤ length runs * 2 ^ 57
     runs_few [] h = omega arith
     runs_few (run ∷ runs) h =
         let own = h.0.1 in let rest = runs_few runs h.1 in omega (arith, own, rest)
 
-    -- what a run tells as a stream are the facts that it reads
+    -- the facts that a run contains as a stream are the facts that it reads
     told_run : (run : OwnedJournalStream R) (told own : List Fact)
         → IsNewRun unread failures run → b.tells run told → IsRunOf unread run own
         → Same told own

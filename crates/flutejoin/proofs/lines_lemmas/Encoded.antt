@@ -1,4 +1,4 @@
--- The digits of bytes, some after others.
+-- The hexadecimal digits of bytes, byte after byte (specs/Digits).
 use Rattle.std.proofs.Common.{◌≡◌, ℕ, zero, suc, ◌+◌, ◌*◌, ◌<◌, ◌≤◌, length, arith, List, [], ◌∷◌, ◌++◌, Option, refl, sym, ap, subst, ◌∙◌, take, drop, append_assoc, slice_index, ◌/◌, ◌%◌}
 use Rattle.std.specs.Io.KnownBytes.{Appends}
 use Rattle.std.proofs.KnownBytes.{Appends-trans}
@@ -48,7 +48,7 @@ room_kept piece digits room is fits =
     let len : length digits ≡ 2 * length piece = ap length is ∙ length-encode_with lower_digits piece in
     omega (arith, length-append digits (drop (2 * length piece) room), length-drop (2 * length piece) room, len)
 
--- where the digits of one byte stand
+-- the two digits of byte k are at 2 * k and after it
 pub encode_at : (t xs : List ℕ) (k : ℕ) → k < length xs
     → (slice_index (encode_with t xs) (2 * k) ≡ slice_index t (slice_index xs k / 16)) × (slice_index (encode_with t xs) (2 * k + 1) ≡ slice_index t (slice_index xs k % 16))
 unfolding encode_with

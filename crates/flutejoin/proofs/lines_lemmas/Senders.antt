@@ -1,4 +1,4 @@
--- Senders in texts.
+-- Senders in texts (specs/Sender).
 use Rattle.std.proofs.Common.{◌≡◌, ℕ, ◌*◌, ◌==◌, if◌then◌else◌, false, List, [], ◌++◌, length, codes, append_assoc, None, Result, Ok, Err, refl, sym, ap, ◌∙◌, arith}
 use Rattle.std.specs.Int.{bytes_high_first}
 use Rattle.hex.specs.Hex.{decode_of, decode_sized, encode_lower}

@@ -1,4 +1,4 @@
--- A line that was written.
+-- write_line: a line that was written (specs/Pieces).
 use Rattle.std.proofs.Common.{◌≡◌, ℕ, List, Option, Result, subst}
 use Rattle.flute_parts.specs.Devices.{Writes}
 use Rattle.flutejoin.specs.Lines.{line}

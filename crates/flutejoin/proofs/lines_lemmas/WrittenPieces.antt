@@ -1,4 +1,4 @@
--- Lines are the pieces that are written.
+-- Lines in the pieces in which they are written (specs/Pieces).
 use Rattle.std.proofs.Common.{◌≡◌, ℕ, List, [], ◌++◌, length, Option, Some, None, codes, decimal, Result, refl, sym, ap, subst, ◌∙◌, append_assoc}
 use Rattle.hex.specs.Hex.{encode_lower}
 use Rattle.flute_parts.specs.declared.symbol_id.SymbolId.{SymbolId}
@@ -11,7 +11,7 @@ use Rattle.flutejoin.specs.Lines.{packet_lines, line, object_words, info_or_none
 use Rattle.flutejoin.specs.Pieces.{packet_head, symbol_head, payload, fact_head, fact_bytes}
 use Rattle.flutejoin.proofs.lines_lemmas.Encoded.{encode_lower-nil}
 
--- what is told of a symbol is its head and then its bytes
+-- the words for a symbol are its head, and then its bytes
 symbol_pieces : (s : Option (SymbolId × List ℕ)) → symbol_or_none s ≡ symbol_head s ++ encode_lower (payload s)
 symbol_pieces None = ap (λ (l : List ℕ). codes "symbol none" ++ l) (sym encode_lower-nil)
 symbol_pieces (Some s) = refl
@@ -26,7 +26,7 @@ packet_pieces c =
     ap front (symbol_pieces c.symbol)
     ∙ regroup (codes "session ") (decimal c.tsi) (codes "\n") (object_words (object_named c.toi c.instance)) (info_or_none c.info) (symbol_head c.symbol) (encode_lower (payload c.symbol))
 
--- words alone, with no bytes behind them
+-- words alone, with no bytes after them
 words_alone : (words : List ℕ) → line words ≡ words ++ (encode_lower [] ++ codes "\n")
 words_alone words = ap (λ (x : List ℕ). words ++ (x ++ codes "\n")) (sym encode_lower-nil)
 

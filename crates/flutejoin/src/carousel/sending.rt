@@ -125,8 +125,8 @@ fn datagram_of(alloc: Global, outgoing: &Outgoing<'_>) -> Result<Datagram, Comma
     }
 }
 
-/// Sends all packets of an object of which nothing was read yet, and answers how many they are. If
-/// the sink fails, it goes on without it.
+/// Sends all packets of an object of which nothing was read yet, and returns how many they are. If
+/// the sink fails, it continues without it.
 ///
 /// # Errors
 ///
@@ -163,7 +163,7 @@ pub fn send_symbols<R: Source, W: Sink>(
     Ok(count)
 }
 
-// Goes on with a file by the record of the datagram at a place, unless the sink has failed. Answers
+// Appends the record of the datagram at a place to the file, unless the sink has failed. Returns
 // whether it has.
 fn put_record<W: Sink>(failed: bool, place: u64, datagram: &Datagram, sink: &mut W) -> bool
     ensures valid { IsDatagram datagram.now }
@@ -184,7 +184,8 @@ fn write_at<W: Sink>(place: u64, bytes: &[u8], sink: &mut W) -> Result<(), Devic
     requires { length bytes.now < 2 ^ 16 }
     ensures bytes { Writes (W.written sink.old) (W.written sink.new)
         (record_at place bytes.now) result }
-    ensures failures { W.failures sink.new ≡ W.failures sink.old + (if is_ok result then 0 else 1) }
+    ensures failures { W.failures sink.new ≡ W.failures sink.old
+        + (if is_ok result then 0 else 1) }
 {
     if place > 0 {
         return write_record(bytes, sink);
@@ -196,7 +197,8 @@ fn write_at<W: Sink>(place: u64, bytes: &[u8], sink: &mut W) -> Result<(), Devic
 fn write_record<W: Sink>(bytes: &[u8], sink: &mut W) -> Result<(), DeviceFault>
     requires { length bytes.now < 2 ^ 16 }
     ensures bytes { Writes (W.written sink.old) (W.written sink.new) (record_of bytes.now) result }
-    ensures failures { W.failures sink.new ≡ W.failures sink.old + (if is_ok result then 0 else 1) }
+    ensures failures { W.failures sink.new ≡ W.failures sink.old
+        + (if is_ok result then 0 else 1) }
 {
     sink.write_all(&(bytes.len() as u16).to_be_bytes())?;
     sink.write_all(bytes)

@@ -44,7 +44,7 @@ fn info_list<'a>(matches: &ArgMatches<'a>, list: &'a str) -> Result<Line<'a>, Co
     })
 }
 
-// No option tells of one object.
+// No option names an object.
 fn has_no_object(matches: &ArgMatches<'_>) -> Result<(), CommandFault>
     ensures { let rows = found_rows matches.now in
         MatchResult result (λ _. first_unfit list_form rows ≡ None) (IsListFault rows) }

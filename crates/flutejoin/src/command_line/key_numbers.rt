@@ -9,14 +9,15 @@ use clap::ArgMatches;
 use flute_parts::{Key, ObjectKey, Sender, SessionKey};
 
 /// The numbers that name an object, each within its range.
-#[derive(Clone, Copy, Debug, Drop)]
+#[derive(Clone, Copy, Drop)]
 pub struct KeyNumbers {
     tsi: u64,
     toi: u128,
     instance: Option<u32>,
     ghost tsi_in_range: { IsTsi tsi },
     ghost toi_in_range: { toi < 2 ^ 112 },
-    ghost instance_in_range: { IfSome instance (λ number. number < 2 ^ 20) } by { Prim.hlevel props },
+    ghost instance_in_range: { IfSome instance
+        (λ number. number < 2 ^ 20) } by { Prim.hlevel props },
 }
 
 impl KeyNumbers {

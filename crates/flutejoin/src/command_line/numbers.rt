@@ -53,7 +53,8 @@ fn sessions_of(texts: &[&str]) -> Result<Sessions, CommandFault>
 /// `BadSource` if it names no sender, as `sender_in` says.
 pub fn source(matches: &ArgMatches<'_>) -> Result<Sender, CommandFault>
     ensures { let rows = found_rows matches.now in MatchResult result (HasSource rows)
-        (λ fault. (fault ≡ CommandFault.BadSource) × ((sender : ℕ) → HasSource rows sender → ⊥)) }
+        (λ fault. (fault ≡ CommandFault.BadSource)
+        × ((sender : ℕ) → HasSource rows sender → ⊥)) }
 {
     match word(matches, "source") {
         Some(text) => sender_in(text).ok_or(CommandFault::BadSource),
@@ -68,7 +69,8 @@ pub fn source(matches: &ArgMatches<'_>) -> Result<Sender, CommandFault>
 /// As of `source`.
 pub fn source_if(matches: &ArgMatches<'_>) -> Result<Option<Sender>, CommandFault>
     ensures { let rows = found_rows matches.now in MatchResult result (IsSourceIf rows)
-        (λ fault. (fault ≡ CommandFault.BadSource) × ((sender : ℕ) → HasSource rows sender → ⊥)) }
+        (λ fault. (fault ≡ CommandFault.BadSource)
+        × ((sender : ℕ) → HasSource rows sender → ⊥)) }
 {
     match word(matches, "source") {
         Some(_) => Ok(Some(source(matches)?)),
@@ -131,7 +133,8 @@ pub fn number_below(
 
 // The number that a value of the option with this name spells, if it is below the limit.
 fn decimal_below(text: &str, name: &'static str, limit: u128) -> Result<u128, CommandFault>
-    ensures { MatchResult result (λ number. (number_in text.now ≡ Some number) × (number < limit))
+    ensures { MatchResult result (λ number. (number_in text.now ≡ Some number)
+        × (number < limit))
         (λ fault. IsBadNumber name.now fault × (is_below limit (number_in text.now) ≡ false)) }
 {
     match decimal(text) {

@@ -8,12 +8,13 @@ use clap::ArgMatches;
 use flute_parts::ObjectKey;
 
 /// The numbers of `--toi` and `--fdt`, each within its range.
-#[derive(Clone, Copy, Debug, Drop)]
+#[derive(Clone, Copy, Drop)]
 pub struct ObjectNumbers {
     toi: Option<u128>,
     instance: Option<u32>,
     ghost toi_in_range: { IfSome toi (λ number. number < 2 ^ 112) } by { Prim.hlevel props },
-    ghost instance_in_range: { IfSome instance (λ number. number < 2 ^ 20) } by { Prim.hlevel props },
+    ghost instance_in_range: { IfSome instance
+        (λ number. number < 2 ^ 20) } by { Prim.hlevel props },
 }
 
 impl ObjectNumbers {

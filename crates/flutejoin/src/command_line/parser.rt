@@ -1,4 +1,4 @@
-//! What the parser of the command line is told: the commands, and their options.
+//! The commands and their options, as the parser of the command line takes them.
 ghost use Rattle.std.specs.Prelude.{◌≡◌, [], IfOk, codes};
 ghost use Rattle.clap.specs.Simple.{app_of};
 ghost use Rattle.flutejoin.specs.Parser.{IsCommand, carousel_rules, extract_rules, forget_rules};
@@ -14,7 +14,7 @@ use crate::command_line::arguments::{
 use clap::Command;
 use std::alloc::{AllocError, Global};
 
-/// What journals are read and written, after the number that `--version` tells.
+/// What `--version` prints after the number: which journals are read and written.
 const VERSION: &str = "\
 0.1.0
 Journals of versions 1 and 2 are read, and those of version 2 written.";

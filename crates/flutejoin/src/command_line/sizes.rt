@@ -13,7 +13,7 @@ use clap::ArgMatches;
 ///
 /// # Errors
 ///
-/// `BadNumber` if it is not 1 to 39 decimal digits, with `K`, `M` or `G` behind them or without, or
+/// `BadNumber` if it is not 1 to 39 decimal digits, with `K`, `M` or `G` after them or without, or
 /// not 1 to 2^62 bytes.
 pub fn memory(matches: &ArgMatches<'_>) -> Result<u64, CommandFault>
     ensures { let rows = found_rows matches.now in

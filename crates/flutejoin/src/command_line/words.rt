@@ -6,7 +6,7 @@ ghost use Rattle.flutejoin.specs.Options.{IsBadOption, IsFlag, found_rows, times
 use crate::command_fault::CommandFault;
 use clap::ArgMatches;
 
-/// The word behind the option, or at the place, that has this name.
+/// The word after the option, or at the place, that has this name.
 pub fn word<'a>(matches: &ArgMatches<'a>, id: &str) -> Option<&'a str>
     ensures { option_map (λ text. text.now) result ≡ first_of id.now (found_rows matches.now) }
 {
@@ -32,7 +32,8 @@ pub fn given(
 ) -> Result<(), CommandFault>
     ensures { let rows = found_rows matches.now in
         MatchResult result (λ _. (times_of option.now rows == times) ≡ true)
-        (λ fault. IsBadOption option.now fault × ((times_of option.now rows == times) ≡ false)) }
+        (λ fault. IsBadOption option.now fault
+        × ((times_of option.now rows == times) ≡ false)) }
 {
     if times_given(matches, option) == times {
         Ok(())

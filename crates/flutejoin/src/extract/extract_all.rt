@@ -21,8 +21,8 @@ use flute_parts::{Fact, Sink, Source, Tally};
 use std::alloc::Global;
 
 /// Writes each object that a journal of at most 16,777,216 entries makes whole, of those that are
-/// picked, as a file of the folder, and answers how many; and for each of these objects, in the
-/// order of their keys, a line that tells how much of it is held. Files and lines are written as
+/// picked, as a file of the folder, and returns how many; and for each of these objects, in the
+/// order of their keys, a line that says how much of it is held. Files and lines are written as
 /// the journal is read, and one entry is held.
 ///
 /// # Errors
@@ -103,7 +103,7 @@ fn take_picked<D: NewFolder, W: Sink>(
     }
 }
 
-// Ends the last object, and answers how many files were written.
+// Ends the last object, and returns how many files were written.
 fn finish<D: NewFolder, W: Sink>(
     files: ObjectFiles,
     folder: &mut D,

@@ -15,8 +15,8 @@ use flute_output::NewFolder;
 use flute_parts::{DeviceFault, Info, Key, SymbolId};
 use flute_store::{ObjectScan, Status, Turn};
 
-/// What the facts tell of an object's information, which comes before its symbols.
-#[derive(Debug, Drop)]
+/// What is known of an object's information, which comes before its symbols.
+#[derive(Drop)]
 pub enum FileState {
     NoInformation,
     ConflictingInformation,
@@ -24,7 +24,7 @@ pub enum FileState {
 }
 
 /// An object with one information, and its file.
-#[derive(Debug, Drop)]
+#[derive(Drop)]
 pub struct FileScan {
     pub scan: ObjectScan,
     /// How many bytes of the object the file does not have yet.
@@ -35,7 +35,7 @@ pub struct FileScan {
 }
 
 /// How a symbol was passed, or the end.
-#[derive(Debug, Drop)]
+#[derive(Drop)]
 pub enum Passed {
     /// As the next symbol of the partition, held as one fitting value.
     Fitting,
@@ -72,7 +72,7 @@ impl FileScan {
         })
     }
 
-    /// Takes the next symbol, with its one value, or None if two were told.
+    /// Takes the next symbol, with its one value, or None if it has two.
     #[inline(always)]
     pub fn pass<D: NewFolder>(
         &mut self,
@@ -104,8 +104,8 @@ impl FileScan {
         }
     }
 
-    /// Ends the object, once all its facts came: its file is kept if it is whole. Tells how much is
-    /// held of it, and whether it has a file.
+    /// Ends the object, once all its facts came: its file is kept if it is whole. Returns how much
+    /// is held of it, and whether it has a file.
     pub fn end<D: NewFolder>(mut self, folder: &mut D) -> Result<(Status, bool), DeviceFault>
         requires { HasPassed self }
         ensures ended { (F before mine : List Known) (key : Name) (files : List NamedFile)

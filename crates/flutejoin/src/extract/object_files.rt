@@ -21,7 +21,7 @@ use flute_store::Status;
 
 /// The files of objects that are whole, and the line of each object. Their facts come one by one in
 /// the order of their addresses, and none of them is kept.
-#[derive(Debug, Drop)]
+#[derive(Drop)]
 pub struct ObjectFiles {
     /// How many files were written of the objects before the last one.
     pub written: u64,
@@ -30,7 +30,7 @@ pub struct ObjectFiles {
 }
 
 /// An object of which more facts may come.
-#[derive(Debug, Drop)]
+#[derive(Drop)]
 pub struct ObjectFile {
     pub key: Key,
     pub state: FileState,
@@ -86,7 +86,7 @@ impl ObjectFiles {
         }
     }
 
-    // Takes a symbol with its one value, or None if two were told.
+    // Takes a symbol with its one value, or None if it has two.
     #[inline(always)]
     fn symbol<D: NewFolder, W: Sink>(
         &mut self,
@@ -205,7 +205,7 @@ impl ObjectFiles {
         write_words(lines, status_text(&object.key, status))
     }
 
-    /// Ends the last object, once all facts came, and answers how many files were written.
+    /// Ends the last object, once all facts came, and returns how many files were written.
     ///
     /// # Errors
     ///
@@ -231,7 +231,7 @@ impl ObjectFiles {
 }
 
 impl ObjectFile {
-    // Takes its next symbol, with its one value, or None if two were told.
+    // Takes its next symbol, with its one value, or None if it has two.
     #[inline(always)]
     fn pass<D: NewFolder>(
         &mut self,

@@ -16,7 +16,7 @@ use flute_parts::{Fact, Info, Key, Sink, SymbolId};
 use flute_store::{ObjectScan, Turn};
 
 /// Writes the symbols of an object as the facts of a journal pass, for as long as it may be whole.
-#[derive(Debug, Drop)]
+#[derive(Drop)]
 pub struct ObjectWriter {
     key: Key,
     found: Found,
@@ -24,8 +24,8 @@ pub struct ObjectWriter {
     failed: bool,
 }
 
-/// What the facts that passed tell of the object.
-#[derive(Debug, Drop)]
+/// What was found of the object in the facts so far.
+#[derive(Drop)]
 enum Found {
     /// Nothing.
     Nothing,
@@ -40,7 +40,7 @@ enum Found {
 }
 
 /// An object, as far as it is whole and was written.
-#[derive(Debug, Drop)]
+#[derive(Drop)]
 struct WholeSoFar {
     scan: ObjectScan,
     /// How many bytes it has.
@@ -50,7 +50,7 @@ struct WholeSoFar {
 }
 
 impl ObjectWriter {
-    /// A writer of the object with this key, of which nothing was told.
+    /// A writer of the object with this key, of which nothing was found.
     pub fn new(key: Key) -> ObjectWriter
         ensures none { (start : Option (List ℕ)) → Stands [] result start start }
         ensures key { result.key ≡ key }
@@ -64,11 +64,11 @@ impl ObjectWriter {
         }
     }
 
-    /// Takes the next fact, and writes the symbol that it tells of the object.
+    /// Takes the next fact, and writes the symbol of the object that it contains.
     #[inline(always)]
     pub fn pass<W: Sink>(&mut self, fact: &Fact, sink: &mut W)
-        ensures passed { (P : List Known) (start : Option (List ℕ)) → IsRising (P ++ fact.now ∷ [])
-            → Stands P self.old start (W.written sink.old)
+        ensures passed { (P : List Known) (start : Option (List ℕ))
+            → IsRising (P ++ fact.now ∷ []) → Stands P self.old start (W.written sink.old)
             → Stands (P ++ fact.now ∷ []) self.new start (W.written sink.new) }
         ensures key { self.new.key ≡ self.old.key }
         ensures untouched { WritesNothing self.new.found
@@ -85,8 +85,8 @@ impl ObjectWriter {
     #[inline(always)]
     fn pass_own<W: Sink>(&mut self, fact: &Fact, sink: &mut W)
         requires { (address fact.now).key ≡ self.old.key }
-        ensures passed { (P : List Known) (start : Option (List ℕ)) → IsRising (P ++ fact.now ∷ [])
-            → Stands P self.old start (W.written sink.old)
+        ensures passed { (P : List Known) (start : Option (List ℕ))
+            → IsRising (P ++ fact.now ∷ []) → Stands P self.old start (W.written sink.old)
             → Stands (P ++ fact.now ∷ []) self.new start (W.written sink.new) }
         ensures key { self.new.key ≡ self.old.key }
         ensures untouched { WritesNothing self.new.found
@@ -106,7 +106,8 @@ impl ObjectWriter {
     #[inline(never)]
     fn information(&mut self, info: &Info)
         ensures passed { (P : List Known) (start now : Option (List ℕ))
-            → IsRising (P ++ InfoFact self.old.key info.now ∷ []) → Stands P self.old start now
+            → IsRising (P ++ InfoFact self.old.key info.now ∷ [])
+            → Stands P self.old start now
             → Stands (P ++ InfoFact self.old.key info.now ∷ []) self.new start now }
         ensures key { self.new.key ≡ self.old.key }
         ensures untouched { WritesNothing self.new.found → WritesNothing self.old.found }
@@ -117,7 +118,7 @@ impl ObjectWriter {
         }
     }
 
-    // Takes that two values of its information were told.
+    // Takes that its information has two values.
     #[inline(never)]
     fn conflict(&mut self)
         ensures passed { (P : List Known) (start now : Option (List ℕ))
@@ -132,7 +133,7 @@ impl ObjectWriter {
         }
     }
 
-    // Takes its next symbol, with its one value, or None if two were told.
+    // Takes its next symbol, with its one value, or None if it has two.
     #[inline(always)]
     fn symbol<W: Sink>(&mut self, id: SymbolId, value: Option<&[u8]>, sink: &mut W)
         ensures passed { (P : List Known) (start : Option (List ℕ))
@@ -157,7 +158,7 @@ impl ObjectWriter {
         }
     }
 
-    /// Answers how many bytes the object has, once all facts passed, if it is whole and written.
+    /// Returns how many bytes the object has, once all facts came, if it is whole and written.
     ///
     /// # Errors
     ///
@@ -236,8 +237,9 @@ impl WholeSoFar {
 
     // The first symbol that is not held as one fitting value, if no symbol is left.
     fn end(&mut self) -> Option<SymbolId>
-        ensures ended { (P : List Known) (key : Name) (failed : Bool) (start now : Option (List ℕ))
-            → IsRising P → Scanning P key failed start now self.old
+        ensures ended { (P : List Known) (key : Name) (failed : Bool)
+            (start now : Option (List ℕ)) → IsRising P
+            → Scanning P key failed start now self.old
             → EndsScan P key failed start now self.old result }
         ensures size { self.new.size ≡ self.old.size }
     {

@@ -18,7 +18,7 @@ use flute_parts::{DeviceFault, Key, SessionKey};
 use flute_store::Status;
 
 /// What is remembered of the objects of which all facts came. Their lines were put aside.
-#[derive(Debug, Drop)]
+#[derive(Drop)]
 pub struct ClosedObjects {
     /// Whether all that are listed are whole.
     pub all_whole: bool,

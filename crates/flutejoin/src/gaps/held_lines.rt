@@ -1,4 +1,4 @@
-//! The words of the lines that tell how much is held of an object.
+//! The words of the lines that say how much is held of an object.
 ghost use Rattle.std.specs.Prelude.{◌≡◌, ◌+◌, ◌≤◌, ◌++◌, length};
 ghost use Rattle.flutejoin.specs.Lines.{line, status_words, status_line, reason_words, gap_line};
 

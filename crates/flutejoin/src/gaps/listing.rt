@@ -24,7 +24,7 @@ use flute_store::{Gap, ObjectScan, Status, Turn};
 /// order of their addresses, and none of them is kept. The lines of the objects before the open one
 /// are put aside, and so, elsewhere, are those of its gaps that were found: they follow the line of
 /// its status, which is known when all its facts came.
-#[derive(Debug, Drop)]
+#[derive(Drop)]
 pub struct Listing {
     /// The object of the last fact.
     pub open: Option<OpenObject>,
@@ -33,14 +33,14 @@ pub struct Listing {
 }
 
 /// An object of which more facts may come.
-#[derive(Debug, Drop)]
+#[derive(Drop)]
 pub struct OpenObject {
     pub key: Key,
     pub state: ObjectState,
 }
 
-/// What the facts tell of the object's information, which comes before its symbols.
-#[derive(Debug, Drop)]
+/// What is known of an object's information, which comes before its symbols.
+#[derive(Drop)]
 pub enum ObjectState {
     NoInformation,
     ConflictingInformation,
@@ -99,7 +99,7 @@ impl Listing {
         }
     }
 
-    // Takes a symbol with its one value, or None if two were told.
+    // Takes a symbol with its one value, or None if it has two.
     #[inline(always)]
     fn add_symbol<A: Aside>(
         &mut self,
@@ -140,7 +140,8 @@ impl Listing {
         requires { IsOpen style self.old }
         ensures begun { (known : Bool) (F : List Fact) (f : Fact) → IsRising (F ++ f ∷ [])
             → Lists style known F self.old (A.written lines.old) (A.written gap_lines.old)
-            → IsFirstOf F key → (address f).key ≡ key → StateIs style key (f ∷ []) [] state
+            → IsFirstOf F key → (address f).key ≡ key
+            → StateIs style key (f ∷ []) [] state
             → OnOk result (Lists style known (F ++ f ∷ []) self.new
             (A.written lines.new) (A.written gap_lines.new)) }
         ensures failures { A.failures lines.new + A.failures gap_lines.new
@@ -174,8 +175,8 @@ impl Listing {
         gap_lines.move_to(lines)
     }
 
-    /// Puts aside the last lines of all objects of which facts came, and tells whether all that are
-    /// listed are whole.
+    /// Puts aside the last lines of all objects of which facts came, and returns whether all that
+    /// are listed are whole.
     ///
     /// # Errors
     ///
@@ -259,7 +260,8 @@ fn pass<A: Aside>(
 ) -> Result<(), DeviceFault>
     requires { (s : Scanned) × Scans scan.old s × CanFollow s next × (s.coming ≡ None) }
     ensures passed { (known : Bool) (s : Scanned) (gaps : List ℕ) → Scans scan.old s
-        → CanFollow s next.entry → s.coming ≡ None → gaps ≡ flat_map (shown_gap style) s.given
+        → CanFollow s next.entry → s.coming ≡ None
+        → gaps ≡ flat_map (shown_gap style) s.given
         → Knows known (A.written gap_lines.old) gaps
         → OnOk result ((t : Scanned) × Passes s next.entry t × Scans scan.new t
         × Knows known (A.written gap_lines.new) (flat_map (shown_gap style) t.given)) }

@@ -10,7 +10,7 @@ use flute_store::Status;
 
 /// How many objects of a session are listed, and how much is held of them. Sums of 128 bits hold
 /// those of all objects that a journal can have.
-#[derive(Debug, Drop, PartialEq, Eq)]
+#[derive(Drop)]
 pub struct SessionSums {
     pub session: SessionKey,
     /// How many objects are listed.
@@ -21,7 +21,7 @@ pub struct SessionSums {
     pub partial: u128,
     /// How many of the wanted symbols of these are not held.
     pub missing: u128,
-    /// How many were told two values.
+    /// How many have two values.
     pub conflicting: u128,
     /// How many have one value, of a length that does not fit.
     pub misfit: u128,

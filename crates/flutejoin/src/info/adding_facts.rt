@@ -25,7 +25,7 @@ use flute_journal::{
 use flute_parts::{Sink, Source};
 use std::alloc::Global;
 
-/// Writes the journal of all that a new reader gives and of the facts of a new stream, and answers
+/// Writes the journal of all that a new reader gives and of the facts of a new stream, and returns
 /// the number of its entries.
 ///
 /// # Errors

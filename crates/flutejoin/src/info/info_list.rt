@@ -19,12 +19,12 @@ use flute_parts::{Sink, Source};
 use flute_store::Store;
 use std::alloc::Global;
 
-/// Writes the journal of all that a journal tells, of at most 16,777,216 entries, and the
-/// information that a list tells, and answers the number of its entries. Each line of the list is
-/// as `show` prints it for information; lines that are empty or begin with `#` tell nothing. If two
-/// different values of an object are told, they are in conflict from then on.
+/// Writes the journal of all that a journal contains, of at most 16,777,216 entries, and the
+/// information that a list contains, and returns the number of its entries. Each line of the list
+/// is as `show` prints it for information; lines that are empty or begin with `#` contain nothing.
+/// If both contain different values of an object, they are in conflict from then on.
 ///
-/// First the list is read, and held as what it tells. Then the journal is read, of which one entry
+/// First the list is read, and its facts are held. Then the journal is read, of which one entry
 /// is held.
 ///
 /// # Errors

@@ -1,4 +1,4 @@
-//! A line that tells the information of an object, as `show` prints it.
+//! A line that contains the information of an object, as `show` prints it.
 ghost use Rattle.std.specs.Prelude.{◌≡◌, ◌↔◌, ℕ, ◌<◌, ◌≤◌, ◌^◌, true, false, List, ◌++◌};
 ghost use Rattle.std.specs.Prelude.{length, slice_index, codes, decimal, IfSome, MatchOption, SomeIff};
 ghost use Rattle.std.specs.Char.{is_ascii_digit};
@@ -73,10 +73,11 @@ fn number(text: &[u8]) -> Option<(u128, &[u8])>
     }
 }
 
-// The number behind these words, and what follows it.
+// The number after these words, and what follows it.
 fn number_after<'a>(text: &'a [u8], words: &str) -> Option<(u128, &'a [u8])>
     ensures finds { (n : ℕ) (tail : List ℕ) → n < 2 ^ 128
-        → is_ascii_digit (slice_index tail 0) ≡ false → text.now ≡ words.now ++ (decimal n ++ tail)
+        → is_ascii_digit (slice_index tail 0) ≡ false
+        → text.now ≡ words.now ++ (decimal n ++ tail)
         → MatchOption result ⊥ (λ r. (r.0 ≡ n) × (r.1.now ≡ tail)) }
 {
     match after(text, words) {
@@ -102,7 +103,7 @@ fn address(text: &[u8]) -> Option<(u128, &[u8])>
     }
 }
 
-// The sender that stands before a session, 0 if none does, and what follows.
+// The sender before a session, 0 if there is none, and what follows.
 fn source(text: &[u8]) -> Option<(u128, &[u8])>
     ensures finds { (n : ℕ) (tail : List ℕ) → n < 2 ^ 128
         → text.now ≡ source_words n ++ (codes "session " ++ tail)
@@ -125,7 +126,8 @@ fn session(text: &[u8]) -> Option<(u128, u128, &[u8])>
     ensures finds { (s : Session) (tail : List ℕ) → IsSession s
         → is_ascii_digit (slice_index tail 0) ≡ false
         → text.now ≡ source_words s.sender ++ (codes "session " ++ (decimal s.tsi ++ tail))
-        → MatchOption result ⊥ (λ r. (r.0 ≡ s.sender) × (r.1 ≡ s.tsi) × (r.2.now ≡ tail)) }
+        → MatchOption result ⊥ (λ r. (r.0 ≡ s.sender) × (r.1 ≡ s.tsi)
+        × (r.2.now ≡ tail)) }
 {
     let Some((sender, rest)) = source(text) else {
         return None;
@@ -136,7 +138,7 @@ fn session(text: &[u8]) -> Option<(u128, u128, &[u8])>
     }
 }
 
-// The name of the FDT Instance whose ID stands at the front of a text, and what follows it.
+// The name of the FDT Instance whose ID is at the front of a text, and what follows it.
 fn instance(text: &[u8]) -> Option<(ObjectName, &[u8])>
     ensures finds { (n : ℕ) (tail : List ℕ) → n < 2 ^ 20
         → is_ascii_digit (slice_index tail 0) ≡ false → text.now ≡ decimal n ++ tail
@@ -233,7 +235,7 @@ fn information_in(text: &[u8]) -> Option<InfoNumbers>
     numbers_in(length, symbol, block)
 }
 
-// The object and the numbers of a line that tells information, and maybe of another line.
+// The object and the numbers of a line of information, and maybe of another line.
 fn loose_information(line: &[u8]) -> Option<(Key, InfoNumbers)>
     ensures finds { (key : KeyValue) (info : Information) → IsKey key → HasNumbers info
         → line.now ≡ fact_words (InfoFact key info)
@@ -262,7 +264,8 @@ fn loose_information(line: &[u8]) -> Option<(Key, InfoNumbers)>
 
 // Whether a line, without its line feed, is the one that shows information of these numbers.
 fn is_line_of(line: &[u8], key: &Key, numbers: &InfoNumbers) -> bool
-    ensures { result ≡ true ↔ (line.now ≡ fact_words (InfoFact key.now (numbers_of numbers.now))) }
+    ensures { result ≡ true
+        ↔ (line.now ≡ fact_words (InfoFact key.now (numbers_of numbers.now))) }
 {
     let mut text = Text::new();
     push_key(&mut text, key);
@@ -271,7 +274,7 @@ fn is_line_of(line: &[u8], key: &Key, numbers: &InfoNumbers) -> bool
     text.as_slice() == line
 }
 
-/// The object and the numbers of its information that a line tells, without its line feed: exactly
+/// The object and the numbers of its information in a line, without its line feed: exactly
 /// if it is the line that `show` prints for them. It takes no memory.
 pub(crate) fn read_information(line: &[u8]) -> Option<(Key, InfoNumbers)>
     ensures found { IfSome result

@@ -1,4 +1,4 @@
-//! A list of information: a text of lines, each of which tells that of an object.
+//! A list of information: a text of lines, each with that of an object.
 ghost use Rattle.std.specs.Prelude.{◌≡◌, ◌≢◌, ◌↔◌, true, ◌≤◌, ◌<◌, ◌+◌, ◌^◌, List, ℕ, [], ◌∷◌, ◌++◌, length, take};
 ghost use Rattle.std.specs.Prelude.{OnOk, IfOk, IfErr, IfSome, MatchOption, ◌⊎◌};
 ghost use Rattle.std.specs.Io.KnownBytes.{Consumes, IsAtEnd};
@@ -31,10 +31,10 @@ const ROOM: usize = 512;
 /// How many bytes are read at a time, at most.
 const PIECE: usize = 4096;
 
-/// What the lines of a list tell that were read, and the line after them, as far as it was read.
+/// The facts of the lines of a list that were read, and the line after them, as far as it was read.
 #[derive(Drop)]
 pub(crate) struct InformationList<const SESSIONS: u32, const OBJECTS: u32, const SYMBOLS: u32> {
-    /// What the lines tell.
+    /// The facts of the lines.
     told: Store<SESSIONS, OBJECTS, SYMBOLS>,
     /// The next line, or its first 512 bytes.
     line: Text,
@@ -62,7 +62,7 @@ impl<const SESSIONS: u32, const OBJECTS: u32, const SYMBOLS: u32> InformationLis
         }
     }
 
-    // Takes what the line tells, of which all was read.
+    // Takes the fact of the line, of which all was read.
     fn take_line(&mut self, alloc: Global) -> Result<(), CommandFault>
         ensures line { self.new.line ≡ self.old.line }
         ensures long { self.new.long ≡ self.old.long }
@@ -92,7 +92,8 @@ impl<const SESSIONS: u32, const OBJECTS: u32, const SYMBOLS: u32> InformationLis
         ensures number { OnOk result (self.new.number ≡ self.old.number + 1) }
         ensures taken { OnOk result ((bytes : List ℕ) → HoldsList self.old bytes
             → HoldsList self.new (bytes ++ 10 ∷ [])) }
-        ensures failed { IfErr result (λ fault. (bytes more : List ℕ) → HoldsList self.old bytes
+        ensures failed { IfErr result (λ fault. (bytes more : List ℕ)
+            → HoldsList self.old bytes
             → ListFails (at_most SESSIONS OBJECTS SYMBOLS) (bytes ++ 10 ∷ more) fault) }
     {
         self.take_line(alloc)?;
@@ -122,7 +123,8 @@ impl<const SESSIONS: u32, const OBJECTS: u32, const SYMBOLS: u32> InformationLis
         ensures number { OnOk result (self.new.number ≤ self.old.number + 1) }
         ensures taken { OnOk result ((bytes : List ℕ) → HoldsList self.old bytes
             → HoldsList self.new (bytes ++ byte ∷ [])) }
-        ensures failed { IfErr result (λ fault. (bytes more : List ℕ) → HoldsList self.old bytes
+        ensures failed { IfErr result (λ fault. (bytes more : List ℕ)
+            → HoldsList self.old bytes
             → ListFails (at_most SESSIONS OBJECTS SYMBOLS) (bytes ++ byte ∷ more) fault) }
     {
         if byte == b'\n' {
@@ -139,7 +141,8 @@ impl<const SESSIONS: u32, const OBJECTS: u32, const SYMBOLS: u32> InformationLis
         ensures number { OnOk result (self.new.number ≤ self.old.number + length piece.now) }
         ensures taken { OnOk result ((bytes : List ℕ) → HoldsList self.old bytes
             → HoldsList self.new (bytes ++ piece.now)) }
-        ensures failed { IfErr result (λ fault. (bytes more : List ℕ) → HoldsList self.old bytes
+        ensures failed { IfErr result (λ fault. (bytes more : List ℕ)
+            → HoldsList self.old bytes
             → ListFails (at_most SESSIONS OBJECTS SYMBOLS) (bytes ++ (piece.now ++ more)) fault) }
     {
         for byte in piece {
@@ -148,7 +151,7 @@ impl<const SESSIONS: u32, const OBJECTS: u32, const SYMBOLS: u32> InformationLis
         Ok(())
     }
 
-    // What all lines tell, if the list ends here.
+    // The facts of all lines, if the list ends here.
     fn finish(self) -> Result<Store<SESSIONS, OBJECTS, SYMBOLS>, CommandFault>
         ensures told { IfOk result (λ shelf. (bytes : List ℕ) → HoldsList self.entry bytes
             → (facts : List FactValue) × ListTells bytes facts × Same shelf facts) }
@@ -173,7 +176,7 @@ fn is_passed_over(line: &[u8]) -> bool
     }
 }
 
-// The object and the numbers that a line tells, of which this was kept, and maybe more was not.
+// The object and the numbers of a line, of which this was kept, and maybe more was not.
 fn told_by(kept: &[u8], long: bool) -> Option<(Key, InfoNumbers)>
     ensures { (words : List ℕ) → IsKept long kept.now words → MatchOption result
         ((key : KeyValue) (info : Information) → Shows words key info → ⊥)
@@ -182,7 +185,7 @@ fn told_by(kept: &[u8], long: bool) -> Option<(Key, InfoNumbers)>
     if long { None } else { read_information(kept) }
 }
 
-// What the line with this number tells.
+// The fact of the line with this number.
 fn fact_of_line(number: u64, kept: &[u8], long: bool) -> Result<Option<Fact>, CommandFault>
     ensures tells { IfOk result (λ told. (words : List ℕ) → IsKept long kept.now words
         → LineTells words (option_list told)) }
@@ -201,7 +204,7 @@ fn fact_of_line(number: u64, kept: &[u8], long: bool) -> Result<Option<Fact>, Co
     }
 }
 
-// Puts the next bytes of a list at the front of `piece`, and answers how many: none at the end.
+// Puts the next bytes of a list at the front of `piece`, and returns how many: none at the end.
 fn read_piece<R: Source>(source: &mut R, piece: &mut [u8]) -> Result<usize, CommandFault>
     ensures bound { IfOk result (λ n. n ≤ length piece.new) }
     ensures bytes { IfOk result (λ n.
@@ -217,16 +220,16 @@ fn read_piece<R: Source>(source: &mut R, piece: &mut [u8]) -> Result<usize, Comm
     }
 }
 
-/// What a list of information tells, in a new store: lines as `show` prints them for information,
-/// each ended by a line feed, in any order. Lines that are empty or begin with `#` tell nothing. It
-/// holds at most 512 bytes of a line.
+/// The facts of a list of information, in a new store: lines as `show` prints them for information,
+/// each ended by a line feed, in any order. Lines that are empty or begin with `#` contain nothing.
+/// It holds at most 512 bytes of a line.
 ///
 /// # Errors
 ///
 /// The first that is met, where lines are numbered from 1: `ListLine` if a line is none of these,
 /// one of its numbers is out of its range, or it has no end; `ListInformation` if its numbers are
-/// not valid; `Full` if the store has no room for what it tells, and `OutOfMemory` if there is no
-/// memory for that; and `Input`, as input 2, if the source failed.
+/// not valid; `Full` if the store has no room for its facts, and `OutOfMemory` if there is no
+/// memory for them; and `Input`, as input 2, if the source failed.
 pub(crate) fn read_list<const SESSIONS: u32, const OBJECTS: u32, const SYMBOLS: u32, R: Source>(
     alloc: Global,
     source: &mut R,

@@ -1,4 +1,4 @@
-//! Datagram files that are held as what they tell.
+//! The facts of datagram files, held in a store or put aside.
 ghost use Rattle.std.specs.Prelude.{◌≡◌, true, false, ◌<◌, ◌≤◌, ◌+◌, ◌^◌, List, ℕ, ◌∷◌, []};
 ghost use Rattle.std.specs.Prelude.{OnOk, OnErr, IfOk, IfErr, IfSome};
 ghost use Rattle.flute_journal.specs.Records.{IsFileWithin};
@@ -29,7 +29,7 @@ use std::alloc::Global;
 /// How many bytes a fact takes beside those of its symbol.
 const FACT: u64 = 128;
 
-/// What datagram files tell together.
+/// The facts of datagram files.
 #[derive(Drop)]
 pub(crate) struct HeldFiles<const SESSIONS: u32, const OBJECTS: u32, const SYMBOLS: u32, R> {
     /// Their facts that are in memory, and how many datagrams they have. If the facts are over the
@@ -84,6 +84,7 @@ impl<const SESSIONS: u32, const OBJECTS: u32, const SYMBOLS: u32, R: Source + Dr
             (choice_of (at_most SESSIONS OBJECTS SYMBOLS) sender scope.now) self.old self.new
             (datagram.now ∷ [])) }
         ensures few { OnOk result (CountsUpTo R.unread R.failures 1 self.old self.new) }
+        ensures some { OnOk result (self.new.fits ≡ true → 0 < self.new.told.datagrams) }
         ensures memory { IfErr result (λ fault. fault ≡ faults.OutOfMemory) }
     {
         if !self.fits {
@@ -113,6 +114,7 @@ impl<const SESSIONS: u32, const OBJECTS: u32, const SYMBOLS: u32, R: Source + Dr
     ) -> Result<(), CommandFault>
         requires countable { IsCountable SESSIONS OBJECTS SYMBOLS }
         requires sound { IsSound R.unread R.failures self.old }
+        requires some { self.old.fits ≡ true → 0 < self.old.told.datagrams }
         ensures held { A.tells asides.old ≡ true
             → (choice : Choice) → OnOk result (HoldsMore R.unread choice self.old self.new []) }
         ensures few { OnOk result (CountsUpTo R.unread R.failures 0 self.old self.new) }
@@ -140,6 +142,7 @@ impl<const SESSIONS: u32, const OBJECTS: u32, const SYMBOLS: u32, R: Source + Dr
         requires countable { IsCountable SESSIONS OBJECTS SYMBOLS }
         requires sound { IsSound R.unread R.failures self.old }
         requires fits { self.old.fits ≡ true }
+        requires some { 0 < self.old.told.datagrams }
         ensures held { A.tells asides.old ≡ true
             → (choice : Choice) → OnOk result (HoldsMore R.unread choice self.old self.new []) }
         ensures empty { OnOk result (self.new.told.store ≡ []) }
@@ -159,8 +162,8 @@ impl<const SESSIONS: u32, const OBJECTS: u32, const SYMBOLS: u32, R: Source + Dr
     }
 
     /// Takes the datagrams that the source holds as a file, at most 16,777,216, of these objects
-    /// of this sender. It is read record by record, and one record of it is held beside what they
-    /// tell.
+    /// of this sender. It is read record by record, and one record of it is held besides their
+    /// facts.
     ///
     /// # Errors
     ///
@@ -213,7 +216,8 @@ impl<const SESSIONS: u32, const OBJECTS: u32, const SYMBOLS: u32, R: Source + Dr
         requires countable { IsCountable SESSIONS OBJECTS SYMBOLS }
         requires sound { IsSound R.unread R.failures self.old }
         requires fits { self.old.fits ≡ true }
-        ensures held { A.tells asides.old ≡ true → (choice : Choice) (datagrams : List (List ℕ))
+        ensures held { A.tells asides.old ≡ true
+            → (choice : Choice) (datagrams : List (List ℕ))
             → HoldsDatagrams R.unread choice self.old datagrams
             → IfOk result (λ run. HoldsRun R.unread choice self.new run datagrams) }
         ensures new { IfOk result (λ run. IfSome run (IsNewRun R.unread R.failures)) }
@@ -221,9 +225,10 @@ impl<const SESSIONS: u32, const OBJECTS: u32, const SYMBOLS: u32, R: Source + Dr
             × (self.new.told.refused ≡ self.old.told.refused)
             × (self.new.others ≡ self.old.others)) }
         ensures failed { IfErr result (λ fault. fault ≡ faults.CannotPutAside) }
-        ensures made { IfOk result (λ run. IfSome run (λ _. A.made asides.old < A.made asides.new)) }
-        ensures made_too { OnErr result (A.made asides.old < A.made asides.new) }
-        ensures grows { A.made asides.old ≤ A.made asides.new }
+        ensures some { OnErr result (0 < self.old.told.datagrams) }
+        ensures made { Makes (A.made asides.old) (A.made asides.new) result }
+        ensures put { IfOk result (λ run. IfSome run (λ _.
+            (A.made asides.old < A.made asides.new) × (0 < self.old.told.datagrams))) }
     {
         if self.runs.is_empty() {
             return Ok(None);
@@ -259,7 +264,7 @@ fn is_of_others(sender: Sender, scope: &Scope, datagram: &[u8]) -> bool
         → chosen (takes_key scope.now) (facts sender datagram.now)
         ≡ facts sender datagram.now }
 {
-    // By this the proof knows what a datagram tells.
+    // By this the proof knows which facts a datagram contains.
     computed_reading();
     if scope.is_all() {
         return false;

@@ -27,15 +27,15 @@ use flute_journal::Scope;
 use flute_parts::{Sender, Source};
 use std::alloc::Global;
 
-/// Reads the datagram files among inputs, in their order, and holds what they tell of these
-/// objects of this sender, about so many bytes of it in memory. The journals are then to be read
+/// Reads the datagram files among inputs, in their order, and holds their facts of these
+/// objects of this sender, about so many bytes of them in memory. The journals are then to be read
 /// from their first bytes.
 ///
 /// # Errors
 ///
 /// Of the first input, numbered from 1, that has a fault: `UnknownKind` if it is neither;
 /// `Input` with the fault of a datagram file, or if its source failed or there was no memory
-/// for a datagram. `OutOfMemory` if there was none for what it tells; `CannotPutAside`.
+/// for a datagram. `OutOfMemory` if there was none for its facts; `CannotPutAside`.
 pub(crate) fn inspect_all<
     const SESSIONS: u32,
     const OBJECTS: u32,
@@ -84,8 +84,8 @@ pub(crate) fn inspect_all<
     Ok(held)
 }
 
-// Inspects an input: what a datagram file tells is then held too, and a journal is to be read from
-// its first byte.
+// Inspects an input: the facts of a datagram file are then held too, and a journal is to be read
+// from its first byte.
 fn inspect<
     const SESSIONS: u32,
     const OBJECTS: u32,

@@ -1,11 +1,11 @@
-//! What a join tells in numbers.
+//! The numbers that a join reports.
 
 /// What a join has written, in numbers.
 #[derive(Clone, Copy, Debug, PartialEq, Eq)]
 pub struct JoinCounts {
     /// How many datagrams the datagram files among the inputs have.
     pub datagrams: u64,
-    /// How many of these datagrams are refused. They tell nothing.
+    /// How many of these datagrams are refused. They contain no fact.
     pub refused: u64,
     /// How many entries and datagrams were passed over, since they are of objects that were not
     /// asked for. What is refused is not among them.

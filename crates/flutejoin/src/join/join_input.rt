@@ -4,7 +4,6 @@ ghost use Rattle.flute_journal.specs.declared.fault.ReadFault.TheVariants.{Read}
 ghost use Rattle.flutejoin.specs.JoinInputs.{IsInput};
 ghost use Rattle.flutejoin.specs.InputStreams.{passed_over};
 
-use crate::join::first_bytes::FirstBytes;
 use crate::join::peeked_source::PeekedSource;
 use crate::limits::MAX_ENTRIES;
 use flute_journal::{
@@ -16,7 +15,7 @@ use std::alloc::Global;
 /// A journal of which some objects are taken.
 pub type JournalInput<R> = Chosen<OwnedJournalStream<PeekedSource<R>>, Scope>;
 
-/// An input of a join, of the kind that its first four bytes tell.
+/// An input of a join, of the kind that its first four bytes say.
 #[derive(Debug, Drop)]
 pub enum JoinInput<R> {
     /// A journal.
@@ -38,15 +37,13 @@ impl<R: Source + Drop> JoinInput<R> {
             (λ input. IfSome (R.unread source) (IsInput R.unread input)) }
         ensures only { IfErr result (λ fault. fault ≡ Read) }
     {
-        let mut source = source;
-        let first = FirstBytes::read(&mut source)?;
-        match kind_of(first.as_slice()) {
+        let source = PeekedSource::open(source)?;
+        match kind_of(source.first()) {
             Some(Kind::Journal) => {
-                let source = PeekedSource::new(first, source);
                 let journal = OwnedJournalStream::new(source, MAX_ENTRIES);
                 Ok(JoinInput::Journal(Chosen::new(journal, Scope::all())))
             }
-            Some(Kind::Datagrams) => Ok(JoinInput::Datagrams(PeekedSource::new(first, source))),
+            Some(Kind::Datagrams) => Ok(JoinInput::Datagrams(source)),
             None => Ok(JoinInput::Unknown),
         }
     }

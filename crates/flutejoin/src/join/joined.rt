@@ -1,4 +1,4 @@
-//! What the inputs of several stations tell together.
+//! What the inputs of several stations contain together.
 ghost use Rattle.std.specs.Prelude.{◌≡◌, ◌≤◌, ◌<◌, ◌+◌, ◌^◌, [], ◌++◌, OnOk, OnErr, IfErr};
 ghost use Rattle.flute_wire.specs.Reading.{facts};
 ghost use Rattle.flutejoin.specs.JoinParts.{TakesDatagram, StoreFails};
@@ -11,18 +11,18 @@ use flute_store::{Store, TakeFault};
 use flute_wire::one_reading;
 use std::alloc::Global;
 
-/// What inputs tell together, within these limits.
+/// What inputs contain together, within these limits.
 #[derive(Debug, Drop)]
 pub struct Joined<const SESSIONS: u32, const OBJECTS: u32, const SYMBOLS: u32> {
     /// The facts of all of them.
     pub store: Store<SESSIONS, OBJECTS, SYMBOLS>,
     /// How many datagrams the datagram files among them have.
     pub datagrams: u64,
-    /// How many of these datagrams are refused. They tell nothing.
+    /// How many of these datagrams are refused. They contain no fact.
     pub refused: u64,
 }
 
-/// What inputs tell together, within the limits of a [`Shelf`](flute_store::Shelf).
+/// What inputs contain together, within the limits of a [`Shelf`](flute_store::Shelf).
 pub type JoinedShelf = Joined<MAX_SESSIONS, MAX_OBJECTS, MAX_SYMBOLS>;
 
 impl<const SESSIONS: u32, const OBJECTS: u32, const SYMBOLS: u32> Joined<
@@ -30,7 +30,7 @@ impl<const SESSIONS: u32, const OBJECTS: u32, const SYMBOLS: u32> Joined<
     OBJECTS,
     SYMBOLS,
 > {
-    // What no inputs tell.
+    // Of no inputs.
     pub(crate) fn new(alloc: Global) -> Self
         ensures store { result.store ≡ [] }
         ensures datagrams { result.datagrams ≡ 0 }

@@ -1,48 +1,71 @@
 //! A source of which the first bytes were read ahead.
-ghost use Rattle.std.specs.Prelude.{◌≡◌, take, drop, nat_le};
+ghost use Rattle.std.specs.Prelude.{◌≡◌, ◌≤◌, length, take, drop, nat_le, IfOk, IfErr};
+ghost use Rattle.flute_journal.specs.declared.fault.ReadFault.TheVariants.{Read};
+ghost use Rattle.flutejoin.specs.Begins.{Begins};
 
-use crate::join::first_bytes::FirstBytes;
+use flute_journal::{ReadFault, fill};
 use flute_parts::{DeviceFault, Source};
 
 /// A source that gives the first bytes of an input, which were read ahead, and then those that
 /// are left of it. It takes no memory.
 #[derive(Debug, Drop)]
 pub struct PeekedSource<R> {
-    first: FirstBytes,
-    /// How many of the first bytes were given.
+    /// The first bytes: four, or as many as the input has.
+    first: [u8; 4],
+    /// How many they are.
+    count: usize,
+    /// How many of them were given.
     given: usize,
     source: R,
 }
 
 impl<R> PeekedSource<R> {
-    // A source of the first bytes, and then of those of `source`.
-    pub(crate) fn new(first: FirstBytes, source: R) -> PeekedSource<R>
-        ensures first { result.first ≡ first }
-        ensures given { result.given ≡ 0 }
-        ensures source { result.source ≡ source }
+    // The first bytes, at most four.
+    pub(crate) fn first(&self) -> &[u8]
+        ensures bytes { result.now ≡ take self.now.count self.now.first }
+        ensures few { length result.now ≤ 4 }
     {
-        PeekedSource {
-            first,
-            given: 0,
-            source,
-        }
+        &self.first[..self.count.min(4)]
     }
 
     // Whether all of the first bytes were given.
     #[inline(always)]
     fn is_past(&self) -> bool
-        ensures { result ≡ nat_le self.now.first.count self.now.given }
+        ensures { result ≡ nat_le self.now.count self.now.given }
     {
-        self.first.count <= self.given
+        self.count <= self.given
     }
 
     // Those of them that were not given.
     fn left(&self) -> &[u8]
-        ensures { result.now
-            ≡ drop self.now.given (take self.now.first.count self.now.first.bytes) }
+        ensures { result.now ≡ drop self.now.given (take self.now.count self.now.first) }
     {
-        let front = self.first.as_slice();
+        let front = self.first();
         &front[self.given.min(front.len())..]
+    }
+}
+
+impl<R: Source + Drop> PeekedSource<R> {
+    // Reads the first four bytes of a source, or as many as it has, of which none is given yet.
+    //
+    // # Errors
+    //
+    // `Read` if the source fails, and nothing else.
+    pub(crate) fn open(source: R) -> Result<PeekedSource<R>, ReadFault>
+        ensures begins { IfOk result (λ peeked. Begins (take peeked.count peeked.first)
+            (R.unread source) (R.unread peeked.source)) }
+        ensures given { IfOk result (λ peeked. peeked.given ≡ 0) }
+        ensures only { IfErr result (λ f. f ≡ Read) }
+    {
+        let mut source = source;
+        let mut first = [0; 4];
+        let count = fill(&mut source, &mut first)?;
+        Ok(PeekedSource {
+            first,
+            count,
+            given: 0,
+            source,
+        })
     }
 }
 
@@ -52,10 +75,10 @@ impl<R: Source> Source for PeekedSource<R> {
 
     ghost failures = { λ s. R.failures s.source };
 
-    ghost unread = { λ s. prepend_known (drop s.given (take s.first.count s.first.bytes))
+    ghost unread = { λ s. prepend_known (drop s.given (take s.count s.first))
         (R.unread s.source) };
 
-    ghost buffered = { λ s. if nat_le s.first.count s.given then R.buffered s.source else [] };
+    ghost buffered = { λ s. if nat_le s.count s.given then R.buffered s.source else [] };
 
     fn read(&mut self, buffer: &mut [u8]) -> Result<usize, DeviceFault> {
         let front = self.left();

@@ -111,7 +111,7 @@ fn merge_runs<R: Source + Drop, A: Asides<Input = R>>(
     let Ok(mut aside) = asides.aside() else {
         return Err(CommandFault::CannotPutAside);
     };
-    // no limits are told, so none are counted
+    // `within` is not used, so the limits are 0, and nothing is counted
     match merge_slice::<0, 0, 0, _, _>(alloc, runs, &mut aside) {
         Ok(merged) => {
             runs.clear();

@@ -10,7 +10,7 @@ use flute_parts::{DeviceFault, Sink};
 const PIECE: usize = 512;
 
 /// The two digits of each byte, one byte after the other.
-#[derive(Debug, Drop)]
+#[derive(Drop)]
 pub struct HexDigits {
     pairs: [u8; 512],
     ghost digits: { HasDigits pairs },
@@ -32,7 +32,7 @@ impl HexDigits {
     ///
     /// # Errors
     ///
-    /// `DeviceFault` if the sink failed: it then took a first part of the digits, and not all.
+    /// `DeviceFault` if the sink failed: it then took a proper prefix of the digits.
     #[inline(never)]
     pub fn write<W: Sink>(&self, sink: &mut W, bytes: &[u8]) -> Result<(), DeviceFault>
         ensures digits { Writes (W.written sink.old) (W.written sink.new)

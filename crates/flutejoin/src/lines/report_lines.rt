@@ -17,11 +17,12 @@ use std::alloc::AllocError;
 ///
 /// # Errors
 ///
-/// `DeviceFault` if the sink failed: it then took a first part of the line, and not all.
+/// `DeviceFault` if the sink failed: it then took a proper prefix of the line.
 pub fn write_words<W: Sink>(sink: &mut W, mut words: Text) -> Result<(), DeviceFault>
     requires { length words + 1 ≤ 512 }
     ensures line { Writes (W.written sink.old) (W.written sink.new) (line words) result }
-    ensures failures { W.failures sink.new ≡ W.failures sink.old + (if is_ok result then 0 else 1) }
+    ensures failures { W.failures sink.new ≡ W.failures sink.old
+        + (if is_ok result then 0 else 1) }
 {
     words.push("\n");
     sink.write_all(words.as_slice())
@@ -31,7 +32,7 @@ pub fn write_words<W: Sink>(sink: &mut W, mut words: Text) -> Result<(), DeviceF
 ///
 /// # Errors
 ///
-/// `DeviceFault` if the sink failed: it then took a first part of the line, and not all.
+/// `DeviceFault` if the sink failed: it then took a proper prefix of the line.
 pub fn write_line<W: Sink>(
     sink: &mut W,
     digits: &HexDigits,
@@ -40,7 +41,8 @@ pub fn write_line<W: Sink>(
 ) -> Result<(), DeviceFault>
     ensures line { Writes (W.written sink.old) (W.written sink.new)
         (words.now ++ (encode_lower bytes.now ++ codes "\n")) result }
-    ensures failures { W.failures sink.new ≡ W.failures sink.old + (if is_ok result then 0 else 1) }
+    ensures failures { W.failures sink.new ≡ W.failures sink.old
+        + (if is_ok result then 0 else 1) }
 {
     sink.write_all(words.as_slice())?;
     digits.write(sink, bytes)?;
@@ -51,12 +53,13 @@ pub fn write_line<W: Sink>(
 ///
 /// # Errors
 ///
-/// `DeviceFault` if the sink failed: it then took a first part of the line, and not all.
+/// `DeviceFault` if the sink failed: it then took a proper prefix of the line.
 pub fn write_count<W: Sink>(sink: &mut W, word: &str, count: u64) -> Result<(), DeviceFault>
     requires { length word.now ≤ 100 }
     ensures line { Writes (W.written sink.old) (W.written sink.new)
         (count_line word.now count) result }
-    ensures failures { W.failures sink.new ≡ W.failures sink.old + (if is_ok result then 0 else 1) }
+    ensures failures { W.failures sink.new ≡ W.failures sink.old
+        + (if is_ok result then 0 else 1) }
 {
     let mut text = Text::new();
     text.push(word);
@@ -65,11 +68,11 @@ pub fn write_count<W: Sink>(sink: &mut W, word: &str, count: u64) -> Result<(), 
     write_words(sink, text)
 }
 
-/// Writes a line of a word of at most 100 bytes and a number: what a command answers of its work.
+/// Writes a line of a word of at most 100 bytes and a number: what a command reports of its work.
 ///
 /// # Errors
 ///
-/// `CannotWrite` if the sink failed: it took a first part of the line, and not all.
+/// `CannotWrite` if the sink failed: it took a proper prefix of the line.
 pub fn count_to<W: Sink>(word: &str, count: u64, sink: &mut W) -> Result<(), CommandFault>
     requires { length word.now ≤ 100 }
     ensures printed { OnOk result

@@ -44,7 +44,7 @@ pub fn is_whole(status: Status) -> bool
     }
 }
 
-// Whether two values were told of its information, or of some of its symbols.
+// Whether its information has two values, or some of its symbols have.
 fn has_conflict(status: Status) -> bool
     ensures { result ≡ has_conflict status }
 {

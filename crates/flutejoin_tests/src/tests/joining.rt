@@ -1,12 +1,12 @@
-//! What inputs come to together, in memory and as they are read.
+//! What inputs give when joined, in memory and as they are read.
 
 use super::*;
 use flute_journal::Scope;
 use flute_parts::{MemorySink, MemorySource};
 use flutejoin::{
-    Blob, JoinCounts, JoinInput, MAX_INPUTS, MAX_OBJECTS, MAX_SESSIONS, MAX_SYMBOLS, join_to,
+    JoinCounts, JoinInput, MAX_INPUTS, MAX_OBJECTS, MAX_SESSIONS, MAX_SYMBOLS, join_to,
 };
-use flutejoin_replicas::{NoAsides, join_inputs};
+use flutejoin_replicas::{Blob, NoAsides, join_inputs};
 use std::alloc::Global;
 use test_vectors::{bytes, journals};
 

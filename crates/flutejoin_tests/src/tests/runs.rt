@@ -1,13 +1,13 @@
 //! Runs of replicas, step by step and whole, and what is written after them.
 
 use super::*;
-use flute_parts::MemorySink;
+use flute_parts::{MemorySink, MemorySource};
 use flute_wire::Datagram;
 use flutejoin::laws::forgetting_leaves_the_rest;
-use flutejoin::{MAX_OBJECTS, MAX_SESSIONS, MAX_SYMBOLS};
+use flutejoin::{Blob, MAX_OBJECTS, MAX_SESSIONS, MAX_SYMBOLS};
 use flutejoin_replicas::{Replicas, Step, journal_after, laws, object_after, run};
 use std::alloc::Global;
-use test_vectors::{INFO_OF_EMPTY_FILE, bytes};
+use test_vectors::{INFO_OF_EMPTY_FILE, bytes, journals};
 
 /// The information of an empty file is taken.
 fn take(alloc: Global) -> Result<Step, Fail> {
@@ -22,7 +22,18 @@ fn take(alloc: Global) -> Result<Step, Fail> {
 #[test]
 fn steps_are_done(rt: HostRuntime) -> Result<(), Fail> {
     let mut replicas = Replicas::<MAX_SESSIONS, MAX_OBJECTS, MAX_SYMBOLS>::new(rt.alloc(), 2)?;
-    assert!(rt; replicas.step(rt.alloc(), &take(rt.alloc())?) == Ok(()));
+    let journal = bytes(rt.alloc(), journals::WHOLE)?;
+    let journal = Blob::read(rt.alloc(), &mut MemorySource::new(&journal))?;
+    replicas.step(rt.alloc(), &take(rt.alloc())?)?;
+    replicas.step(
+        rt.alloc(),
+        &Step::Load {
+            replica: 1,
+            journal,
+        },
+    )?;
+    replicas.step(rt.alloc(), &Step::Merge { into: 0, from: 1 })?;
+    replicas.step(rt.alloc(), &Step::Reopen { replica: 0 })?;
     assert!(rt; replicas.store(0).is_some());
     assert!(rt; replicas.count() == 2);
     Ok(())
@@ -57,7 +68,7 @@ fn a_journal_is_written_after_a_run(rt: HostRuntime) -> Result<(), Fail> {
         0,
         &mut sink,
     );
-    assert!(rt; written == Ok(1));
+    assert!(rt; written? == 1);
     Ok(())
 }
 
@@ -74,7 +85,7 @@ fn an_object_is_written_after_a_run(rt: HostRuntime) -> Result<(), Fail> {
         &key,
         &mut sink,
     );
-    assert!(rt; written == Ok(0));
+    assert!(rt; written? == 0);
     Ok(())
 }
 

@@ -1,4 +1,4 @@
--- A piece more was read.
+-- has_left: a piece more was read.
 use Rattle.std.proofs.Common.{◌-◌, take, arith, length-take-le}
 use Rattle.flutejoin.specs.Sending.{ReadsOf}
 use Rattle.flutejoin.proofs.carousel_lemmas.SentSoFar.{reads_on}

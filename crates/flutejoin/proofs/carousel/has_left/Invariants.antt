@@ -1,4 +1,4 @@
--- Some bytes of a source were read, and it did not fail.
+-- has_left: some bytes of a source were read, and it did not fail.
 use Rattle.std.proofs.Common.{◌≡◌}
 use Rattle.flutejoin.specs.Sending.{ReadsOf}
 use Rattle.flutejoin.proofs.carousel.has_left.Given as goal

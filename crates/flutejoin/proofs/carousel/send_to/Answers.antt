@@ -1,4 +1,4 @@
--- What is told of what was sent.
+-- send_to: what its result says of the packets that were sent.
 use Rattle.std.proofs.Common.{◌∙◌, ap, subst}
 use Rattle.flutejoin.specs.Sending.{ReadFailures}
 use Rattle.flutejoin.proofs.carousel_lemmas.SentObjects.{sent_same, told_sent, told_failed, told_failed_write}

@@ -1,3 +1,4 @@
+-- join_of: the line of `join`, and each fault of its words, in the order of faults.
 use Rattle.std.proofs.Common.{refl, sym, subst}
 use Rattle.flutejoin.specs.CommandLine.{IsJoinFault}
 use Rattle.flutejoin.specs.Options.{found_rows}

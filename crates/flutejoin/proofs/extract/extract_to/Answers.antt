@@ -1,3 +1,4 @@
+-- extract_to: the clauses for each result, from what read_into left in the writer.
 use Rattle.std.proofs.Common.{◌≡◌, ℕ, List, Option, Result, Err, ◌∙◌, subst, rules}
 use Rattle.flute_parts.specs.Facts.{Same}
 use Rattle.flute_parts.specs.declared.fact.Fact.{Fact}

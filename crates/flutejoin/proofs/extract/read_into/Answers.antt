@@ -1,3 +1,4 @@
+-- read_into: its loop shows the entries to the writer, up to the end or a fault.
 use Rattle.std.proofs.Common.{[], Err, refl, sym, ap, ◌∙◌, subst, arith}
 use Rattle.std.proofs.lemmas.Result.{err_from_is_err_and}
 use Rattle.flute_journal.specs.Framing.{is_open, Sofar}

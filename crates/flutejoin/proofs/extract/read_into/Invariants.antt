@@ -1,4 +1,4 @@
--- The entries so far passed.
+-- read_into: the entries so far passed.
 use Rattle.std.proofs.Common.{◌≡◌, ◌+◌, ◌-◌}
 use Rattle.flute_parts.specs.Devices.{times_failed}
 use Rattle.flute_journal.specs.Framing.{count_at}

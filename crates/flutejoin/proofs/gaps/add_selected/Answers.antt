@@ -1,3 +1,4 @@
+-- add_selected: a selected fact is added, and any other is passed over.
 use Rattle.std.proofs.Common.{◌≡◌, ◌∙◌, List, true, false, ap, sym, subst, arith}
 use Rattle.flute_parts.specs.declared.fact.Fact.{Fact}
 use Rattle.flute_journal.specs.Selections.{selects}

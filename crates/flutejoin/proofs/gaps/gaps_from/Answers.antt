@@ -1,3 +1,4 @@
+-- gaps_from: the lines that were printed, or the part of them after a failed write.
 use Rattle.std.proofs.Common.{◌≡◌, List, Some, inr}
 use Rattle.std.specs.Io.KnownBytes.{Appends}
 use Rattle.flute_parts.specs.Devices.{AppendsPart}

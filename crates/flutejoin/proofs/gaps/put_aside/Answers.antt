@@ -1,3 +1,4 @@
+-- put_aside: its loop over the journal's facts, the lines at the end, and each fault.
 use Rattle.std.proofs.Common.{◌≡◌, ◌∙◌, List, ℕ, Option, Ok, Err, Bool, Some, true, is_ok}
 use Rattle.std.proofs.Common.{if◌then◌else◌}
 use Rattle.std.proofs.Common.{ap, sym, subst, rules, refl, arith}

@@ -1,4 +1,4 @@
--- The lines of the entries that were read were put aside.
+-- put_aside: the lines of the entries that were read were put aside.
 use Rattle.std.proofs.Common.{◌≡◌, ◌+◌, ◌-◌}
 use Rattle.flute_journal.proofs.Public.{entries_at}
 use Rattle.flutejoin.specs.declared.limits.TheConstants.{MAX_ENTRIES}

@@ -9,4 +9,4 @@ returns-in-Ok-clause-failed g c = λ choice contents datagrams most inspected ov
 
 pub returns-in-Err-clause-failed : goal.returns-in-Err-clause-failed
 returns-in-Err-clause-failed g c = λ choice contents datagrams most inspected over.
-    c.in-Err.ensures.failed choice contents datagrams inspected
+    c.in-Err.ensures.failed choice contents datagrams inspected tt

@@ -1,4 +1,4 @@
--- What the streams became is what their sources became.
+-- join_chained: what the streams became is what their sources became.
 use Rattle.std.proofs.Common.{◌≡◌, List, [], ◌∷◌, sym, subst}
 use Rattle.std.specs.Prelude.{IfErr, IfOk}
 use Rattle.flute_journal.specs.Chains.{chained, taken}

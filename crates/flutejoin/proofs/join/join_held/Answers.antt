@@ -1,7 +1,6 @@
--- Each exit is a lemma on the streams.
+-- join_held: each exit is a lemma on the streams.
 use Rattle.flutejoin.proofs.join_lemmas.JoinStreams.{all_new, all_few, joins_inspected}
-use Rattle.flutejoin.proofs.join_lemmas.JoinStops.{stops_in, stop_fails, stop_names, stop_no_memory}
-use Rattle.flutejoin.proofs.join_lemmas.JoinStops.{stop_no_aside, stop_no_sink, none_failed, read_failed}
+use Rattle.flutejoin.proofs.join_lemmas.JoinStops.{none_failed, read_failed, stopped}
 use Rattle.flutejoin.proofs.join.join_held.Goals as goal
 
 pub join_chained-requires-clause-new : goal.join_chained-requires-clause-new
@@ -33,55 +32,35 @@ returns-in-Ok-clause-none_failed g c =
     c.join_chained.auto.inputs c.in-Ok.ensures.failures
 
 pub returns-in-Err-clause-failed : goal.returns-in-Err-clause-failed
-returns-in-Err-clause-failed g c = λ choice contents datagrams inspected.
-    let b = g.S.Stream.behaviour in
+returns-in-Err-clause-failed g c = λ choice contents datagrams inspected why.
     rw c.stop_fault.ensures
-    (stop_fails g.R.Source.unread g.R.Source.failures b c.args.held.now
-    c.args.inputs.now c.in-Err.fault.number
-    c.in-Err.fault.fault
-    (stops_in g.R.Source.unread g.R.Source.failures b c.args.held.now c.args.inputs.now
-    c.requires.few _ c.in-Err.fault c.in-Err.ensures.first) choice
-    contents datagrams c.requires.ready inspected)
+    ((stopped g.R.Source.unread g.R.Source.failures g.S.Stream.behaviour c.args.inputs.now
+    c.requires.few c.in-Err.fault c.in-Err.ensures.first).fails choice contents datagrams
+    c.requires.ready inspected why)
 
 pub returns-in-Err-clause-names : goal.returns-in-Err-clause-names
 returns-in-Err-clause-names g c =
-    let b = g.S.Stream.behaviour in
     rw c.stop_fault.ensures
-    (stop_names g.R.Source.unread g.R.Source.failures b c.args.held.now
-    c.args.inputs.now c.in-Err.fault.number
-    c.in-Err.fault.fault
-    (stops_in g.R.Source.unread g.R.Source.failures b c.args.held.now c.args.inputs.now
-    c.requires.few _ c.in-Err.fault c.in-Err.ensures.first))
+    (stopped g.R.Source.unread g.R.Source.failures g.S.Stream.behaviour c.args.inputs.now
+    c.requires.few c.in-Err.fault c.in-Err.ensures.first).names
 
 pub returns-in-Err-clause-no_memory : goal.returns-in-Err-clause-no_memory
 returns-in-Err-clause-no_memory g c =
-    let b = g.S.Stream.behaviour in
     rw c.stop_fault.ensures
-    (stop_no_memory g.R.Source.unread g.R.Source.failures b c.args.held.now
-    c.args.inputs.now c.in-Err.fault.number
-    c.in-Err.fault.fault
-    (stops_in g.R.Source.unread g.R.Source.failures b c.args.held.now c.args.inputs.now
-    c.requires.few _ c.in-Err.fault c.in-Err.ensures.first))
+    (stopped g.R.Source.unread g.R.Source.failures g.S.Stream.behaviour c.args.inputs.now
+    c.requires.few c.in-Err.fault c.in-Err.ensures.first).no_memory
 
 pub returns-in-Err-clause-no_sink : goal.returns-in-Err-clause-no_sink
 returns-in-Err-clause-no_sink g c =
-    let b = g.S.Stream.behaviour in
     rw c.stop_fault.ensures
-    (stop_no_sink g.R.Source.unread g.R.Source.failures b c.args.held.now
-    c.args.inputs.now c.in-Err.fault.number
-    c.in-Err.fault.fault
-    (stops_in g.R.Source.unread g.R.Source.failures b c.args.held.now c.args.inputs.now
-    c.requires.few _ c.in-Err.fault c.in-Err.ensures.first))
+    (stopped g.R.Source.unread g.R.Source.failures g.S.Stream.behaviour c.args.inputs.now
+    c.requires.few c.in-Err.fault c.in-Err.ensures.first).no_sink
 
 pub returns-in-Err-clause-no_aside : goal.returns-in-Err-clause-no_aside
-returns-in-Err-clause-no_aside g c = λ never.
-    let b = g.S.Stream.behaviour in
+returns-in-Err-clause-no_aside g c =
     rw c.stop_fault.ensures
-    (stop_no_aside g.R.Source.unread g.R.Source.failures b c.args.held.now
-    c.args.inputs.now never
-    c.in-Err.fault.number c.in-Err.fault.fault
-    (stops_in g.R.Source.unread g.R.Source.failures b c.args.held.now c.args.inputs.now
-    c.requires.few _ c.in-Err.fault c.in-Err.ensures.first))
+    (stopped g.R.Source.unread g.R.Source.failures g.S.Stream.behaviour c.args.inputs.now
+    c.requires.few c.in-Err.fault c.in-Err.ensures.first).no_aside
 
 pub returns-in-Err-clause-read_failed : goal.returns-in-Err-clause-read_failed
 returns-in-Err-clause-read_failed g c =

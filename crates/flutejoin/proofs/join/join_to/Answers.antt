@@ -1,13 +1,12 @@
--- First one pass, and then the other.
-use Rattle.std.proofs.Common.{◌≡◌, ◌≤◌, ◌<◌, ◌+◌, ◌∙◌, ℕ, Bool, true, false, not, Option, Some, None}
-use Rattle.std.proofs.Common.{refl, sym, ap, subst, arith}
+-- join_to: first one pass, and then the other.
+use Rattle.std.proofs.Common.{◌≡◌, ◌≤◌, ◌+◌, ◌∙◌, Bool, true, false, not, Option, Some, None}
+use Rattle.std.proofs.Common.{refl, subst, arith}
 use Rattle.std.specs.Prelude.{IfSome}
 use Rattle.flute_parts.specs.Devices.{times_failed}
 use Rattle.std.proofs.lemmas.Result.{err_from_is_err_and}
-use Rattle.flutejoin.specs.Joined.{choice_of}
-use Rattle.flutejoin.specs.JoinParts.{HoldsAll}
-use Rattle.flutejoin.specs.Limits.{at_most}
-use Rattle.flutejoin.proofs.join_lemmas.Held.{held_as}
+use Rattle.flutejoin.specs.JoinFaults.{of_aside}
+use Rattle.flutejoin.proofs.join_lemmas.Held.{all_held, all_over}
+use Rattle.flutejoin.proofs.join_lemmas.Inspections.{finds_wants}
 use Rattle.flutejoin.proofs.join_lemmas.JoinStops.{nothing_appended, not_inspected, one_failed_more}
 use Rattle.flutejoin.proofs.join_lemmas.JoinStops.{none_failed_more, full_together, not_written, joins_to}
 use Rattle.flutejoin.proofs.join.join_to.Goals as goal
@@ -21,10 +20,16 @@ not_false true e = refl
 not_false false e = absurd cc
 
 -- what is aside was put there
-made_run : {R P : Type 0} {m n : ℕ} (run : Option R) → IfSome run (λ r. m < n)
-    → (run ≡ None → P → ⊥) → P → m < n
-made_run (Some run) made never p = made
-made_run None made never p = absurd (never refl p)
+made_run : {R M P : Type 0} (K : Type 0) (run : Option R) → IfSome run (λ r. M × K)
+    → (run ≡ None → P → ⊥) → P → M
+made_run K (Some run) put never p = put.0
+made_run K None put never p = absurd (never refl p)
+
+-- it is of datagrams
+wants_run : {R K P : Type 0} (M : Type 0) (run : Option R) → IfSome run (λ r. M × K)
+    → (K → P) → IfSome run (λ r. P)
+wants_run M (Some run) put wants = wants put.1
+wants_run M None put wants = tt
 
 pub returns-in_err-held-clause-failed : goal.returns-in_err-held-clause-failed
 returns-in_err-held-clause-failed g c = λ told contents inputs.
@@ -36,19 +41,26 @@ returns-in_err-held-clause-failed g c = λ told contents inputs.
 pub returns-then-not-held-clause-failed : goal.returns-then-not-held-clause-failed
 returns-then-not-held-clause-failed g c = λ told contents inputs.
     let found = c.in_ok-held.ensures.inspected told contents inputs in
-    let choice =
-    choice_of (at_most g.row.SESSIONS g.row.OBJECTS g.row.SYMBOLS) c.args.sender
-    c.args.scope.now in
     let over =
-    held_as g.R.Source.unread choice c.in_ok-held.held.fits false c.in_ok-held.held found.0
-    c.if-not-held.true found.2.holds in
-    c.fault_or_full.ensures.failed choice contents found.0 refl found.1 over
+    all_over g.R.Source.unread _ c.in_ok-held.held found.0 found.2 c.if-not-held.true in
+    c.fault_or_full.ensures.failed _ contents found.0 refl found.1 over
 
 pub returns-then-not-held-clause-read_failed : goal.returns-then-not-held-clause-read_failed
 returns-then-not-held-clause-read_failed g c = λ number is.
     one_failed_more g.R.Source.failures number c.args.inputs.now c.inspect_all.new.inputs
     c.fault_or_full.new.inputs c.in_ok-held.ensures.none_failed
     (c.fault_or_full.ensures.read_failed number is)
+
+pub returns-in_err-run-clause-failed : goal.returns-in_err-run-clause-failed
+returns-in_err-run-clause-failed g c = λ told contents inputs.
+    let e =
+    err_from_is_err_and c.from_residual-in_err-run.result
+    c.from_residual-in_err-run.ensures.1 in
+    let found = c.in_ok-held.ensures.inspected told contents inputs in
+    rw (e.1, e.2)
+    (of_aside c.in_err-run.ensures.failed
+    (finds_wants _ g.R.Source.unread c.in_ok-held.held c.inspect_all.new.inputs contents found
+    c.if-not-held.false c.in_err-run.ensures.some))
 
 pub returns-in_err-joined-clause-failed : goal.returns-in_err-joined-clause-failed
 returns-in_err-joined-clause-failed g c = λ told contents inputs.
@@ -57,9 +69,10 @@ returns-in_err-joined-clause-failed g c = λ told contents inputs.
     c.from_residual-in_err-joined.ensures.1 in
     let found = c.in_ok-held.ensures.inspected told contents inputs in
     rw (e.1, e.2)
-    (c.in_err-joined.ensures.failed (choice_of (at_most g.row.SESSIONS g.row.OBJECTS g.row.SYMBOLS)
-    c.args.sender c.args.scope.now) contents found.0
-    found.1)
+    (c.in_err-joined.ensures.failed _ contents found.0 found.1
+    (wants_run _ c.in_ok-run.run' c.in_ok-run.ensures.put
+    (finds_wants _ g.R.Source.unread c.in_ok-held.held c.inspect_all.new.inputs contents found
+    c.if-not-held.false)))
 
 pub returns-in_err-joined-clause-read_failed : goal.returns-in_err-joined-clause-read_failed
 returns-in_err-joined-clause-read_failed g c =
@@ -73,43 +86,32 @@ returns-in_err-joined-clause-read_failed g c =
 
 pub returns-then-not-joined-clause-failed : goal.returns-then-not-joined-clause-failed
 returns-then-not-joined-clause-failed g c = λ told contents inputs.
-    let choice =
-    choice_of (at_most g.row.SESSIONS g.row.OBJECTS g.row.SYMBOLS) c.args.sender
-    c.args.scope.now in
     let found = c.in_ok-held.ensures.inspected told contents inputs in
     let run =
-    c.in_ok-run.ensures.held (c.inspect_all.ensures.same_tells ∙ told) choice found.0 found.2 in
+    c.in_ok-run.ensures.held (c.inspect_all.ensures.same_tells ∙ told) _ found.0 found.2 in
     full_together
-    (c.in_ok-joined.ensures.joined choice contents found.0 run.0 refl found.1 run.1)
+    (c.in_ok-joined.ensures.joined _ contents found.0 run.0 refl found.1 run.1)
     run.2 (not_true c.in_ok-joined.joined.within c.if-not-joined.true)
 
 pub returns-then-joined-clause-failed : goal.returns-then-joined-clause-failed
 returns-then-joined-clause-failed g c = λ told contents inputs.
-    let choice =
-    choice_of (at_most g.row.SESSIONS g.row.OBJECTS g.row.SYMBOLS) c.args.sender
-    c.args.scope.now in
     let found = c.in_ok-held.ensures.inspected told contents inputs in
     let run =
-    c.in_ok-run.ensures.held (c.inspect_all.ensures.same_tells ∙ told) choice found.0 found.2 in
+    c.in_ok-run.ensures.held (c.inspect_all.ensures.same_tells ∙ told) _ found.0 found.2 in
     not_written
-    (c.in_ok-joined.ensures.joined choice contents found.0 run.0 refl found.1 run.1)
+    (c.in_ok-joined.ensures.joined _ contents found.0 run.0 refl found.1 run.1)
     run.2 (not_false c.in_ok-joined.joined.within c.if-not-joined.false)
 
 pub returns-clause-joined : goal.returns-clause-joined
 returns-clause-joined g c = λ told contents inputs.
-    let choice =
-    choice_of (at_most g.row.SESSIONS g.row.OBJECTS g.row.SYMBOLS) c.args.sender
-    c.args.scope.now in
     let found = c.in_ok-held.ensures.inspected told contents inputs in
     let run =
-    c.in_ok-run.ensures.held (c.inspect_all.ensures.same_tells ∙ told) choice found.0 found.2 in
+    c.in_ok-run.ensures.held (c.inspect_all.ensures.same_tells ∙ told) _ found.0 found.2 in
     let fits = c.if-not-held.false in
-    let all =
-    held_as g.R.Source.unread choice c.in_ok-held.held.fits true c.in_ok-held.held found.0 fits
-    found.2.holds in
+    let all = all_held g.R.Source.unread _ c.in_ok-held.held found.0 found.2 fits in
     let counts = c.in_ok-run.ensures.counts in
     joins_to
-    (c.in_ok-joined.ensures.joined choice contents found.0 run.0 refl found.1 run.1)
+    (c.in_ok-joined.ensures.joined _ contents found.0 run.0 refl found.1 run.1)
     run.2
     (subst (λ n. n ≤ 64) inputs.as_many c.requires.few)
     (not_false c.in_ok-joined.joined.within c.if-not-joined.false) c.if-joined.false
@@ -141,24 +143,24 @@ returns-in_err-joined-clause-made g c =
     err_from_is_err_and c.from_residual-in_err-joined.result
     c.from_residual-in_err-joined.ensures.1 in
     let before = c.inspect_all.ensures.made.0 in (
-      omega (arith, before, c.run.ensures.grows),
+      omega (arith, before, c.run.ensures.made.0),
       rw (e.1, e.2) (λ is.
           let more =
-          made_run c.in_ok-run.run' c.in_ok-run.ensures.made c.in_err-joined.ensures.no_aside is in
+          made_run _ c.in_ok-run.run' c.in_ok-run.ensures.put c.in_err-joined.ensures.no_aside is in
           omega (arith, before, more)),
     )
 
 pub returns-then-not-joined-clause-made : goal.returns-then-not-joined-clause-made
 returns-then-not-joined-clause-made g c =
-    (omega (arith, c.inspect_all.ensures.made.0, c.run.ensures.grows), λ e. cc)
+    (omega (arith, c.inspect_all.ensures.made.0, c.run.ensures.made.0), λ e. cc)
 
 pub returns-then-joined-clause-made : goal.returns-then-joined-clause-made
 returns-then-joined-clause-made g c =
-    (omega (arith, c.inspect_all.ensures.made.0, c.run.ensures.grows), λ e. cc)
+    (omega (arith, c.inspect_all.ensures.made.0, c.run.ensures.made.0), λ e. cc)
 
 pub returns-clause-made : goal.returns-clause-made
 returns-clause-made g c =
-    (omega (arith, c.inspect_all.ensures.made.0, c.run.ensures.grows), tt)
+    (omega (arith, c.inspect_all.ensures.made.0, c.run.ensures.made.0), tt)
 
 pub returns-then-joined-clause-write_failed : goal.returns-then-joined-clause-write_failed
 returns-then-joined-clause-write_failed g c = λ e.

@@ -1,4 +1,4 @@
--- What the inputs so far have passed over was added.
+-- others_of: what the inputs so far have passed over was added.
 use Rattle.std.proofs.Common.{◌≡◌, ◌+◌, ◌-◌, ◌^◌, take}
 use Rattle.std.specs.Prelude.{min, sum_by}
 use Rattle.flutejoin.specs.InputStreams.{passed_over}

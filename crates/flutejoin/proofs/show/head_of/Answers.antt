@@ -1,3 +1,4 @@
+-- head_of: the words before a symbol's bytes, for each kind of fact (specs/Lines).
 use Rattle.std.proofs.Common.{refl}
 use Rattle.flutejoin.specs.Pieces.{fact_head}
 use Rattle.flutejoin.proofs.show.head_of.Goals as goal

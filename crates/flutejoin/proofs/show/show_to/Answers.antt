@@ -1,3 +1,4 @@
+-- show_to: its loop writes the lines of the selected entries; its end, and each fault.
 use Rattle.std.proofs.Common.{◌≡◌, ◌∙◌, ℕ, List, Option, ap, sym, subst, refl, rules, Ok, Err}
 use Rattle.std.proofs.Common.{◌≤◌, [], ◌∷◌, arith}
 use Rattle.flutejoin.specs.Show.{FailsToRead, ShowsPart, ShowsUntil}

@@ -1,4 +1,4 @@
--- The lines of the selected entries that were read were written.
+-- show_to: the lines of the selected entries that were read were written.
 use Rattle.std.proofs.Common.{◌≡◌, ◌-◌}
 use Rattle.flute_journal.proofs.Public.{entries_at}
 use Rattle.flutejoin.specs.declared.limits.TheConstants.{MAX_ENTRIES}

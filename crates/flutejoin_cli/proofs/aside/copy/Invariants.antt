@@ -1,4 +1,4 @@
--- The sink has not failed.
+-- copy: the sink has not failed.
 use Rattle.std.proofs.Common.{◌≡◌}
 use Rattle.flutejoin_cli.proofs.aside.copy.Given as goal
 

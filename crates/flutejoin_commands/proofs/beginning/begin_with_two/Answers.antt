@@ -1,4 +1,4 @@
--- Which of two inputs was not opened.
+-- begin_with_two: which of two inputs was not opened.
 use Rattle.std.proofs.Common.{[], ◌∷◌, rules}
 use Rattle.flutejoin_commands.specs.Named.{IsBefore}
 use Rattle.flutejoin_commands.proofs.OfNames.{two_unopened}

@@ -1,4 +1,4 @@
--- What was sent, told by the name of the content.
+-- carousel: what was sent, stated of the name of the content.
 use Rattle.std.proofs.Common.{◌∙◌, IfErr, subst}
 use Rattle.std.specs.Prelude.{OnOk}
 use Rattle.flutejoin.specs.Carousel.{SendsInput, SendFails}

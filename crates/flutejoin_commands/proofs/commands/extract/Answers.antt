@@ -1,4 +1,4 @@
--- What was left, told by the name.
+-- extract: the output and the faults, stated of the input's name.
 use Rattle.std.proofs.Common.{IfErr, List, ℕ, Option, subst}
 use Rattle.std.specs.Prelude.{OnOk}
 use Rattle.flutejoin.specs.Limits.{limits_of}

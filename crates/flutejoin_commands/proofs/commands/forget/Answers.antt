@@ -1,4 +1,4 @@
--- What was left, told by the name.
+-- forget: the output and the faults, stated of the input's name.
 use Rattle.std.proofs.Common.{IfErr, List, ℕ, Option, subst, sym}
 use Rattle.std.specs.Prelude.{OnOk}
 use Rattle.flute_journal.specs.declared.choice.selection.Selection.{Selection}

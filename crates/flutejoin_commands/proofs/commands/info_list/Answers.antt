@@ -1,4 +1,4 @@
--- What was added, told by the names of the journal and the list.
+-- info_list: what was added, stated of the names of the journal and the list.
 use Rattle.std.proofs.Common.{IfErr, ℕ, List, Option, subst}
 use Rattle.std.specs.Prelude.{OnOk}
 use Rattle.flutejoin.specs.InfoLists.{AddsList, AddListFails}

@@ -1,4 +1,4 @@
--- What was joined, told by the names.
+-- join: what was joined, stated of the inputs' names.
 use Rattle.std.proofs.Common.{◌∙◌, map, subst, IfErr}
 use Rattle.std.specs.Prelude.{OnOk}
 use Rattle.flutejoin.specs.Limits.{limits_of}

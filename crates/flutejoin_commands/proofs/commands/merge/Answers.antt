@@ -1,4 +1,4 @@
--- What was merged, told by the two names.
+-- merge: what was merged, stated of the two names.
 use Rattle.std.proofs.Common.{IfErr, ℕ, List, Option, subst}
 use Rattle.std.specs.Prelude.{OnOk}
 use Rattle.flute_journal.specs.Merges.{Merged}

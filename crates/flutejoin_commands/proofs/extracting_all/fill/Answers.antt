@@ -1,4 +1,4 @@
--- The work failed within the limits that were asked for.
+-- fill: the work failed within the limits that were asked for.
 use Rattle.std.proofs.Common.{inl, subst}
 use Rattle.std.specs.Prelude.{IfErr}
 use Rattle.std.proofs.lemmas.Result.{err_from_is_err_and}

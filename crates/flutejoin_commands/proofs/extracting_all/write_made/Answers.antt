@@ -1,3 +1,4 @@
+-- write_made: the folder that was filled and ended, at any moment, or why not.
 use Rattle.std.proofs.Common.{Result, ℕ, inr, subst, sym}
 use Rattle.std.specs.Prelude.{IfOk}
 use Rattle.flutejoin.specs.ExtractAll.{ExtractsAll}

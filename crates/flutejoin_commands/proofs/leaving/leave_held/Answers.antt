@@ -1,4 +1,4 @@
--- Why it fails, once what was printed was to be handed on.
+-- leave_held: why it fails, once what was printed was to be handed on.
 use Rattle.flutejoin_commands.specs.Outlets.{Held, FailsHeld}
 use Rattle.flutejoin_commands.specs.Worlds.{outside}
 use Rattle.flutejoin_commands.proofs.LeftFiles.{fails_after}

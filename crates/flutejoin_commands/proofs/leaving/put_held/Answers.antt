@@ -1,4 +1,4 @@
--- What is left, by what the name of the output leads to.
+-- put_held: what is left, by what the name of the output leads to.
 use Rattle.std.proofs.Common.{subst}
 use Rattle.flutejoin_commands.specs.Outlets.{Held}
 use Rattle.flutejoin_commands.specs.Closings.{ClosesWhole}

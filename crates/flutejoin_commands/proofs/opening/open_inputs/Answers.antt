@@ -1,4 +1,4 @@
--- One name more.
+-- open_inputs: one name more.
 use Rattle.std.proofs.Common.{◌≡◌, rules, arith, List, ℕ, [], Bor, map, get_or, subst, sym, ◌+◌}
 use Rattle.std.proofs.Common.{◌∙◌}
 use Rattle.flutejoin_commands.specs.Opened.{IsOpened, FirstNotOpened}

@@ -1,4 +1,4 @@
--- The names so far were opened.
+-- open_inputs: the names so far were opened.
 use Rattle.std.proofs.Common.{◌≡◌, ◌+◌, map}
 use Rattle.flutejoin_commands.specs.Opened.{AreFirstOpened}
 use Rattle.flutejoin_commands.proofs.opening.open_inputs.Given as goal

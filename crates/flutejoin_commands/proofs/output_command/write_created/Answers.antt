@@ -1,4 +1,4 @@
--- What is known once it is finished.
+-- write_created: what is known once it is finished.
 use Rattle.std.proofs.Common.{rules, sym, ◌∙◌}
 use Rattle.flutejoin_commands.proofs.Since.{either_since, not_on_disk}
 use Rattle.flutejoin_commands.proofs.output_command.write_created.Goals as goal

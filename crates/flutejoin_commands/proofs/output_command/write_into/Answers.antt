@@ -1,4 +1,4 @@
--- What failed once the file beside OUT was made.
+-- write_into: what failed once the file beside OUT was made.
 use Rattle.flutejoin_commands.specs.Commands.{devices}
 use Rattle.flutejoin_commands.proofs.Since.{failed_before}
 use Rattle.flutejoin_commands.proofs.output_command.write_into.Goals as goal

@@ -1,4 +1,4 @@
--- What was known when the output was made.
+-- write_into: what was known when the output was made.
 use Rattle.std.specs.Prelude.{option_map}
 use Rattle.flute_output.specs.Entries.{found_in, named_in}
 use Rattle.flutejoin_commands.proofs.output_command.write_into.Given as goal

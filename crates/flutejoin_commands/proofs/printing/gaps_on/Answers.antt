@@ -1,3 +1,4 @@
+-- gaps_on: what gaps_from wrote and the report took, or why not.
 use Rattle.std.proofs.Common.{◌≡◌, ◌⊎◌, List, ℕ, Option, Err, IfErr, inl, inr, ap, sym, ◌∙◌}
 use Rattle.std.proofs.Common.{Result, subst}
 use Rattle.std.specs.Io.KnownBytes.{Appends}

@@ -1,4 +1,4 @@
--- The lines within the limits that were asked for.
+-- list_gaps: the lines within the limits that were asked for.
 use Rattle.flutejoin_commands.proofs.printing.list_gaps.Goals as goal
 
 pub returns-then-any_size-clause-printed : goal.returns-then-any_size-clause-printed

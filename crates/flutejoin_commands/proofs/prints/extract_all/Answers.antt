@@ -1,4 +1,4 @@
--- Why there is no folder, told by the names of the journal and the folder.
+-- extract_all: why there is no folder, stated of the names of the journal and the folder.
 use Rattle.std.proofs.Common.{◌⊎◌, List, ℕ, Option, IfErr, ap, subst, ◌∙◌}
 use Rattle.flute_output.specs.NewFolders.{Places}
 use Rattle.flutejoin.specs.declared.command_fault.CommandFault.{CommandFault}

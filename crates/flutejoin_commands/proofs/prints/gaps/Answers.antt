@@ -1,4 +1,4 @@
--- Why what is missing was not listed, told by the name of the journal.
+-- gaps: why nothing was listed, stated of the name of the journal.
 use Rattle.std.proofs.Common.{◌≡◌, ◌≢◌, ◌⊎◌, List, ℕ, Option, Bool, true, false, Result, IfErr}
 use Rattle.std.proofs.Common.{inl, inr, subst, ◌∙◌}
 use Rattle.std.specs.Io.KnownBytes.{Appends, IsAtEnd}
@@ -30,7 +30,8 @@ returns-clause-listed g c =
     ListsJournal (limits_of c.args.any_size) c.args.selection.now k
     (λ objects. Appends old new (printed style objects) × (passes_check style objects ≡ p)) in
     let tells = g.W.Asides.Asides.tells c.asides-asides.result in
-    let told = subst (λ (x : Option Files). TellsAsides x tells) same c.asides-asides.ensures.tells in
+    let told =
+    subst (λ (x : Option Files). TellsAsides x tells) same c.asides-asides.ensures.tells in
     let first = c.in_ok-lines.ensures.empty in
     by_done r (λ is. if_told files c.args.j.now known c.in_ok-source.ensures.opened (Lists true)
     (if_empty files tells a b (Lists true known) told first
@@ -56,7 +57,8 @@ returns-clause-failed g c =
     ListsJournal (limits_of c.args.any_size) c.args.selection.now k
     (λ objects. Appends old new (printed style objects) × (passes_check style objects ≡ p)) in
     let tells = g.W.Asides.Asides.tells c.asides-asides.result in
-    let told = subst (λ (x : Option Files). TellsAsides x tells) same c.asides-asides.ensures.tells in
+    let told =
+    subst (λ (x : Option Files). TellsAsides x tells) same c.asides-asides.ensures.tells in
     let first = c.in_ok-lines.ensures.empty in
     let fails : Option (List ℕ) → Option (List ℕ) → CommandFault → Type 0 = λ k l fault.
     GapsFail (limits_of c.args.any_size) k l fault ⊎ FailsToFlush (IsAtEnd l) fault in
@@ -68,7 +70,8 @@ returns-clause-failed g c =
         n,
         if_told files name known opened (Lists false)
             (if_empty files tells a b (Lists false known) told first
-            (λ t. c.in_ok-gap_lines.ensures.empty (c.aside.ensures.same_tells ∙ t)) (λ e f. (subst
+            (λ t. c.in_ok-gap_lines.ensures.empty (c.aside.ensures.same_tells ∙ t)) (λ e f.
+            (subst
             (λ (x : Result (Unit {0}) CommandFault). IfPrinted x (λ p. Lists p known)) is
             (c.gaps_on.ensures.listed e f)).1 n)),
       )

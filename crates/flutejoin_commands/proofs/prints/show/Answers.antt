@@ -1,4 +1,4 @@
--- Why a journal was not shown, told by its name.
+-- show: why a journal was not shown, stated of its name.
 use Rattle.std.proofs.Common.{◌≡◌, ◌⊎◌, List, ℕ, Option}
 use Rattle.flutejoin.specs.Show.{ShowsAll, ShowFails}
 use Rattle.flutejoin.specs.declared.command_fault.CommandFault.{CommandFault}

@@ -1,4 +1,4 @@
--- Why information is not added.
+-- run_line: why information is not added.
 use Rattle.std.proofs.Common.{◌≡◌, ℕ, IfErr, subst, sym}
 use Rattle.flute_parts.specs.Information.{Information, information}
 use Rattle.flutejoin.specs.declared.command_fault.CommandFault.{CommandFault}

@@ -1,3 +1,4 @@
+-- gaps_to: its loop over the store's objects, and a failed write.
 use Rattle.std.proofs.Common.{◌∙◌, sym}
 use Rattle.flutejoin.specs.Objects.{object_lines}
 use Rattle.flutejoin_replicas.proofs.Listed.{listed-at, listed-next, listed-part, listed-all}

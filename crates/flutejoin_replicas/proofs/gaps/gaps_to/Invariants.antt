@@ -1,4 +1,4 @@
--- The lines of the objects before those that are left were written.
+-- gaps_to: the lines of the objects before those that are left were written.
 use Rattle.std.proofs.Common.{◌≡◌, length}
 use Rattle.flutejoin.specs.Objects.{object_lines}
 use Rattle.flutejoin_replicas.proofs.Listed.{Listed}

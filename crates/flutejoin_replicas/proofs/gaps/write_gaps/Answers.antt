@@ -1,3 +1,4 @@
+-- write_gaps: its loop over the gaps of an object, and a failed write.
 use Rattle.std.proofs.Common.{ap, length, arith}
 use Rattle.std.proofs.lemmas.Result.{err_from_is_err_and}
 use Rattle.flutejoin.specs.Lines.{gap_line}

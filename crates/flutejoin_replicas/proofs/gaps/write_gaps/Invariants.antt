@@ -1,4 +1,4 @@
--- The lines of the gaps before those that are left were written.
+-- write_gaps: the lines of the gaps before those that are left were written.
 use Rattle.std.proofs.Common.{◌≡◌, length}
 use Rattle.flutejoin.specs.Lines.{gap_line}
 use Rattle.flutejoin_replicas.proofs.Listed.{Listed}

@@ -1,3 +1,4 @@
+-- write_object: the lines of an object, or the part of them after a failed write.
 use Rattle.std.proofs.Common.{Option, subst}
 use Rattle.std.specs.Prelude.{MatchOption}
 use Rattle.std.proofs.lemmas.Result.{err_from_is_err_and}

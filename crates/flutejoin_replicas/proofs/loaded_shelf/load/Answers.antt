@@ -1,4 +1,4 @@
--- Why a journal was not read into a store, as the command tells it.
+-- load: why a journal was not read into a store, as a fault of the command.
 use Rattle.std.proofs.Common.{ℕ, false, List, Option, refl}
 use Rattle.flute_journal.specs.declared.fault.LoadFault.{LoadFault}
 use Rattle.flute_journal.specs.declared.fault.LoadFault.TheVariants as load

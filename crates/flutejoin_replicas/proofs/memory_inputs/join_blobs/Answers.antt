@@ -1,4 +1,4 @@
--- One input more is opened.
+-- join_blobs: one input more is opened.
 use Rattle.std.proofs.Common.{ℕ, false, List, Option, Some, refl, sym, ap, ◌∙◌, subst, arith}
 use Rattle.std.proofs.Math.Path.{fun_ext}
 use Rattle.std.proofs.lemmas.Option.{slice_get-get_or}
@@ -47,4 +47,5 @@ returns-clause-failed c =
       sender = c.args.sender;
       takes = takes;
     }) c.args.inputs.now
-    c.in-Err.fault) (fun_ext c.all.ensures) (c.in-Err.ensures.failed refl c.args.inputs.now opened)))
+    c.in-Err.fault) (fun_ext c.all.ensures)
+    (c.in-Err.ensures.failed refl c.args.inputs.now opened)))

@@ -1,4 +1,4 @@
--- The inputs so far were opened.
+-- join_blobs: the inputs so far were opened.
 use Rattle.std.proofs.Common.{Some}
 use Rattle.flutejoin_replicas.proofs.MemoryFacts.{OpenedSoFar}
 use Rattle.flutejoin_replicas.proofs.memory_inputs.join_blobs.Given as goal

@@ -1,4 +1,4 @@
--- The journal in memory is read as what it tells.
+-- join_inputs: reading the journal in memory gives the facts it was written of.
 use Rattle.std.proofs.Common.{rules, ◌<◌, ◌^◌, Option, Some, List, ℕ, subst}
 use Rattle.std.specs.Prelude.{IfSome}
 use Rattle.flute_journal.specs.Stores.{IsJournalOf}

@@ -1,4 +1,4 @@
--- The journal that is written is that of what the replica was given.
+-- journal_after: the journal that is written is that of what the replica was given.
 use Rattle.flutejoin_replicas.proofs.Given.{store_same, written_as_given, written_as_others}
 use Rattle.flutejoin_replicas.proofs.Given.{cut_as_given}
 use Rattle.flutejoin_replicas.proofs.outputs.journal_after.Goals as goal

@@ -1,4 +1,4 @@
--- The object that is written is the one that the replica was given.
+-- object_after: the object that is written is the one that the replica was given.
 use Rattle.flutejoin_replicas.proofs.Given.{store_same, whole-same, extract_fault-same}
 use Rattle.flutejoin_replicas.proofs.outputs.object_after.Goals as goal
 

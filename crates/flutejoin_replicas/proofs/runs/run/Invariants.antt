@@ -1,4 +1,4 @@
--- The steps so far.
+-- run: the steps so far.
 use Rattle.flutejoin_replicas.specs.Held.{capacity}
 use Rattle.flutejoin_replicas.proofs.RunSteps.{RunSoFar}
 use Rattle.flutejoin_replicas.proofs.runs.run.Given as goal

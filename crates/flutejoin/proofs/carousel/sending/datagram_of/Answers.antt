@@ -1,4 +1,4 @@
--- What was written has no fault.
+-- datagram_of: what was written has no fault.
 use Rattle.flute_wire.specs.Outgoing.{said}
 use Rattle.flute_wire.specs.Writing.{write_fault}
 use Rattle.flutejoin.proofs.carousel_lemmas.SentPackets.{no_fault}

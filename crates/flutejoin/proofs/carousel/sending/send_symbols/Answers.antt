@@ -1,4 +1,4 @@
--- Each packet is sent behind those before it.
+-- send_symbols: each packet is written after those before it.
 use Rattle.std.proofs.Common.{◌≡◌, ◌*◌, ◌<◌, ◌∙◌, ℕ, List, Some, Ok, Err, Result}
 use Rattle.std.proofs.Common.{length, max, take, drop, ap, sym, subst, arith, false}
 use Rattle.std.proofs.lemmas.Result.{err_from_is_err_and}
@@ -15,7 +15,7 @@ use Rattle.flutejoin.proofs.carousel_lemmas.SentSoFar.{SentSoFar, reads_on, left
 use Rattle.flutejoin.proofs.carousel_lemmas.SentSoFar.{sent_part, unless_on, sink_fails}
 use Rattle.flutejoin.proofs.carousel.sending.send_symbols.Goals as goal
 
--- what comes of a packet, told by the object that is sent
+-- the packet made of equal keys and information is the same
 makes_same : (k key : Key) (j i : Information) (place : ℕ) (rest : List ℕ)
     (r : Result (List ℕ) CommandFault) → (k ≡ key) × (j ≡ i)
     → Makes (packet_with k j place (take j.symbol_length rest)) r

@@ -1,4 +1,4 @@
--- The packets before the place were sent.
+-- send_symbols: the packets before the place were sent.
 use Rattle.std.proofs.Common.{◌≡◌, ◌+◌, length}
 use Rattle.flute_parts.specs.Devices.{times_failed}
 use Rattle.flutejoin.specs.Sending.{ReadsOf, OfSize}

@@ -1,4 +1,4 @@
--- The header, and then the record.
+-- write_at: the header, and then the record.
 use Rattle.std.proofs.Common.{◌≡◌, arith, rules}
 use Rattle.std.proofs.lemmas.Result.{err_from_is_err_and}
 use Rattle.flute_journal.specs.Records.{file_header, record_of}

@@ -1,4 +1,4 @@
--- The number of the bytes, and then they.
+-- write_record: the number of the bytes, and then they.
 use Rattle.std.proofs.Common.{length, rules}
 use Rattle.std.proofs.lemmas.Result.{err_from_is_err_and}
 use Rattle.flute_journal.specs.Numbers.{in_bytes}

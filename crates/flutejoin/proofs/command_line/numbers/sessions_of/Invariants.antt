@@ -1,3 +1,4 @@
+-- sessions_of: what holds in its loop.
 use Rattle.std.proofs.Common.{◌^◌, map, take}
 use Rattle.flute_journal.specs.Sessions.{listed_tsis}
 use Rattle.flutejoin.specs.Options.{AreNumbers}

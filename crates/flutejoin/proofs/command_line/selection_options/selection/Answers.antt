@@ -1,3 +1,4 @@
+-- selection: the faults of the options that select.
 use Rattle.std.proofs.Common.{subst, sym}
 use Rattle.flute_journal.specs.Sessions.{listed_tsis}
 use Rattle.flutejoin.specs.Options.{found_rows}

@@ -1,3 +1,4 @@
+-- extract_all_to: its loop over the facts, the files and lines at the end, and each fault.
 use Rattle.std.proofs.Common.{◌≡◌, ◌∙◌, List, ℕ, Option, Ok, Err, ap, sym, subst, rules, arith}
 use Rattle.std.proofs.lemmas.Result.{err_from_is_err_and}
 use Rattle.flutejoin.specs.Gaps.{ReadsWithin}

@@ -1,4 +1,4 @@
--- The entries that were read were taken, as far as they are picked.
+-- extract_all_to: the entries that were read were taken, as far as they are picked.
 use Rattle.std.proofs.Common.{◌≡◌, ◌+◌, ◌-◌}
 use Rattle.flute_journal.proofs.Public.{entries_at}
 use Rattle.flute_output.specs.NewFolders.{LeadsTo, FolderStays}

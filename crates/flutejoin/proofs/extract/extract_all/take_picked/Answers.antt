@@ -1,3 +1,4 @@
+-- take_picked: a fact of a picked object is taken, and any other is passed over.
 use Rattle.std.proofs.Common.{◌≡◌, true, false, List, sym, ap, ◌∙◌, subst}
 use Rattle.flute_parts.specs.Addresses.{address}
 use Rattle.flute_parts.specs.declared.address.Address.{Address}

@@ -1,4 +1,4 @@
--- Gaps were given, and nothing was passed.
+-- pass_gaps: gaps were given, and nothing was passed.
 use Rattle.std.proofs.Common.{ℕ, ◌+◌, List, [], length}
 use Rattle.flute_store.specs.PartitionScan.{walk_of, symbols_left}
 use Rattle.flute_store.specs.Scan.{Scanned, CanFollow, CanCome}

@@ -1,3 +1,4 @@
+-- sum_up: an object is added to the sums of its session, which may be a new one.
 use Rattle.std.proofs.Common.{◌≡◌, Option, sym, ◌∙◌, subst}
 use Rattle.std.specs.Prelude.{OnOk}
 use Rattle.flute_parts.specs.Session.{Session}

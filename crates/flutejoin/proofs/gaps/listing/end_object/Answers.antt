@@ -1,3 +1,4 @@
+-- end_object: how much is held of an object, by its state (specs/Listing: StateIs).
 use Rattle.std.proofs.Common.{subst, refl, flat_map}
 use Rattle.flutejoin.specs.Listing.{StateIs}
 use Rattle.flutejoin.specs.Styles.{shown_gap}

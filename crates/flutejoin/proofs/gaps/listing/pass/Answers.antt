@@ -1,3 +1,4 @@
+-- pass: its loop puts aside the lines of the gaps before the next symbol.
 use Rattle.std.proofs.Common.{◌≡◌, ◌∙◌, ◌++◌, List, ℕ, Some, false, flat_map, subst}
 use Rattle.std.proofs.Common.{refl, arith, rules}
 use Rattle.flutejoin.specs.Styles.{shown_gap}

@@ -1,4 +1,4 @@
--- The lines of the gaps that were given were put aside, and nothing was passed.
+-- pass: the lines of the gaps that were given were put aside, and nothing was passed.
 use Rattle.std.proofs.Common.{◌≡◌, ◌+◌, [], List, ℕ, Bool, None, flat_map, length}
 use Rattle.flute_store.specs.PartitionScan.{walk_of, symbols_left}
 use Rattle.flute_store.specs.Scan.{Scanned, CanFollow}

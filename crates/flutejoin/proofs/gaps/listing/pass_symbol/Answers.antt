@@ -1,3 +1,4 @@
+-- pass_symbol: the object's state after its next symbol.
 use Rattle.std.proofs.Common.{◌++◌, ◌∷◌, [], List, ℕ, Option, Bor, refl, sym, subst, flat_map, inl}
 use Rattle.std.proofs.Common.{inr}
 use Rattle.flute_parts.specs.declared.symbol_id.SymbolId.{SymbolId}

@@ -1,4 +1,4 @@
--- It is the journal that stops, if a stream does.
+-- add_to_stream: it is the journal that stops, if a stream does.
 use Rattle.std.proofs.Common.{◌≡◌, Bool, true, false, not, refl}
 use Rattle.flutejoin.specs.Limits.{at_most}
 use Rattle.flutejoin.proofs.info_lemmas.AddedFacts.{adds_facts, over_with, within_with, first_fails, failed_as}

@@ -1,4 +1,4 @@
--- The fault is that of the first stream that has one.
+-- join_two: the fault is that of the first stream that has one.
 use Rattle.std.proofs.Common.{rules, ◌≡◌, [], ◌∷◌, subst}
 use Rattle.std.specs.Prelude.{IfErr}
 use Rattle.flute_journal.specs.Eithers.{either_behaviour}

@@ -1,4 +1,4 @@
--- The walk tells what the store holds.
+-- add_store: the walk over the store gives the facts that the store holds.
 use Rattle.std.proofs.Common.{List, sym, subst, ◌∙◌}
 use Rattle.flute_parts.specs.declared.fact.Fact.{Fact}
 use Rattle.flute_parts.specs.Facts.{Same}

@@ -1,4 +1,4 @@
--- What is told of the second input is told of the list.
+-- info_list_to: a fault with the number 2 is of the list, never of the journal.
 use Rattle.flute_parts.proofs.Public.{Same-itself}
 use Rattle.flutejoin.specs.Limits.{at_most}
 use Rattle.flutejoin.proofs.info_lemmas.AddedFacts.{never_second}

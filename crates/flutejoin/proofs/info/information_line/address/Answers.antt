@@ -1,3 +1,4 @@
+-- address: the sender of 32 digits, and what follows them.
 use Rattle.std.proofs.Common.{arith, ap, ◌∙◌}
 use Rattle.byteorder.specs.Endian.{big_from}
 use Rattle.flutejoin.proofs.info_lemmas.LineSenders.{long_enough, digits_front, digits_back, digits_decoded}

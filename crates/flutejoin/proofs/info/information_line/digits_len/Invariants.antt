@@ -1,3 +1,4 @@
+-- digits_len: what holds in its loop.
 use Rattle.std.proofs.Common.{◌≡◌, ℕ, ◌<◌, get_or, true}
 use Rattle.std.specs.Char.{is_ascii_digit}
 use Rattle.flutejoin.proofs.info.information_line.digits_len.Given as goal

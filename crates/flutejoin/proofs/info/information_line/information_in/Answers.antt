@@ -1,3 +1,4 @@
+-- information_in: the three numbers of information, and when a text has none.
 use Rattle.std.proofs.Common.{[], refl, ◌∙◌, arith}
 use Rattle.flutejoin.proofs.info_lemmas.LinePieces.{from_block, from_symbol, information_chain, numbers_found}
 use Rattle.flutejoin.proofs.info.information_line.information_in.Goals as goal

@@ -1,3 +1,4 @@
+-- loose_information: the object and the numbers of a line, and when it has none.
 use Rattle.std.proofs.Common.{refl, ◌∙◌}
 use Rattle.flutejoin.specs.Lines.{information_words}
 use Rattle.flutejoin.proofs.info_lemmas.LinePieces.{from_info, from_object, from_space, fact_chain}

@@ -1,3 +1,4 @@
+-- number: the number at the front of a text, and when there is none.
 use Rattle.std.proofs.Common.{◌∙◌, sym, subst, arith}
 use Rattle.std.specs.Str.{IsUtf8}
 use Rattle.std.proofs.lemmas.Fmt.{parse-decimal_wide}

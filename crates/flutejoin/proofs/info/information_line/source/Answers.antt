@@ -1,3 +1,4 @@
+-- source: the sender before a session, and what follows.
 use Rattle.std.proofs.Common.{◌++◌, codes}
 use Rattle.flutejoin.proofs.info_lemmas.LinePieces.{source_rest}
 use Rattle.flutejoin.proofs.info.information_line.source.Goals as goal

@@ -1,4 +1,4 @@
--- A piece more was read, or there is none.
+-- read_list: a piece more was read, or there is none.
 use Rattle.std.proofs.Common.{[], ◌++◌, take, ap, ◌∙◌, inr, arith}
 use Rattle.std.proofs.Common.{length-append}
 use Rattle.std.proofs.KnownBytes.{Consumes-trans}

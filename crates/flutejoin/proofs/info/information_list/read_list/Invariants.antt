@@ -1,4 +1,4 @@
--- So much was read of the list.
+-- read_list: so much was read of the list.
 use Rattle.std.proofs.Common.{◌≡◌, ℕ, ◌+◌, ◌-◌, ◌≤◌, List, length}
 use Rattle.std.specs.Io.KnownBytes.{Consumes}
 use Rattle.flutejoin.specs.InformationLines.{HoldsList}

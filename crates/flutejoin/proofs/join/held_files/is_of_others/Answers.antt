@@ -1,4 +1,4 @@
--- A packet is of one object.
+-- is_of_others: a packet is of one object.
 use Rattle.std.proofs.Common.{sym, ap, ◌∙◌, not}
 use Rattle.std.specs.Prelude.{is_none}
 use Rattle.flute_journal.specs.Scopes.{takes_key}

@@ -1,9 +1,7 @@
--- Inputs inspected in turn.
+-- inspect_all: inputs inspected in turn.
 use Rattle.std.proofs.Common.{◌<◌, ◌∙◌, length, refl, arith}
 use Rattle.std.proofs.lemmas.Option.{slice_get-get_or}
 use Rattle.std.proofs.lemmas.Result.{err_from_is_err_and}
-use Rattle.flutejoin.specs.Joined.{choice_of}
-use Rattle.flutejoin.specs.Limits.{at_most}
 use Rattle.flutejoin.proofs.join_lemmas.Inspections.{inspected_none, inspected_more, finds_all, inspect_fails}
 use Rattle.flutejoin.proofs.join_lemmas.Inspections.{inspect_names, inspect_reads, inspect_failed}
 use Rattle.flutejoin.proofs.join.inspecting.inspect_all.Goals as goal
@@ -11,10 +9,9 @@ use Rattle.flutejoin.proofs.join.inspecting.inspect_all.Goals as goal
 pub loop-k-init : goal.loop-k-init
 loop-k-init g c = record {
   inspected =
-      inspected_none (choice_of (at_most g.row.SESSIONS g.row.OBJECTS g.row.SYMBOLS) c.args.sender
-      c.args.scope.now) g.R.Source.unread
-      g.R.Source.failures (g.A.Asides.tells c.args.asides.now) c.args.inputs.now
-      c.new-held.result c.new-held.ensures.held c.new-held.ensures.sound c.new-held.ensures.none;
+      inspected_none _ g.R.Source.unread g.R.Source.failures
+      (g.A.Asides.tells c.args.asides.now) c.args.inputs.now c.new-held.result
+      c.new-held.ensures.held c.new-held.ensures.sound c.new-held.ensures.none;
   same_tells = refl;
   made = omega arith;
 }
@@ -25,9 +22,7 @@ returns-in_err-inspect-clause-failed g c = λ told contents inputs.
     let within : c.loop-k.k < length c.loop-k.inputs =
     omega (arith, c.loop-k.auto.inputs, c.loop-k-test.true) in
     rw (e.1, e.2)
-    (inspect_fails (choice_of (at_most g.row.SESSIONS g.row.OBJECTS g.row.SYMBOLS) c.args.sender
-    c.args.scope.now) g.R.Source.unread
-    g.R.Source.failures c.loop-k.invariant.inspected _
+    (inspect_fails _ g.R.Source.unread g.R.Source.failures c.loop-k.invariant.inspected _
     (slice_get-get_or c.loop-k.inputs c.loop-k.k c.index-inputs-k.result within)
     c.in_err-inspect.field-0.0 c.in_err-inspect.ensures.failed told contents inputs)
 
@@ -37,9 +32,7 @@ returns-in_err-inspect-clause-names g c =
     let within : c.loop-k.k < length c.loop-k.inputs =
     omega (arith, c.loop-k.auto.inputs, c.loop-k-test.true) in
     rw (e.1, e.2)
-    (inspect_names (choice_of (at_most g.row.SESSIONS g.row.OBJECTS g.row.SYMBOLS) c.args.sender
-    c.args.scope.now) g.R.Source.unread
-    g.R.Source.failures c.loop-k.invariant.inspected _
+    (inspect_names _ g.R.Source.unread g.R.Source.failures c.loop-k.invariant.inspected _
     (slice_get-get_or c.loop-k.inputs c.loop-k.k c.index-inputs-k.result within)
     c.in_err-inspect.field-0.0 c.in_err-inspect.ensures.names)
 
@@ -47,9 +40,7 @@ pub returns-in_err-inspect-clause-no_sink : goal.returns-in_err-inspect-clause-n
 returns-in_err-inspect-clause-no_sink g c =
     let e = err_from_is_err_and c.from_residual.result c.from_residual.ensures.1 in
     rw (e.1, e.2)
-    (inspect_reads (choice_of (at_most g.row.SESSIONS g.row.OBJECTS g.row.SYMBOLS) c.args.sender
-    c.args.scope.now) g.R.Source.unread
-    g.R.Source.failures c.loop-k.k c.in_err-inspect.field-0.0 c.in_err-inspect.ensures.names)
+    (inspect_reads c.loop-k.k c.in_err-inspect.field-0.0 c.in_err-inspect.ensures.names)
 
 pub returns-in_err-inspect-clause-one_failed : goal.returns-in_err-inspect-clause-one_failed
 returns-in_err-inspect-clause-one_failed g c =
@@ -57,9 +48,7 @@ returns-in_err-inspect-clause-one_failed g c =
     let within : c.loop-k.k < length c.loop-k.inputs =
     omega (arith, c.loop-k.auto.inputs, c.loop-k-test.true) in
     rw (e.1, e.2)
-    (inspect_failed (choice_of (at_most g.row.SESSIONS g.row.OBJECTS g.row.SYMBOLS) c.args.sender
-    c.args.scope.now) g.R.Source.unread
-    g.R.Source.failures c.loop-k.invariant.inspected _
+    (inspect_failed _ g.R.Source.unread g.R.Source.failures c.loop-k.invariant.inspected _
     (slice_get-get_or c.loop-k.inputs c.loop-k.k c.index-inputs-k.result within)
     c.inspect.new.input c.in_err-inspect.field-0.0 c.in_err-inspect.ensures.names
     c.in_err-inspect.ensures.failures)
@@ -70,9 +59,7 @@ loop-k-preserved g c =
     omega (arith, c.loop-k.auto.inputs, c.loop-k-test.true) in
     record {
       inspected =
-          inspected_more (choice_of (at_most g.row.SESSIONS g.row.OBJECTS g.row.SYMBOLS)
-          c.args.sender c.args.scope.now) g.R.Source.unread
-          g.R.Source.failures c.loop-k.invariant.inspected _
+          inspected_more _ g.R.Source.unread g.R.Source.failures c.loop-k.invariant.inspected _
           (slice_get-get_or c.loop-k.inputs c.loop-k.k c.index-inputs-k.result within)
           c.inspect.new.input c.inspect.new.held c.in_ok-inspect.ensures.ready
           (λ told. c.in_ok-inspect.ensures.inspected (c.loop-k.invariant.same_tells ∙ told))
@@ -83,9 +70,7 @@ loop-k-preserved g c =
 
 pub returns-clause-inspected : goal.returns-clause-inspected
 returns-clause-inspected g c =
-    finds_all (choice_of (at_most g.row.SESSIONS g.row.OBJECTS g.row.SYMBOLS) c.args.sender
-    c.args.scope.now) g.R.Source.unread
-    g.R.Source.failures c.loop-k.invariant.inspected (omega (
+    finds_all _ g.R.Source.unread g.R.Source.failures c.loop-k.invariant.inspected (omega (
       arith,
       c.loop-k.auto.inputs,
       c.loop-k-test.false,

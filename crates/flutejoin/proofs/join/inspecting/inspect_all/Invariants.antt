@@ -1,4 +1,4 @@
--- The inputs so far were inspected.
+-- inspect_all: the inputs so far were inspected.
 use Rattle.std.proofs.Common.{◌≡◌, ◌≤◌}
 use Rattle.flutejoin.specs.Joined.{choice_of}
 use Rattle.flutejoin.specs.Limits.{at_most}

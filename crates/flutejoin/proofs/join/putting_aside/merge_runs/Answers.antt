@@ -1,5 +1,5 @@
--- Runs are merged as streams.
-use Rattle.std.proofs.Common.{◌≡◌, ◌<◌, ◌^◌, ℕ, List, [], Option, Some, true, false, refl, subst, sym, arith}
+-- merge_runs: runs are merged as streams.
+use Rattle.std.proofs.Common.{◌≡◌, ◌<◌, ◌^◌, [], Some, refl, subst, sym, arith}
 use Rattle.std.specs.Io.KnownBytes.{Appends}
 use Rattle.flute_journal.specs.Advances.{AreNew}
 use Rattle.flute_journal.specs.JournalWriters.{PutsJournal}

@@ -1,5 +1,5 @@
--- A store is the journal of its facts.
-use Rattle.std.proofs.Common.{◌≡◌, ◌++◌, ◌∙◌, ℕ, List, [], Option, Some, ap, length, subst, sym}
+-- put_store: a store is the journal of its facts.
+use Rattle.std.proofs.Common.{◌≡◌, ◌∙◌, Some, ap, length, subst}
 use Rattle.std.specs.Io.KnownBytes.{Appends}
 use Rattle.flute_parts.proofs.Public.{rising_unique, Same-append, Same-itself}
 use Rattle.flute_journal.specs.Format.{spelling}

@@ -1,3 +1,4 @@
+-- write_line: the line that was written, or the part of it after a failed write.
 use Rattle.std.proofs.Common.{◌++◌, codes, List, ℕ, subst}
 use Rattle.std.specs.Io.KnownBytes.{Appends}
 use Rattle.std.proofs.lemmas.Result.{err_from_is_err_and}

@@ -1,4 +1,4 @@
--- What is neither of the kinds is none of them.
+-- Overwrites::check: what is neither of the kinds is none of them.
 use Rattle.std.proofs.Common.{subst, sym}
 use Rattle.flute_journal.specs.declared.kind.Kind.TheVariants.{Journal, Datagrams}
 use Rattle.flutejoin.specs.OutputGuard.{IsOverwritten}

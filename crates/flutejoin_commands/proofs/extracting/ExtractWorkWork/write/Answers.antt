@@ -1,3 +1,4 @@
+-- ExtractWork::write: what extract_to wrote, and why it failed, as a Work's clauses.
 use Rattle.std.proofs.Common.{true, false}
 use Rattle.flutejoin.specs.Limits.{limits_of}
 use Rattle.flutejoin_commands.proofs.ObjectBytes.{object_written, object_fails}

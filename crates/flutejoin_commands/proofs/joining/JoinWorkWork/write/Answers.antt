@@ -1,3 +1,4 @@
+-- JoinWork::write: what join_to wrote, and why it failed, as a Work's clauses.
 use Rattle.std.proofs.Common.{ℕ, List, true, false, length, subst, sym}
 use Rattle.std.specs.Prelude.{IfErr}
 use Rattle.flutejoin.specs.JoinInputs.{AreInputs}

@@ -1,4 +1,4 @@
--- What becomes of a datagram.
+-- Replica::take: what becomes of a datagram.
 use Rattle.std.proofs.Common.{refl, inl, ap, ◌∙◌, Err}
 use Rattle.flutejoin.proofs.Public.{is_refused-no, is_refused-yes, ok_is_packet, refused_same}
 use Rattle.flutejoin_replicas.proofs.Taking.{full_is_packet, memory_is_packet, ok_within}

@@ -1,4 +1,4 @@
--- Steps in turn, refused or not.
+-- Replicas::drive: steps in turn, refused or not.
 use Rattle.std.proofs.Common.{◌<◌, length, refl, arith, sym, ◌∙◌}
 use Rattle.std.proofs.lemmas.Option.{slice_get_read}
 use Rattle.flutejoin_replicas.proofs.DriveSteps.{drive_start, drive_more, drive_done}

@@ -1,4 +1,4 @@
--- The steps so far.
+-- Replicas::drive: the steps so far.
 use Rattle.flutejoin_replicas.proofs.DriveSteps.{DriveSoFar}
 use Rattle.flutejoin_replicas.proofs.replicas.Replicas.drive.Given as goal
 

@@ -1,4 +1,4 @@
--- As many empty replicas as turns.
+-- Replicas::new: as many empty replicas as turns.
 use Rattle.std.proofs.Common.{◌≡◌, [], map}
 use Rattle.std.specs.Prelude.{replicate}
 use Rattle.flutejoin_replicas.proofs.replicas.Replicas.new.Given as goal

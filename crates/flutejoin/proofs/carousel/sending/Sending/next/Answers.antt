@@ -1,4 +1,4 @@
--- The datagram of what was read.
+-- Sending::next: the datagram of what was read.
 use Rattle.std.proofs.Common.{◌≡◌, ◌∙◌, ℕ, List, Option, Some, length, min, drop, ap, subst}
 use Rattle.std.proofs.Common.{rules}
 use Rattle.flute_parts.specs.declared.symbol_id.SymbolId.{SymbolId}

@@ -1,3 +1,4 @@
+-- FileScan::end: how much is held, whether the file is kept, and whether a device failed.
 use Rattle.std.proofs.Common.{Option, None, refl, subst}
 use Rattle.flute_output.specs.NewFolders.{NamedFile, LeadsTo, Fills, keeps}
 use Rattle.flutejoin.specs.ObjectFiles.{PassedAs}

@@ -1,3 +1,4 @@
+-- FileScan::pass: the scan and the file after each kind of next symbol.
 use Rattle.std.proofs.Common.{ℕ, List, Bor, Option, Some, None, false, ◌++◌, take, refl, ap}
 use Rattle.std.proofs.Common.{◌∙◌, subst}
 use Rattle.std.specs.Prelude.{option_map}

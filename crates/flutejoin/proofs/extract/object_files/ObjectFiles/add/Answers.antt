@@ -1,3 +1,4 @@
+-- ObjectFiles::add: the state after the next fact, by its kind.
 use Rattle.std.proofs.Common.{None, [], ◌∷◌, sym, ap, subst}
 use Rattle.flute_parts.specs.Addresses.{address}
 use Rattle.flute_parts.specs.declared.fact.Fact.{Fact}

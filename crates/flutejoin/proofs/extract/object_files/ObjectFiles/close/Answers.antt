@@ -1,3 +1,4 @@
+-- ObjectFiles::close: the last object is ended, if there is one.
 use Rattle.std.proofs.Common.{◌+◌, Option, sym, ◌∙◌, subst}
 use mir.Val.{bool_byte}
 use Rattle.std.specs.Io.KnownBytes.{Appends}

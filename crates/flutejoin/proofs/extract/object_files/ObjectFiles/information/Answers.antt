@@ -1,3 +1,4 @@
+-- ObjectFiles::information: the object before is ended, and this one begun.
 use Rattle.std.proofs.Common.{[], ◌∷◌, refl}
 use Rattle.flute_parts.specs.declared.fact.Fact.TheVariants.{Info}
 use Rattle.flute_parts.proofs.Public.{rising-front}

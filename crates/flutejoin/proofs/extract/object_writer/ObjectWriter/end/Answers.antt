@@ -1,3 +1,4 @@
+-- ObjectWriter::end: the result, by what was found of the object (specs/ObjectWriters: Found).
 use Rattle.std.proofs.Common.{ℕ, [], sym, subst, append-nil}
 use Rattle.flute_parts.specs.Partition.{symbol_id}
 use Rattle.flute_parts.specs.declared.symbol_id.SymbolId.{SymbolId}

@@ -1,3 +1,4 @@
+-- ObjectWriter::pass_own: what was found, after a fact of the object of each kind.
 use Rattle.std.proofs.Common.{[], ◌∷◌, ◌++◌, sym, ap, ◌∙◌, subst}
 use Rattle.flute_parts.specs.Addresses.{address}
 use Rattle.flute_parts.specs.Facts.{IsRising}

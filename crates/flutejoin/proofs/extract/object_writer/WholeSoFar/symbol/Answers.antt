@@ -1,3 +1,4 @@
+-- WholeSoFar::symbol: the object so far, after each kind of turn of its scan.
 use Rattle.std.proofs.Common.{ℕ, List, Option, refl, ap}
 use Rattle.std.specs.Borrow.{Bor}
 use Rattle.flute_parts.specs.declared.symbol_id.SymbolId.{SymbolId}

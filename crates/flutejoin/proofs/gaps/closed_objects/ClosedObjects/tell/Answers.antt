@@ -1,3 +1,4 @@
+-- ClosedObjects::tell: the lines of one object more, or with a summary its session's sums.
 use Rattle.std.proofs.Common.{◌≡◌, List, ℕ, sym, ◌∙◌, ap, subst}
 use Rattle.flute_parts.specs.Devices.{Writes}
 use Rattle.flute_parts.specs.declared.key.Key.{Key}

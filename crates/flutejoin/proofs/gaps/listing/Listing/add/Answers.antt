@@ -1,3 +1,4 @@
+-- Listing::add: the state after the next fact, of information or of a conflict.
 use Rattle.std.proofs.Common.{[], ◌∷◌, ap, sym, subst}
 use Rattle.flute_parts.specs.Addresses.{address}
 use Rattle.flute_parts.specs.declared.fact.Fact.{Fact}

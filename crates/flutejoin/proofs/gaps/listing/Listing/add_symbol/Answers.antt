@@ -1,3 +1,4 @@
+-- Listing::add_symbol: a symbol of the open object, or of a new one without information.
 use Rattle.std.proofs.Common.{◌≡◌, ℕ, List, Bor, Option, Some, [], ◌∷◌, ◌++◌, sym, subst}
 use Rattle.flute_parts.specs.declared.key.Key.{Key}
 use Rattle.flute_parts.specs.declared.symbol_id.SymbolId.{SymbolId}

@@ -1,3 +1,4 @@
+-- Listing::close: the open object is ended and its lines are put aside.
 use Rattle.std.proofs.Common.{Option, Some, ◌≡◌, ◌+◌, sym, ◌∙◌, subst, List, ℕ}
 use Rattle.std.proofs.Common.{length}
 use Rattle.std.proofs.Common.{[], refl, arith}

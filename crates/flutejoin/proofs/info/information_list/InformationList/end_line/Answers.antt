@@ -1,4 +1,4 @@
--- The line is ended, and the next begins.
+-- InformationList::end_line: the line is ended, and the next begins.
 use Rattle.std.proofs.Common.{◌+◌, refl, ap}
 use Rattle.std.proofs.lemmas.Result.{err_from_is_err_and}
 use Rattle.flutejoin.specs.Limits.{at_most}

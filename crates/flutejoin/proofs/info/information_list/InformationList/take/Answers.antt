@@ -1,4 +1,4 @@
--- A byte more.
+-- InformationList::take: a byte more.
 use Rattle.std.proofs.Common.{◌++◌, take, sym, subst, append-nil, arith}
 use Rattle.std.proofs.lemmas.Result.{err_from_is_err_and}
 use Rattle.flutejoin.specs.InformationLines.{HoldsList}

@@ -1,4 +1,4 @@
--- The bytes so far were taken.
+-- InformationList::take: the bytes so far were taken.
 use Rattle.std.proofs.Common.{ℕ, ◌+◌, ◌≤◌, List, ◌++◌, take}
 use Rattle.flutejoin.specs.InformationLines.{HoldsList}
 use Rattle.flutejoin.proofs.info.information_list.InformationList.take.Given as goal

@@ -1,4 +1,4 @@
--- What the line tells is put into the store.
+-- take_line: the fact that the line contains is put into the store.
 use Rattle.std.proofs.Common.{[], ◌∷◌, refl, sym, ap, subst, ◌∙◌, Err}
 use Rattle.std.proofs.lemmas.Result.{err_from_is_err_and}
 use Rattle.flute_journal.specs.Streams.{option_list}

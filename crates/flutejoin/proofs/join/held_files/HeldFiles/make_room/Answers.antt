@@ -1,4 +1,4 @@
--- Only what the store may have grown to was counted before.
+-- HeldFiles::make_room: only what the store may have grown to was counted before.
 use Rattle.std.proofs.Common.{refl}
 use Rattle.flutejoin.proofs.join_lemmas.Held.{holds_after}
 use Rattle.flutejoin.proofs.join.held_files.HeldFiles.make_room.Goals as goal

@@ -1,4 +1,4 @@
--- What was in memory is in a run.
+-- HeldFiles::put_aside: what was in memory is in a run.
 use Rattle.std.proofs.Common.{refl}
 use Rattle.flutejoin.proofs.join_lemmas.Held.{holds_aside}
 use Rattle.flutejoin.proofs.join.held_files.HeldFiles.put_aside.Goals as goal

@@ -1,4 +1,4 @@
--- Records, one after the other.
+-- HeldFiles::read: records, one after the other.
 use Rattle.std.proofs.Common.{refl, Some, Ok, ap, ◌∙◌, subst, ◌∷◌, [], ◌++◌, append-nil}
 use Rattle.std.proofs.Common.{append_assoc, arith, sym}
 use Rattle.std.proofs.lemmas.List.{length-append}

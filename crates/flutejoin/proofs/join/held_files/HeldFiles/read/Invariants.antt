@@ -1,4 +1,4 @@
--- The records so far are held as what they tell.
+-- HeldFiles::read: the facts of the records so far are held.
 use Rattle.std.proofs.Common.{◌≡◌, ℕ, ◌+◌, ◌-◌, ◌≤◌, true, List, length}
 use Rattle.flute_journal.specs.Framing.{Sofar, count_at}
 use Rattle.flute_journal.specs.FileFraming.{file_framing}

@@ -13,7 +13,8 @@ returns-clause-held g c = λ told choice datagrams holds.
     holds_run unread choice c.put_aside.new.self c.pop.result c.pop.new.self.items
     c.merge_beyond.new.runs.items c.put_aside.new.self.told.store c.in_ok-put_aside.ensures.fits
     c.in_ok-put_aside.ensures.empty c.in_ok-put_aside.ensures.empty
-    (λ facts runs. c.in_ok-merge_beyond.ensures.held (c.put_aside.ensures.same_tells ∙ told) facts
-    runs)
+    (λ facts runs.
+    c.in_ok-merge_beyond.ensures.held (c.put_aside.ensures.same_tells ∙ told) facts runs)
     c.in_ok-merge_beyond.ensures.few c.pop.ensures.items
-    (λ some. c.pop.ensures.variant.1 (omega (arith, some, c.merge_beyond.new.runs.ok))) datagrams aside
+    (λ some. c.pop.ensures.variant.1 (omega (arith, some, c.merge_beyond.new.runs.ok)))
+    datagrams aside

@@ -1,5 +1,5 @@
--- A datagram more, whether or not there was room for it.
-use Rattle.std.proofs.Common.{refl, false, sym, ◌∙◌}
+-- HeldFiles::take: a datagram more, whether or not there was room for it.
+use Rattle.std.proofs.Common.{refl, sym, ◌∙◌}
 use Rattle.flutejoin.specs.Joined.{choice_of}
 use Rattle.flutejoin.specs.Limits.{at_most}
 use Rattle.flutejoin.proofs.join_lemmas.Held.{holds_past, holds_over, holds_passed, holds_taken}

@@ -5,5 +5,5 @@ use Rattle.flutejoin.proofs.join.join_input.JoinInput.open.Goals as goal
 
 pub returns-in-None-clause-input : goal.returns-in-None-clause-input
 returns-in-None-clause-input g c =
-    unknown g.R.Source.unread _ _ _ c.in_ok-first.ensures.begins
-    (subst IsNeither c.as_slice.ensures.bytes c.in-None.ensures)
+    unknown g.R.Source.unread _ _ _ c.in_ok-source.ensures.begins
+    (subst IsNeither c.first.ensures.bytes c.in-None.ensures)

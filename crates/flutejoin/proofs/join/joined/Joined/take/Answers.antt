@@ -1,4 +1,4 @@
--- What becomes of a datagram.
+-- Joined::take: what becomes of a datagram.
 use Rattle.std.proofs.Common.{refl, inl, ap, ◌∙◌, Err}
 use Rattle.flutejoin.proofs.join_lemmas.Taking.{HasOneReading, is_refused-no, is_refused-yes, ok_is_packet, refused_same}
 use Rattle.flutejoin.proofs.join.joined.Joined.take.Goals.{in-Ok, in-Err-Datagram}

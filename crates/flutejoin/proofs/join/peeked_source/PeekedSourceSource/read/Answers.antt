@@ -26,7 +26,7 @@ some_left (suc n) e none = omega (arith, none)
 
 pub returns-clause-bytes : goal.returns-clause-bytes
 returns-clause-bytes g c =
-    let front = take c.args.self.now.first.count c.args.self.now.first.bytes in
+    let front = take c.args.self.now.count c.args.self.now.first in
     let given = c.args.self.now.given in
     let left : c.left-front.result.now ≡ drop given front = c.left-front.ensures in
     let least : c.min-count.result ≡ min (length (drop given front)) (length c.args.buffer.now) =

@@ -1,4 +1,4 @@
--- Each byte so far stands at its place.
+-- HexDigits::new: each byte so far is at its own number.
 use Rattle.std.proofs.Common.{◌≡◌, ℕ, ◌<◌, length, slice_index}
 use Rattle.flutejoin.proofs.lines.hex_digits.HexDigits.new.Given as goal
 

@@ -1,4 +1,4 @@
--- What is written so far, and the digits of what is left, are those of all bytes.
+-- HexDigits::put: what is written so far, and the digits of what is left, are those of all bytes.
 use Rattle.std.proofs.Common.{◌≡◌, ◌*◌, ◌++◌, take, drop}
 use Rattle.hex.specs.Hex.{encode_lower}
 use Rattle.flutejoin.proofs.lines.hex_digits.HexDigits.put.Given as goal

@@ -1,3 +1,4 @@
+-- HexDigits::write: its loop writes two digits for each byte, or a part of them.
 use Rattle.std.proofs.Common.{rules, ◌*◌, ◌≤◌, ◌++◌, ◌∙◌, [], length, refl, arith}
 use Rattle.std.proofs.KnownBytes.{Appends-nil}
 use Rattle.std.proofs.lemmas.Result.{err_from_is_err_and}

@@ -1,4 +1,4 @@
--- What was written so far are the digits of the bytes before the rest.
+-- HexDigits::write: what was written so far are the digits of the bytes before the rest.
 use Rattle.std.proofs.Common.{◌≡◌, length, List, ℕ, ◌++◌}
 use Rattle.std.specs.Io.KnownBytes.{Appends}
 use Rattle.hex.specs.Hex.{encode_lower}

@@ -1,7 +1,7 @@
 -- What is kept so far is what was read so far.
 use Rattle.std.proofs.Common.{◌≡◌, ◌≤◌, ◌-◌, length}
 use Rattle.std.specs.Io.KnownBytes.{Consumes}
-use Rattle.flutejoin.proofs.blob.Blob.read.Given as goal
+use Rattle.flutejoin_replicas.proofs.blob.Blob.read.Given as goal
 
 abbrev pub invariant-loop-bytes : goal.invariant-loop-bytes
 invariant-loop-bytes g l = (l.piece.len ≡ 65536) × (length l.bytes.items ≤ 4294967295)

@@ -1,7 +1,7 @@
--- What was put into the sink is what was read so far.
+-- put_aside: what was put into the sink is what was read so far.
 use Rattle.std.proofs.Common.{◌≡◌, ◌≤◌, ◌-◌, List, ℕ, length}
 use Rattle.std.specs.Io.KnownBytes.{Appends, Consumes}
-use Rattle.flutejoin.proofs.blob.put_aside.Given as goal
+use Rattle.flutejoin.proofs.input_aside.put_aside.Given as goal
 
 abbrev pub invariant-loop-count : goal.invariant-loop-count
 invariant-loop-count g l = (l.size ≤ 4294967295)

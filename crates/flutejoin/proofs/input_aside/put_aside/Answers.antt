@@ -1,7 +1,7 @@
--- An input is put into the sink as it is read.
+-- put_aside: an input is put into the sink as it is read.
 use Rattle.std.proofs.Common.{◌++◌, take, arith, length-append, length-take-le}
 use Rattle.std.proofs.KnownBytes.{Appends-trans, Consumes-trans}
-use Rattle.flutejoin.proofs.blob.put_aside.Goals as goal
+use Rattle.flutejoin.proofs.input_aside.put_aside.Goals as goal
 
 pub loop-count-preserved : goal.loop-count-preserved
 loop-count-preserved g c =
