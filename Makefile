@@ -25,9 +25,8 @@ PROGRAM ?= bin/flutejoin
 TOOLS := flutejoin-capture flutejoin-files flutejoin-map flutejoin-mend flutejoin-receive \
 	flutejoin-station flutejoin-values
 
-# What `rt ci` leaves: the program, and the sweep through refused requests for memory
+# What `rt ci` leaves
 BUILT := crates/flutejoin_cli/out/flutejoin_cli
-SWEEP := crates/refused_memory/out/refused_memory
 
 BIN = $(DESTDIR)$(PREFIX)/bin
 LIB = $(DESTDIR)$(PREFIX)/lib/flutejoin
@@ -74,7 +73,7 @@ test:
 	tests/longest_journal.py $(BUILT)
 	tests/test_man.py
 	tests/test_completion.py
-	SWEEP=$(abspath $(SWEEP)) tests/test_refused.py
+	tests/test_refused.py
 
 # Neither waits for anything but the processor.
 test-wrong-bodies:

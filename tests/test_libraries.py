@@ -20,7 +20,7 @@ CRATES = ROOT / "crates"
 MOST_LINES = 40  # of a README
 LIBRARIES = (
     *("flute_join", "flute_parts", "flute_wire", "flute_store", "flute_journal", "flutejoin"),
-    *("flute_output", "flutejoin_replicas", "flutejoin_commands"),
+    *("flute_output", "flute_output_memory", "flutejoin_replicas", "flutejoin_commands"),
 )
 # A crate, or a file of the library itself
 NAMED = re.compile(r"\(from `(\w+)(\.rt)?`[),]")

@@ -6,15 +6,15 @@ for memory refused, up to the run that makes no more. A run that was refused one
   output (of `show` the lines of first entries), and with OUT as it was;
 - or just as with ample memory.
 
-And runs builds of crates/refused_memory, which have requests refused in turn: each line that tells
-a number of refused requests has to tell at least one.
+And so it runs crates/reception_sample and each proved test, for the calls of the libraries that no
+command makes. A run of these that was refused a request has to end with an error, that of memory or
+of a device over memory, behind the first of its lines, or just as with ample memory.
 
-usage: tests/test_refused.py [CLASS[.TEST]..], with the programs' paths in FLUTEJOIN and SWEEP. What
-the kit's own code generator built is beside them. With SWEEP, all of them have to be there.
+usage: tests/test_refused.py [CLASS[.TEST]..], with the program's path in FLUTEJOIN. What the kit's
+own code generator built is beside it. If it is what `rt ci` left, all that is run has to be there.
 """
 from __future__ import annotations
 
-import os
 import pathlib
 import re
 import sys
@@ -22,15 +22,17 @@ import unittest
 
 sys.dont_write_bytecode = True
 import run
-from outputs_case import library
 from program_case import FIELDS, FIRST, HEADER, INFO, KEY, LAST, NAME, SYMBOL, ended
 from refused_case import Case, by_rattle
 from run import PROGRAM, ROOT, Run
 
-SWEEP = ROOT / "crates" / "refused_memory" / "out" / "refused_memory"
-SWEEPS = pathlib.Path(os.environ.get("SWEEP", SWEEP)).absolute()
-ARE_NEEDED = "SWEEP" in os.environ
+CRATES = ROOT / "crates"
+ARE_NEEDED = CRATES in PROGRAM.parents
 FAULT = re.compile(rb"out of memory\n|input [12]: OutOfMemory\n")
+OF_MEMORY = "OutOfMemory|out of memory|AllocError|AllocFailed|memory allocation failed"
+# Of sinks that keep what they take in memory.
+OF_DEVICES = "DeviceFault|(Cannot)?Write|CannotPutAside"
+ERROR = re.compile(rf"error: (.*\W)?({OF_MEMORY}|{OF_DEVICES})[\W\d]*$", re.I | re.M)
 MOST = 10_000  # runs of a command
 PRINTS = "--help", f"packet {SYMBOL}", "show whole", "gaps whole"
 OUTPUTS = (
@@ -121,23 +123,59 @@ class SweepsByRattle(Sweeps):
     built = by_rattle(PROGRAM)
 
 
-class Libraries(run.Case):
-    def swept(self, path: pathlib.Path) -> None:
+def tested_crates() -> list[str]:
+    """The crates with proved tests, which are built as a program for each crate."""
+    files = CRATES.glob("*/src/**/*.rt")
+    return sorted({it.relative_to(CRATES).parts[0] for it in files if "#[test]" in it.read_text()})
+
+
+class Libraries(Case):
+    def sweep(self, path: pathlib.Path, words: list[str]) -> tuple[int, int]:
+        """How many refused requests end in an error, and how many just as with ample memory."""
+        command = [path, *words]
+        ample = self.command(command)
+        told, as_ample, wrong = 0, 0, []
+        for number in range(1, MOST):
+            done, was_refused = self.refusing(command, number)
+            if done == ample:
+                as_ample += was_refused
+            elif was_refused and self.is_told(done, ample):
+                told += 1
+            else:
+                wrong.append((number, done))
+            if not was_refused:
+                break
+        what = " ".join([path.name, *words])
+        self.holds(f"{what}: with ample memory", ample.status == 0, ample)
+        self.holds(f"{what}: each run", not wrong and number < MOST - 1, wrong[:3])
+        return told, as_ample
+
+    def is_told(self, done: Run, ample: Run) -> bool:
+        is_error = done.status in (1, 101) and ERROR.search(done.err.decode())
+        return bool(is_error) and ample.out.startswith(done.out)
+
+    def built(self, name: str, path: pathlib.Path) -> pathlib.Path:
         if not ARE_NEEDED and not path.exists():
-            self.skipTest(f"since there is no {path.name}")
-        done = self.command([path], env={"LD_PRELOAD": str(library("refuse"))})
-        found = re.findall(r"(\d+) requests refused$", done.out.decode(), re.MULTILINE)
-        numbers = [*map(int, found)]
-        is_right = done.status == 0 and numbers and 0 not in numbers
-        self.holds(path.name, is_right, done)
-        lines = f"in {len(numbers)} lines"
-        print(f"refused memory: {sum(numbers)} requests refused in turn, {lines}")
+            self.skipTest(f"since there is no {name}")
+        return path
 
-    def test_libraries(self) -> None:
-        self.swept(SWEEPS)
+    def tell(self, name: str, sums: list[tuple[int, int]]) -> None:
+        told, as_ample = (sum(numbers) for numbers in zip(*sums))
+        self.holds(f"{name}: faults of memory", told, sums)
+        print(f"refused: {name}: {told} refused requests told, {as_ample} as with ample memory")
 
-    def test_libraries_by_rattle(self) -> None:
-        self.swept(by_rattle(SWEEPS))
+    def test_sample(self) -> None:
+        path = CRATES / "reception_sample" / "out" / "reception_sample"
+        for built in (path, by_rattle(path)):
+            self.tell(built.name, [self.sweep(self.built(built.name, built), [])])
+
+    def test_tests(self) -> None:
+        for name in tested_crates():
+            with self.subTest(name):
+                path = self.built(name, CRATES / name / "out" / f"{name}_tests")
+                listed = self.command([path, "--list"]).lines()
+                tests = [it[: -len(": test")] for it in listed if it.endswith(": test")]
+                self.tell(name, [self.sweep(path, [it]) for it in tests])
 
 
 if __name__ == "__main__":

@@ -73,9 +73,19 @@ over over/calls_alone src/cell.rt 'pub fn is_conflict(&self) -> bool' 'self.is_c
 over over/the_other_answer src/map.rt 'pub fn is_empty(&self) -> bool' '!self.is_empty()'
 try over 1
 told 'what calls its function is proved by the clauses' \
-    '^flute_join/calls_alone: FAILED: still proved: .*::Cell::wrong_is_conflict$'
+    '^flute_join/calls_alone: FAILED: still proved: .*::Cell::wrong_is_conflict_calls_alone$'
 told 'another answer than its is refused' '^flute_join/the_other_answer: refused'
 told 'one of two is refused' '^wrong bodies: 1 refused, 0 unfit, 1 failed$'
+
+# Two over one function, and an edit of it, are tried in one check.
+over several/not_so src/map.rt 'pub fn is_empty(&self) -> bool' '!self.is_empty()'
+over several/always src/map.rt 'pub fn is_empty(&self) -> bool' 'self.is_empty() || true'
+edit several/never src/map.rt 'self.entries.is_empty()' 'false'
+try several 0
+told 'the first over it is refused' '^flute_join/not_so: refused: .*wrong_is_empty_not_so$'
+told 'the second over it is refused' '^flute_join/always: refused: .*wrong_is_empty_always$'
+told 'the edit of it is refused' '^flute_join/never: refused: .*::JoinMap::is_empty$'
+told 'all in one check' '^flute_join: 3 wrong bodies in 1 checks$'
 
 edit absent/no_such_text src/cell.rt 'no such text' 'nor this'
 try absent 2

@@ -5,7 +5,8 @@ An edit is a file as `rt must-fail` reads it, with lines 'file: PATH', 'old: TEX
 In the place of 'old: TEXT' it may have 'over: HEAD', the first line of a function: then another
 function is put behind that one, with its signature and clauses and the body TEXT, which calls it
 and changes what comes of it. Such a body is for a function whose proof is written down: what calls
-it is proved by its clauses alone, so a goal that is left open is left by what the body changes.
+it is proved by its clauses alone, so a goal that is left open is left by what the body changes. It
+has the edit's name in its own, so that a function may have several at a time.
 
 A function is proved from the contracts of those that it calls, and from nothing else of them. So
 the edits of a crate are tried together, one of a function at a time, in a copy of the crate: each
@@ -142,7 +143,7 @@ class Crate:
     def __init__(self, folder: str, name: str, edits: Iterable[str]) -> None:
         self.name, self.folder = name, folder
         self.told: list[str] = []
-        self.refused = self.unfit = self.failed = 0
+        self.refused = self.unfit = self.failed = self.checks = 0
         self.bodies = [Body(name, it) for it in edits]
 
     def edited(self, body: Body, texts: dict[str, str]) -> Optional[dict[str, str]]:
@@ -165,6 +166,7 @@ class Crate:
         for path, text in texts.items():
             with open(f"{self.folder}/{path}", "w", encoding="utf-8") as file:
                 file.write(text)
+        self.checks += 1
         only = [word for it in sorted(functions) for word in ("--only", last_names(it))]
         try:
             ran = subprocess.run(
@@ -255,7 +257,8 @@ class Crate:
         return left
 
     def run(self) -> None:
-        pending = self.bodies
+        # Those beside a function leave its text as it is, for an edit of it.
+        pending = sorted(self.bodies, key=lambda it: not it.is_beside)
         while pending:
             bodies = self.group(pending) or pending[:1]
             pending = self.left_of(bodies) + [it for it in pending if it not in bodies]
@@ -300,6 +303,7 @@ def tried(name: str, edits: Iterable[str]) -> tuple[int, int, int]:
         take_kept(name, f"{room}/kept")
         crate = Crate(room, name, edits)
         crate.run()
+    crate.told.append(f"{name}: {len(crate.bodies)} wrong bodies in {crate.checks} checks")
     print("\n".join(crate.told), flush=True)
     return crate.refused, crate.unfit, crate.failed
 

@@ -26,10 +26,13 @@ def crate_folder(name: str) -> str:
 
 
 class Body:
-    """A wrong body: its name, its files with their pairs of texts, and the functions it changes."""
+    """A wrong body: its name, its files with their pairs of texts, the functions it changes, and
+    whether these are others beside those of the crate."""
 
     def __init__(self, crate: str, file: str) -> None:
-        self.name = f"{crate}/{os.path.basename(file)[: -len('.edit')]}"
+        what = os.path.basename(file)[: -len(".edit")]
+        self.name = f"{crate}/{what}"
+        self.is_beside = True
         self.pairs: list[tuple[str, str, str]] = []
         self.functions: set[str] = set()  # a text outside functions is of ""
         texts: dict[str, str] = {}
@@ -41,8 +44,9 @@ class Body:
             if times != 1:
                 raise ValueError(f"{self.name}: its text is {times} times in {path}, and not once")
             if key == "over":
-                old, behind = with_wrong_one(text, old, new)
+                old, behind = with_wrong_one(text, old, new, what)
                 new = f"{old}\n{behind}"
+            self.is_beside &= key == "over"
             until = text[: text.index(old)] + (new if key == "over" else old)
             self.functions.add(enclosing(crate, path, until) or "")
             texts[path] = text.replace(old, new)
@@ -68,15 +72,17 @@ def pairs_of(text: str) -> list[tuple[str, str, str, str]]:
     return pairs
 
 
-def with_wrong_one(text: str, head: str, body: str) -> tuple[str, str]:
-    """The function with this head, and another with its signature and clauses, and this body."""
+def with_wrong_one(text: str, head: str, body: str, what: str) -> tuple[str, str]:
+    """The function with this head, and another with its signature and clauses, and this body: its
+    name says what is wrong, so that a function may have several."""
     at = text.index(head)
     start = text.rfind("\n", 0, at) + 1
     indent = " " * (len(text[start:]) - len(text[start:].lstrip(" ")))
     opening = text.find(f"\n{indent}{{\n", at)
     closing = f"\n{indent}}}\n"
     end = text.find(closing, opening) + len(closing)
-    clauses = re.sub(r"\bfn (\w+)", r"fn wrong_\1", text[start:opening], count=1)
+    wrong = re.sub(r"\W", "_", what)
+    clauses = re.sub(r"\bfn (\w+)", rf"fn wrong_\1_{wrong}", text[start:opening], count=1)
     return text[start:end], f"{clauses}\n{indent}{{\n{indent}    {body}{closing}"
 
 

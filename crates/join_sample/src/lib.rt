@@ -1,5 +1,5 @@
 //! A sample over `flute_join`: a struct of a cell and a map that is joined, and maps of maps of it.
-//! It stands on what `flute_join` promises in public, and shows that a layer above needs no more.
+//! It is built on what `flute_join` promises in public: a layer above needs no more.
 #![tactic(auto)]
 
 ghost use Rattle.std.specs.Prelude.{◌≡◌, ◌≤◌, length, OnOk, IfErr};

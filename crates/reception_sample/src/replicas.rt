@@ -8,7 +8,8 @@ use flutejoin_replicas::{Step, journal_after};
 use std::alloc::Global;
 
 /// Prints whether two replicas write equal journals, of which one takes the datagrams in their
-/// order, and the other in falling order and each of them twice, and is then written and read.
+/// order, and the other in falling order and each of them twice, is then written and read, and
+/// takes in the first.
 pub fn tell_replicas(rt: &HostRuntime, sender: Sender, datagrams: &Datagrams) -> Result<()> {
     let mut steps = Vec::new(rt.alloc());
     for place in 0..datagrams.len() {
@@ -19,6 +20,7 @@ pub fn tell_replicas(rt: &HostRuntime, sender: Sender, datagrams: &Datagrams) ->
         steps.push(take(rt.alloc(), 1, sender, datagrams, place)?)?;
     }
     steps.push(Step::Reopen { replica: 1 })?;
+    steps.push(Step::Merge { into: 1, from: 0 })?;
     let first = journal_of_replica(rt.alloc(), &steps, 0)?;
     let second = journal_of_replica(rt.alloc(), &steps, 1)?;
     let equal = first.as_slice() == second.as_slice();

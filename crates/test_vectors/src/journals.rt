@@ -66,7 +66,7 @@ pub const SWAPPED: &str = "464C4A4E0001
     03 000000000007 01 0000000000000000000000000001 0000 0000 0004 68656C6C
     FF 0000000000000003";
 
-/// The whole file, and a byte behind the end: no journal.
+/// The whole file, and a byte after the end: no journal.
 pub const TRAILING: &str = "464C4A4E0001
     01 000000000007 01 0000000000000000000000000001 000000000005 0004 00000002
     03 000000000007 01 0000000000000000000000000001 0000 0000 0004 68656C6C
@@ -94,19 +94,19 @@ pub const HEADER: &str = "464C4A4E0001";
 /// The key of the file.
 pub const KEY: &str = "000000000007 01 0000000000000000000000000001";
 
-/// Behind the key of its information.
+/// After the key of its information.
 pub const INFO: &str = "000000000005 0004 00000002";
 
-/// Behind the key of its first symbol.
+/// After the key of its first symbol.
 pub const HELL: &str = "0000 0000 0004 68656C6C";
 
-/// Behind the key of its last symbol, short.
+/// After the key of its last symbol, short.
 pub const LETTER_O: &str = "0000 0001 0001 6F";
 
 /// The same, padded.
 pub const PADDED_O: &str = "0000 0001 0004 6F000000";
 
-/// Behind the key of a symbol that it does not have.
+/// After the key of a symbol that it does not have.
 pub const LETTER_X: &str = "0000 0002 0001 78";
 
 /// The end of a journal with so many entries.
