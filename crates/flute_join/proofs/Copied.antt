@@ -45,7 +45,7 @@ module _ {K X : Type 0} {cmp : K → K → Ordering} (order : IsTotalOrder cmp) 
       let below : cmp p.0 e.0 ≡ Greater = order.antisymm p.0 e.0 ∙ ap ordering_reverse (first_below e p es rest s) in
       rw below (ap (λ l. e ∷ l) (insert_last es p rest (sorted_tail cmp e.0 (keys_of (es ++ p ∷ rest)) s)))
 
-  -- what stands at the key of an entry
+  -- the value at the key of an entry
   pub value_there : (es : List (K × X)) (p : K × X) (rest : List (K × X)) → IsOrdered cmp (es ++ p ∷ rest) → value_at cmp (es ++ p ∷ rest) p.0 ≡ Some p.1
   value_there [] p rest s = rw (tied_itself order p.0) refl
   value_there (e ∷ es) p rest s =

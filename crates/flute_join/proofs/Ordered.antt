@@ -1,4 +1,5 @@
--- The keys of a join ascend, and what holds of the values of two maps holds of those of their join; the same of what is below a map.
+-- The keys of a join of maps rise; what holds of the values of both maps holds of those of the
+-- join. The same of a map that is below another.
 use Rattle.std.proofs.Common.{◌≡◌, List, [], ◌∷◌, refl, sym, ap, ◌∙◌, subst}
 use Rattle.std.specs.declared.cmp.Ordering.{Ordering}
 use Rattle.std.specs.declared.cmp.Ordering.TheVariants.{Less, Equal, Greater}

@@ -1,4 +1,4 @@
--- Reading through nested maps: where reading a value keeps joins, so does reading the value at a key.
+-- Reading nested maps: if reading a value keeps joins, so does reading the value at a key.
 use Rattle.std.proofs.Common.{◌≡◌, List, [], ◌∷◌, Bool, true, false, cond, Option, Some, None, sym, ap, ◌∙◌}
 use Rattle.std.specs.declared.cmp.Ordering.{Ordering}
 use Rattle.std.specs.Cmp.{IsTotalOrder}

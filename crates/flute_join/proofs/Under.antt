@@ -27,7 +27,7 @@ pub not_cons_nil : {A : Type 0} (x : A) (xs : List A) → x ∷ xs ≡ [] → �
 not_cons_nil x xs p = cc
 
 module _ {K X : Type 0} {cmp : K → K → Ordering} (order : IsTotalOrder cmp) (join : X → X → X) where
-  -- an induction: each entry of the lower map stands over an entry at the same key with a greater value
+  -- an induction: each entry of the lower map has one at the same key with a greater value above it
   module _ (Q : List (K × X) → List (K × X) → Type 0) (none : (fs : List (K × X)) → Q [] fs)
       (over : (e f : K × X) (es fs : List (K × X)) → e.0 ≡ f.0 → IsBelow join e.1 f.1 → IsBelow (map_join cmp join) es fs → Q es fs → Q (e ∷ es) (f ∷ fs))
       (skip : (e f : K × X) (es fs : List (K × X)) → Q (e ∷ es) fs → Q (e ∷ es) (f ∷ fs)) where

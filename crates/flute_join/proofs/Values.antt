@@ -14,7 +14,7 @@ use Rattle.flute_join.specs.MapLaws.{first_less, first_equal, first_greater, joi
 use Rattle.flute_join.specs.JoinMap.{map_join, join_values, value_at, IsOrdered}
 
 module _ {K X : Type 0} {cmp : K → K → Ordering} (order : IsTotalOrder cmp) where
-  -- past the first entry nothing stands at its key
+  -- the entries after the first have no value at its key
   pub absent_past : (p : K × X) (rest : List (K × X)) (q : K) → IsOrdered cmp (p ∷ rest) → is_at (cmp q) p.0 ≡ true → value_at cmp rest q ≡ None
   absent_past p rest q s t = lookup-none (is_at (cmp q)) rest (none_past_head (eq_by_cmp_equiv order) q p rest (IsDistinct-from_sorted cmp (keys_of (p ∷ rest)) s) t)
 

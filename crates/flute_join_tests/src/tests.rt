@@ -1,5 +1,4 @@
-//! Each public call once, and each generic item at a concrete type. Worked examples are in
-//! `trials/join`.
+//! Each public call once, and each generic item at a concrete type.
 use flute_join::{Cell, Join, JoinMap, JoinRefusal, laws};
 use std::alloc::Global;
 use std::test::Fail;

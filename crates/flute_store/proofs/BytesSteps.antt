@@ -1,4 +1,4 @@
--- The bytes that a walk gives.
+-- The bytes that a walk gives are those of the object (specs/BytesLeft, specs/Extract).
 use Rattle.std.proofs.Common.{◌≡◌, ℕ, zero, suc, ◌+◌, ◌-◌, List, [], ◌∷◌, ◌++◌, length, take}
 use Rattle.std.proofs.Common.{Option, Some, None, refl, sym, ap, ◌∙◌, subst, arith, append_assoc}
 use Rattle.flute_store.proofs.Lookups.{Above, above-before, blocks_from-all, blocks_from-next}
@@ -22,13 +22,14 @@ use Common.{after_take, after_begin, upcoming_of, Keeps, walk_in, bound, IsHeldS
 use Common.{cell_bytes, found_bytes, held_bytes, bytes_left, KeepsBytes, GivesFirst, IsNotWhole}
 use Common.{WritesWhole, WritesPart, info_address, Info, fact_at}
 
--- no bytes are given
+-- this turn gives no bytes
 abbrev pub GivesNone : Option Turn → Type 0
 GivesNone None = ⊥
 GivesNone (Some Turn.Fitting) = ⊥
 GivesNone (Some Turn.Passed) = ⊥
 GivesNone turn = Unit {0}
 
+-- the bytes of held symbols, at and past the first of them
 bytes-past : (e : Entry) (es : List Entry) (xs : List SymbolId) → Above e.0 xs
     → held_bytes (e ∷ es) xs ≡ held_bytes es xs
 unfolding held_bytes
@@ -43,6 +44,7 @@ bytes-here e es q xs h a =
     (λ i. found_bytes (value-here e es q h i) ++ bytes-past e es xs
     (subst (λ z. Above z xs) (sym h) a) i)
 
+-- passing a symbol and beginning a block leave the same bytes; taking a symbol gives its own
 pass-bytes : (w : Walk) → IsWalk w → AtPassed w → bytes_left (after_pass w) ≡ bytes_left w
 unfolding bytes_left
 pass-bytes w p t =
@@ -88,7 +90,7 @@ no-wanted v r p h e =
     not_cons_nil (here v, r) (left (taken None v))
     (sym (taken-left None v (Some r) p (told v (Wanted r) e)) ∙ no-rest (pending v.run) (left v) h)
 
--- what a turn gives where nothing is wanted
+-- what a turn gives if nothing is wanted
 pub no-bytes : (v w : HeldScan) (t : Option Turn) → IsHeldScan v → all_left (walk_in v) ≡ []
     → Turns v t w → GivesNone t → bytes_left (walk_in v) ≡ []
 no-bytes v w (Some (Turn.Gap g)) p h s n =
@@ -147,7 +149,7 @@ gives-first u v w e es k h s =
       ticked = omega arith;
     }
 
--- ---- writing
+-- ---- writing the symbols that are held
 
 pub take-both : (n : ℕ) (a b : List ℕ)
     → take n (a ++ b) ≡ take n a ++ take (n - length (take n a)) b
@@ -163,7 +165,7 @@ pub found-of : (key : Key) (id : SymbolId) (found : Option (Cell (List ℕ)))
 found-of key id (Some (One b)) = refl
 found-of key id found = refl
 
--- the object is told by the held symbols
+-- the bytes of an object are those of its held symbols
 pub object-told : {n : ℕ} (F : List Fact) (key : Key) (x : Object n) (info : Information)
     → IsTold F key x
     → object F key info ≡ take info.transfer_length (held_bytes x.symbols (ids info))
@@ -176,7 +178,7 @@ object-told F key x info t =
 pub no-want : (ws : List (SymbolId × Reason)) → runs ws ≡ [] → ws ≡ []
 no-want ws e = sym (runs-listed ws) ∙ ap (flat_map listed) e
 
--- so far a first part was written, and the rest is left
+-- so far a prefix was written, and the rest is left
 pub record IsWriting (old now : Option (List ℕ)) (all rest : List ℕ) : Type 0 where
   pub part : List ℕ
   pub appended : Appends old now part
@@ -205,7 +207,7 @@ writing-more {old} {now} {new} {all} {left} {x} {more} {b} w c a = record {
   whole = cut-left w.part w.whole c;
 }
 
--- or a part of them
+-- or a part of them was written, and the sink failed
 pub writing-fails : {old now : Option (List ℕ)} (new : Option (List ℕ)) {all left x more b : List ℕ}
     {n : ℕ} → IsWriting old now all (take n left) → Cuts left x more n b → AppendsPart now new b
     → AppendsPart old new all
@@ -214,7 +216,7 @@ writing-fails {old} {now} new {all} {left} {x} {more} {b} {n} w c a =
     (AppendsPart-first old new (w.part ++ b) (take (n - length b) more)
     (AppendsPart-second old now new w.part b w.appended a))
 
--- ---- the object
+-- ---- the whole object, from its held symbols
 
 pub left-start : (info : Information) (held : List Entry)
     → all_left (at_start info held) ≡ wanted info held (ids info)
@@ -243,6 +245,7 @@ module _ {n : ℕ} {F : List Fact} {key : Key} {x : Object n} {info : Informatio
       ap runs (wants-told F key x info t.told
       ∙ ap (λ (s : List Entry). wanted info s (ids info)) (sym t.held_is)) ∙ sym t.gaps_are
 
+  -- an object with a gap is not whole, and one without is
   pub not-whole : (gap : Gap) (others : List Gap) → gs ≡ gap ∷ others
       → IsNotWhole F key (symbol_id gap.sbn gap.first)
   not-whole gap others f = record {
@@ -264,6 +267,7 @@ module _ {n : ℕ} {F : List Fact} {key : Key} {x : Object n} {info : Informatio
       ap (λ (s : List Entry). take info.transfer_length (held_bytes s (ids info))) a
       ∙ sym (object-told F key x info t.told)
 
+  -- what write_object writes: the whole object, or a prefix of it
   module _ {W : Type 0} {written : W → Option (List ℕ)} {old new : W} (again : List Entry)
       (f : gs ≡ []) (a : again ≡ x.symbols) where
     pub writes-whole : {length : ℕ}

@@ -1,4 +1,4 @@
--- The words that most proofs here cite, passed on from one place. Declares nothing.
+-- Names that most proofs here cite, re-exported from one place. Declares nothing.
 use Rattle.std.proofs.lemmas as Lemmas
 use Rattle.std.specs as Std
 use Rattle.flute_join.specs as Join

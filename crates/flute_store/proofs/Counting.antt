@@ -1,4 +1,4 @@
--- How many sessions, objects and symbols the content of a store names.
+-- How many sessions, objects and symbols the content of a store names (specs/Content).
 use Rattle.std.proofs.Common.{append-nil, ◌≡◌, ◌≢◌, ℕ, ◌≤◌, List, [], ◌∷◌, ◌++◌, length, Bool, true}
 use Rattle.std.proofs.Common.{Option, Some, None, refl, sym, ap, ◌∙◌, subst, inl, inr, arith}
 use Rattle.flute_store.proofs.FactEntries.{session_keys, object_keys, symbol_keys, at-entries}
@@ -54,6 +54,7 @@ module _ {X : Type 0} (same : X → X → Bool) (t : Tells same) (part : Address
       → length (firsts same (named part F)) ≤ 0
   none-named h = count-Below [] (λ x a k e. absurd (k (h x a e)))
 
+  -- if each of these distinct names has a value, there are at least as many names
   pub count-ge : (ks : List X) → Distinct same t ks
       → ((x : X) → has same t x ks ≡ true
       → (a : Address) × (fact_at F a ≢ None) × (part a ≡ Some x))
@@ -75,7 +76,7 @@ named_symbol key a x e = let p = symbol_of-some key a x e in λ i. record {
 }
 
 module _ {n : ℕ} where
-  -- ---- what stands at an address
+  -- ---- the value at an address
   pub at-content : (m : List (Session × List (ObjectName × Object n))) (a : Address)
       → OrderedStore m
       → fact_at (content m) a ≡ option_map_or (λ os. fact_at (session_facts a.key.session os) a)
@@ -99,8 +100,8 @@ module _ {n : ℕ} where
       ∙ at-entries symbol_keys (entry_facts key) (symbol_address key id) id (symbols_apart key id)
       x.symbols p
 
-  -- at an address of a session that is not held nothing stands, and at one of an object what the
-  -- object tells
+  -- the content has no value at an address of a session that is not held; at an address of a held
+  -- object it has the object's value
   module _ {m : List (Session × List (ObjectName × Object n))} (q : OrderedStore m) where
     pub at-unheard : (a : Address) → value_at session_cmp m a.key.session ≡ None
         → fact_at (content m) a ≡ None
@@ -205,6 +206,7 @@ module _ {n : ℕ} where
         let c = symbols-held q key f h in
         omega (arith, c, known.symbols_are.within)
 
+    -- no object names more symbols than the limit
     few_symbols_of : (key : Key) (found : Option (List (ObjectName × Object n)))
         → value_at session_cmp m key.session ≡ found → length (symbols (content m) key) ≤ n
     unfolding symbols
@@ -224,7 +226,7 @@ module _ {n : ℕ} where
     not_over (more_symbols key l) =
         let c = few_symbols_of key (value_at session_cmp m key.session) refl in omega (arith, l, c)
 
-    -- nor with nothing more
+    -- nor does it with an empty list appended
     pub not_over_more : (G : List Fact) → G ≡ [] → Over (content m ++ G) s o n → ⊥
     not_over_more G e over =
         not_over (subst (λ H. Over H s o n) (ap (λ H. content m ++ H) e ∙ append-nil (content m))

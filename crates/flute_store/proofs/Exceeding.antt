@@ -1,4 +1,4 @@
--- A store that passes the limits names more than they allow.
+-- A store beyond the limits names more sessions, objects or symbols than they allow (specs/Beyond).
 use Rattle.std.proofs.Common.{◌≡◌, ◌≢◌, ℕ, ◌<◌, ◌≤◌, List, [], ◌∷◌, ◌++◌, length, true, false, cond}
 use Rattle.std.proofs.Common.{◌||◌, Option, Some, None, refl, sym, ap, ◌∙◌, subst, inl, inr, ◌⊎◌}
 use Rattle.std.proofs.Common.{arith, bytes_eq}
@@ -62,6 +62,7 @@ module _ {n : ℕ} where
     each = EachValue-weaker (IsSession o) SolidSession (solid_session o) m p.each;
   }
 
+  -- joins of solid objects, sessions and stores are solid
   object-solid : (v w : Object n) → SolidObject v → SolidObject w → SolidObject (object_join v w)
   object-solid v w p q = record {
     ordered =
@@ -124,6 +125,7 @@ module _ {K : Type 0} (cmp : K → K → Ordering) (t : Tells (λ a b. is_eq (cm
   not_below k (y ∷ ks) a =
       ap (λ o. is_eq o || has (λ a b. is_eq (cmp a b)) t k ks) a.0 ∙ not_below k ks a.1
 
+  -- keys in order are distinct
   pub distinct : (ks : List K) → IsStrictlySortedBy cmp ks → Distinct (λ a b. is_eq (cmp a b)) t ks
   unfolding IsStrictlySortedBy
   distinct [] s = tt
@@ -135,6 +137,7 @@ module _ {K X : Type 0} {cmp : K → K → Ordering} (order : IsTotalOrder cmp)
   first_value e es =
       ap (λ o. cond (is_eq o) (Some e.1) (value_at cmp es e.0)) (tied_itself order e.0)
 
+  -- a key has a value just if it is among the keys
   pub has-value_at : (es : List (K × X)) (k : K)
       → has (λ a b. is_eq (cmp a b)) t k (keys_of es) ≡ true
       → (v : X) × (value_at cmp es k ≡ Some v)
@@ -149,6 +152,7 @@ module _ {K X : Type 0} {cmp : K → K → Ordering} (order : IsTotalOrder cmp)
       → value_at cmp es k ≡ Some v → value_at cmp (e ∷ es) k ≡ Some v
   later_value e es k v s f = grind (arith, absent_past order e es k s)
 
+  -- if some value is such, there is a key with one
   pub any-value : (B : X → Type 0) (es : List (K × X)) → IsOrdered cmp es → AnyValue B es
       → (k : K) × (v : X) × (value_at cmp es k ≡ Some v) × B v
   any-value B [] s a = absurd a
@@ -157,7 +161,7 @@ module _ {K X : Type 0} {cmp : K → K → Ordering} (order : IsTotalOrder cmp)
       let r = any-value B es (sorted_tail cmp e.0 (keys_of es) s) a in
       (r.0, r.1, later_value e es r.0 r.1 s r.2, r.3)
 
--- ---- what stands
+-- ---- addresses that have a value
 pub info_stands : (key : Key) (c : Cell Information) → IsKnown c
     → fact_at (info_cell_facts key c) (info_address key) ≢ None
 info_stands key Absent h e = h refl
@@ -180,6 +184,7 @@ ordered_session os q = record {
   each = EachValue-weaker SolidObject OrderedObject (λ x r. r.ordered) os q.each;
 }
 
+-- The content of a solid store names at least as many as its maps hold.
 module _ {n : ℕ} {m : List (Session × List (ObjectName × Object n))} (p : SolidStore m) where
   pub ordered_store : OrderedStore m
   ordered_store = record {
@@ -244,6 +249,7 @@ module _ {n : ℕ} {m : List (Session × List (ObjectName × Object n))} (p : So
           )) in
           omega (arith, c, length-keys_of x.symbols)
 
+    -- a session with an object has an address with a value
     pub first_object : (es : List (ObjectName × Object n)) → es ≡ os → es ≢ []
         → (key : Key) × (part : Part) × (key.session ≡ s) × (fact_at (content m) (record {
           key = key;
@@ -256,6 +262,7 @@ module _ {n : ℕ} {m : List (Session × List (ObjectName × Object n))} (p : So
         (first_value object_total object_tells d es)) in
         (key_in s d.0, stands.0, refl, stands.1)
 
+    -- there are at least as many object names as held objects
     objects_named : length os ≤ length (objects (content m) s)
     unfolding objects
     objects_named =
@@ -273,6 +280,7 @@ module _ {n : ℕ} {m : List (Session × List (ObjectName × Object n))} (p : So
         )) in
         omega (arith, c, length-keys_of os)
 
+  -- and at least as many session names as held sessions
   sessions_named : length m ≤ length (sessions (content m))
   unfolding sessions
   sessions_named =
@@ -285,6 +293,7 @@ module _ {n : ℕ} {m : List (Session × List (ObjectName × Object n))} (p : So
       (record { key = stands.0; part = stands.1 }, stands.3, ap Some stands.2)) in
       omega (arith, c, length-keys_of m)
 
+  -- a session beyond the limits of objects or symbols: its facts are over them
   in_object : (s o : ℕ) (session : Session) (os : List (ObjectName × Object n))
       → value_at session_cmp m session ≡ Some os → SessionBeyond o os → Over (content m) s o n
   in_object s o session os f (inl l) =

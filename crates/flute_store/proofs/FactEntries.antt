@@ -1,4 +1,4 @@
--- What facts come to at an address, and the facts of the entries of a map.
+-- The value of facts at an address, and the facts of the entries of a map.
 use Rattle.std.proofs.Common.{◌≡◌, List, [], ◌∷◌, ◌++◌, Bool, true, false, cond, Some, None, refl}
 use Rattle.std.proofs.Common.{sym, ap, ◌∙◌, subst, inl, inr}
 use Rattle.flute_join.proofs.Public.{reading_at}
@@ -12,7 +12,7 @@ use Common.{EachValue, ordered-map_join, Cell, Absent, One, Conflict, absent_pas
 use Common.{session_total, object_total, symbol_id_total, session_cmp, object_cmp, symbol_id_cmp}
 use Common.{session_place, object_place, symbol_id_place}
 
--- ---- facts that stand elsewhere
+-- ---- facts at other addresses
 
 pub at-one_here : (f : Fact) → fact_at (f ∷ []) (address f) ≡ Some f
 unfolding fact_at
@@ -26,7 +26,7 @@ at-one_elsewhere f a e = ap (λ b. agreed a (cond b (f ∷ []) [])) e
 abbrev pub Apart : Address → Fact → Type 0
 Apart a f = address f ≡ a → ⊥
 
--- no fact of the list stands at the address
+-- no fact of the list is at the address
 abbrev pub Elsewhere : Address → List Fact → Type 0
 Elsewhere a F = AllByRecursion (Apart a) F
 
@@ -50,7 +50,7 @@ pub each-flat_map : {E X : Type 0} (P : X → Type 0) (f : E → List X)
 each-flat_map P f h [] = tt
 each-flat_map P f h (e ∷ es) = each-append P (f e) (flat_map f es) (h e) (each-flat_map P f h es)
 
--- each fact of a cell stands where this holds
+-- P holds of the address of each fact of a cell
 pub cell-stands : {T : Type 0} (P : Address → Type 0) (told : T → Fact) (clash : Fact)
     → ((v : T) → P (address (told v))) → P (address clash) → (c : Cell T)
     → AllByRecursion (λ f. P (address f)) (cell_facts told clash c)
@@ -109,7 +109,7 @@ module _ {T : Type 0} (told : T → Fact) (here : Address) where
         ∙ ap Some (joined-conflict_left here (told w)))
     at-cell_join Conflict Conflict = sym (joined-itself here (fact_at (facts Conflict) here))
 
--- ---- the entries of a map
+-- ---- the entries of a map: the value of their facts at an address
 
 -- keys in an order by which equal ones are one
 pub record AreKeys {K : Type 0} (cmp : K → K → Ordering) : Type 0 where

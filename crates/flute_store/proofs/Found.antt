@@ -1,4 +1,4 @@
--- Whether something stands at an address, and what the content of a store tells.
+-- Whether an address has a value in a store's content, and what the content says of an object.
 use Rattle.std.proofs.Common.{◌≡◌, ◌≢◌, ℕ, List, [], ◌∷◌, ◌++◌, Bool, true, false, Option, Some}
 use Rattle.std.proofs.Common.{None, refl, ap, ◌∙◌, sym, arith}
 use Rattle.flute_store.proofs.FactEntries.{at-one_here}
@@ -16,7 +16,7 @@ use Common.{update_facts, IsHeldSession, HoldsObject, HasCell, AllByRecursion, S
 use Common.{BorrowedUpdate, OwnedUpdate, ConflictUpdate, MatchOption, Bor, option_copied, IsUnheard}
 use Common.{cell_fact, symbol_fact, IsTold}
 
--- a cell that tells something
+-- a cell that holds a value or a conflict
 abbrev pub is_known : {T : Type 0} → Cell T → Bool
 is_known Absent = false
 is_known _ = true
@@ -73,7 +73,7 @@ module _ {n s o : ℕ} {m : List (Session × List (ObjectName × Object n))} (p 
         ap is_some (at-symbol in_order key f h id (value_at symbol_id_cmp x.symbols id) refl)
         ∙ of_symbol key id x (value_at symbol_id_cmp x.symbols id) sound.symbols_are.each refl
 
-  -- where something stands at an address, its session and its object are held
+  -- if an address has a value, its session and its object are held
   pub object_held : (key : Key) → HoldsObject (content m) key
       → (os : List (ObjectName × Object n)) × (x : Object n)
       × (value_at session_cmp m key.session ≡ Some os)
@@ -112,7 +112,7 @@ module _ {n s o : ℕ} {m : List (Session × List (ObjectName × Object n))} (p 
   of_told key id ConflictUpdate [] h = h.0
   of_told key id told (f ∷ F) h = of_told key id told F h.1
 
-  -- where each fact that is told has a cell, its session, its object and its symbol are held
+  -- if each fact of an update has a cell, its session, its object and its symbol are held
   pub news_held : (key : Key) (info : Cell Information) (symbol : Option (SymbolId × SymbolUpdate))
       → (info ≡ Absent → symbol ≢ None)
       → AllByRecursion (HasCell (content m)) (update_facts key (record {
@@ -125,7 +125,7 @@ module _ {n s o : ℕ} {m : List (Session × List (ObjectName × Object n))} (p 
   news_held key (One i) None some h = held_info key h.0 (One i)
   news_held key Conflict None some h = held_info key h.0 Conflict
 
--- ---- what the content of a store tells of an object
+-- ---- what the content of a store says of an object
 
 info-cell : (key : Key) (c : Cell Information)
     → fact_at (info_cell_facts key c) (info_address key) ≡ cell_fact (Info key) (InfoConflict key) c

@@ -1,4 +1,4 @@
--- The gaps that a walk gives.
+-- The gaps that a walk gives are the runs of what is wanted (specs/GapsLeft).
 use Rattle.std.proofs.Common.{◌≡◌, ◌≢◌, ℕ, zero, suc, ◌+◌, ◌-◌, ◌<◌, ◌≤◌, false, cond, ◌&&◌, List}
 use Rattle.std.proofs.Common.{[], ◌∷◌, ◌++◌, map, Option, Some, None, refl, sym, ap, ◌∙◌, subst}
 use Rattle.std.proofs.Common.{inl, inr, ◌⊎◌, arith, append_assoc}
@@ -40,7 +40,7 @@ entry n r i = (symbol_id n i, r)
 same_run : (g : Gap) (r : Reason) → ended_run (Some g) (Wanted r) ≡ None → g.reason ≡ r
 same_run g r h = grind (arith, reason_same g.reason r)
 
--- a run and the symbol behind it are the run with that
+-- a run with the symbol after it is the run extended by that symbol
 run-more : (n i : ℕ) (r : Reason) (run : Option Gap) (ws : List (SymbolId × Reason))
     → EndsBefore n i run → ended_run run (Wanted r) ≡ None
     → pending (Some (run_with n i r run)) ++ ws ≡ pending run ++ (entry n r i ∷ ws)
@@ -200,12 +200,14 @@ first-less : (n i : ℕ) (e : Entry) (es : List Entry) → IsOrdered symbol_id_c
     → symbol_id_cmp (symbol_id n i) e.0 ≡ Less → IsBehind n i (e ∷ es)
 first-less n i e es s l = (l, above-before (symbol_id n i) e.0 (keys_of es) l (sorted-first e es s))
 
+-- the order of ids within a block, and beyond it
 less_in : (n i : ℕ) (p : SymbolId) → p.sbn ≡ n → i < p.esi → symbol_id_cmp (symbol_id n i) p ≡ Less
 less_in n i p e l = ap (λ m. symbol_id_cmp (symbol_id m i) p) (sym e) ∙ esi-less p.sbn i p.esi l
 
 beyond : (m n j size : ℕ) → ((m == n) && nat_lt j size) ≡ false → m ≡ n → size ≤ j
 beyond m n j size t e = grind (arith, nat_tests)
 
+-- until_held gives the ESI of the block's first held symbol, or its end
 until-is : (n a size : ℕ) (held : List Entry) → a < size → IsOrdered symbol_id_cmp held
     → FirstAfter (symbol_id n a) held → Until n a size (until_held n size held) held
 until-is n a size [] l s f = record {
@@ -241,6 +243,7 @@ until-is n a size (e ∷ es) l s f = elim (cases_Bool ((e.0.sbn == n) && nat_lt 
       })
 ]
 
+-- a block's ids, cut in two
 block-append : (n a k j : ℕ)
     → map (symbol_id n) (range_with_len a (k + j))
     ≡ map (symbol_id n) (range_with_len a k) ++ map (symbol_id n) (range_with_len (a + k) j)
@@ -266,6 +269,7 @@ until-walk w p e =
     let t = told w NotHeld e in
     until-is w.sbn w.esi w.size w.held (inside-less w p t.0) p.ordered t.1
 
+-- a gap of symbols that are not held: what is left after it, and that nothing continues it
 missing-walk : (w : Walk) → IsWalk w → w.run ≡ None → until_of w ≤ w.size
     → IsBehind w.sbn (until_of w - 1) w.held → IsWalk (after_missing w)
 missing-walk w p r l b = record {
@@ -317,6 +321,7 @@ missing-left w u =
 abbrev missing_gap_of : Walk → Gap
 missing_gap_of w = record { sbn = w.sbn; first = w.esi; last = until_of w - 1; reason = Missing }
 
+-- the turn gives this gap
 pub gap-missing : (w : Walk) → IsWalk w → w.run ≡ None → upcoming_of w ≡ NotHeld
     → GivesGap w (record {
       sbn = w.sbn;

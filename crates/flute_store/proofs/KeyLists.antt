@@ -1,4 +1,4 @@
--- The keys of a store rise, and are those of the objects that it holds.
+-- Store::keys: the keys of a store rise, and are those of the objects it holds (specs/Keys).
 use Rattle.std.proofs.Common.{◌≡◌, ℕ, zero, suc, List, [], ◌∷◌, ◌++◌, Some, refl, sym, ap, ◌∙◌}
 use Rattle.std.proofs.Common.{subst, inl, inr, ◌↔◌, arith}
 use Rattle.flute_store.{specs.Keys.{session_keys, store_keys}, proofs.Found.{object_held}}

@@ -1,4 +1,4 @@
--- The symbols of a partition stand in rising order, and what is wanted of them.
+-- The symbols of a partition are in rising order, and what is wanted of them (specs/Objects).
 use Rattle.std.proofs.Common.{◌≡◌, ℕ, zero, suc, ◌+◌, ◌-◌, ◌<◌, get_or, List, [], ◌∷◌, ◌++◌, length}
 use Rattle.std.proofs.Common.{map, drop, refl, ap, ◌∙◌, arith, cond, Option, Some, None, sym, subst}
 use Rattle.std.proofs.{Math.Nat.{sub-zero}, lemmas.List.{drop_more}, Math.Seq.{drop-length}}
@@ -8,7 +8,7 @@ use Common.{sizes, symbol_id_cmp, symbol_id, block_ids, ids, symbol_id_total, Sy
 use Common.{blocks_from, option_map, cons_option, keys_of, is_eq, ordering_reverse, false≢true}
 use Common.{value_at, Cell, symbol_id_itself, Reason, Missing, want_cell, with_reason, wanted}
 
--- each of the symbols stands after p
+-- each of the symbols is after p
 abbrev pub Above : SymbolId → List SymbolId → Type 0
 Above p xs = AllByRecursion (λ x. symbol_id_cmp p x ≡ Less) xs
 

@@ -1,4 +1,4 @@
--- Where a join may ask for memory, the other store has a fact at an address that is not held.
+-- If a join may ask for memory, the other store has a fact at a new address (specs/Memory).
 use Rattle.flute_store.proofs.Exceeding.{SolidSession, SolidStore, SolidObject, ordered_store}
 use Rattle.flute_store.proofs.Exceeding.{symbol_stands, object_stands, first_object, info_stands}
 use Rattle.std.proofs.Common.{◌≡◌, ◌≢◌, ℕ, List, Option, Some, None, refl, sym, ap, ◌∙◌, inl, inr}
@@ -12,7 +12,7 @@ use Common.{info_cell_facts, symbol_cell_facts, content, IsSome, option_map_or, 
 use Common.{CellNeedsMemory, one_value, MapNeedsMemory, Address, Fact, Contains-from, fact_at-nil}
 use Common.{ObjectNeedsMemory}
 
--- a fact of the second list stands where none of the first does
+-- the second list has a fact at an address where the first has none
 from_address : (F G : List Fact) (a : Address) → fact_at G a ≢ None → fact_at F a ≡ None
     → HasNew F G
 from_address F G a h e =
@@ -27,6 +27,7 @@ module _ {n : ℕ} {m w : List (Session × List (ObjectName × Object n))} (p : 
       (f : value_at session_cmp m s ≡ Some os) (g : value_at session_cmp w s ≡ Some ws) where
     module _ (o : ObjectName) {x y : Object n} (h : value_at object_cmp os o ≡ Some x)
         (k : value_at object_cmp ws o ≡ Some y) where
+      -- new information, a new symbol, object or session: the other store has a fact there
       new_info : CellNeedsMemory x.info y.info → HasNew (content m) (content w)
       new_info (e, v) =
           let key = key_in s o in
@@ -93,7 +94,7 @@ module _ {n : ℕ} {m w : List (Session × List (ObjectName × Object n))} (p : 
       let inner = needs os refl in
       new_object s f g inner.0 inner.2 (value_at object_cmp os inner.0) refl inner.3
 
-  -- joining the second store asks for memory only where it tells something new
+  -- joining the second store asks for memory only if it holds something new
   pub needs-new : MapNeedsMemory session_cmp (MapNeedsMemory object_cmp ObjectNeedsMemory) m w
       → HasNew (content m) (content w)
   needs-new (s, ws, g, needs) = new_session s g (value_at session_cmp m s) refl needs

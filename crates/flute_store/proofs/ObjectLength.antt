@@ -1,4 +1,4 @@
--- A whole object has as many bytes as its transfer length says.
+-- A whole object has as many bytes as its transfer length (specs/Objects: Whole).
 use Rattle.std.proofs.Common.{◌≡◌, ℕ, zero, suc, ◌+◌, ◌-◌, ◌*◌, ◌<◌, ◌≤◌, ◌&&◌, true, List, [], ◌∷◌}
 use Rattle.std.proofs.Common.{length, get_or, Some, refl, sym, ap, ◌∙◌, inl, inr, ◌⊎◌, arith}
 use Rattle.std.proofs.lemmas.{Grind.{div_ceil_times}, List.{length-append, length-take-le}}

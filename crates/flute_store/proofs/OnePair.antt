@@ -1,4 +1,4 @@
--- One pair joined into a map: the outcome is sound, or passes a limit.
+-- One pair joined into a map: the joined map is sound, or beyond a limit (specs/WellFormed).
 use Rattle.std.proofs.Common.{◌≡◌, ◌≢◌, ℕ, ◌+◌, ◌<◌, ◌≤◌, List, [], ◌∷◌, length, Bool, Option, Some}
 use Rattle.std.proofs.Common.{None, refl, sym, ap, ◌∙◌, subst, inl, inr, arith, bytes_eq}
 use Rattle.std.proofs.lemmas.Map.{length-set_value}
@@ -75,6 +75,7 @@ module _ {K X : Type 0} {cmp : K → K → Ordering} {join : X → X → X} (all
 
   module _ {limit : ℕ} {P : X → Type 0} {es : List (K × X)} (m : IsMap cmp limit P es) (k : K)
       (w : X) where
+    -- at a held key the joined map is sound
     pub held-sound : {v : X} → value_at cmp es k ≡ Some v → P (join v w)
         → IsSound cmp limit P (with_pair es k w)
     held-sound {v} f p =
@@ -90,6 +91,7 @@ module _ {K X : Type 0} {cmp : K → K → Ordering} {join : X → X → X} (all
               (each-set_value cmp P (is_at (cmp k)) es (join v w) m.each p);
         }
 
+    -- at a new key with room it is sound
     pub new-sound : value_at cmp es k ≡ None → length es < limit → P w
         → IsSound cmp limit P (with_pair es k w)
     new-sound f room p =
@@ -111,6 +113,7 @@ module _ {K X : Type 0} {cmp : K → K → Ordering} {join : X → X → X} (all
         (ordered_one all.keys.order all.keys.same all.laws (k, w))
         ∙ rw (f, tied_itself all.keys.order k)
 
+    -- beyond a limit: at a held key, at a new one, and at a new key of a full map
     pub held-beyond : (B : X → Type 0) {v : X} → IsOrdered cmp es → value_at cmp es k ≡ Some v
         → B (join v w) → AnyValue B (with_pair es k w)
     held-beyond B {v} s f p =

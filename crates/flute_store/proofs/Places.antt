@@ -1,4 +1,4 @@
--- Where the turns of a walk lead, whatever is held behind the next symbol.
+-- The place of a walk after a turn, whatever is held after the next symbol (specs/PartitionScan).
 use Common.{nat_tests, ◌==◌, Ordering, Less, Equal, Greater, match_ordering, ne_eqb, eq-eqb, sizes}
 use Common.{symbol_id_cmp, symbol_id_place, symbol_id, fits, SymbolId, Reason, Missing, Misfit, Gap}
 use Common.{Turn, Upcoming, End, BlockEnd, Passed, Fitting, Wanted, NotHeld, PartitionScan}
@@ -50,7 +50,7 @@ at-first w id n o i c =
     ap (λ o. match_ordering o Passed (upcoming_wanted (want_length w.partition id n)) NotHeld)
     (sym c) ∙ at-inside w (Some (id, n)) i
 
--- ---- and what it tells
+-- ---- what each case of `upcoming_at` says
 
 abbrev IsAfter : SymbolId → Next → Type 0
 IsAfter here None = Unit {0}
@@ -94,6 +94,7 @@ tells-next w (Some next) i = by_order (symbol_id_cmp next.0 (symbol_id w.sbn w.e
         (sym h) (tells-wanted w (Some next) next.1 i (ap (λ id. Some (id, next.1)) h))
     by_order Greater e = (i, e)
 
+-- what comes next, by its case
 pub told-at : (w : PartitionScan) (next : Next) (l : Upcoming) → upcoming_at w next ≡ l
     → TellsAt w next l
 unfolding upcoming_at
@@ -125,7 +126,7 @@ module _ (w : PartitionScan) (next : Next) (p : IsPlace w) where
       let t = told-at w next (Wanted r) h in let l = inside t.0 in let m = p.longest in
       omega (arith, l, m)
 
-  -- behind a turn a walk is in its place
+  -- after a turn a walk is in its place
   place-on : (l : Upcoming) (o : Option Gap) → upcoming_at w next ≡ l → ended_run w.run l ≡ o
       → (turn_after w next l o).1.size ≤ 65536 → IsPlace (turn_after w next l o).1
   place-on l (Some g) e h s = record {
@@ -182,9 +183,9 @@ module _ (w : PartitionScan) (next : Next) (p : IsPlace w) where
       let p = ap (λ (t : Option Turn × PartitionScan). t.1) e in
       rw p (place-on _ _ refl refl (rw p at s))
 
--- ---- what a turn was
+-- ---- which turn was made
 
--- how the walk x came about
+-- how the walk x follows from the walk before, for each turn
 abbrev pub Kind : PartitionScan → Next → Option Turn → PartitionScan → Type 0
 Kind w next None x = (upcoming_at w next ≡ BlockEnd) × (w.run ≡ None) × (x ≡ after_block w)
 Kind w next (Some (Turn.Gap g)) x =
@@ -218,7 +219,7 @@ kind w next t x e =
 
 -- ---- no more is counted than was passed
 
--- no gap was given
+-- this turn gives no gap
 abbrev pub NoGap : Option Turn → Type 0
 NoGap (Some (Turn.Gap g)) = ⊥
 NoGap t = Unit {0}
@@ -252,7 +253,7 @@ module _ {w : PartitionScan} (next : Next) (c : Counted) (p : IsPlace w)
   within-gap g x (inr k) =
       rw (k.2, k.3, k.0) (omega (arith, rw k.0 at h, until-within w next p k.1))
 
-  -- so a count is small
+  -- so the counts together are below 2^33
   pub small : c.missing + c.conflicting + c.misfit < 2 ^ 33
   small =
       let a = p.begun in let b = p.blocks in let l = p.within in let m = p.longest in let r = h in

@@ -1,4 +1,4 @@
--- Refusals that are told again, as another kind of result or of error.
+-- Refusals that are returned again, as another kind of result or of error.
 use Rattle.std.proofs.Common.{◌≡◌, ◌↔◌, Result, Ok, Err, refl}
 use Rattle.flute_wire.specs.declared.refusal.Refusal.{Refusal}
 use Rattle.flute_store.specs.{declared.taken.TakeFault.{TakeFault}, Taken.{fault_of}}

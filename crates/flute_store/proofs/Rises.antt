@@ -1,4 +1,4 @@
--- How many facts a store has, and that they rise.
+-- The facts of a store rise, and how many they are (specs/Content).
 use Rattle.std.proofs.Common.{ℕ, ◌+◌, ◌*◌, ◌≤◌, List, [], ◌∷◌, length, arith, length-append, ◌≡◌}
 use Rattle.std.proofs.Common.{◌++◌, refl, ap, ◌∙◌}
 use Rattle.flute_store.proofs.FactEntries.{any_value, cell-stands, each-append, each-flat_map}
@@ -76,7 +76,7 @@ stand-weaker : (P Q : Address → Type 0) → ((a : Address) → P a → Q a) �
 stand-weaker P Q h [] s = tt
 stand-weaker P Q h (f ∷ F) s = (h (address f) s.0, stand-weaker P Q h F s.1)
 
--- groups of facts by key: each rises, stands where its key says, and before those of later keys
+-- groups of facts by key: each rises, is where its key says, and is before those of later keys
 record AreGroups {K X : Type 0} (cmp : K → K → Ordering) (f : K × X → List Fact)
     (In : K → Address → Type 0) (P : X → Type 0) : Type 0 where
   rises : (e : K × X) → P e.1 → IsRising (f e)
@@ -106,6 +106,7 @@ module _ {K X : Type 0} {cmp : K → K → Ordering} {f : K × X → List Fact} 
       (stand-weaker (In e.0) (λ a. StandAfter a (flat_map f es))
       (λ a i. after_groups a e.0 i es s.0) (f e) (groups.within e))
 
+-- the facts of one cell, of an object, and of a session rise
 cell-rises : {T : Type 0} (told : T → Fact) (clash : Fact) (c : Cell T)
     → IsRising (cell_facts told clash c)
 cell-rises told clash Absent = tt
@@ -156,6 +157,7 @@ module _ {n : ℕ} where
       (λ e. cell-stands P _ _ (λ v. h (symbol_address key e.0) refl)
       (h (symbol_address key e.0) refl) e.1) x.symbols)
 
+  -- the facts of an object, then of a session, rise
   session-rises : (session : Session) (os : List (ObjectName × Object n)) → OrderedSession os
       → IsRising (session_facts session os)
   session-rises session os p =
@@ -183,7 +185,7 @@ module _ {n : ℕ} where
       (λ e. object-stands P (key_in session e.0) (λ a q. h a (ap (λ (k : Key). k.session) q)) e.1)
       os
 
-  -- the facts of a store stand in the order of their addresses
+  -- the facts of a store are in the order of their addresses
   pub content-rises : (m : List (Session × List (ObjectName × Object n))) → OrderedStore m
       → IsRising (content m)
   content-rises m p =

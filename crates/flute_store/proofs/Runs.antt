@@ -1,4 +1,4 @@
--- Maximal runs: they list what they were made of, and nothing else does.
+-- Gaps are the longest runs of what is wanted: they list just that (specs/Objects: runs).
 use Rattle.std.proofs.Common.{◌≡◌, ℕ, zero, suc, ◌+◌, ◌-◌, ◌<◌, ◌≤◌, true, false, cond, ◌&&◌, List}
 use Rattle.std.proofs.Common.{[], ◌∷◌, ◌++◌, map, refl, sym, ap, ◌∙◌, subst, inl, inr, arith}
 use Rattle.flute_store.proofs.Common
@@ -15,7 +15,7 @@ reason_same r s h = grind arith
 pub reason_itself : (r : Reason) → same_reason r r ≡ true
 reason_itself r = grind arith
 
--- a gap that goes on in another stands before it in its block, for one reason
+-- a gap that is continued by another ends just before it, in its block and for its reason
 pub goes_on-tells : (g h : Gap) → goes_on g h ≡ true
     → (g.sbn ≡ h.sbn) × (g.last + 1 ≡ h.first) × (g.reason ≡ h.reason)
 goes_on-tells g h e =
@@ -50,7 +50,7 @@ before-listed (id, r) (h ∷ gaps) s = elim (cases_Bool (goes_on (one (id, r)) h
       gaps))
 ]
 
--- a gap that begins earlier goes on in the same ones
+-- a gap that begins earlier is continued by the same gaps
 lengthened : (a : ℕ) (h : Gap) (gaps : List Gap) → a ≤ h.last → AreRuns (h ∷ gaps)
     → AreRuns (record h { first = a } ∷ gaps)
 unfolding AreRuns
@@ -96,8 +96,8 @@ apart-from n a b l r (h ∷ gaps) s = s
 goes_on-next : (n a l : ℕ) (r : Reason) → goes_on (gap n a a r) (gap n (a + 1) l r) ≡ true
 goes_on-next n a l r = rw (eqb_itself n, eqb_itself (a + 1), reason_itself r)
 
--- the symbols of a gap before others are that gap before the others' runs, where it does not go on
--- in those
+-- the symbols of a gap and then others: that gap before the others' runs, if these do not continue
+-- it
 gap-runs : (k n a : ℕ) {l : ℕ} (r : Reason) (ws : List Want) {gaps : List Gap} → a + k ≡ l
     → runs ws ≡ gaps → IsApart (gap n a l r) gaps
     → runs (map (entry n r) (range_with_len a (suc k)) ++ ws) ≡ gap n a l r ∷ gaps
@@ -145,8 +145,8 @@ unfolding runs
 apart-runs g [] e = tt
 apart-runs g (w ∷ ws) e = apart-before g w (runs ws) e
 
--- wanted symbols that follow one another for one reason, before others that do not go on, are one
--- gap
+-- wanted symbols that follow one another for one reason, before others that do not continue them,
+-- are one gap
 pub runs-first : (n a b : ℕ) (r : Reason) (ws : List Want) → a < b → Elsewhere (symbol_id n b) r ws
     → runs (map (λ i. (symbol_id n i, r)) (range_with_len a (b - a)) ++ ws) ≡ record {
       sbn = n;

@@ -1,4 +1,4 @@
--- What all facts show of an object of which some were passed.
+-- What all facts show of an object, of which a scan passed some (specs/Shown, specs/Scan).
 use Rattle.std.proofs.Common.{◌≡◌, List, [], ◌∷◌, ◌++◌, Some, None, refl, sym, ap, ◌∙◌, subst}
 use Rattle.std.proofs.Common.{arith}
 use Rattle.flute_parts.proofs.Public.{rising_tells}
@@ -31,7 +31,7 @@ none-before key info (f ∷ F) G r = (
   none-before key info F G r.1,
 )
 
--- what a scan passed stands among the facts F, which rise, one after another: the information first
+-- what a scan passed is a part of the facts F, which rise, without a gap: the information first
 pub record Among (s : Scanned) (F before rest : List Fact) : Type 0 where
   pub symbols : List Fact
   pub begins : s.facts ≡ Info s.key s.info ∷ symbols
@@ -51,7 +51,7 @@ module _ {s : Scanned} {F before rest : List Fact} (a : Among s F before rest) w
       ∙ ap (λ es. es ++ shown s.key (s.facts ++ rest)) (shown-none s.key before none)
       ∙ shown-append s.key s.facts rest
 
-  -- and the information stands among them
+  -- and the information is in F
   pub information-at : fact_at F (info_address s.key) ≡ Some (Info s.key s.info)
   information-at =
       let info = Info s.key s.info in

@@ -1,4 +1,4 @@
--- What a scan has passed and given behind a turn that begins a block or gives a gap.
+-- What a scan has passed and given after a turn that begins a block or gives a gap (specs/Scan).
 use Rattle.flute_store.proofs.ScanFacts.{ordered-all, coming-all, not-whole-all}
 use Rattle.std.proofs.Common.{◌≡◌, ℕ, ◌+◌, ◌<◌, List, [], ◌∷◌, ◌++◌, length, Option, Some, None}
 use Rattle.std.proofs.Common.{refl, sym, ap, ◌∙◌, subst, inl, inr, arith, append_assoc, append-nil}
@@ -19,7 +19,7 @@ use Rattle.flute_store.specs.declared.partition_scan.Upcoming.TheVariants as Upc
 
 -- ---- a turn
 
--- a turn of a scan that was told what comes next, and the walk x that it led to
+-- a turn of a scan that knows what comes next, and the walk x that it led to
 pub record Step (o : ScanState) (s : Scanned) (next : Next) (t : Option Turn) (x : PartitionScan)
     : Type 0 where
   pub scan : IsScan o
@@ -65,7 +65,7 @@ moved-done s coming n l (Some b) d = record {
   no_gap = d.no_gap;
 }
 
--- a block was begun
+-- a turn began a block
 pub scan-begun : {o : ScanState} {s : Scanned} {next : Next} {x : PartitionScan}
     → Step o s next None x → Scans (record o { walk = x }) (announced s next)
 scan-begun {o} {s} {next} {x} p =
@@ -94,6 +94,7 @@ scan-begun {o} {s} {next} {x} p =
 
 -- ---- a gap was given
 
+-- the counts with this gap, and the scan after it
 counted-gap : (c d : Counted) (given : List Gap) (g : Gap) → IsCount c (flat_map listed given)
     → Adds g c d → IsCount d (flat_map listed (given ++ g ∷ []))
 counted-gap c d given g i a =

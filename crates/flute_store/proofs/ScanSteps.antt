@@ -1,4 +1,4 @@
--- What a scan has passed and given behind a turn.
+-- What a scan has passed and given after a turn (specs/Scan).
 use Rattle.flute_store.proofs.ScanFacts.{Among, gaps-all, information-all, information-at}
 use Rattle.flute_store.proofs.ScanFacts.{shown-all}
 use Rattle.flute_store.proofs.ScanGaps.{Step, step-kind, symbols-same, moved-done, scan-begun}
@@ -39,7 +39,7 @@ values-shown F key es more xs r e h =
     ∙ found-of key id (value_at symbol_id_cmp (shown key F) id)) in
     sym (held-same es more xs h) ∙ rw (← e) (λ i. flat_map (λ id. told id i) xs)
 
--- the bytes are a first part of the object
+-- the bytes are a prefix of the object
 pub first-part : {s : Scanned} {w : PartitionScan} {F before rest : List Fact} {bytes : List ℕ}
     → FitsSoFar s w bytes → Among s F before rest → IsFirstPart F s.key s.info bytes
 first-part {s} {w} {F} {before} {rest} d m =
@@ -72,6 +72,7 @@ behind-end s x = record s {
   ahead = length (symbols_left (walk_of x [])) + one_run x.run;
 }
 
+-- after the last turn the bytes are those of the whole object
 whole-bytes : {s : Scanned} (w : PartitionScan) {F before rest : List Fact}
     (bytes : Option (List ℕ)) → IfSome bytes (λ b. FitsSoFar s w b) → Among s F before rest
     → symbols_left (walk_of w []) ≡ [] → gaps F s.key s.info ≡ s.given
@@ -88,6 +89,7 @@ whole-bytes {s} w {F} (Some bytes) d a l g =
           ∙ ap (take s.info.transfer_length) (sym p.values),
     )
 
+-- after the last turn all gaps were given, and the counts are those of the gaps
 pub end-given : {o : ScanState} {s : Scanned} {x : PartitionScan} → Step o s None (Some Turn.End) x
     → Turned s None Turn.End (behind-end s x) × Scans (record o { walk = x }) (behind-end s x)
 end-given {o} {s} {x} p =
@@ -179,6 +181,7 @@ begins-more a b c h k =
       within = k.within;
     }
 
+-- after a step a scan is still in order: its place, its counts and its partition
 pub step-scan : {o : ScanState} (h : Option (SymbolId × Option ℕ)) (t : Option Turn)
     {x : PartitionScan} (c : Counted) → IsScan o → (t, x) ≡ turn_of o.walk h → IsPlace x
     → AddsTurn t o.wanted c → IsScan (state_of o x c)
@@ -215,6 +218,7 @@ passed-end {o} {s} {n} {x} p c a =
     let r = symbol-passed o s n x s.bytes p.scans (keeps-end p) done in
     (behind-symbol s n s.bytes x, r.0, same-counts o (behind-symbol s n s.bytes x) x c a r.1)
 
+-- a step of a scan, whatever turn it makes
 pub stepped : {o : ScanState} {s : Scanned} (next : Next) (t : Option Turn) {x : PartitionScan}
     → Step o s next t x → (c : Counted) → CanFollow s next → AddsTurn t o.wanted c
     → Stepped s next (state_of o x c) (passed_at_end t (held_next next))

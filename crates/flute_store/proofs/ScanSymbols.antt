@@ -1,4 +1,4 @@
--- What a scan has passed and given behind a turn that passes a symbol.
+-- What a scan has passed and given after a turn that passes a symbol (specs/Scan).
 use Rattle.flute_store.proofs.ScanFacts.{ordered-all, coming-all, walks-all, not-whole-all}
 use Rattle.flute_store.proofs.ScanGaps.{Step, step-kind, turns-at, symbols-same}
 use Rattle.std.proofs.Common.{◌≡◌, ℕ, ◌+◌, ◌<◌, true, cond, List, [], ◌∷◌, ◌++◌, length, Option}
@@ -41,7 +41,7 @@ shown-next s n =
     ∙ ap (λ es. shown s.key s.facts ++ es)
     (append-nil (shown_by s.key (next_fact s.key n)) ∙ shown-told s.key n)
 
--- whatever follows, what is left is the same behind the symbol
+-- whatever follows, what is left is the same after the symbol
 abbrev pub KeepsAt : ScanState → Scanned → SymbolId × Option (Bor (List ℕ)) → PartitionScan → Type 0
 KeepsAt o s n x =
     (more : List Entry)
@@ -99,7 +99,7 @@ keeps-at {o} {s} {n} {t} {x} p st h more r m =
       ap (λ es. gaps_left (walk_of x es)) (sym (h more)) ∙ ap runs k.left_is,
     )
 
--- held symbols behind the last block
+-- held symbols after the last block
 pub keeps-end : {o : ScanState} {s : Scanned} {n : SymbolId × Option (Bor (List ℕ))}
     {x : PartitionScan} → Step o s (Some n) (Some Turn.End) x → KeepsAt o s n x
 keeps-end {o} {s} {n} {x} p more r m =
@@ -121,7 +121,7 @@ keeps-end {o} {s} {n} {x} p more r m =
       ap (λ (y : PartitionScan). gaps_left (walk_of y more)) k.2 ∙ g more ∙ sym (g es),
     )
 
--- what was done stays so, with one symbol more behind it
+-- the bytes of held symbols stay the same with more entries after them
 pub held-same : (es more : List Entry) (xs : List SymbolId)
     → ((id : SymbolId) → Contains xs id
     → (c : Cell (List ℕ)) × (value_at symbol_id_cmp es id ≡ Some c))
@@ -143,7 +143,7 @@ one-value : (es : List Entry) (id : SymbolId) (b : List ℕ)
 unfolding held_bytes
 one-value es id b h = ap (λ f. found_bytes f ++ []) h ∙ append-nil b
 
--- nothing of the partition was passed
+-- the symbol is not of the partition, and is passed
 pub passed-done : (s : Scanned) (n : SymbolId × Option (Bor (List ℕ))) (next : Next)
     (bytes said : Option (List ℕ)) {w x : PartitionScan} → x ≡ w
     → IfSome bytes (λ b. FitsSoFar (announced s next) w b)
@@ -171,7 +171,7 @@ passed-done s n next (Some b) said {w} {x} e d =
       no_gap = d.no_gap;
     }
 
--- the next symbol of the partition was passed
+-- the next symbol of the partition was passed: its bytes are the next of the object
 length-is : (n : SymbolId × Option (Bor (List ℕ))) (here : SymbolId) (k : ℕ)
     → held_next (Some n) ≡ Some (here, Some k)
     → (n.0 ≡ here) × (cell_of n.1 ≡ One (value_of n)) × (length (value_of n) ≡ k)

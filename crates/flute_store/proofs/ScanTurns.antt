@@ -1,4 +1,4 @@
--- What a turn of a scan passes and gives.
+-- What a turn of a scan passes and gives (specs/PartitionScan, specs/Scan).
 use Rattle.std.proofs.Common.{length-append, ◌≡◌, ℕ, ◌+◌, ◌-◌, ◌<◌, cond, List, [], ◌∷◌, ◌++◌}
 use Rattle.std.proofs.Common.{length, Option, Some, None, refl, sym, ap, ◌∙◌, subst, arith}
 use Rattle.flute_store.proofs.Lookups.{Entry, block_from-first, block_from-end, blocks_from-next}
@@ -65,7 +65,7 @@ pub take-symbols : (w : PartitionScan) → w.esi < w.size
 take-symbols w l =
     ap (λ xs. xs ++ blocks_from w.partition w.begun) (block_from-first w.sbn w.esi w.size l)
 
--- ---- looking up in what was passed, with one more behind it
+-- ---- looking up in what was passed, with one more after it
 
 pub value-more : (es more : List Entry) (id : SymbolId) (c : Cell (List ℕ))
     → value_at symbol_id_cmp es id ≡ Some c → value_at symbol_id_cmp (es ++ more) id ≡ Some c

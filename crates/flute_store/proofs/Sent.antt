@@ -1,4 +1,4 @@
--- What is held of an object whose datagrams were all taken.
+-- An object whose datagrams were all taken is whole (specs/Sent).
 use Rattle.std.proofs.Common.{◌≡◌, ℕ, zero, suc, inl, inr, List, [], ◌∷◌, ◌++◌, length, map, take}
 use Rattle.std.proofs.Common.{true, cond, Bool, Some, refl, sym, ap, subst, ◌∙◌, arith}
 use Rattle.std.proofs.lemmas.List.{Folds.{flat_map-map}, take_all}

@@ -1,4 +1,4 @@
--- What rising facts show of the symbols of an object.
+-- The symbols that rising facts show of an object (specs/Shown).
 use Rattle.std.proofs.Common.{◌≡◌, ℕ, Bool, cond, List, [], ◌∷◌, ◌++◌, Some, refl, sym, ap, ◌∙◌}
 use Rattle.std.proofs.Common.{subst, inl, inr, append_assoc}
 use Rattle.flute_parts.proofs.Public.{fact_at-after}
@@ -89,7 +89,7 @@ shown-ordered key (f ∷ F) r =
     shown-cases key f (λ es. IsOrdered symbol_id_cmp (es ++ shown key F)) (λ _. rest)
     (λ id c k e g. (above-shown key id F (subst (λ a. StandAfter a F) e r.0), rest))
 
--- ---- and is what stands at the addresses
+-- ---- and it is the value at the addresses
 
 pub shown-at : (key : Key) (id : SymbolId) (F : List Fact) → IsRising F
     → fact_at F (symbol_address key id)

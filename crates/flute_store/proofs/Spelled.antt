@@ -1,4 +1,4 @@
--- What is known of datagrams that are packets.
+-- Datagrams that a store takes are packets: what follows for their facts.
 use Rattle.std.proofs.Common.{ℕ, ◌≤◌, ◌<◌, List, length, nat_lt, sym, ap, subst, inl, inr, arith}
 use Rattle.std.proofs.Common.{length-append, length-drop}
 use Rattle.flute_parts.specs.SymbolBytes.{HasSymbolSize}

@@ -1,4 +1,4 @@
--- The content of the join of two stores.
+-- The content of the join of two stores is the join of their contents (specs/ObjectJoin).
 use Rattle.flute_store.proofs.FactEntries.{Apart, Elsewhere, elsewhere-none, each-append}
 use Rattle.flute_store.proofs.FactEntries.{each-flat_map, cell-stands, at-cell_join, session_keys}
 use Rattle.flute_store.proofs.FactEntries.{object_keys, symbol_keys, at-map_join}
@@ -17,7 +17,7 @@ use Common.{symbol_cell_facts, symbols_facts, object_facts, session_facts, conte
 use Common.{IsSession, IsStore, IsStrictlySortedBy, SymbolUpdate, Update, update_symbols}
 use Common.{update_object, update_facts}
 
--- ---- where the facts of a cell stand
+-- ---- the addresses of the facts of a cell
 
 elsewhere-info : (a : Address) (key : Key) → (info_address key ≡ a → ⊥) → (c : Cell Information)
     → Elsewhere a (info_cell_facts key c)
@@ -249,7 +249,7 @@ module _ {n : ℕ} where
         second_each = q.each;
       })
 
-  -- the content of a join comes to the contents appended
+  -- the content of a join has the values of both contents together
   pub content-join : (v w : List (Session × List (ObjectName × Object n))) → OrderedStore v
       → OrderedStore w → Same (content (store_join v w)) (content v ++ content w)
   content-join v w p q =

@@ -1,4 +1,4 @@
--- What is told of an object: its symbols, and what is wanted of it.
+-- An object and the facts of the store's content: its symbols, and what is wanted of it.
 use Rattle.std.proofs.Common.{◌≡◌, ◌≢◌, ℕ, List, false, Option, Some, None, refl, sym, ap, ◌∙◌}
 use Rattle.std.proofs.Common.{subst, ◌↔◌, ◌+◌, length, arith}
 use Rattle.std.specs.Ordering.{eq_by_cmp}
@@ -39,7 +39,7 @@ pub want-symbol : (info : Information) (key : Key) (id : SymbolId) (found : Opti
 want-symbol info key id (Some (One b)) = refl
 want-symbol info key id found = refl
 
--- what is wanted is told by the held symbols
+-- what is wanted of an object follows from its held symbols
 pub wants-told : {n : ℕ} (F : List Fact) (key : Key) (x : Object n) (info : Information)
     → IsTold F key x → wants F key info ≡ wanted info x.symbols (ids info)
 unfolding wants wanted
@@ -58,7 +58,7 @@ pub told-information : {n : ℕ} (F : List Fact) (key : Key) (x : Object n) (inf
     → IsTold F key x → x.info ≡ One info → fact_at F (info_address key) ≡ Some (Info key info)
 told-information F key x info t e = t.info ∙ ap (cell_fact (Info key) (InfoConflict key)) e
 
--- the facts tell of an object this one information and the symbols that are held, whose gaps these
+-- the facts give an object this one information and the symbols that are held, whose gaps these
 -- are
 pub record ToldGaps {n : ℕ} (F : List Fact) (key : Key) (x : Object n) (info : Information)
     (held : List (SymbolId × Cell (List ℕ))) (gs : List Gap) : Type 0 where

@@ -1,4 +1,4 @@
--- What the turns of a walk do.
+-- What each turn of a walk does (specs/PartitionScan, specs/HeldScan).
 use Rattle.std.proofs.Common.{◌≡◌, ℕ, ◌-◌, cond, List, ◌∷◌, Option, Some, None, refl, sym, ap, ◌∙◌}
 use Rattle.std.proofs.Common.{subst, rules, ◌+◌, ◌<◌, ◌^◌, false, length, arith, Bool}
 use Rattle.std.specs.Prelude.{length}
@@ -30,6 +30,7 @@ no-run (Some f) Passed e h = absurd e
 no-run (Some f) (Wanted r) e h = absurd e
 no-run (Some f) l e h = absurd (none-some f (sym h))
 
+-- what comes next depends only on the next held symbol
 want-same : (info : Information) (id : SymbolId) (cell : Cell (List ℕ)) → IsKnown cell
     → want_length info id (length_of cell) ≡ want_cell info id (Some cell)
 want-same info id cell k = grind arith
@@ -146,6 +147,7 @@ last-ended : (b : Bool) (t r : ℕ) → t + last_tick b + r + 0 ≡ t + r + last
 last-ended b t r = omega arith
 
 module _ (v : HeldScan) (x : PartitionScan) (p : IsHeldScan v) (q : IsPlace x) where
+  -- a turn of a HeldScan is one step of its walk
   stepped : (t : Option Turn) (w : HeldScan) → Steps t → w.walk ≡ x → w.ticks ≡ v.ticks + 1
       → w.ended ≡ v.ended → TurnsTo (walk_in v) t (walk_in w) → IsHeldScan w × (bound w ≡ bound v)
   stepped t w s e k d h =
@@ -184,6 +186,7 @@ module _ (v : HeldScan) (x : PartitionScan) (p : IsHeldScan v) (q : IsPlace x) w
       let s = stepped t (counted t (record v { walk = x })) tt refl refl refl h in
       record { turns = h; walk = s.0; bound_is = s.1; ticks = refl }
 
+-- the same, for any turn that `turn_of` returns
 pub held-turn : {v : HeldScan} (next : Option (SymbolId × Option ℕ)) {t : Option Turn}
     {x : PartitionScan} {w : HeldScan} → IsHeldScan v → ShowsNext v.held next
     → (t, x) ≡ turn_of v.walk next → IsPlace x → w ≡ counted t (record v { walk = x }) → Turns v t w
@@ -197,6 +200,7 @@ ticked v w t s h = h.ticks
 
 -- ---- the start
 
+-- a new walk is in its place, before all that is held
 pub start-walk : (info : Information) (held : List Entry) → IsOrdered symbol_id_cmp held
     → EachValue IsKnown held → IsWalk (at_start info held)
 start-walk info held o k = search rules
@@ -217,7 +221,7 @@ start-held info held left e q o k f =
       few = omega (arith, n, f);
     }
 
--- ---- some turns
+-- ---- turns one after another
 
 pub keeps-step : (u v w : HeldScan) (t : Option Turn) → Steps t → KeepsGaps u v → Turns v t w
     → KeepsGaps u w

@@ -1,4 +1,4 @@
--- What comes next on a walk, and what is left then.
+-- What comes next on a walk, and what is left then (specs/PartitionScan).
 use Rattle.std.proofs.Common.{rules, ◌≡◌, ◌≢◌, ℕ, ◌+◌, ◌<◌, ◌≤◌, cond, List, [], ◌∷◌, ◌++◌, length}
 use Rattle.std.proofs.Common.{drop, Option, Some, None, refl, sym, ap, ◌∙◌, subst, inl, inr, arith}
 use Rattle.std.proofs.Common.{append_assoc, ◌-◌}
@@ -84,6 +84,7 @@ by-place esi size begun blocks P i e b = elim (cases_Bool (esi == size)) [
   ])
 ]
 
+-- what comes next, by its case
 pub told : (w : Walk) (l : Upcoming) → upcoming_of w ≡ l → Tells w l
 unfolding upcoming_of
 told w l h =
@@ -122,7 +123,7 @@ held-known : (held : List Entry) (e : Entry) (es : List Entry) → held ≡ e �
     → EachValue IsKnown held → EachValue IsKnown (drop 1 held)
 held-known held e es h k = rw h ((rw h at k).1)
 
--- the other held symbols stand behind the first
+-- the other held symbols are after the first
 pub sorted-first : (e : Entry) (es : List Entry) → IsOrdered symbol_id_cmp (e ∷ es)
     → Above e.0 (keys_of es)
 unfolding IsStrictlySortedBy
@@ -160,6 +161,7 @@ step-behind : (w : Walk) (t : AtPassed w) → IsBehind w.sbn (w.esi - 1) w.held
     → IsBehind w.sbn (w.esi - 1) (drop 1 w.held)
 step-behind w t b = rw t.held ((rw t.held at b).1)
 
+-- passing a held symbol that is not of the partition
 pub step-pass : (w : Walk) → IsWalk w → AtPassed w → Keeps w (after_pass w)
 unfolding left
 step-pass w p t =
@@ -181,10 +183,11 @@ step-pass w p t =
       fewer = rw t.held (omega arith);
     }
 
--- a held symbol of the partition is passed, with this run behind it
+-- a held symbol of the partition is passed, with this run after it
 abbrev pub taken : Option Gap → Walk → Walk
 taken run w = record w { held = drop 1 w.held; esi = w.esi + 1; run = run }
 
+-- taking the next held symbol: the walk stays in order, and what is left is after it
 pub taken-walk : (run : Option Gap) (w : Walk) (why : Option Reason) → IsWalk w → AtHere w why
     → EndsBefore w.sbn (w.esi + 1) run → IsWalk (taken run w)
 taken-walk run w why p t r =
@@ -230,6 +233,7 @@ symbols-end w e =
     ap (λ k. block_from w.sbn k w.size ++ blocks_from w.partition w.begun) e
     ∙ ap (λ xs. xs ++ blocks_from w.partition w.begun) (block_from-end w.sbn w.size)
 
+-- beginning the next block
 pub step-begin : (w : Walk) → IsWalk w → Tells w BlockEnd → w.run ≡ None
     → (after_begin w).size ≤ 65536 → Keeps w (after_begin w)
 unfolding left

@@ -1,4 +1,4 @@
--- What lists of facts make of an object.
+-- Facts with the same values make the same object; it is whole if it has no gap (specs/Objects).
 use Rattle.std.proofs.Common.{◌≡◌, ℕ, zero, suc, get_or, ◌<◌, cond, List, [], ◌∷◌, length, take}
 use Rattle.std.proofs.Common.{Option, Some, None, refl, sym, ap, ◌∙◌, arith}
 use Rattle.flute_parts.proofs.Public.{fact_at-address}
@@ -60,6 +60,7 @@ none-filter_map f (y ∷ ys) e zero x l g =
 none-filter_map f (y ∷ ys) e (suc k) x l g =
     none-filter_map f ys (none-filter_map_head (f y) (filter_map f ys) e).1 k x (omega arith) g
 
+-- a symbol that is not wanted is held
 map_none : (f : Reason → SymbolId × Reason) (o : Option Reason) → option_map f o ≡ None → o ≡ None
 map_none f o e = grind arith
 
@@ -83,6 +84,7 @@ want-held F key info id h =
     ap (want info id) h.value
     ∙ ap (λ b. cond b None (Some Misfit)) h.fitting
 
+-- no gaps: whole; and the other way round
 pub gapless-whole : (F : List Fact) (key : Key) (info : Information)
     → fact_at F (info_address key) ≡ Some (Info key info) → gaps F key info ≡ [] → Whole F key info
 unfolding wants

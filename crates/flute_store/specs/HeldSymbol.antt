@@ -3,7 +3,7 @@ use Rattle.std.specs.Prelude.{ℕ, List, [], ◌∷◌}
 use Rattle.flute_join.specs.declared.cell.Cell.{Cell}
 use Rattle.flute_join.specs.declared.cell.Cell.TheVariants.{One, Conflict}
 
--- a symbol has a byte at least, so no bytes stand for a conflict
+-- a symbol has a byte at least, so no bytes mean a conflict
 abbrev pub held_cell : List ℕ → Cell (List ℕ)
 held_cell [] = Conflict
 held_cell (b ∷ bs) = One (b ∷ bs)

@@ -55,7 +55,7 @@ same_reason Conflicting Conflicting = true
 same_reason Misfit Misfit = true
 same_reason _ _ = false
 
--- the second gap goes on where the first ends, in the same block and for the same reason
+-- the second gap continues the first, in the same block and for the same reason
 abbrev pub goes_on : Gap → Gap → Bool
 goes_on g h = (g.sbn == h.sbn) && ((g.last + 1 == h.first) && same_reason g.reason h.reason)
 
@@ -63,7 +63,7 @@ goes_on g h = (g.sbn == h.sbn) && ((g.last + 1 == h.first) && same_reason g.reas
 abbrev pub one : SymbolId × Reason → Gap
 one (id, reason) = record { sbn = id.sbn; first = id.esi; last = id.esi; reason = reason }
 
--- a gap put before others, as one with the first of them if that goes on
+-- a gap put before others, as one with the first of them if that continues it
 abbrev pub before : Gap → List Gap → List Gap
 before g [] = g ∷ []
 before g (h ∷ gaps) = if goes_on g h then record h { first = g.first } ∷ gaps else (g ∷ h ∷ gaps)
@@ -81,12 +81,12 @@ gaps F key info = runs (wants F key info)
 abbrev pub listed : Gap → List (SymbolId × Reason)
 listed g = map (λ i. (symbol_id g.sbn i, g.reason)) (range_with_len g.first (g.last + 1 - g.first))
 
--- the gap does not go on in the first of the others
+-- the first of the others does not continue the gap
 abbrev pub IsApart : Gap → List Gap → Type 0
 IsApart g [] = Unit {0}
 IsApart g (h ∷ gaps) = goes_on g h ≡ false
 
--- each gap has a symbol, and none goes on in the next one
+-- each gap has a symbol, and none is continued by the next one
 unfoldable pub AreRuns : List Gap → Type 0
 AreRuns [] = Unit {0}
 AreRuns (g ∷ gaps) = (g.first ≤ g.last) × IsApart g gaps × AreRuns gaps

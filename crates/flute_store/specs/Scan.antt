@@ -55,7 +55,7 @@ abbrev pub ComeNext : Key → Option (SymbolId × Option (Bor (List ℕ))) → L
 ComeNext key (Some next) rest = (others : List Fact) × (rest ≡ next_fact key next ∷ others)
 ComeNext key None rest = AllByRecursion (λ f. (address f).key ≡ key → ⊥) rest
 
--- all facts: those that were passed are among them one after another, and this comes
+-- all facts: those that were passed are a part of them without a gap, and this comes
 -- next of the object
 pub record Follows (s : Scanned) (next : Option (SymbolId × Option (Bor (List ℕ))))
     (F : List Fact) : Type 0 where

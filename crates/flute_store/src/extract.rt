@@ -1,4 +1,4 @@
-//! Whole objects.
+//! `Store::extract`: whole objects, written symbol after symbol.
 ghost use Rattle.std.specs.Prelude.{◌≡◌, ◌+◌, ◌<◌, ◌^◌, [], length, take, MatchOption, if◌then◌else◌, is_ok};
 ghost use Rattle.flute_join.specs.Cell.{IsKnown};
 ghost use Rattle.flute_join.specs.JoinMap.{IsOrdered, EachValue};

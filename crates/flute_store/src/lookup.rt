@@ -1,4 +1,4 @@
-//! Where an object is held.
+//! Looking up an object in the maps of a store.
 ghost use Rattle.std.specs.Prelude.{MatchOption};
 ghost use Rattle.flute_store.specs.Found.{IsUnheard, IsTold};
 

@@ -1,4 +1,4 @@
-//! What becomes of a datagram.
+//! The result of a datagram that a store takes or refuses.
 
 use flute_join::JoinRefusal;
 use flute_wire::Refusal;

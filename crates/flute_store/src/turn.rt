@@ -1,4 +1,4 @@
-//! What comes next of an object.
+//! The turns of a scan over an object: what comes next.
 
 use crate::gap::Gap;
 

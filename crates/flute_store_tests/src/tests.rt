@@ -30,10 +30,10 @@ fn information(key: &Key) -> Option<Fact> {
 }
 
 /// The symbol of that file.
-fn symbol(alloc: Global, key: &Key) -> Option<Fact> {
+fn symbol(alloc: Global, key: &Key) -> Result<Fact, Fail> {
     let id = SymbolId { sbn: 0, esi: 0 };
-    let bytes = Bytes::new(alloc, b"hell").ok()?;
-    Some(Fact::Symbol {
+    let bytes = Bytes::new(alloc, b"hell")?;
+    Ok(Fact::Symbol {
         key: *key,
         id,
         bytes,
@@ -59,15 +59,15 @@ fn stores_are_joined(rt: HostRuntime) -> Result<(), Fail> {
     Ok(())
 }
 
-/// A file of one symbol is told in two facts, and written.
+/// A file of one symbol is added as two facts, and written.
 #[test]
 fn facts_are_added_and_put(rt: HostRuntime) -> Result<(), Fail> {
     let key = &file().ok_or("a key")?;
     let mut store = Shelf::new(rt.alloc());
     store.add(rt.alloc(), &information(key).ok_or("information")?)?;
-    store.put(rt.alloc(), symbol(rt.alloc(), key).ok_or("a symbol")?)?;
+    store.put(rt.alloc(), symbol(rt.alloc(), key)?)?;
     let mut sink = MemorySink::new(rt.alloc());
-    assert!(rt; store.extract(key, &mut sink) == Ok(4));
+    assert!(rt; store.extract(key, &mut sink)? == 4);
     assert!(rt; sink.as_slice() == b"hell".as_slice());
     Ok(())
 }

@@ -1,4 +1,4 @@
--- Numbers that bytes spell.
+-- Numbers of bytes, high byte first.
 use Rattle.std.proofs.Common.{◌≡◌, ℕ, zero, suc, ◌+◌, ◌*◌, ◌^◌, ◌%◌, ◌-◌, ◌≤◌, ◌<◌, List, [], ◌∷◌, ◌++◌, length, take, drop, subst, refl, sym, ap, ◌∙◌, arith}
 use Rattle.std.proofs.lemmas.List.{length-take-le, length-append, length-drop, take_all, take-append-drop}
 use Rattle.std.proofs.lemmas.Nat.{pow-add}

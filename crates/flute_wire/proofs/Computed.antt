@@ -1,4 +1,4 @@
--- The packet that is computed is the one that the datagram spells.
+-- The packet that `packet` computes is the one that the datagram spells (specs/Reading).
 use Rattle.std.proofs.Common.{◌≡◌, ℕ, zero, suc, ◌-◌, ◌*◌, ◌<◌, ◌≤◌, ◌⊎◌, List, [], ◌∷◌, ◌++◌, length, take, drop, Bool, true, false, ◌&&◌, cond, eqb, ltb, leb, Option, Some, None, inl, inr, refl, sym, ap, subst, ◌∙◌, arith}
 use Rattle.std.specs.Prelude.{IfSome, IsSomeAnd, is_none, ◌↔◌}
 use Rattle.std.specs.Option.{option_map, option_and_then}
@@ -264,7 +264,7 @@ facts_by : (sender : ℕ) (d : List ℕ) (o : Option Content) → packet d ≡ o
 facts_by sender d None e none = refl
 facts_by sender d (Some c) e none = absurd (none c (packet-Spells d c e))
 
--- a refused datagram tells no fact
+-- a refused datagram contains no fact
 pub facts-refused : (sender : ℕ) (d : List ℕ) (r : Refusal) → Applies r d → facts sender d ≡ []
 unfolding facts
 facts-refused sender d r a = facts_by sender d (packet d) refl (λ c s. none_applies d c s r a)

@@ -1,4 +1,4 @@
--- An object is the bytes of its symbols.
+-- An object's bytes are those of its symbols, one after the other (specs/Carousel).
 use Rattle.std.proofs.Common.{◌≡◌, ℕ, suc, ◌+◌, ◌-◌, ◌*◌, ◌<◌, ◌≤◌, ◌⊎◌, inl, inr, List, [], ◌∷◌, ◌++◌, length, take, drop, map, true, Option, Some, None, refl, sym, ap, ◌∙◌, arith}
 use Rattle.std.specs.Prelude.{slice_get, flat_map, Contains}
 use Rattle.std.specs.List.{enumerate_from}
@@ -59,7 +59,7 @@ cut-joined i content v whole =
     ∙ ap (λ (m : ℕ). take (length (ids i) * i.symbol_length) (drop m content)) none
     ∙ take_all (length (ids i) * i.symbol_length) content (omega (arith, whole, enough i v))
 
--- where a symbol of the list stands
+-- the place of a symbol of the list
 record IsAt (i : Information) (content : List ℕ) (s : SymbolId × List ℕ) : Type 0 where
   place : ℕ
   id : slice_get (ids i) place ≡ Some s.0

@@ -1,4 +1,4 @@
--- The facts that an object's datagrams tell.
+-- The facts that an object's datagrams contain (specs/Carousel: facts_sent).
 use Rattle.std.proofs.Common.{◌≡◌, ℕ, zero, suc, ◌<◌, ◌⊎◌, inl, inr, List, [], ◌∷◌, length, Some, refl, sym, ap, subst, ◌∙◌, arith}
 use Rattle.std.specs.Prelude.{flat_map, Contains, ◌↔◌}
 use Rattle.std.proofs.lemmas.List.Concat.{flat_map-cons}
@@ -25,6 +25,7 @@ module _ (key : Key) (i : Information) where
   both : SymbolId × List ℕ → List Fact
   both s = Info key i ∷ Symbol key s.0 s.1 ∷ []
 
+  -- a fact that is sent is the information or a symbol, and each of these is sent
   from_both : (ss : List (SymbolId × List ℕ)) (f : Fact) → Member f (flat_map both ss) → IsSent key i ss f
   unfolding Member both
   from_both [] f m = absurd m
@@ -57,6 +58,7 @@ module _ (key : Key) (i : Information) where
   unfolding facts_sent both
   each content l = ap (flat_map (outgoing_facts key (Some i))) (payloads_some i content l) ∙ flat_map-map (outgoing_facts key (Some i)) (λ s. Some s) (symbols_of i content)
 
+  -- the same of the facts of all datagrams
   only : (content : List ℕ) (f : Fact) → Member f (facts_sent key i content) → IsSent key i (symbols_of i content) f
   unfolding Member
   only content f m = elim (eq-zero-or-pos i.transfer_length) [

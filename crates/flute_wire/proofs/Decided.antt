@@ -1,4 +1,4 @@
--- Whether a datagram spells a packet is decided.
+-- Whether a datagram spells a packet is decided: it does, or a refusal applies (specs/Refusals).
 use Rattle.std.proofs.Common.{◌≡◌, ℕ, ◌<◌, ◌⊎◌, List, [], ◌∷◌, length, Option, Some, None, inl, inr, refl, arith}
 use Rattle.std.specs.Prelude.{IsSomeAnd}
 use Rattle.std.proofs.lemmas.Bool.{cases_lt, cases_eq}
@@ -15,7 +15,7 @@ use Rattle.flute_wire.proofs.Decision.{decide_extensions}
 use Rattle.flute_wire.proofs.FirstRefusal.{carried}
 use Rattle.flute_wire.proofs.Existence.{some_packet}
 
--- a fact, or its opposite
+-- a statement, or its opposite
 abbrev Either : Type 0 → Type 0
 Either P = P ⊎ (P → ⊥)
 
@@ -59,6 +59,7 @@ carries d es x P (inr h) = inr (λ c. h (carried d es x P c))
 abbrev Outcome : List ℕ → Type 0
 Outcome d = ((r : Refusal) → Applies r d → ⊥) ⊎ ((r : Refusal) × Applies r d)
 
+-- one refusal after another: the first that applies, else a packet
 ask : (d : List ℕ) (r : Refusal) → Either (Applies r d) → ((Applies r d → ⊥) → Outcome d) → Outcome d
 ask d r (inl a) k = inr (r, a)
 ask d r (inr n) k = k n
@@ -99,6 +100,7 @@ behind d es x a b c e f g h i =
           (λ fault z. m fault (carried d es x (λ es. IsSomeAnd (first (bodies ext_fti es)) (λ body. info_fault (fti_information body) ≡ Some fault)) z)) n o p q)))))
     ]))
 
+-- the decision for any datagram
 pub decide_refusal : (d : List ℕ) → Outcome d
 decide_refusal d =
     ask d TooLong (below 65535 (length d)) (λ a.

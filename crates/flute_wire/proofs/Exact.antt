@@ -1,4 +1,4 @@
--- An answer that is right on each side is the only one.
+-- A datagram has one packet or one refusal: two right results of `read` are equal.
 use Rattle.std.proofs.Common.{◌≡◌, ℕ, List, Option, Some, None, Result, Ok, Err, inl, inr, sym, ap, subst, ◌∙◌, arith}
 use Rattle.std.specs.Prelude.{IfOk, IfErr, IsSomeAnd, ◌↔◌}
 use Rattle.std.proofs.lemmas.Bool.{cases_lt, cases_eq}

@@ -1,4 +1,4 @@
--- What no refusal applies to spells a packet.
+-- A datagram to which no refusal applies spells a packet (specs/Datagram).
 use Rattle.std.proofs.Common.{◌≡◌, ℕ, ◌<◌, ◌≤◌, ◌⊎◌, List, [], ◌∷◌, length, Option, Some, None, inl, inr, refl, arith}
 use Rattle.std.specs.Prelude.{IfSome, IsSomeAnd}
 use Rattle.std.specs.Option.{option_to_list}

@@ -1,4 +1,4 @@
--- Why an object is not sent.
+-- Why an object is not sent (specs/Carousel: carousel_fault).
 use Rattle.std.proofs.Common.{◌≡◌, ℕ, suc, ◌-◌, ◌*◌, ◌^◌, ◌<◌, ◌≤◌, min, max, inl, inr, List, [], ◌∷◌, ◌++◌, length, drop, Bool, false, cond, leb, ltb, Option, Some, None, refl, sym, ap, subst, ◌∙◌, arith}
 use Rattle.std.specs.Prelude.{slice_get}
 use Rattle.std.specs.Option.{option_map, option_or}
@@ -80,7 +80,7 @@ first_none : (cs : List Content) → ((k : ℕ) (c : Content) → slice_get cs k
 first_none [] each = refl
 first_none (x ∷ cs) each = ap (λ (f : Option WriteFault). option_or f (first_object_fault cs)) (each 0 x refl) ∙ first_none cs (λ k c h. each (suc k) c h)
 
--- the three answers
+-- the three results: a wrong length, a first packet with a fault, none
 pub wrong_length : (key : Key) (i : Information) (content : List ℕ) → (length content ≡ i.transfer_length → ⊥) → carousel_fault key i content ≡ Some Length
 unfolding carousel_fault
 wrong_length key i content h =

@@ -1,4 +1,4 @@
--- The first refusal that applies, from what each check has found.
+-- The first refusal that applies, from what each check of `read` found (specs/Refusals).
 use Rattle.std.proofs.Common.{◌≡◌, ℕ, ◌+◌, ◌<◌, ◌⊎◌, List, [], length, cond, eqb, Option, Some, None, inl, inr, refl, sym, ap, subst, ◌∙◌, arith}
 use Rattle.std.specs.Prelude.{IfSome, IsSomeAnd}
 use Rattle.std.specs.Option.{option_to_list}

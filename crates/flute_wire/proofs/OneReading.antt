@@ -1,4 +1,4 @@
--- A datagram spells one packet at most, and one exactly where no refusal applies.
+-- A datagram spells at most one packet, and one exactly if no refusal applies (specs/Datagram).
 use Rattle.std.proofs.Common.{◌≡◌, ℕ, ◌+◌, ◌-◌, ◌<◌, ◌≤◌, ◌⊎◌, List, [], ◌∷◌, ◌++◌, length, take, drop, cond, eqb, Option, Some, None, inl, inr, refl, sym, ap, subst, ◌∙◌, arith}
 use Rattle.std.specs.Prelude.{IsSomeAnd, slice_range}
 use Rattle.std.specs.Option.{option_map}
@@ -18,7 +18,7 @@ use Rattle.flute_wire.proofs.Walking.{same_extensions}
 use Rattle.flute_wire.proofs.FirstRefusal.{carried, not_both}
 use Rattle.flute_wire.proofs.Spelling.{same_content}
 
--- a part that stands at place i, and what follows it
+-- a part that begins at offset i, and what follows it
 next : (d a rest : List ℕ) (i j : ℕ) → drop i d ≡ a ++ rest → i + length a ≡ j → (slice_range d i j ≡ a) × (drop j d ≡ rest)
 next d a rest i j at len =
     let n : length a ≡ j - i = omega arith in

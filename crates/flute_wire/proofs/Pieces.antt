@@ -1,4 +1,4 @@
--- The symbols of an object with their bytes, and the packets that carry them.
+-- The symbols of an object with their bytes, and the packets that carry them (specs/Carousel).
 use Rattle.std.proofs.Common.{◌≡◌, ℕ, zero, suc, ◌+◌, ◌*◌, ◌<◌, ◌≤◌, max, inl, inr, List, [], ◌∷◌, ◌++◌, length, take, map, Bool, true, false, cond, Option, Some, None, refl, sym, ap, subst, ◌∙◌, arith}
 use Rattle.std.specs.Prelude.{◌==◌, slice_get}
 use Rattle.std.specs.List.{enumerate_from, AllZip}
@@ -90,7 +90,7 @@ begins i p k id v same h =
     let some : slice_get (ids i) k ≡ Some id = sym (h ∙ ap (λ (q : Information). slice_get (ids q) k) same) in
     omega (arith, begins_within i k v (slice_get_within (ids i) k id some))
 
--- how many packets there are, and which stands where
+-- how many packets there are, and which has which number
 empty_is : (i : Information) → i.transfer_length ≡ 0 → (i.transfer_length == 0) ≡ true
 empty_is i z = grind (arith, nat_tests)
 
@@ -162,7 +162,7 @@ one_more key i content k ds d v h all one =
     let cs = packets_of key i content in
     subst (λ (xs : List Content). AllZip IsWritten (ds ++ d ∷ []) xs) (sym (take_one_more cs k c (packet_there key i content k v h))) (both_push ds (take k cs) d c all one)
 
--- what the packets tell
+-- the facts that the packets contain
 all_told : (key : Key) (i : Information) (payloads : List (Option (SymbolId × List ℕ))) (ds : List (List ℕ))
     → AllZip IsWritten ds (map (packet_at key (Some i)) payloads) → flat_map (facts key.session.sender) ds ≡ flat_map (outgoing_facts key (Some i)) payloads
 all_told key i [] [] all = refl

@@ -1,4 +1,4 @@
--- A datagram that passes the checks spells a packet.
+-- A datagram that passes the checks spells a packet (specs/Datagram: Spells).
 use Rattle.std.proofs.Common.{◌≡◌, ℕ, ◌+◌, ◌-◌, ◌<◌, ◌≤◌, ◌⊎◌, List, [], ◌++◌, length, take, drop, cond, eqb, Option, Some, None, inl, inr, refl, sym, ap, subst, ◌∙◌, arith}
 use Rattle.std.specs.Prelude.{IfSome, IsSomeAnd, slice_range}
 use Rattle.std.specs.Option.{option_to_list, option_map}

@@ -1,4 +1,4 @@
--- The extensions that stand in a list of bytes.
+-- The extensions that a list of bytes contains (specs/Walk).
 use Rattle.std.proofs.Common.{◌≡◌, ℕ, ◌≤◌, ◌<◌, List, [], ◌∷◌, ◌++◌, length, map, filter, take, drop, get_or, Bool, true, false, cond, eqb, Option, Some, None, refl, sym, ap, subst, ◌∙◌, append_assoc, arith}
 use Rattle.std.specs.Prelude.{IfSome}
 use Rattle.std.specs.Option.{option_to_list}
@@ -33,7 +33,7 @@ same_extension e f x y he hf same =
     let made : ℕ → List ℕ → HeaderExtension = λ h b. record { het = h; body = b } in
     (ap (λ (h : ℕ). made h e.body) het ∙ ap (λ (b : List ℕ). made f.het b) parts.0, parts.1)
 
--- what stands behind the first of the extensions of a list
+-- the bytes after the first of the extensions of a list
 pub rest_of : (es all : List HeaderExtension) (area rest : List ℕ) → area ≡ flat_map extension_bytes es ++ rest → AllByRecursion IsExtension es → HasExtensions area all
     → (tail : List HeaderExtension) × HasExtensions rest tail × (all ≡ es ++ tail)
 rest_of [] all area rest joined each x = (all, record { joined = sym joined ∙ x.joined; each = x.each }, refl)
@@ -80,7 +80,7 @@ no_front : (rest : List ℕ) (tail : List HeaderExtension) → (rest ≡ [] → 
 no_front rest [] some none x = some x.joined
 no_front rest (e ∷ es) some none x = none e (flat_map extension_bytes es) x.each.0 x.joined
 
--- where no extension stands at the front of what is left, the bytes are no extensions
+-- if no extension is at the front of what is left, the bytes are no extensions
 pub is_stuck : (area rest : List ℕ) (es : List HeaderExtension) → area ≡ flat_map extension_bytes es ++ rest → AllByRecursion IsExtension es
     → (rest ≡ [] → ⊥) → ((e : HeaderExtension) (after : List ℕ) → IsExtension e → rest ≡ extension_bytes e ++ after → ⊥)
     → (all : List HeaderExtension) → HasExtensions area all → ⊥

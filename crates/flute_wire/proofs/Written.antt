@@ -1,4 +1,4 @@
--- What is written spells what was to be said.
+-- A datagram that is written spells the packet it was made of (specs/Datagram: Spells).
 use Rattle.std.proofs.Common.{◌≡◌, ℕ, ◌+◌, ◌*◌, ◌/◌, ◌%◌, ◌^◌, ◌<◌, ◌≤◌, ◌⊎◌, List, [], ◌∷◌, ◌++◌, length, Bool, true, false, cond, eqb, ltb, leb, Option, Some, None, inl, inr, refl, sym, ap, subst, ◌∙◌, arith}
 use Rattle.std.specs.Prelude.{IfSome, IsSomeAnd, slice_range}
 use Rattle.std.specs.Option.{option_to_list, option_map}
@@ -49,6 +49,7 @@ abbrev fti_extensions : Option Information → List HeaderExtension
 fti_extensions None = []
 fti_extensions (Some i) = record { het = 64; body = fti_body i } ∷ []
 
+-- the fields of the first word
 fields_are : (n : Option ℕ) (i : Option Information) → fields (big_endian (word_bytes (4 + fdt_words n + fti_words i))) ≡ record {
   version = 1;
   congestion_words = 0;
@@ -63,6 +64,7 @@ fields_are None (Some i) = refl
 fields_are (Some n) None = refl
 fields_are (Some n) (Some i) = refl
 
+-- the extensions of the bytes, and the bodies of each type
 extensions_are : (n : Option ℕ) (i : Option Information) → HasExtensions (fdt_bytes n ++ fti_bytes i) (fdt_extensions n ++ fti_extensions i)
 extensions_are None None = record { joined = refl; each = tt }
 extensions_are None (Some i) = record { joined = refl; each = (refl, tt) }
@@ -93,6 +95,7 @@ area_len None (Some i) = refl
 area_len (Some n) None = refl
 area_len (Some n) (Some i) = refl
 
+-- the parts of a datagram that is written
 parts : Content → Parts
 parts c = record {
   word = word_bytes (4 + fdt_words c.instance + fti_words c.info);
@@ -119,7 +122,7 @@ has_parts c =
       extensions = extensions_are c.instance c.info;
     }
 
--- EXT_FTI says the numbers again
+-- EXT_FTI contains the information's numbers
 information_again : (i : Information) → i.transfer_length < 2 ^ 48 → i.symbol_length < 2 ^ 16 → i.max_block_length < 2 ^ 32 → fti_information (fti_body i) ≡ i
 information_again i l e b =
     let three : big_endian (slice_range (fti_body i) 1 7) ≡ i.transfer_length = big_endian-big_bytes 6 i.transfer_length l in
@@ -136,7 +139,7 @@ fti_taken (Some i) h =
     let again = information_again i h.0.length h.1.0 h.1.1 in
     ((refl, ap info_fault again ∙ fault-none i h.0), ap (λ (n : Information). Some n) again)
 
--- EXT_FDT says the instance again
+-- EXT_FDT contains the instance
 fdt_number : (n : ℕ) → n < 2 ^ 20 → (fdt_version (fdt_body n) ≡ 2) × (fdt_instance (fdt_body n) ≡ n)
 fdt_number n h =
     let is : big_endian (fdt_body n) ≡ 2 * 2 ^ 20 + n = big_endian-big_bytes 3 (2 * 2 ^ 20 + n) (omega arith) in
@@ -155,7 +158,7 @@ instance_again : (tsi toi : ℕ) (n : Option ℕ) → HasKey tsi toi n → (IfSo
 instance_again tsi toi None h z = none_either_way (eqb toi 0)
 instance_again tsi toi (Some n) h z = rw z (ap (λ (x : ℕ). Some x) (fdt_number n h.1).1)
 
--- the payload says the symbol again
+-- the payload contains the symbol
 symbol_again : (s : Option (SymbolId × List ℕ)) → HasFittingId s → has_no_byte s ≡ false → (tail_symbol (symbol_bytes s) ≡ s) × ((symbol_bytes s ≡ []) ⊎ (4 ≤ length (symbol_bytes s)))
 symbol_again None h some = (refl, inl refl)
 symbol_again (Some (id, [])) h some = absurd (cc)
@@ -199,6 +202,7 @@ pub instance_has_toi : (o : ObjectName) → IfSome (instance_of o) (λ _. toi_of
 instance_has_toi (Instance n) = refl
 instance_has_toi (File toi) = tt
 
+-- a packet without a fault is spelled by its bytes
 spelled : (c : Content) → IsEncodable c → IfSome c.instance (λ _. c.toi ≡ 0) → write_fault c ≡ None → Spells (spelling c) c
 unfolding parts
 spelled c e z none =

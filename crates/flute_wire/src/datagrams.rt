@@ -1,4 +1,4 @@
-//! Datagrams in order.
+//! A list of datagrams, in their order.
 
 use crate::datagram::Datagram;
 use std::alloc::{AllocError, Global};

@@ -1,4 +1,4 @@
-//! Whole objects sent.
+//! `carousel`: the datagrams of a whole object.
 
 ghost use Rattle.std.specs.Prelude.{◌≡◌, ◌*◌, ◌≤◌, length, take, drop, flat_map, slice_get, Some, None, IfOk, IfErr, OnOk, IfSome, Err};
 ghost use Rattle.std.specs.List.{AllZip};

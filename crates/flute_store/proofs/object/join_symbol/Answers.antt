@@ -1,3 +1,4 @@
+-- join_symbol: the joined symbol, at a held and at a new id, and each refusal.
 use Rattle.std.proofs.Common.{◌<◌, length, bytes_eq, sym, ap, ◌∙◌, arith}
 use Rattle.flute_store.proofs.Common
 use Common.{is_at, set_value, IsKnown, single_held, added_joins, each-value_at, symbol_id_cmp}

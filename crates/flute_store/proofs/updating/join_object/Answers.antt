@@ -1,3 +1,4 @@
+-- join_object: the joined session, at a held and at a new object, and each refusal.
 use Rattle.std.proofs.Common.{◌≡◌, ◌<◌, ℕ, [], length, bytes_eq, sym, ap, ◌∙◌, lit<, subst, arith}
 use Rattle.std.proofs.Common.{inl, inr}
 use Rattle.flute_store.proofs.Common

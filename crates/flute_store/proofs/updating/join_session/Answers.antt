@@ -1,3 +1,4 @@
+-- join_session: the joined sessions, at a held and at a new session, and each refusal.
 use Rattle.std.proofs.Common.{◌≡◌, ◌<◌, List, ℕ, [], ◌∷◌, length, sym, ap, ◌∙◌, lit<, subst, arith}
 use Rattle.std.proofs.Common.{inl, inr}
 use Rattle.flute_store.proofs.Common

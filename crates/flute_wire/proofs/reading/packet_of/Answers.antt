@@ -1,3 +1,4 @@
+-- packet_of: the packet that the datagram spells, or its first refusal.
 use Rattle.std.proofs.Common.{sym, ap, subst, ◌∙◌, ◌≡◌, cond, eqb, ℕ, List, [], None, ◌⊎◌, ◌≤◌, length}
 use Rattle.std.specs.Option.{option_copied, option_map}
 use Rattle.std.proofs.lemmas.Result.{err_from_is_err_and}

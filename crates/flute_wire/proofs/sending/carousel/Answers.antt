@@ -1,3 +1,4 @@
+-- carousel: the fault of an object that isn't sent, and when memory may run out.
 use Rattle.std.proofs.Common.{ℕ, List, Option, Some, refl, sym, ap, ◌∙◌}
 use Rattle.flute_parts.specs.declared.symbol_id.SymbolId.{SymbolId}
 use Rattle.flute_wire.specs.Writing.{packet_at, write_fault}

@@ -1,3 +1,4 @@
+-- datagrams_of: its loop makes the datagram of each symbol.
 use Rattle.std.proofs.Common.{◌≡◌, ℕ, ◌+◌, max, List, length, take, ap, subst, sym, ◌∙◌, arith, Option, Some}
 use Rattle.std.specs.List.{AllZip}
 use Rattle.std.proofs.lemmas.List.{take_all}

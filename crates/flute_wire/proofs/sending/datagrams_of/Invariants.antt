@@ -1,3 +1,4 @@
+-- datagrams_of: what holds in its loop.
 use Rattle.std.proofs.Common.{take}
 use Rattle.std.specs.List.{AllZip}
 use Rattle.flute_wire.specs.Carousel.{packets_of}

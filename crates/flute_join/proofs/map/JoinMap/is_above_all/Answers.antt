@@ -1,4 +1,4 @@
--- The last key is not below a key that is not above all.
+-- JoinMap::is_above_all: the last key is not below a key that is not above all.
 use Rattle.std.proofs.Common.{◌∙◌, ◌-◌}
 use Rattle.std.specs.Prelude.{length}
 use Rattle.flute_join.proofs.map.JoinMap.is_above_all.Goals as goal

@@ -1,3 +1,4 @@
+-- JoinMap::join_at: at a held and at a new key, after success and each refusal, each clause.
 use Rattle.std.proofs.Common.{arith, [], ◌∷◌, sym, ap, ◌∙◌, subst}
 use Rattle.std.specs.BTreeMap.{is_at}
 use Rattle.std.specs.Map.{set_value}

@@ -1,4 +1,4 @@
--- A key above all is not held.
+-- JoinMap::seek_mut: a key above all is not held.
 use Rattle.std.proofs.Common.{refl, sym}
 use Rattle.flute_join.proofs.Single.{none_from_IsNone}
 use Rattle.flute_join.proofs.map.JoinMap.seek_mut.Goals as goal

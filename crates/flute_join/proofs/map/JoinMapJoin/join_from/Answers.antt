@@ -1,3 +1,4 @@
+-- JoinMap::join_from: its loop over the other map's keys, and each clause when it stops or ends.
 use Rattle.std.proofs.Common.{◌≡◌, [], ◌∷◌, ◌++◌, IsNone, Some, Err, sym, ap, ◌∙◌, subst, append_assoc}
 use Rattle.std.specs.Map.{keys_of}
 use Rattle.std.proofs.lemmas.Map.Keys.{sorted_tail}

@@ -1,9 +1,11 @@
+-- JoinMap::join_from: what holds in its loop.
 use Rattle.std.proofs.Common.{◌≡◌, List, ◌++◌}
 use Rattle.flute_join.specs.JoinMap.{IsOrdered, map_join, MapOver, EachValue}
 use Rattle.flute_join.specs.Semilattice.{IsBelow}
 use Rattle.flute_join.proofs.map.JoinMapJoin.join_from.Given as goal
 
--- the entries before are joined; joining what is left gives the join, and is forbidden exactly where the join was
+-- the entries before are joined; joining what is left gives the join, and is forbidden exactly if
+-- the join was
 abbrev pub invariant-loop-key : goal.invariant-loop-key
 invariant-loop-key g l =
     let join = map_join g.K.Ord.cmp g.V.Join.joined in

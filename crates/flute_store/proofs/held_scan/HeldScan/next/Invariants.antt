@@ -1,3 +1,4 @@
+-- HeldScan::next: what holds in its loop.
 use Rattle.std.proofs.Common.{◌-◌}
 use Rattle.flute_store.specs.HeldScan.{KeepsGaps, bound}
 use Rattle.flute_store.proofs.held_scan.HeldScan.next.Given as goal

@@ -1,3 +1,4 @@
+-- HeldScan::next_bytes: its loop over turns, and what each turn gives.
 use Rattle.std.proofs.Common.{Some, sym, ◌∙◌, subst}
 use Rattle.flute_store.proofs.Common.{GivesFirst, Turns}
 use Rattle.flute_store.proofs.BytesSteps.{no-bytes, pass-keeps, begin-keeps, keeps-on, gives-first}

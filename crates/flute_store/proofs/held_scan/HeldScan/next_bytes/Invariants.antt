@@ -1,3 +1,4 @@
+-- HeldScan::next_bytes: what holds in its loop.
 use Rattle.std.proofs.Common.{◌-◌}
 use Rattle.flute_store.proofs.Common.{bound, KeepsBytes}
 use Rattle.flute_store.proofs.held_scan.HeldScan.next_bytes.Given as goal

@@ -1,3 +1,4 @@
+-- HeldScan::write: what holds in its loop.
 use Rattle.std.proofs.Common.{◌≡◌, [], ◌-◌, take}
 use Rattle.flute_store.proofs.Common.{all_left, walk_in, bound, IsHeldScan, bytes_left}
 use Rattle.flute_store.proofs.BytesSteps.{IsWriting}

@@ -1,3 +1,4 @@
+-- Object::join_update: unless the result is `Full`, the joined object is sound (IsObject).
 use Rattle.std.proofs.Common.{◌≡◌, ◌≢◌, None, ℕ}
 use Rattle.flute_store.proofs.Common
 use Common.{err_from_is_err_and, Absent, same_information, Object, Update, object_join}

@@ -1,3 +1,4 @@
+-- PartitionScan::turn: each branch makes the turn that specs/PartitionScan says.
 use Rattle.std.proofs.Common.{None, Some, sym, ap, ◌∙◌, subst, ◌≤◌}
 use Rattle.flute_store.proofs.Common
 use Common.{PartitionScan, End, BlockEnd, Passed, Fitting, Wanted, NotHeld, ended_run}

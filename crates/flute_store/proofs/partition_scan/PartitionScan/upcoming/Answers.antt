@@ -1,3 +1,4 @@
+-- PartitionScan::upcoming: each branch returns upcoming_at (specs/PartitionScan).
 use Rattle.std.proofs.Common.{◌≡◌, None, Some, sym, ap, ◌∙◌, subst}
 use Rattle.flute_store.proofs.Common
 use Common.{Less, Equal, Greater, symbol_id_cmp, Passed, NotHeld, upcoming_at, upcoming_wanted}

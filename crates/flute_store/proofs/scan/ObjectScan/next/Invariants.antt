@@ -1,3 +1,4 @@
+-- ObjectScan::next: what holds in its loop.
 use Rattle.std.proofs.Common.{◌-◌, length}
 use Rattle.flute_store.proofs.Common
 use Common.{sizes, Scanned, CanFollow, CanCome, Scans, announced, BeginsBlocks}

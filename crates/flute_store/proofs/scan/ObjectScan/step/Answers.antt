@@ -1,3 +1,4 @@
+-- ObjectScan::step: the turn it makes, and the blocks that are left.
 use Rattle.std.proofs.Common.{sym, subst, ap, ◌∙◌}
 use Rattle.flute_store.proofs.Common.{turn_of, ScanState, Scans, announced, passed_at_end, Stepped}
 use Rattle.flute_store.proofs.ScanGaps.{Step}

@@ -1,3 +1,4 @@
+-- Wanted::count: its loop adds up the symbols of the gaps, by reason.
 use Rattle.flute_store.proofs.Common.{flat_map, listed}
 use Rattle.flute_store.proofs.HowMany.{first-gap, counts-all, counts-few, counts-more, counts-none}
 use Rattle.flute_store.proofs.status.Wanted.count.Goals as goal

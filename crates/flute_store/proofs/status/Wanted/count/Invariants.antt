@@ -1,3 +1,4 @@
+-- Wanted::count: what holds in its loop.
 use Rattle.std.proofs.Common.{length}
 use Rattle.flute_store.proofs.{HowMany.{Counts}, Common.{flat_map, listed, AreRuns}}
 use Rattle.flute_store.proofs.status.Wanted.count.Given as goal

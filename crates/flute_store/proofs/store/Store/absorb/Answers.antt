@@ -1,3 +1,4 @@
+-- Store::absorb: the joined store holds the facts of both, within its limits, or why not.
 use Rattle.std.proofs.Common.{◌++◌, sym, subst, refl}
 use Rattle.flute_store.proofs.NewFacts.{needs-new}
 use Rattle.flute_store.proofs.Exceeding.{solid-store, beyond-joined, over-beyond}

@@ -1,3 +1,4 @@
+-- Store::contains: whether the address has a value, for each way a look-up ends.
 use Rattle.std.proofs.Common.{◌≡◌, sym, ap, ◌∙◌}
 use Rattle.flute_store.proofs.Found.{no_session, no_object, of_info, of_symbols, is_known, known-is}
 use Rattle.flute_store.proofs.store.Store.contains.Goals.{in-Absent, in_default-matches}

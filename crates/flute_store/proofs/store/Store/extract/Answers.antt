@@ -1,3 +1,4 @@
+-- Store::extract: nothing is written if a gap is left, else the object, or a prefix of it.
 use Rattle.std.proofs.Common.{refl}
 use Rattle.flute_store.proofs.ToldObjects.{ToldGaps}
 use Rattle.flute_store.proofs.BytesSteps.{none-wanted, not-whole, writes-whole, writes-part}

@@ -1,3 +1,4 @@
+-- Store::join_update: the joined facts, when it is full, and success where addresses are held.
 use Rattle.std.proofs.Common.{◌≡◌, ◌++◌, Err, sym, subst, Result, Ok, refl}
 use Rattle.flute_store.proofs.StoreJoin.{ordered-store, content-join, one_object, one-ordered}
 use Rattle.flute_store.proofs.{StoreJoin.{one-content}, Counting.{not_over}, Found.{news_held}}

@@ -1,3 +1,4 @@
+-- Store::take: each clause for a datagram that is taken, refused, or without room.
 use Rattle.std.proofs.Common.{◌≡◌, [], lit<}
 use Rattle.flute_wire.proofs.Public.{facts-refused, facts-Spells}
 use Rattle.flute_store.proofs.Common.{err_from_is_err_and, ok_is_not_err, facts}

@@ -1,3 +1,4 @@
+-- Store::take_packet: when it returns `Full`.
 use Rattle.std.proofs.Common.{ap, ◌∙◌}
 use Rattle.flute_wire.specs.Facts.{facts_of}
 use Rattle.flute_store.proofs.Common.{err_from_is_err_and, ok_is_not_err, update_facts}
