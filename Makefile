@@ -43,37 +43,44 @@ SOURCES := crates.txt $(shell find crates -name out -prune -o -name README.md -o
 bin/flutejoin: $(SOURCES)
 	@tools/build.sh
 
-test: export FLUTEJOIN = $(abspath $(BUILT))
+test test-program test-tools: export FLUTEJOIN = $(abspath $(BUILT))
 test:
 	rt ci
 	$(MAKE) --no-print-directory --jobs=2 --output-sync=line test-wrong-bodies test-trials
-	tests/wrong_bodies.sh
+	$(MAKE) --no-print-directory --jobs=2 --output-sync=line test-program test-tools
+
+# The built program, and the pages that show it
+test-program:
 	tests/test_run.py
 	tests/test_program.py
 	tests/test_outputs.py
-	tests/large.py $(BUILT)
-	tests/test_capture.py
-	tests/capture_cases.py
-	tests/test_values.py
-	tests/files.py $(BUILT)
-	tests/extract_all.py $(BUILT)
+	tests/large.py "$(FLUTEJOIN)"
+	tests/extract_all.py "$(FLUTEJOIN)"
 	tests/test_any_size.py
 	tests/test_memory.py
-	tests/test_receive.py
-	tests/receiving.py $(BUILT)
-	tests/test_map.py
-	tests/map_cases.py
+	tests/longest_journal.py "$(FLUTEJOIN)"
 	tests/test_pages.py
 	tests/test_libraries.py
-	tests/python.py
-	tests/test_tree.py
-	tests/test_examples.py
-	tests/station.py $(BUILT)
-	tests/test_package.py
-	tests/longest_journal.py $(BUILT)
 	tests/test_man.py
 	tests/test_completion.py
 	tests/test_refused.py
+
+# The tools, what they are installed as, and the tool of wrong bodies
+test-tools:
+	tests/wrong_bodies.sh
+	tests/python.py
+	tests/test_capture.py
+	tests/capture_cases.py
+	tests/test_values.py
+	tests/files.py "$(FLUTEJOIN)"
+	tests/test_receive.py
+	tests/receiving.py "$(FLUTEJOIN)"
+	tests/test_map.py
+	tests/map_cases.py
+	tests/test_tree.py
+	tests/test_examples.py
+	tests/station.py "$(FLUTEJOIN)"
+	tests/test_package.py
 
 # Neither waits for anything but the processor.
 test-wrong-bodies:
@@ -126,5 +133,5 @@ deb: $(PROGRAM)
 clean:
 	rm -rf bin crates/*/out
 
-.PHONY: test test-wrong-bodies test-trials wrong-bodies soak scale try example install uninstall \
-	deb clean
+.PHONY: test test-wrong-bodies test-trials test-program test-tools wrong-bodies soak scale try \
+	example install uninstall deb clean
