@@ -4,8 +4,8 @@ use super::*;
 use flute_parts::{MemorySink, MemorySource};
 use flute_wire::Datagram;
 use flutejoin::laws::forgetting_leaves_the_rest;
-use flutejoin::{Blob, MAX_OBJECTS, MAX_SESSIONS, MAX_SYMBOLS};
-use flutejoin_replicas::{Replicas, Step, journal_after, laws, object_after, run};
+use flutejoin::{MAX_OBJECTS, MAX_SESSIONS, MAX_SYMBOLS};
+use flutejoin_replicas::{Blob, Replicas, Step, journal_after, laws, object_after, run};
 use std::alloc::Global;
 use test_vectors::{INFO_OF_EMPTY_FILE, bytes, journals};
 
