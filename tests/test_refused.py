@@ -29,7 +29,8 @@ from run import PROGRAM, ROOT, Run
 CRATES = ROOT / "crates"
 ARE_NEEDED = CRATES in PROGRAM.parents
 FAULT = re.compile(rb"out of memory\n|input [12]: OutOfMemory\n")
-OF_MEMORY = "OutOfMemory|out of memory|AllocError|AllocFailed|memory allocation failed"
+# `Start` is the fault of a run whose replicas find no memory.
+OF_MEMORY = "OutOfMemory|out of memory|AllocError|AllocFailed|memory allocation failed|Start"
 # Of sinks that keep what they take in memory.
 OF_DEVICES = "DeviceFault|(Cannot)?Write|CannotPutAside"
 ERROR = re.compile(rf"error: (.*\W)?({OF_MEMORY}|{OF_DEVICES})[\W\d]*$", re.I | re.M)
