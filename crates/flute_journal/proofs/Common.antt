@@ -2,9 +2,29 @@
 pub use Rattle.std.proofs.Common.{Bool, Err, IfErr, IfSome, IsTrue, List, MatchBool, None, Ok, OnOk, Option, Result, Some, [], add-one, ap, append-nil, append_assoc, arith, bytes_eq, drop, drop-cons, drop-drop, drop-set-lt, drop_at, eqb, false, flat_map, get_or, if◌then◌else◌, inl, inr, is_eq, is_lt, is_some, le_refl, leb, length, length-append, length-drop, length-set, length-take, length-take-le, lit<, ltb, not, refl, rules, slice_get, slice_range, slice_set, subst, suc, sym, take, take-append-drop, take_all, take_at, true, zero, ℕ, ◌%◌, ◌&&◌, ◌*◌, ◌++◌, ◌+◌, ◌-◌, ◌/◌, ◌<◌, ◌^◌, ◌∙◌, ◌∷◌, ◌≡◌, ◌≢◌, ◌≤◌, ◌⊎◌}
 pub use Rattle.flute_journal.specs.Advances.{AreNew, GoOnAt, GoesOnAt, StopAt, StopsIn}
 pub use Rattle.flute_journal.specs.Eithers.{either_behaviour}
-pub use Rattle.flute_journal.specs.declared.{merge.all_streams.MergedJournal.{MergedJournal}, streams.either.Either.TheVariants.{First, Second}, streams.either.Either.{Either}, readers.entry_fields.Before.{Before}, fault.LoadFault.TheVariants.{Full, Read}, fault.LoadFault.{LoadFault}}
-pub use Rattle.flute_journal.specs.declared.{fault.ReadFault.{ReadFault}, format.EntryHead.{EntryHead}, format.Kind.{Kind}, format.version.Version.TheVariants.{One, Two}, format.version.Version.{Version}, streams.journal_stream.LentStream.{LentStream}}
-pub use Rattle.flute_journal.specs.declared.{readers.reader_state.ReaderState.TheVariants.{Ended, Failed, Header, Items}, readers.reader_state.ReaderState.{ReaderState}, merge.streams_fault.InputFault.{InputFault}, merge.streams_fault.StreamsFault.TheVariants.{Input, Write}, merge.streams_fault.StreamsFault.{StreamsFault}}
+pub use Rattle.flute_journal.specs.declared.{
+  merge.all_streams.MergedJournal.{MergedJournal},
+  streams.either.Either.TheVariants.{First, Second},
+  streams.either.Either.{Either},
+  readers.entry_fields.Before.{Before},
+  fault.LoadFault.TheVariants.{Full, Read},
+  fault.LoadFault.{LoadFault},
+}
+pub use Rattle.flute_journal.specs.declared.{
+  fault.ReadFault.{ReadFault},
+  format.EntryHead.{EntryHead},
+  format.Kind.{Kind},
+  format.version.Version.TheVariants.{One, Two},
+  format.version.Version.{Version},
+  streams.journal_stream.LentStream.{LentStream},
+}
+pub use Rattle.flute_journal.specs.declared.{
+  readers.reader_state.ReaderState.TheVariants.{Ended, Failed, Header, Items},
+  readers.reader_state.ReaderState.{ReaderState},
+  merge.streams_fault.InputFault.{InputFault},
+  merge.streams_fault.StreamsFault.TheVariants.{Input, Write},
+  merge.streams_fault.StreamsFault.{StreamsFault},
+}
 pub use Rattle.flute_journal.specs.Faults.{Check, bytes_checks, cut, end_checks, entry_checks, first_fault, header_fault, id_checks, id_in, in_order, info_checks, info_in, is_after, is_key, is_kind, is_name, is_object, is_version, key_in, key_size, named_in, next_fault, object_in, opening_fault, rest_checks, version_fault, version_in}
 pub use Rattle.flute_journal.specs.Format.{body, counted_bytes, end, entry, entry_in, fact_key, header, header_in, id_bytes, info_bytes, key_bytes, kind, magic, name_bytes, object_bytes, rest_bytes, sender_bytes, sender_size, spelling, spelling_in, version_bytes, version_number, without_end, without_end_in}
 pub use Rattle.flute_journal.specs.Input.{AsksMemory, Fails, FailsIf, IsFaultOf, IsFaultUpTo, IsSettled, IsWithin, Reads, ReadsUpTo, StaysWithin, left_by, or_failed}

@@ -7,4 +7,5 @@ mod readers_lemmas
 mod writers_lemmas
 mod merge_lemmas
 mod streams_lemmas
+mod Cited
 pub mod Public

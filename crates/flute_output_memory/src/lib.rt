@@ -1,6 +1,6 @@
 //! Folders in memory, for tests of outputs.
 //!
-//! [`MemoryFolder`] and [`MemoryNewFolder`] do what the traits of `flute_output` ask, in memory, and
+//! [`MemoryFolder`] and [`MemoryNewFolder`] do in memory what the traits of `flute_output` ask, and
 //! fail for good after a given number of calls. Contracts see what they contain.
 //!
 //! A file in a folder in memory (from `flute_output_tests`):

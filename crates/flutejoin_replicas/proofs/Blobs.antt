@@ -47,8 +47,8 @@ pub piece_of : (bytes more buffer read : List ℕ) (count : ℕ)
 piece_of bytes more buffer read count e same = e ∙ ap (λ xs. bytes ++ take count xs) same
 
 pub piece_fits : (bytes more buffer : List ℕ) (count : ℕ)
-    → more ≡ bytes ++ take count buffer → count ≤ 4294967295 - length bytes → length bytes ≤ 4294967295
-    → length more ≤ 4294967295
+    → more ≡ bytes ++ take count buffer → count ≤ 4294967295 - length bytes
+    → length bytes ≤ 4294967295 → length more ≤ 4294967295
 piece_fits bytes more buffer count e room small =
     let n : length more ≡ length bytes + length (take count buffer) =
     ap length e ∙ length-append bytes (take count buffer) in

@@ -6,7 +6,7 @@ use Rattle.flute_journal.proofs.Common.{inl, inr, ◌⊎◌, sym, ap, ◌∙◌}
 use Rattle.flute_journal.proofs.Common.{subst, arith, cases_Bool, eqb, eqb-false, eqb-true}
 use Rattle.flute_journal.proofs.Common.{slice_get, slice_get_within, same_Some, Address, Fact}
 use Rattle.flute_journal.proofs.Common.{option_list, Behaviour, Advances, heads, place_of}
-use Rattle.flute_journal.proofs.merge_lemmas.GoingOn.{item_at}
+use Rattle.flute_journal.proofs.merge_lemmas.GoingOn.{WentSoFar, all_went, item_at, more_stay}
 use Rattle.flute_journal.proofs.merge_lemmas.LeadFacts.{set_elsewhere}
 use Rattle.flute_journal.proofs.merge_lemmas.LowestFacts.{heads-more}
 use Rattle.flute_journal.proofs.merge_lemmas.RankFacts.{comes-behind, elsewhere}
@@ -14,6 +14,7 @@ use Rattle.std.proofs.Common.{slice_index}
 use Rattle.flute_parts.specs.declared.key.Key.{Key}
 use Rattle.flute_journal.specs.declared.merge.ranks.Ranks.{Ranks}
 use Rattle.flute_journal.specs.{
+  Advances.{GoOnAt},
   Lowest.{ComesTo},
   Ranks.{AreAbove, AreLow, AreRanked, HoldsFrom, IsRanking, place_at_rank},
 }
@@ -86,6 +87,18 @@ module _ {S : Type 0} (b : Behaviour S) (key : Key) where
   passed_elsewhere a rank k n {ranks = ranks} at above h j s l r i =
       elsewhere a key rank (slice_index ranks j) (b.held s) at (above j l r)
       (h.from j s (inl l) i)
+
+  -- where the streams from k on have higher ranks, all at the address went on
+  pub went_all : (a : Address) {rank k n : ℕ} {known : Bool} {old now : List S}
+      {ranks : List ℕ} → a ≡ place_at_rank key rank → AreAbove rank k n ranks
+      → AreRankedFrom k known now ranks → k ≤ n → length now ≡ n
+      → WentSoFar b (Some a) k old now → GoOnAt b (Some a) old now
+  went_all a {rank = rank} {k = k} {n = n} {old = old} {now = now} at above h few all went =
+      let apart = passed_elsewhere a rank k n at above h in
+      let more =
+      more_stay b (Some a) (n - k) k n old now (omega (arith, few)) (omega (arith, all)) apart
+      went in
+      all_went b (Some a) n old now more (omega (arith, all))
 
   -- the stream with this number was advanced, and ranked if `set`
   pub record Reranked (k : ℕ) (set : Bool) (old new : List S)

@@ -64,7 +64,7 @@ pub fn check_header(bytes: &[u8]) -> Result<Version, ReadFault>
 
 /// Looks at what follows the byte 255 of a journal of so many entries, and at one byte
 /// more if there is one.
-#[tactic(auto, using(crate::proofs::format_lemmas::Decoded::end_read, crate::proofs::Numbers::octets))]
+#[tactic(auto, using(crate::proofs::Cited::end_read, crate::proofs::Cited::octets))]
 pub fn check_end(count: u64, bytes: &[u8]) -> Result<(), ReadFault>
     requires { length bytes.now ≤ 9 }
     ensures { Parses 9 (λ _. bytes.now ≡ in_bytes 8 count) (end_fault count) bytes.now result }
@@ -168,7 +168,7 @@ fn next_in(last: &Address, bytes: &[u8]) -> Option<(SymbolId, u16)>
 }
 
 /// Whether these are the bytes of this key in version 2, and it names a file.
-#[tactic(auto, using(crate::proofs::format_lemmas::SameFile::key_named, crate::proofs::Numbers::octets))]
+#[tactic(auto, using(crate::proofs::Cited::key_named, crate::proofs::Cited::octets))]
 #[inline(always)]
 pub fn names_file(bytes: &[u8], key: &Key) -> bool
     requires { length bytes.now ≡ key_size Two }
@@ -182,7 +182,7 @@ pub fn names_file(bytes: &[u8], key: &Key) -> bool
 }
 
 // Whether these are the bytes that name the file with this key, but for its sender.
-#[tactic(auto, using(crate::proofs::format_lemmas::SameFile::file_named, crate::proofs::Numbers::octets))]
+#[tactic(auto, using(crate::proofs::Cited::file_named, crate::proofs::Cited::octets))]
 #[inline(always)]
 fn is_file_in(bytes: &[u8], key: &Key) -> bool
     requires { length bytes.now ≡ 21 }
@@ -274,7 +274,7 @@ fn is_after(last: &Option<Address>, key: &Key, part: Part) -> bool
 }
 
 // What follows the key of an entry of information.
-#[tactic(auto, using(crate::proofs::format_lemmas::Decoded::info_read, crate::proofs::Numbers::octets))]
+#[tactic(auto, using(crate::proofs::Cited::info_read, crate::proofs::Cited::octets))]
 fn information_at(last: &Option<Address>, key: Key, bytes: &[u8]) -> Result<EntryHead, ReadFault>
     requires key { IsKey key }
     requires most { length bytes.now ≤ 12 }

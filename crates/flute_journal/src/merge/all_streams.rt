@@ -90,7 +90,7 @@ pub fn merge_all<const SESSIONS: u32, const OBJECTS: u32, const SYMBOLS: u32, G:
 ///
 /// The fault of the first stream, in their order, that has one: those before one that stopped are
 /// read to their ends. What was appended is then no journal of anything.
-#[tactic(auto, using(crate::proofs::merge_lemmas::Finished::stopped_of, crate::proofs::merge_lemmas::Finished::gave_of))]
+#[tactic(auto, using(crate::proofs::Cited::stopped_of, crate::proofs::Cited::gave_of))]
 pub fn join_streams<
     const SESSIONS: u32,
     const OBJECTS: u32,

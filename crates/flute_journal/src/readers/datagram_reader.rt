@@ -138,7 +138,7 @@ fn read_first<R: Source>(
 }
 
 // Reads the magic number and the version.
-#[tactic(auto, using(crate::proofs::framing_lemmas::ReadsUpTo::parsed_fails, crate::proofs::framing_lemmas::ReadsUpTo::parsed_memory))]
+#[tactic(auto, using(crate::proofs::Cited::parsed_fails, crate::proofs::Cited::parsed_memory))]
 fn read_header<R: Source>(source: &mut R) -> Result<(), ReadFault>
     ensures reads { Reads (λ _. file_header) (λ _. Unit {0}) (opening_fault file_header)
         (R.unread source.old) (R.unread source.new) result }

@@ -205,7 +205,7 @@ fn read_in_place<R: Source>(
 }
 
 // The next entry of a journal whose reader has this state, and its state afterwards.
-#[tactic(auto, using(crate::proofs::readers_lemmas::Calls::gives_entries, crate::proofs::readers_lemmas::Calls::entry_wanted))]
+#[tactic(auto, using(crate::proofs::Cited::gives_entries, crate::proofs::Cited::entry_wanted))]
 #[inline(always)]
 fn read_at<R: Source>(
     alloc: Global,
@@ -239,7 +239,7 @@ fn read_at<R: Source>(
 }
 
 // The same, but the bytes are read field by field.
-#[tactic(auto, using(crate::proofs::readers_lemmas::Calls::gives_entries, crate::proofs::readers_lemmas::Calls::reads_entries))]
+#[tactic(auto, using(crate::proofs::Cited::gives_entries, crate::proofs::Cited::reads_entries))]
 #[inline(never)]
 fn read_fields<R: Source>(
     alloc: Global,

@@ -55,6 +55,8 @@ impl<R: Source + Drop> PeekedSource<R> {
         ensures begins { IfOk result (λ peeked. Begins (take peeked.count peeked.first)
             (R.unread source) (R.unread peeked.source)) }
         ensures given { IfOk result (λ peeked. peeked.given ≡ 0) }
+        ensures failures { IfOk result
+            (λ peeked. R.failures peeked.source ≡ R.failures source) }
         ensures only { IfErr result (λ f. f ≡ Read) }
     {
         let mut source = source;

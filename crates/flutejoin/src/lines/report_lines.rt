@@ -1,5 +1,6 @@
 //! Lines, written to a sink.
-ghost use Rattle.std.specs.Prelude.{◌≡◌, ◌+◌, ◌<◌, ◌≤◌, ◌++◌, length, vec_len, codes, if◌then◌else◌, is_ok, OnOk, IfErr};
+ghost use Rattle.std.specs.Prelude.{◌≡◌, ◌+◌, ◌≤◌, ◌++◌, length, codes, if◌then◌else◌, is_ok};
+ghost use Rattle.std.specs.Prelude.{OnOk, IfErr};
 ghost use Rattle.std.specs.Io.KnownBytes.{Appends};
 ghost use Rattle.hex.specs.Hex.{encode_lower};
 ghost use Rattle.flute_parts.specs.Devices.{Writes, AppendsPart};
@@ -11,7 +12,6 @@ use crate::command_fault::CommandFault;
 use crate::lines::hex_digits::HexDigits;
 use crate::lines::text::Text;
 use flute_parts::{DeviceFault, Sink};
-use std::alloc::AllocError;
 
 /// Writes a line of some words, of at most 511 bytes.
 ///
@@ -85,19 +85,4 @@ pub fn count_to<W: Sink>(word: &str, count: u64, sink: &mut W) -> Result<(), Com
         Ok(()) => Ok(()),
         Err(_) => Err(CommandFault::CannotWrite),
     }
-}
-
-/// Appends a line of some words to lines in memory.
-///
-/// # Errors
-///
-/// If there is no memory for it. The lines are as before then.
-pub fn push_line(lines: &mut Vec<u8>, mut words: Text) -> Result<(), AllocError>
-    requires { length words + 1 ≤ 512 }
-    ensures line { lines.new.items
-        ≡ (if is_ok result then lines.old.items ++ line words else lines.old.items) }
-    ensures longer { OnOk result (vec_len lines.old < vec_len lines.new) }
-{
-    words.push("\n");
-    lines.extend_from_slice(words.as_slice())
 }

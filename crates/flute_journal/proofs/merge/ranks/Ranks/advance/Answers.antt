@@ -2,10 +2,11 @@
 use Rattle.flute_journal.proofs.{
   Common.{◌≡◌, ◌≢◌, ◌+◌, ◌-◌, ◌∙◌, length, Some, ap, subst, sym},
   Common.{refl, arith, place_of},
-  merge_lemmas.GoingOn.{WentSoFar, all_went, item_at, more_stay, one_goes, one_stays, one_stops},
+  merge_lemmas.GoingOn.{WentSoFar, item_at, more_stay, one_goes, one_stays, one_stops},
   merge_lemmas.GoingOn.{same_length},
   merge_lemmas.RankFacts.{same_place},
   merge_lemmas.RankedStreams.{AreRankedFrom, Reranked, passed_elsewhere, rest_from, rest_moved},
+  merge_lemmas.RankedStreams.{went_all},
 }
 use Rattle.flute_journal.specs.Ranks.{AreLow, HoldsFrom, place_at_rank}
 use Rattle.flute_journal.specs.declared.merge.{advance.Advanced.{Advanced}, ranks.Ranks.{Ranks}}
@@ -132,36 +133,16 @@ loop-number-preserved g c =
 
 pub returns-then-not-known-clause-go_on : goal.returns-then-not-known-clause-go_on
 returns-then-not-known-clause-go_on g c =
-    let b = g.G.Stream.Stream.behaviour in
-    let old = g.G.Streams.streams c.args.streams.now in
-    let now = g.G.Streams.streams c.loop-number.streams in
     let i = c.loop-number.invariant in
-    let rank = c.number_of-rank.result in
-    let all = c.count-all.result in
-    let at : c.args.place ≡ place_at_rank c.args.place.key rank =
-    same_place c.args.place c.args.place.key rank refl c.number_of-rank.ensures in
-    let apart =
-    passed_elsewhere b c.args.place.key c.args.place rank c.loop-number.next all at
-    (c.in_default.ensures.none refl) i.ranked in
-    let went =
-    more_stay b (Some c.args.place) (all - c.loop-number.next) c.loop-number.next all old now
-    (omega (arith, i.next)) (omega (arith, i.all)) apart i.went in
-    all_went b (Some c.args.place) all old now went (omega (arith, i.all))
+    let at = same_place c.args.place c.args.place.key c.number_of-rank.result refl
+    c.number_of-rank.ensures in
+    went_all g.G.Stream.Stream.behaviour c.args.place.key c.args.place at
+    (c.in_default.ensures.none refl) i.ranked i.next i.all i.went
 
 pub returns-else-not-known-clause-go_on : goal.returns-else-not-known-clause-go_on
 returns-else-not-known-clause-go_on g c =
-    let b = g.G.Stream.Stream.behaviour in
-    let old = g.G.Streams.streams c.args.streams.now in
-    let now = g.G.Streams.streams c.loop-number.streams in
     let i = c.loop-number.invariant in
-    let rank = c.number_of-rank.result in
-    let all = c.count-all.result in
-    let at : c.args.place ≡ place_at_rank c.args.place.key rank =
-    same_place c.args.place c.args.place.key rank refl c.number_of-rank.ensures in
-    let apart =
-    passed_elsewhere b c.args.place.key c.args.place rank c.loop-number.next all at
-    (c.in_default.ensures.none refl) i.ranked in
-    let went =
-    more_stay b (Some c.args.place) (all - c.loop-number.next) c.loop-number.next all old now
-    (omega (arith, i.next)) (omega (arith, i.all)) apart i.went in
-    all_went b (Some c.args.place) all old now went (omega (arith, i.all))
+    let at = same_place c.args.place c.args.place.key c.number_of-rank.result refl
+    c.number_of-rank.ensures in
+    went_all g.G.Stream.Stream.behaviour c.args.place.key c.args.place at
+    (c.in_default.ensures.none refl) i.ranked i.next i.all i.went
