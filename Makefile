@@ -3,8 +3,8 @@
 #                    trials, the program, the tools, the sessions of README, of docs/OPERATING.md,
 #                    the man pages and the tutorial, the completion, the longest journal, and memory
 #                    refused in turn
-# make wrong-bodies  all wrong bodies: also second ones of a function, which the gate leaves out,
-#                    and those that `rt ci` tries
+# make wrong-bodies  all wrong bodies: also those of functions that no other crate can call, and
+#                    second ones of a function, which the gate leaves out
 # make try           runs a first session, from the datagrams of two stations to the file, with the
 #                    program as it stands and nothing proved, in a minute or two
 # make example       runs a small session: a file sent, received at three stations, joined and
@@ -44,9 +44,14 @@ bin/flutejoin: $(SOURCES)
 	@tools/build.sh
 
 test test-program test-tools: export FLUTEJOIN = $(abspath $(BUILT))
+# `rt ci` proves one crate above another, so a processor is often free: it runs the trials, and tries
+# the wrong bodies of the crates whose libraries are built by then.
 test:
-	rt ci
-	$(MAKE) --no-print-directory --jobs=2 --output-sync=line test-wrong-bodies test-trials
+	rm -rf crates/*/out/rlib
+	trap 'trap - TERM; kill 0' INT TERM; \
+	rt ci & proofs=$$!; \
+	nice -n 19 tests/trials.sh && nice -n 19 tools/wrong_bodies.py --while $$proofs; others=$$?; \
+	wait $$proofs && exit $$others
 	$(MAKE) --no-print-directory --jobs=2 --output-sync=line test-program test-tools
 
 # The built program, and the pages that show it
@@ -82,13 +87,6 @@ test-tools:
 	tests/station.py "$(FLUTEJOIN)"
 	tests/test_package.py
 
-# Neither waits for anything but the processor.
-test-wrong-bodies:
-	tools/wrong_bodies.py
-
-test-trials:
-	tests/trials.sh
-
 wrong-bodies:
 	tools/wrong_bodies.py --all
 
@@ -120,6 +118,7 @@ install: $(PROGRAM)
 	install -m 644 packaging/example.toml "$(EXAMPLES)"
 	install -m 755 $(SCRIPTS) "$(EXAMPLES)"
 	sed 's|/usr/bin/|$(PREFIX)/bin/|' "packaging/$(UNIT)" > "$(UNITS)/$(UNIT)"
+	chmod 644 "$(UNITS)/$(UNIT)"
 
 uninstall:
 	rm -f "$(BIN)/flutejoin" $(TOOLS:%="$(BIN)/%")
@@ -133,5 +132,5 @@ deb: $(PROGRAM)
 clean:
 	rm -rf bin crates/*/out
 
-.PHONY: test test-wrong-bodies test-trials test-program test-tools wrong-bodies soak scale try \
-	example install uninstall deb clean
+.PHONY: test test-program test-tools wrong-bodies soak scale try example install \
+	uninstall deb clean

@@ -1,9 +1,10 @@
 #!/usr/bin/env python3
-"""captures.py SENT PERCENT OUT..: makes captures (pcap) of what stations see of a datagram file.
+"""captures.py SENT PERCENT OUT..: makes a packet capture (pcap) of each of several stations.
 
-Each OUT is that of one station, of the datagram file SENT. The sender is 10.0.0.1, the group
-239.1.1.1, the port 4001. Each station loses about PERCENT of the datagrams, and other ones. Which
-they are depends on a station's place among the OUTs alone, so the example is the same each time.
+SENT is the datagram file that was sent, and each OUT the capture of one station. The sender is
+10.0.0.1, the group 239.1.1.1, the port 4001. Each station loses about PERCENT of the datagrams, but
+different ones. Which it loses depends only on its place among the OUTs, so the example is the same
+each time.
 """
 from __future__ import annotations
 

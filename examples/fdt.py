@@ -1,8 +1,8 @@
 #!/usr/bin/env python3
 """fdt.py TOI LOCATION FILE [TOI LOCATION FILE]..: prints an FDT Instance (RFC 6726) of files.
 
-Of each file these are the number of its object, the name that it gets and the file that is sent.
-The packets of `flutejoin carousel` have the transmission information, so none is told here.
+For each file these are the TOI of its object, the name that it gets, and the file that is sent. The
+FDT Instance has no FEC OTI, since the packets of `flutejoin carousel` have it.
 """
 from __future__ import annotations
 

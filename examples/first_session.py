@@ -47,12 +47,12 @@ def main() -> None:
     cases = os.path.join(folder, "cases")
     os.mkdir(cases)
     for number, command in enumerate(COMMANDS, 1):
-        # The program is run in a folder of its own.
+        # The program runs in a folder of its own.
         words = [
             os.path.join(folder, word) if word in FILES else word for word in command.split()
         ]
         with open(os.path.join(cases, f"{number}"), "wb"):
-            pass  # its standard input
+            pass  # standard input
         with open(os.path.join(cases, f"{number}.args"), "w", encoding="utf-8") as file:
             file.writelines(f"{word}\n" for word in words)
 

@@ -1,14 +1,14 @@
 #!/bin/sh
-# Adds an input to a journal that grows for long, in levels: levels.sh STORE INPUT [WORD..]
+# Adds an input to a store that grows for a long time, in levels: levels.sh STORE INPUT [WORD..]
 #
-# STORE is a folder of levels, each a folder of at most seven journals. When the eighth comes they
-# are joined to one of the next level, so what is kept is written again once for each level, and not
-# with each input. WORDs go to the join of INPUT, as --source 0a000001 of a datagram file.
+# STORE is a folder of levels, each a folder of at most seven journals. With the eighth they
+# are joined into one of the next level: so each entry is written again once for each level, and not
+# with each input. WORDs are options for the join of INPUT, as --source 0a000001.
 #
 #   flutejoin join --any-size -o - STORE/*/*[0-9] | flutejoin gaps --any-size -
-#                                                             asks all that was added
+#                                                             finds the gaps of all inputs
 #
-# A kill may leave journals twice, which changes no result, and a file .partial, which the next run
+# A kill may leave journals twice, which changes no result, and a .partial file, which the next run
 # removes: give it the same INPUT again. Two runs in one STORE wait for one another (flock).
 set -eu
 program=${FLUTEJOIN:-flutejoin}

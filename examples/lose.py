@@ -1,8 +1,8 @@
 #!/usr/bin/env python3
 """lose.py IN OUT PERCENT SEED: copies a datagram file without some of its records.
 
-OUT has those of IN but for about PERCENT of them. Which records are lost depends on SEED alone, so
-the example is the same each time.
+OUT lacks about PERCENT of the records of IN. Which ones depends only on SEED, so the example is the
+same each time.
 """
 from __future__ import annotations
 

@@ -1,15 +1,16 @@
 #!/bin/sh
-# Brings what a station received since the last push to a centre: push.sh STATION TARGET COMMAND..
+# Sends what a station received since the last push to a centre: push.sh STATION TARGET COMMAND..
 #
 #   push.sh /var/lib/flutejoin/news journals/north ssh centre
 #
 # STATION is the folder of a flutejoin-station with --outbox. TARGET is a folder at the centre, of
-# this station alone; it gets a journal for each sender. COMMAND runs a line of commands there, its
+# this station alone; each sender gets a journal there. COMMAND runs a line of commands there, its
 # last word: ssh does, and `sh -c` does on this machine. flutejoin is on the PATH of both.
 #
 # A journal leaves the outbox once the centre has it on its disk. What a kill or a lost connection
-# leaves is sent again by the next run, and what came twice is one.
+# leaves is sent again by the next run, and what arrives twice counts once.
 set -eu
+unset CDPATH # with it cd prints where it goes
 outbox=$1/outbox target=$2
 shift 2
 case $target in *[!A-Za-z0-9._/-]* | '' | -*)
@@ -21,15 +22,14 @@ esac
     echo "push.sh: there is no $outbox: the station runs without --outbox" >&2
     exit 3
 }
-# One push at a time: of two joins into one journal, which overlap, one could lose what the other
-# brings.
+# One push at a time: if two joins into one journal overlapped, one could lose what the other adds.
 exec 9< "$outbox"
 flock -n 9 || {
     echo "push.sh: another push of $outbox is under way" >&2
     exit 1
 }
 
-# senders: whose journals wait. Their names have no spaces; after each come a time and .journal
+# senders: those whose journals wait. A name has no spaces, and is followed by a time and .journal
 senders() {
     for path in "$outbox"/*.journal; do
         name=${path##*/}
@@ -38,23 +38,32 @@ senders() {
     done | sort -u
 }
 
-# push SENDER COMMAND..: a join that fails here sends no whole journal, so that there fails too.
+# push SENDER JOURNAL COMMAND..: a join that fails here sends no whole journal, so that there fails
+# too. A journal there that is full stays under another name, and the next run begins another.
 push() {
-    name=$1.journal
-    new=$(cd "$outbox" && printf '%s\n' "$1".[0-9]*.journal | head -n 64)
-    shift
-    # shellcheck disable=SC2086
-    (cd "$outbox" && flutejoin join --any-size -o - $new 2> /dev/null) |
+    name=$1.journal full="$1.\$(date +%Y%m%d%H%M%S).journal" new=$2
+    shift 2
+    (cd "$outbox" && flutejoin join --any-size -o - "$new" 2> /dev/null) |
         "$@" "mkdir -p $target && cd $target && old= && { [ ! -e $name ] || old=$name; } &&
-            flutejoin join --any-size -o $name \$old - > /dev/null && sync $name ." &&
-        (cd "$outbox" && rm -f $new)
+            if told=\$(flutejoin join --any-size -o $name \$old - 2>&1); then
+                sync $name .
+            else
+                echo \"\$told\" >&2
+                [ \"\$told\" != full ] || mv $name $full
+                false
+            fi" &&
+        (cd "$outbox" && rm -f "$new")
 }
 
 status=0
 for sender in $(senders); do
-    push "$sender" "$@" || {
-        echo "push.sh: $sender is not pushed, and stays in $outbox" >&2
-        status=1
-    }
+    for path in "$outbox/$sender".[0-9]*.journal; do
+        # The station may have joined it with others meanwhile.
+        [ ! -e "$path" ] || push "$sender" "${path##*/}" "$@" || {
+            echo "push.sh: $sender is not pushed, and stays in $outbox" >&2
+            status=1
+            break
+        }
+    done
 done
 exit $status

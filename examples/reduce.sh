@@ -3,13 +3,13 @@
 #
 #   reduce.sh LIST OUT COMMAND..
 #
-# LIST has the name of an input on each line. COMMAND reads lines of commands and runs them in any
-# order, on any machine that has this folder and flutejoin on its PATH; it fails where one failed,
+# LIST has the name of one input on each line. COMMAND reads lines of commands and runs them in any
+# order, on any machine that has this folder and flutejoin on its PATH; it fails if one does,
 # and then OUT stays what it was. On this machine, on four processors:
 #
 #   reduce.sh list all xargs -d '\n' -n 1 -P 4 sh -c
 #
-# A line that is run twice, also at once, does no harm. OUT has letters, digits and . _ / - alone.
+# A line that is run twice, also at once, does no harm. OUT has only letters, digits and . _ / -
 set -eu
 list=$1 out=$2
 shift 2

@@ -1,8 +1,8 @@
 #!/bin/sh
 # One session, received at three stations: session.sh PROGRAM
 #
-# A file is cut into datagrams. Each station loses other datagrams, and keeps what it received as a
-# journal. The journals are joined, what is missing shrinks, and the file comes out whole.
+# A file is sent as datagrams. Each station loses other datagrams, and keeps what it received as a
+# journal. The journals are joined, the gaps shrink, and the file is extracted whole.
 set -eu
 program=$(realpath "$1")
 here=$(dirname "$(realpath "$0")")

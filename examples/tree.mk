@@ -1,27 +1,27 @@
-# Hundreds of journals or datagram files joined as a tree, where only what changed is joined again.
+# Joins hundreds of journals or datagram files as a tree: only what changed is joined again.
 #
 #   make -f examples/tree.mk -j4 INPUTS=stations OUT=all
 #
 # INPUTS     a folder: each file in it and below it is an input, but for those that end in .partial
-# PATTERN    of these only the names that match, as '*.journal'
-# LIST       a file with the name of an input on each line, in the place of INPUTS
+# PATTERN    takes only the names that match, as '*.journal'
+# LIST       instead of INPUTS: a file with the name of an input on each line
 # OUT        the journal of all inputs
-# TREE       a folder for the journals between, and for the list of each join
+# TREE       a folder for the intermediate journals, and for the list of each join
 # FANIN      the greatest number of inputs of a join, from 2 to 64
-# SOURCE     the sender of the inputs that are datagram files (--source). Without it the tools'
-#            names give it, as 10.0.0.1.fldg; with it one of another name stops
+# SOURCE     the sender of the inputs that are datagram files (--source). Without it the sender is
+#            in the names that the tools give, as 10.0.0.1.fldg; a name with another sender stops
 # FLUTEJOIN  the program
 #
-# An input is joined again, with the path from it to OUT, where its file has other times, another
-# length or another place on the disk; where one is added; and where one is taken away, and then OUT
-# has no more what it alone had. An input stays in its group, and a new one fills a free place. To
-# group anew, remove TREE.
+# An input is joined again, with the path from it to OUT, if its file has other times, another
+# length or another place on the disk; if it is added; and if it is removed, and then OUT loses
+# what only it had. An input stays in its group, and a new one fills a free place. To
+# make new groups, remove TREE.
 #
 # Names of inputs are UTF-8 without line feeds. OUT and TREE may have letters, digits and
-# . _ + , @ / - alone. Anything else stops before the first join.
+# . _ + , @ / - only. Anything else stops before the first join.
 #
-# Each join replaces its output whole or not at all. Where one fails, the input at fault is named,
-# OUT stays what it was, and the next run goes on from there; with -k the joins beside it are done
+# Each join replaces its output whole or not at all. If one fails, the input at fault is named,
+# OUT stays what it was, and the next run continues there; with -k the other joins are done
 # first. One make at a time may work in a TREE.
 #
 # Needed: GNU make and the GNU tools of Linux.
@@ -59,6 +59,6 @@ $(OUT): $(TREE)/out.list
 $(TREE)/%.journal: $(TREE)/%.list
 	@$(call quoted,$(STEPS)) join $(call quoted,$(FLUTEJOIN)) $@ $<
 
-# The plan is written above.
+# The step above writes the plan.
 $(TREE)/plan.mk: ;
 $(TREE)/%.list: ;

@@ -4,7 +4,7 @@
 # tree_steps.sh plan INPUTS LIST PATTERN OUT TREE FANIN SOURCE
 #     puts the inputs into groups, writes the list of each join where it changed, and TREE/plan.mk
 # tree_steps.sh join PROGRAM OUTPUT LIST
-#     joins what a list names, and names the input that is at fault
+#     joins the inputs of a list, and names the input that is at fault
 #
 # A line of a list is a stamp, a space and a name. The stamp of a station's file changes when the
 # file does. It begins with the sender's address, in 32 digits, if that is known, and a colon.
@@ -17,7 +17,7 @@ stop() {
     exit 1
 }
 
-# plain WHAT TEXT: names that are used in make's rules
+# plain WHAT TEXT: stops unless the text can be used in make's rules
 plain() {
     case $2 in
     '' | -* | *[!A-Za-z0-9._+,@/-]*)
@@ -50,13 +50,13 @@ named() {
     fi
 }
 
-# stamped NAMES: a stamp and the name of each
+# stamped NAMES: prints a stamp and the name for each
 stamped() {
     tr '\n' '\0' < "$1" | xargs -0 -r stat -L --printf '%d:%i:%s:%.9Y:%.9Z %n\n' --
 }
 
-# sourced STAMPED SOURCE: the same, with the sender before each stamp: SOURCE, or of a datagram file
-# the one in the name that flutejoin-receive and flutejoin-capture give it
+# sourced STAMPED SOURCE: the same, with the sender before each stamp: SOURCE, or for a datagram
+# file the sender in the name that flutejoin-receive and flutejoin-capture gave it
 sourced() {
     awk -v source="$2" '
         function stop(text) {
@@ -86,7 +86,7 @@ sourced() {
             while (at && length(front back) < 32) front = front "0"
             return front back ~ /^[0-9a-f]*$/ && length(front back) == 32 ? front back : ""
         }
-        # address TEXT: its 32 digits, of IPv6 with hyphens as its colons, and what follows in
+        # address TEXT: its 32 digits. IPv6 may have hyphens as its colons. What follows is put into
         # `rest`
         function address(text,   words, count, i) {
             count = split(text, words, ".")
@@ -95,7 +95,7 @@ sourced() {
                 rest = rest "." words[i]
             return count >= 4 && words[4] ~ /^[0-9]+$/ ? ipv4(words) : ipv6(words[1])
         }
-        # sender NAME: the address in the name, and its epoch in `epoch`
+        # sender NAME: the address in the name; its epoch is put into `epoch`
         function sender(name,   digits) {
             sub(/.*\//, "", name)
             if (!sub(/\.(fldg|journal)$/, "", name)) return ""
@@ -135,7 +135,7 @@ sourced() {
         }' "$1"
 }
 
-# check NAMES: stops at a name that cannot be handed on
+# check NAMES: stops at a name that cannot be passed on
 check() {
     [ -s "$1" ] || stop 'there are no inputs'
     if grep -q "$(printf '\001')" "$1"; then
@@ -155,7 +155,7 @@ plan() {
     work=$(mktemp -d -- "$5/plan.XXXXXX")
     trap 'rm -rf -- "$work"' EXIT
     named "$1" "$2" "$3" "$4" "$5" > "$work/all"
-    # No name is an option or standard input, and each is there once.
+    # No name is an option or standard input, and each occurs once.
     sed -e '/^$/d' -e 's|^-|./-|' "$work/all" | awk '!seen[$0]++' > "$work/names"
     check "$work/names"
     stamped "$work/names" > "$work/unsourced" || stop 'an input is not there'
@@ -169,8 +169,8 @@ plan() {
     replace "$work" "$5"
 }
 
-# groups WORK FANIN: a group for each name, of one sender. A name stays where it is; a new one fills
-# a place that is free.
+# groups WORK FANIN: a group for each name, all of one sender. A name stays in its group; a new one
+# fills a free place.
 groups() {
     awk -v fanin="$2" -v kept="$1/kept" '
         {
@@ -249,7 +249,8 @@ nodes() {
         }' "$1/grouped"
 }
 
-# replace WORK TREE: the lists that changed, and no list or journal of a join that is none any more
+# replace WORK TREE: replaces the lists that changed, and removes those, and the journals, of joins
+# that are gone
 replace() {
     for new in "$1"/*.list "$1/plan.mk"; do
         old=$2/${new##*/}
@@ -265,8 +266,8 @@ replace() {
 join() {
     [ "$(wc -l < "$3")" -le 64 ] || stop "$3 names more than 64 inputs"
     sender=$(head -n 1 "$3" | sed -n 's/^\([0-9a-f]*\):.*/\1/p')
-    # With -x xargs stops where the names are too long for one command, so that a list is joined in
-    # one command or not at all.
+    # With -x xargs stops if the names are too long for one command, so a list is joined in one
+    # command or not at all.
     if told=$(cut -d ' ' -f 2- "$3" | tr '\n' '\0' |
         xargs -0 -x -n 64 "$1" join --any-size -o "$2" ${sender:+"--source=$sender"} 2>&1); then
         entries=$(echo "$told" | sed -n 's/^entries //p')

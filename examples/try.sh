@@ -1,9 +1,9 @@
 #!/bin/sh
-# A first session, with the program as it stands and nothing proved: try.sh
+# A first session, with the program as it is and nothing proved: try.sh
 #
-# Two stations receive parts of a file (first_session.py); their datagram files become journals,
-# these are joined, and the file comes out. `rt try` builds the program once, with checks at run
-# time, and runs each command in a folder of its own; so the words are paths.
+# Two stations receive parts of a file (first_session.py); their datagram files are joined into
+# journals, the journals are joined, and the file is extracted. `rt try` builds the program once,
+# with checks at run time, and runs each command in a folder of its own; so the words are paths.
 set -eu
 here=$(dirname "$(realpath "$0")")
 work=$(mktemp -d)

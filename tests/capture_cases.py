@@ -1,5 +1,5 @@
 #!/usr/bin/env python3
-"""What flutejoin-capture makes of rare and hostile captures, which are made here.
+"""Tests what flutejoin-capture makes of rare and hostile captures, which this file makes.
 
 No program is needed. usage: tests/capture_cases.py
 """
@@ -33,7 +33,7 @@ IP = b"\x08\0"
 
 
 def packet(symbol: bytes, information: int | None = None, tsi: int = 7) -> bytes:
-    """A datagram of FLUTE, with EXT_FTI for symbols of so many bytes or without."""
+    """A FLUTE packet; with `information` it has EXT_FTI for symbols of so many bytes."""
     words = 4 if information is None else 8
     head = struct.pack(">BBBBIII", 0x10, 0xA0, words, 0, 0, tsi, 1)
     if information is not None:
@@ -42,7 +42,7 @@ def packet(symbol: bytes, information: int | None = None, tsi: int = 7) -> bytes
 
 
 def frame(payload: bytes, checksum: bool = True, tags: bytes = b"") -> bytes:
-    """The Ethernet frame of a UDP datagram, with its checksum or one that is filled in later."""
+    """The Ethernet frame of a UDP datagram, with a right or a wrong checksum."""
     data = captures.udp(SENDER, GROUP, payload)
     data = data if checksum else data[:6] + b"\x12\x34" + data[8:]
     return ETHERNET + tags + IP + captures.ip4(SENDER, GROUP, 17, data)
@@ -76,19 +76,19 @@ class Cases(unittest.TestCase):
         return subprocess.run(command, capture_output=True, text=True, timeout=60)
 
     def listed(self, data: bytes, *options: str) -> list[str]:
-        """What a list of a capture prints, and its faults behind."""
+        """The lines that the tool prints for a capture, and then its faults."""
         ran = self.run_tool(*options, self.made(data))
         return (ran.stdout + ran.stderr.replace(self.folder + "/", "")).splitlines()
 
     def taken(self, data: bytes, *options: str) -> list[bytes]:
-        """The datagrams that come of a capture."""
+        """The datagrams that the tool takes from a capture."""
         self.run_tool("--port", "4001", *options, "-o", self.path("out"), self.made(data))
         path = self.path("out/10.0.0.1.fldg")
         return list(datagram_files.read(path)) if os.path.exists(path) else []
 
 
 class Segments(Cases):
-    """Datagrams that UDP segmentation offload has as one, with --any-checksum."""
+    """Datagrams in one piece, by UDP segmentation offload, with --any-checksum."""
 
     told = "left out 1: " + flutejoin_datagrams.SEVERAL
 
@@ -102,11 +102,11 @@ class Segments(Cases):
     def test_what_may_be_several_is_left_out_and_told(self) -> None:
         session = packet(b"a" * 600, 1000) + packet(b"b" * 600, 1000, tsi=8)
         for payload in (
-            b"".join(packet(b"y" * 1000) for _ in range(20)),  # nothing tells their length
+            b"".join(packet(b"y" * 1000) for _ in range(20)),  # no symbol length
             b"".join(packet(b"y" * 400) for _ in range(3)),  # in one frame
-            b"".join(packet(b"y" * 400, 1000) for _ in range(3)),  # shorter than it tells
+            b"".join(packet(b"y" * 400, 1000) for _ in range(3)),  # shorter than that length
             packet(b"z" * 2000, 1000),  # no datagram begins where the second would
-            session,  # nor one of that session
+            session,  # one of another session
         ):
             data = pcap([frame(payload, checksum=False), frame(packet(b"right", 5))])
             self.assertEqual(self.taken(data, "--any-checksum"), [packet(b"right", 5)])
@@ -217,7 +217,7 @@ class Epochs(Cases):
     """A sender that starts again."""
 
     def files(self, frames: list[bytes], times: list[int] | None = None, *options: str) -> dict:
-        """The datagrams of each file that comes of a capture; what is printed stays in `ran`."""
+        """The datagrams of each file that is made of a capture; the run itself is kept in `ran`."""
         folder = self.path("out")
         made = self.made(pcap(frames, times))
         self.ran = self.run_tool("--port", "4001", *options, "-o", folder, made)
@@ -266,10 +266,10 @@ class Epochs(Cases):
     def test_what_is_no_contradiction(self) -> None:
         sent = [
             instance(b"1"),
-            instance(b"2", 2),  # another Instance
+            instance(b"2", 2),  # another FDT Instance
             instance(b"3", tsi=8),  # of another session
             packet(b"4", 5),
-            packet(b"5", 5),  # files may conflict: each value stays, and flutejoin tells
+            packet(b"5", 5),  # symbols of files may conflict: each value is kept
             b"no FLUTE",
             b"x",
         ]
@@ -284,10 +284,18 @@ class Epochs(Cases):
         self.assertIn(told, self.ran.stdout.splitlines())
         for name in found:
             os.remove(self.path("out/" + name))
-        # Once a minute another one may begin.
+        # Another epoch may begin once a minute.
         sent = [instance(b"%d" % n) for n in range(10)]
         found = self.files([frame(of) for of in sent], [60 * n for n in range(10)])
         self.assertEqual(len(found), 10)
+
+    def test_captures_that_are_not_in_the_order_of_their_times(self) -> None:
+        """A week by the names of its days: each day the sender starts again."""
+        times = [86400 * day for day in (4, 0, 5, 6, 3, 1, 2)]
+        sent = [instance(b"of day %d" % (time // 86400)) for time in times]
+        found = self.files([frame(of) for of in sent], times)
+        self.assertEqual(sorted(found.values()), sorted([of] for of in sent))
+        self.assertNotIn("left out", self.ran.stdout)
 
 
 def instance(content: bytes, number: int = 1, tsi: int = 7, length: int = 40) -> bytes:
@@ -313,7 +321,7 @@ class Forms(Cases):
         self.assertIn("1 datagrams", told[0])
         damage = "is damaged (more than 65536 interfaces); the packets before that were read"
         self.assertEqual(told[1:], [f"flutejoin-capture: capture: {damage}"])
-        # Each section has its own.
+        # Each section has its own interfaces.
         self.assertEqual(len(self.listed(most + most)), 1)
 
     def test_modified_pcap(self) -> None:
@@ -376,7 +384,7 @@ class Gzip(Cases):
 
     def test_what_stands_before_damage_is_taken(self) -> None:
         for at in range(1000, len(self.data), 1997):
-            # A block of a kind that is none, behind stored bytes
+            # A block of a kind that doesn't exist, after stored bytes
             data = gzip_stored(self.data[:at]) + b"\xff" * 50
             count = (at - 24) // (16 + len(frame(self.sent[0])))
             self.assertEqual(self.taken(data), self.sent[:count])
@@ -407,7 +415,7 @@ class Gzip(Cases):
 
 
 def gzip_stored(data: bytes) -> bytes:
-    """The begin of a gzip file that has data as one stored block."""
+    """The start of a gzip file that contains data as one stored block."""
     head = b"\x1f\x8b\x08\0\0\0\0\0\0\xff"
     return head + b"\0" + struct.pack("<HH", len(data), len(data) ^ 0xFFFF) + data
 

@@ -80,7 +80,7 @@ class Inputs(Case):
         self.same("the file in spite of that", "full/10.0.0.1.fldg", "got1")
 
     def test_full_disk(self) -> None:
-        """4,096 bytes hold 3 datagrams."""
+        """The limit of 4,096 bytes leaves room for 3 datagrams."""
         limits = {resource.RLIMIT_FSIZE: 4096}
         for form in "gzip", "ethernet":
             words = f"--port 4001 -o disk.{form} made/{form}"
@@ -102,7 +102,7 @@ class Growing(Case):
     """A capture that grows on standard input."""
 
     def grows(self, name: str, *sent: signal.Signals, hangup: signal.Handlers = SIG_DFL) -> None:
-        """The signals end it; `hangup` is how it takes one at first."""
+        """The signals end the run; `hangup` is its handler of SIGHUP at the start."""
         words = [sys.executable, TOOL, "--port", "4001", "-o", f"live.{name}", "-"]
         child = self.start(words, signals={SIGHUP: hangup, SIGINT: SIG_DFL})
         content = self.read("made/ipv6")
@@ -113,7 +113,7 @@ class Growing(Case):
         self.assertTrue(has_bytes, name)
         for number in sent:
             child.send_signal(number)
-        # What the program that captures hands over at its end
+        # What the capturing program sends at its end
         child.stdin.write(content[21_000:41_000])
         child.stdin.flush()
         child.wait(run.LONGEST)
@@ -133,7 +133,7 @@ class Growing(Case):
         self.grows("INT", SIGINT)
         self.grows("TERM", SIGTERM)
         self.grows("HUP", SIGHUP)
-        # A hangup is none of them where it is ignored. Of two that are, the second ends it at once.
+        # An ignored hangup does not count. Of two signals that count, the second ends it at once.
         self.grows("nohup", SIGHUP, SIGINT, hangup=SIG_IGN)
 
     def test_pipe(self) -> None:
@@ -145,7 +145,7 @@ class Growing(Case):
 
 
 class Damaged(Case):
-    """Damaged captures: no traceback, status 0 or 1, and what comes out are datagram files."""
+    """Damaged captures: no traceback, status 0 or 1, and the outputs are datagram files."""
 
     COUNT = 200
     OF = "ethernet", "pcapng", "sll2", "fragments", "gzip", "pcapng_sections", "loopback", "headers"

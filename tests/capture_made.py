@@ -1,5 +1,5 @@
-"""Captures of two senders of one session and one object, of which each has its own bytes; a station
-lost some of both. tests/captures.py writes them, by its rows."""
+"""Captures of two senders that send one session and one object with different bytes; the station
+lost some datagrams of both. tests/captures.py writes the captures from these rows."""
 from __future__ import annotations
 
 import pathlib
@@ -21,7 +21,7 @@ ICMP = "13: ICMP error that quotes a datagram"
 LOST = "6: a fragment is lost"
 TWO, BOTH = "10.0.0.1=got1 10.0.0.2=got2", "10.0.0.1=got1 2001:db8::1=got2"
 ONE, SIX = "10.0.0.1=got1", "2001:db8::1=got1"
-# Of each capture: its name, how it is made, and what is left out of it
+# For each capture: its name, its options, and what is left out of it
 TABLE = f"""
 ethernet|--other --pad {TWO}|
 ipv6|--other --pad {BOTH}|
@@ -139,13 +139,13 @@ class Case(run.Case):
         return [line for line in done.lines() if line.startswith("flutejoin join ")]
 
     def join(self, name: str, done: Run) -> None:
-        """Runs the lines that join each sender's files as they are printed."""
+        """Runs the commands that join each sender's files, as the tool printed them."""
         script = "\n".join(["set -e", *self.lines_to_join(done)])
         self.check(f"{name}: the lines to join", self.shell(script), 0, None)
 
     def joined(self, name: str, done: Run, folder: str, kept: str) -> None:
-        """The lines make the journals that the program makes of the datagram files of the folder
-        KEPT, and each file that was made has one of these senders."""
+        """The commands make the same journals as the program makes of the datagram files of KEPT,
+        and each file that was made has one of these senders."""
         self.join(name, done)
         files: list[pathlib.Path] = sorted(self.path(kept).iterdir())
         for path in files:

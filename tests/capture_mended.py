@@ -1,4 +1,4 @@
-"""What killed writers left: flutejoin-mend."""
+"""Tests flutejoin-mend on files that killed writers left."""
 from __future__ import annotations
 
 import os
@@ -16,7 +16,7 @@ TOOL = ROOT / "tools" / "flutejoin-mend"
 WHOLE = "got1 is whole: 23 datagrams; nothing is written, use it as it is"
 NEITHER = "is neither a datagram file nor a journal"
 THERE = "is there already: left by a run that was killed, or being written"
-# A mend waits until its bytes are on the disk, which here never comes to pass.
+# A mend waits until its bytes are on the disk, which never happens here.
 WAITS = """
 import os, runpy, sys, time
 os.fsync = lambda _file: time.sleep(600)
@@ -60,7 +60,7 @@ class Mended(Case):
         return self.helper("run", TOOL, "lines").out.decode().splitlines()
 
     def small(self) -> None:
-        """A datagram file, a journal with each kind of entry, and the same in version 1."""
+        """Makes a datagram file, a journal with each kind of entry, and its version 1."""
         self.write("hello", "hello")
         self.write("help", "help!")
         of = "--tsi 7 --toi 1 --symbol 2 --block 2"
@@ -76,7 +76,7 @@ class Mended(Case):
 
 
 class EachByte(Mended):
-    """Mending of what is cut at each byte."""
+    """Mends files that are cut at each byte."""
 
     def test_cuts(self) -> None:
         self.small()
@@ -104,7 +104,7 @@ class EachByte(Mended):
         self.same(f"{file}: it is part of the whole", "merged", "wanted")
 
     def test_other_faults(self) -> None:
-        """They are told by the names that the program gives them."""
+        """Other faults are reported by the names that the program gives them."""
         self.small()
         self.path("faults").mkdir()
         self.helper("damage", "faults", 90, "more", "old", "small")
@@ -207,7 +207,7 @@ class MendSignals(Mended):
     def ended(
         self, name: str, status: int | None, *sent: signal.Signals, hangup: signal.Handlers
     ) -> None:
-        """The signals end it; `hangup` is how it takes one at first."""
+        """The signals end the run; `hangup` is its handler of SIGHUP at the start."""
         words = [sys.executable, "-c", WAITS, TOOL, "-o", "whole", "cut.fldg"]
         child = self.start(words, signals={SIGHUP: hangup, SIGINT: SIG_DFL})
         self.assertTrue(until(lambda: self.exists("whole.mending")), name)

@@ -43,8 +43,8 @@ def ipv6_and_ipv4(folder: str) -> str:
 
 
 class Rows(Case):
-    """The datagrams that a capture has whole and right come to the same journals, and the others
-    are counted."""
+    """A capture's whole, undamaged datagrams give the same journals as those that were sent, and
+    the others are counted."""
 
     def test_captures(self) -> None:
         self.captures(*ROWS)
@@ -134,8 +134,7 @@ class SendingHost(Case):
         self.same("all datagrams", "sender/10.0.0.1.fldg", "got1")
 
     def test_most_checksums_fail(self) -> None:
-        """Each checksum of a datagram that is sent from this very host is filled in by its network
-        card."""
+        """The network card fills in the checksums of what this host itself sends."""
         self.rows_made("sending", "whole|10.0.0.1=sent1")
         data, place = bytearray(self.read("sending/whole")), 24
         while place < len(data):
@@ -154,7 +153,7 @@ class SendingHost(Case):
         self.capture_row("a list", "unfilled", 1, wrong, said(hint, NONE))
 
     def test_offload(self) -> None:
-        """20 datagrams of a sender at a time, which its network card takes apart later."""
+        """A sender passes 20 datagrams at once to its network card, which splits them."""
         source, target = b"\x0a\0\0\1", b"\xef\1\1\1"
         sent = [*datagram_files.read(str(self.path("sent1")))]
         frames = []
@@ -172,8 +171,7 @@ class SendingHost(Case):
 
 
 class Epochs(Case):
-    """A sender that starts again: its FDT Instance 1 has other contents, and its object other
-    bytes."""
+    """A sender that restarts: its FDT Instance 1 has other contents, and its object other bytes."""
 
     def test_epochs(self) -> None:
         runs = []
@@ -203,7 +201,7 @@ class Epochs(Case):
 
 class Parts(Case):
     def test_split(self) -> None:
-        """Files in parts, in a folder that has a file."""
+        """Files in parts, in a folder that already contains a file."""
         self.captures("ethernet")
         self.path("a folder").mkdir()
         self.write("a folder/kept", "before")
@@ -239,7 +237,7 @@ class Parts(Case):
         self.check("a file has as many as are read", done, 0, wanted)
 
     def test_names(self) -> None:
-        """That the shell would take apart."""
+        """Names that a shell would split."""
         self.captures("ethernet")
         self.write("it's", "x")
         text = said("cannot make the folder ./it's: File exists")
@@ -254,7 +252,7 @@ class Parts(Case):
 
 
 class There(Case):
-    """What is there already is never touched."""
+    """Files that are already there are never touched."""
 
     def setUp(self) -> None:
         super().setUp()

@@ -1,23 +1,23 @@
 #!/usr/bin/env python3
-"""Captures for tests/test_capture.py, written by Python's own library.
+"""Makes captures for tests/test_capture.py, with nothing but Python's own library.
 
   captures.py make ROWS FOLDER
-      of each row NAME|OPTIONS|.. of a file: FOLDER/NAME, a capture of the datagram files that its
+      for each row NAME|OPTIONS|.. of a file: FOLDER/NAME, a capture of the datagram files that the
       options name, and FOLDER/NAME.kept/SENDER, a datagram file of those datagrams that the capture
-      has whole and right
+      contains whole and undamaged
   captures.py damage FOLDER COUNT FILE..
-      copies of captures in which bytes drawn at random, with a fixed seed, are others
+      copies of captures in which random bytes, with a fixed seed, are changed
   captures.py cuts FILE FOLDER
       FOLDER/N, the first N bytes of a file, for each N
   captures.py version1 FILE OUT
-      a journal of version 2 in version 1: its entries without their senders, once they are all of
-      one
+      a journal of version 2 as one of version 1: its entries without their sender, which must be
+      the same in all
   captures.py mended FILE FOLDER
-      whether FOLDER/N, for each N, is what stands whole in the first N bytes of a file, as a right
-      file
+      checks for each N that FOLDER/N is a valid file of the whole records or entries in the first N
+      bytes of FILE
   captures.py run TOOL LIST
-      runs a tool with the words of each line of a list, and tells its status and standard error, a
-      line for each run
+      runs a tool with the words of each line of a list, and prints its status and standard error,
+      in one line for each run
 """
 from __future__ import annotations
 
@@ -76,7 +76,7 @@ LINKS = {  # the link type, and what stands before an IP packet of version 4 and
     "loop": (108, b"\0\0\0\2", b"\0\0\0\x18"),
     "wifi": (105, b"\0" * 32, b"\0" * 32),
 }
-Frame = Tuple[int, bytes, int]  # its link type, its bytes and its length
+Frame = Tuple[int, bytes, int]  # the link type, the bytes and the length of a frame
 SPOILT = (3, 8, 13)  # the datagrams of each sender that an option spoils
 
 
@@ -135,7 +135,7 @@ def fragments(source: bytes, target: bytes, data: bytes, number: int, size: int)
 
 
 class Capture:
-    """A capture that is made: IP packets in their order, as one of them is told by `options`."""
+    """A capture that is made: IP packets in their order, as `options` describes it."""
 
     def __init__(self, options: argparse.Namespace) -> None:
         self.options, self.draw, self.number = options, random.Random(22), 0
@@ -144,9 +144,9 @@ class Capture:
         self.last: Optional[str] = None
 
     def send(self, sender: str, payload: bytes, count: int) -> None:
-        """A datagram of a sender, its `count`th.
+        """Adds a sender's datagram, its `count`th.
 
-        It is whole and right unless it is one of those that an option spoils.
+        It is whole and undamaged, unless an option spoils it.
         """
         address = ipaddress.ip_address(sender)
         source, target = address.packed, ipaddress.ip_address(GROUPS[address.version]).packed
@@ -183,7 +183,7 @@ class Capture:
         return packet[:8] + b"\7" + packet[9:] if spoil == "header" else packet
 
     def lose(self, pieces: list[bytes], spoil: Optional[str]) -> list[bytes]:
-        """What comes of the fragments of a datagram."""
+        """The fragments of a datagram that are left after this fault."""
         first = pieces[0]
         head = 20 if first[0] >> 4 == 4 else 48
         other = first[:-1] + bytes([first[-1] ^ 1])
@@ -193,7 +193,7 @@ class Capture:
             return pieces[1:]
         if spoil == "repeat":
             return [*pieces, pieces[1], pieces[0]]
-        if spoil == "overlap":  # another first fragment, which says other bytes
+        if spoil == "overlap":  # another first fragment, with other bytes
             return [other, *pieces]
         if spoil == "overlong" and head == 20:  # a fragment that reaches into the next one
             longer = first[20:] + b"\0" * 8
@@ -214,7 +214,7 @@ class Capture:
         return ip6(router, source, 58, body[:2] + struct.pack(">H", total) + body[4:])
 
     def others(self, count: int) -> None:
-        """What else is on a network: another port, TCP, a tunnel, what is no IP."""
+        """Adds other traffic: another port, TCP, a tunnel, packets that are not IP."""
         source, target = b"\x0a\0\0\x63", b"\xef\1\1\2"
         if self.options.other and count % 5 == 0:
             other_port = udp(source, target, b"not FLUTE %d" % count, 5353)
@@ -230,7 +230,7 @@ class Capture:
             self.packets.append(ip4(source, b"\xc0\0\2\1", 17, outer))
 
     def fill(self) -> None:
-        """All datagrams of all senders, each sender's in their order."""
+        """Adds all datagrams of all senders, those of each sender in order."""
         waiting = {}
         for word in self.options.sent:
             sender, name = word.split("=")
@@ -243,7 +243,7 @@ class Capture:
             sent[sender] += 1
             self.last = sender
             self.others(count)
-        if self.options.disorder:  # a packet comes before up to that many others
+        if self.options.disorder:  # a packet comes before up to that many earlier ones
             places = {
                 id(packet): at + self.draw.random() * self.options.disorder
                 for at, packet in enumerate(self.packets)
@@ -251,7 +251,7 @@ class Capture:
             self.packets.sort(key=lambda packet: places[id(packet)])
 
     def frames(self) -> Iterator[Frame]:
-        """Link type, bytes and length of each frame, as the capture has them."""
+        """Yields the link type, the bytes and the length of each captured frame."""
         names = itertools.cycle(self.options.link.split(","))
         for packet in self.packets:
             link, *heads = LINKS[next(names)]
@@ -277,9 +277,10 @@ def block(order: str, number: int, body: bytes) -> bytes:
 
 
 def pcapng(frames: list[Frame], order: str, kind: int, snap: int) -> bytes:
-    """Blocks of packets of a kind: enhanced (6), simple (3) or old (2).
+    """A section of pcapng whose packets are in blocks of one kind: enhanced (6), simple (3) or old
+    (2).
 
-    There are blocks of other things among them.
+    Blocks of other kinds are among them.
     """
     links = list(dict.fromkeys(link for link, _frame, _length in frames))
     section = struct.pack(order + "IHHq", 0x1A2B3C4D, 1, 0, -1)
@@ -287,7 +288,7 @@ def pcapng(frames: list[Frame], order: str, kind: int, snap: int) -> bytes:
     made = [block(order, 0x0A0D0D0A, section)]
     made += [block(order, 1, struct.pack(order + "HHI", link, 0, snap)) for link in links]
     for at, (link, frame, length) in enumerate(frames):
-        if at % 7 == 0:  # interface statistics, and a block of nobody's
+        if at % 7 == 0:  # interface statistics, and a block of an unknown kind
             made.append(block(order, 5, struct.pack(order + "III", 0, 0, at)))
             made.append(block(order, 0x0BAD0BAD, b"\0" * 70000))
         if kind == 6:
@@ -304,7 +305,7 @@ def pcapng(frames: list[Frame], order: str, kind: int, snap: int) -> bytes:
 
 
 def sections(frames: list[Frame], snap: int) -> bytes:
-    """Two sections, each with its order of bytes."""
+    """Two sections, each with its own byte order."""
     half = len(frames) // 2
     return pcapng(frames[:half], "<", 6, snap) + pcapng(frames[half:], ">", 6, snap)
 
@@ -352,7 +353,7 @@ def make(name: str, words: list[str]) -> None:
     for sender, payloads in capture.kept.items():
         if options.cut and sender == capture.last:  # the last packet is cut
             payloads = payloads[:-1]
-        if options.snap > 1100:  # one that cuts less cuts each datagram of these tests
+        if options.snap > 1100:  # a smaller one would cut each datagram of these tests
             datagram_files.write(os.path.join(name + ".kept", sender), payloads)
 
 
@@ -362,7 +363,7 @@ def damage(folder: str, count: str, names: list[str]) -> None:
         with open(names[number % len(names)], "rb") as file:
             data = bytearray(file.read())
         for _ in range(draw.choice((1, 1, 2, 5, 20))):
-            # Half of them in the first bytes, where the headers stand
+            # Half of them in the first bytes, where the headers are
             data[draw.randrange(draw.choice((80, len(data))))] = draw.randrange(256)
         if number % 5 == 0:
             del data[draw.randrange(len(data)) :]
@@ -379,9 +380,9 @@ def cuts(name: str, folder: str) -> None:
 
 
 def pieces(data: bytes) -> Iterator[bytes]:
-    """The records of a datagram file, or the entries of a journal, by their lengths.
+    """The records of a datagram file, or the entries of a journal, split by their lengths.
 
-    docs/FORMATS.md has the formats.
+    The formats are in docs/FORMATS.md.
     """
     if data.startswith(datagram_files.HEADER):
         yield from datagram_files.records(data)
@@ -430,9 +431,9 @@ def mended(name: str, folder: str) -> None:
 
 
 def run(tool: str, name: str) -> None:
-    """Runs a tool many times in children of one Python, which has its modules already.
+    """Runs a tool many times, in children of one Python that has loaded its modules already.
 
-    It is the same as with a Python for each run, and sooner.
+    The result is that of a new Python for each run, but sooner.
     """
     sys.path.insert(0, os.path.dirname(os.path.realpath(tool)))
     sys.dont_write_bytecode = True

@@ -1,19 +1,19 @@
-/* Stands between a program and its files, to show what it asks of the disk and to fail on purpose.
+/* Wraps a program's calls on files, to show its requests to the disk and to fail on purpose.
    It is loaded before a program by LD_PRELOAD.
 
-   Each call of fsync and of rename that is made is a line on descriptor 9: `fsync NAME`, and
+   It writes a line to descriptor 9 for each call of fsync and of rename: `fsync NAME`, and
    `rename NAME to NAME`, with the last parts of the paths.
 
-   DISK in the environment names what is to happen besides:
+   DISK in the environment names a fault:
      lost        no fsync of a file succeeds: EIO
-     unnamed     no fsync of a folder does: EIO
-     unnameable  nor here: EINVAL, as of a file system that has no such call for folders
-     modeless    no file gets another mode: EPERM
-     parts       a write of more than one byte takes half of them
-     taken       as the first file is locked, its name goes to another, which has a lock: what was
-                 locked is then NAME.moved
+     unnamed     no fsync of a folder succeeds: EIO
+     unnameable  the same with EINVAL, as on a file system that can't sync folders
+     modeless    no mode of a file can be changed: EPERM
+     parts       a write of more than one byte writes half of them
+     taken       when the first file is locked, another file, locked too, gets its name: the first
+                 is then NAME.moved
 
-   No header is read, so that a compiler without the C library's can compile it. */
+   It includes no header, so that it compiles without those of the C library. */
 
 typedef unsigned long size;
 
@@ -57,7 +57,7 @@ static int fails(int why) {
     return -1;
 }
 
-/* Puts text at the end of a line, as far as there is room. */
+/* Appends text to a line, as far as there is room. */
 static void put(char *line, const char *text) {
     size n = length(line);
     while (*text && n < ROOM - 2) line[n++] = *text++;

@@ -31,7 +31,7 @@ SENDERS = [0, 0xFFFF0A090001, (0x20010DB8 << 96) + 1]
 
 @dataclass(frozen=True, order=True)
 class Name:
-    """An object: the tag is 0 of an FDT Instance, and 1 of a file."""
+    """An object's name. The tag is 0 for an FDT Instance, and 1 for a file."""
 
     sender: int
     tsi: int
@@ -39,7 +39,7 @@ class Name:
     number: int
 
     def file(self) -> str:
-        """The name of its file."""
+        """The name of the file that `extract --all` writes for the object."""
         object_name = f"fdt{self.number}" if self.tag == 0 else str(self.number)
         return f"{self.sender:032x}-{self.tsi}-{object_name}"
 
@@ -48,7 +48,7 @@ class Name:
         return self.sender.to_bytes(16, "big") + tsi + bytes([self.tag]) + number
 
     def words(self) -> list[str]:
-        """The options that name it."""
+        """The options that name the object."""
         words = ["--source", f"{self.sender:032x}", "--tsi", str(self.tsi)]
         if self.tag == 0:
             return [*words, "--toi", "0", "--fdt", str(self.number)]
@@ -57,7 +57,7 @@ class Name:
 
 @dataclass
 class Object:
-    """What a journal has of an object. A symbol without a value is in conflict."""
+    """What a journal contains of an object. A symbol without a value is in conflict."""
 
     information: tuple[int, int, int] | None = None
     is_in_conflict: bool = False
@@ -95,7 +95,7 @@ def whole(length: int, symbol: int, block: int) -> Object:
 
 
 def random_object(chance: random.Random) -> Object:
-    """Whole, or with one or two things wrong."""
+    """A random object: whole, or with one or two faults."""
     length, symbol = chance.choice([0, 1, 7, 8, 40, 123]), chance.choice([1, 4, 8])
     told = whole(length, symbol, chance.choice([1, 2, 5]))
     places = sorted(told.symbols)
@@ -155,12 +155,12 @@ class ExtractAll(unittest.TestCase):
         return ran.stdout.decode()
 
     def first_lines(self) -> list[str]:
-        """The line of `gaps` for each object."""
+        """The first line that `gaps` prints for each object."""
         told = run("gaps", self.journal).stdout.decode().splitlines()
         return [line for line in told if not line.startswith("gap ")]
 
     def expect(self, objects: dict[Name, Object], names: list[Name], *words: str) -> None:
-        """The files and lines of these objects, each as `extract` and `gaps` have it."""
+        """Compares the files and lines of these objects with those of `extract` and `gaps`."""
         lines = dict(zip(sorted(objects), self.first_lines(), strict=True))
         files = {}
         for name in names:
@@ -312,7 +312,7 @@ class ExtractAll(unittest.TestCase):
         self.assertEqual(self.files(), files)
 
     def test_full(self) -> None:
-        """A file may have 1,024 bytes more or less, so that a write fails."""
+        """A file may have at most some 1,024 bytes, so a write fails."""
         objects = {Name(0, 7, 1, toi): whole(700 * toi, 500, 4) for toi in range(1, 4)}
         self.journal.write_bytes(journal_of(objects))
         limit = f"ulimit -f 1; trap '' XFSZ; exec '{PROGRAM}' extract --all -o '{self.out}' "

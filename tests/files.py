@@ -1,6 +1,6 @@
 #!/usr/bin/env python3
-"""Named files out of journals, as tools/flutejoin-files writes them: sessions with FDT Instances in
-XML are sent to datagram files, joined and written, and the files compared byte for byte.
+"""Tests tools/flutejoin-files: sessions with FDT Instances in XML are made into datagram files,
+joined, and written as named files, which are compared byte for byte.
 
 Each run of the tool has at most 64 MB of data in memory. usage: tests/files.py PROGRAM [NAME..]
 """
@@ -23,10 +23,10 @@ from flute_sender import EXPIRES, Sent, fdt, instance, packets
 
 
 class Sessions(Case):
-    """Sessions as senders make them."""
+    """Whole sessions, as senders send them."""
 
     def news(self) -> list[Sent]:
-        """21 files, half of them with their transmission information in the FDT alone."""
+        """21 files; for half of them only the FDT has the FEC OTI."""
         sent = []
         for toi in range(1, 22):
             content = text(toi, 700 * toi)
@@ -47,7 +47,7 @@ class Sessions(Case):
         return {file.location.removeprefix("http://"): file.content for file in sent}
 
     def stations(self, sent: list[Sent]) -> list[str]:
-        """The journals of three stations that lost some, and of one that received all files."""
+        """The journals of three stations that lost packets, and of one that lost none."""
         draw = random.Random(3)
         first, second = instance(7, 1, fdt(sent[:9])), instance(7, 2, fdt(sent, EXPIRES + 60))
         every = [packet for file in sent for packet in file.packets(7)]
@@ -194,7 +194,7 @@ class Sessions(Case):
         self.assertEqual(self.tree(), {"h/1": b"", "h/2": b"", "h/3": b""})
 
     def test_version_1(self) -> None:
-        """A journal without senders is read too."""
+        """A journal without senders, of version 1, is read too."""
         file = Sent(1, text(1), "http://h/a", is_in_packets=False)
         self.journal("new", instance(7, 1, fdt([file])), file.packets(7), sender="::")
         command = [sys.executable, HERE / "captures.py", "version1", "new", "old"]

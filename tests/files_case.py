@@ -36,7 +36,7 @@ def md5(data: bytes) -> str:
 
 
 class Answer:
-    """What a run of the tool told."""
+    """The result of a run of the tool."""
 
     def __init__(self, done: subprocess.CompletedProcess) -> None:
         self.status = done.returncode
@@ -44,6 +44,8 @@ class Answer:
 
 
 class Case(unittest.TestCase):
+    environment: dict[str, str] = {}  # beside that of the test
+
     def setUp(self) -> None:
         self.folder = pathlib.Path(tempfile.mkdtemp())
         self.addCleanup(shutil.rmtree, self.folder)
@@ -55,7 +57,7 @@ class Case(unittest.TestCase):
 
     def start(self, *words: object, **more: Any) -> subprocess.Popen:
         command = [sys.executable, TOOL, "--flutejoin", self.program, *words]
-        environment = {**os.environ, "TMPDIR": str(self.folder / "tmp")}
+        environment = {**os.environ, "TMPDIR": str(self.folder / "tmp"), **self.environment}
         return subprocess.Popen(
             [*map(str, command)],
             cwd=self.folder,
@@ -67,7 +69,7 @@ class Case(unittest.TestCase):
         )
 
     def files(self, *words: object, status: int | None = 0) -> Answer:
-        """Runs the tool. It leaves nothing behind but FOLDER, and no traceback."""
+        """Runs the tool, and checks that it leaves nothing but FOLDER and prints no traceback."""
         self.runs.write_text("")
         child = self.start(*words)
         self.addCleanup(child.kill)
@@ -82,7 +84,7 @@ class Case(unittest.TestCase):
         return answer
 
     def journal(self, name: str, *of: list[bytes], sender: str = SENDER) -> str:
-        """Makes a journal of packets."""
+        """Makes a journal of packets, and returns its name."""
         sent = [packet for group in of for packet in group]
         datagrams = self.folder / f"{name}.fldg"
         datagrams.write_bytes(datagram_files.content(sent))

@@ -1,4 +1,4 @@
-"""Cases of tests/files.py: XML, names and contents of somebody who wants harm."""
+"""Cases of tests/files.py: XML, names and contents of an attacker."""
 from __future__ import annotations
 
 import contextlib
@@ -21,10 +21,10 @@ def raw_deflate(data: bytes) -> bytes:
 
 
 class Hostile(Case):
-    """XML of somebody who wants harm."""
+    """XML of an attacker."""
 
     def refused(self, xml: bytes, told: str) -> None:
-        """An FDT Instance is refused with a line, and the other goes on."""
+        """Checks that an FDT Instance is refused with this line, and that the other one is used."""
         file = Sent(1, text(1), "http://h/a")
         self.journal("all", instance(7, 1, fdt([file])), file.packets(7))
         (self.folder / "fdt.xml").write_bytes(xml)
@@ -64,7 +64,7 @@ class Hostile(Case):
         self.files("--list", "--fdt", "fdt.xml", "all", status=1)
 
     def test_many_described(self) -> None:
-        """The memory of a run has a bound, whatever FDT Instances describe."""
+        """The memory of a run is bounded, whatever FDT Instances describe."""
         names = ["\U0001f600" * 450, "\U000e0001" * 450]
         file = Sent(9000, text(1), "http://h/a")
         self.journal("all", instance(7, 1, fdt([file], EXPIRES + 9)), file.packets(7))
@@ -76,7 +76,7 @@ class Hostile(Case):
         answer = self.files("-o", "files", *words, "all", status=1)
         self.assertIn("FDT Instance fdt2: more than 16384 files in all", answer.err)
         self.assertEqual(self.tree()["h/a"], file.content)
-        # Of many Instances that describe the same files these count once.
+        # Many Instances that describe the same files count once.
         files = [Sent(toi, b"", f"http://h/{toi}") for toi in range(1, 1000)]
         sent = [instance(7, number, fdt(files, EXPIRES + number)) for number in range(1, 40)]
         self.journal("all", *sent)
@@ -84,7 +84,7 @@ class Hostile(Case):
         self.assertEqual(answer.err, "")
 
     def test_many_gaps(self) -> None:
-        """Datagrams of 37 bytes have 65,535 gaps each, of which the list has none to show."""
+        """Each of these datagrams of 37 bytes makes 65,535 gaps, which the list doesn't show."""
         file = Sent(1, text(1), "http://h/a")
         stray = packets(7, 2, b"x" * 65_536, 1, 1)[0]
         strays = [stray[:12] + struct.pack(">I", toi) + stray[16:] for toi in range(2, 400)]
@@ -96,7 +96,7 @@ class Hostile(Case):
         self.assertIn("  399  65,536       -  in no FDT Instance: 1 symbol\n", answer.out)
 
     def test_many_empty_files(self) -> None:
-        """Files of no bytes that an FDT Instance alone describes, more than a store holds."""
+        """Only an FDT Instance describes these empty files, which are more than a store holds."""
         file = Sent(9000, text(1), "http://h/a", is_in_packets=False)
         many = [Sent(toi, b"", f"http://h/{toi}") for toi in range(1, 8000)]
         self.journal("all", instance(7, 1, fdt([file, *many])), file.packets(7))
@@ -113,7 +113,7 @@ class Hostile(Case):
         self.refused(fdt([])[:-3], "is no XML: .*")
 
     def test_compressed(self) -> None:
-        """An FDT Instance may be compressed; what comes out of it has the same bounds."""
+        """An FDT Instance may be compressed; the same bounds apply to its decompressed bytes."""
         file = Sent(1, text(1), "http://h/a")
         xml = fdt([file])
         for number, whole in enumerate((gzip.compress(xml), zlib.compress(xml)), 1):
@@ -127,7 +127,7 @@ class Hostile(Case):
         self.refused(gzip.compress(large[:26] + b"<!--" + large), "a tag or a comment of more .*")
 
     def test_damaged(self) -> None:
-        """Of 200 damaged FDT Instances, each in the journal, none ends the run."""
+        """200 damaged FDT Instances in a journal: none ends the run."""
         draw, file = random.Random(1), Sent(1000, text(1), "http://h/a")
         groups = [instance(7, 1000, fdt([file], EXPIRES + 100)), file.packets(7)]
         for number in range(1, 201):
@@ -144,7 +144,7 @@ class Hostile(Case):
         self.assertEqual(self.tree()["h/a"], file.content)
 
     def test_damaged_alone(self) -> None:
-        """2,000 more, read by the module alone."""
+        """2,000 more damaged FDT Instances, read without the tool."""
         draw, path = random.Random(2), self.folder / "fdt.xml"
         whole = fdt([Sent(toi, b"", f"http://h/{toi}\u263a") for toi in range(1, 4)])
         for _ in range(2000):
@@ -158,7 +158,7 @@ class Hostile(Case):
 
 
 class Names(Case):
-    """Names that lead elsewhere, or that several files have."""
+    """Names that lead out of the folder, or that several files share."""
 
     HOSTILE = {
         "http://h/../../../etc/passwd": "h/etc/passwd",
@@ -198,6 +198,17 @@ class Names(Case):
         self.assertEqual(self.tree(), wanted)
         self.assertEqual({it for it in self.folder.iterdir() if it.name != "files"}, before)
 
+    def test_an_encoding_without_their_characters(self) -> None:
+        """Where the system has ASCII alone, such a name keeps no other file away."""
+        self.environment = {"LC_ALL": "C", "PYTHONUTF8": "0", "PYTHONCOERCECLOCALE": "0"}
+        names = "http://h/\u00fcber \u263a", "http://h/plain"
+        sent = [Sent(toi, text(toi, 20), name) for toi, name in enumerate(names, 1)]
+        self.session("all", sent)
+        answer = self.files("--list", "-o", "files", "all")
+        paths = "h/%C3%BCber %E2%98%BA", "h/plain"
+        self.assertEqual(self.tree(), {path: of.content for path, of in zip(paths, sent)})
+        self.assertIn("http://h/?ber ?\n", answer.out)
+
     def test_long(self) -> None:
         names = ["a" * 300, "a" * 301, "b" * 300 + ".txt", "\u263a" * 300, "/".join("c" * 200)]
         names += ["/".join(["d" * 100] * 30), "e" * 2000, "e" * 3000, "f" * 240 + "%2F" * 30]
@@ -220,7 +231,7 @@ class Names(Case):
         self.assertEqual(answer.err.count("another file has the name"), 4)
 
     def test_links_are_not_followed(self) -> None:
-        """What stands in FOLDER already leads nowhere."""
+        """Links that are already in FOLDER are not followed."""
         sent = [Sent(toi, text(toi, 20), f"http://h{toi}/a/b") for toi in range(1, 6)]
         self.session("all", sent)
         outside, root = self.folder / "outside", self.folder / "files"
@@ -241,7 +252,7 @@ class Names(Case):
         self.assertIn("not written 5", answer.out)
 
     def test_paths(self) -> None:
-        """Whatever the name is, each part of its path is safe."""
+        """Each part of a path is safe, whatever the name."""
         draw = random.Random(4)
         alphabet = "/./..%2F%2e%00\\~:?#@[]\0\n\x1b\u202e\u263aabc-.\U000e0001"
         for _ in range(20_000):
@@ -255,7 +266,7 @@ class Names(Case):
 
 
 class Content(Case):
-    """What objects hold, and whether it is right."""
+    """The contents of objects, and whether they are right."""
 
     def test_encodings(self) -> None:
         content = text(1, 60_000)
@@ -297,7 +308,7 @@ class Content(Case):
         self.assertEqual(self.tree(), {f"h/{file.toi}": file.content for file in sent})
 
     def test_forged_symbols(self) -> None:
-        """Two forged symbols fill a gap: the object is whole, and its MD5 tells."""
+        """Two forged symbols fill a gap: the object is whole, but its MD5 is wrong."""
         file = Sent(1, text(1, 14_000), "http://h/a")
         forged = bytearray(file.content)
         forged[2800:5600] = b"\0" * 2800
@@ -318,7 +329,7 @@ class Content(Case):
         self.assertEqual(self.tree(), {"h/a": file.content})
 
     def test_bombs(self) -> None:
-        """What is decoded has no more bytes than the FDT tells, or --most."""
+        """Decoded bytes are limited by Content-Length, or by --most."""
         content = b"\0" * 10_000_000
         encoded = gzip.compress(content)
         wrong = {"Content-Encoding": "gzip", "Content-MD5": None}

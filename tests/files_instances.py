@@ -1,4 +1,4 @@
-"""Cases of tests/files.py: what FDT Instances describe, and which of them counts."""
+"""Cases of tests/files.py: what FDT Instances describe, and which of them has priority."""
 from __future__ import annotations
 
 import gzip
@@ -10,10 +10,10 @@ from flute_sender import EXPIRES, Sent, fdt, instance
 
 
 class Instances(Case):
-    """What FDT Instances describe, and which of them counts."""
+    """What FDT Instances describe, and which of them has priority."""
 
     def test_newest(self) -> None:
-        """The one with the later Expires counts, whatever its number."""
+        """The FDT Instance with the later Expires has priority, whatever its number."""
         old = [Sent(1, b"x" * 3000, "http://h/wrong", more={"Content-MD5": md5(b"")})]
         old.append(Sent(2, text(2), "http://h/2"))
         new = [Sent(1, b"x" * 3000, "http://h/right"), Sent(3, text(3), "http://h/3")]
@@ -34,7 +34,7 @@ class Instances(Case):
         self.assertEqual(sorted(self.tree()), ["h/2", "h/3", "h/right"])
 
     def test_of_equal_rank(self) -> None:
-        """Of the same Expires and number the one that was read first counts."""
+        """With the same Expires and number, the one that was read first has priority."""
         for name, location in (("one", "http://h/1"), ("two", "http://h/2")):
             file = Sent(1, text(1), location)
             self.journal(name, instance(7, 1, fdt([file])), file.packets(7))
@@ -68,7 +68,7 @@ class Instances(Case):
         self.assertEqual(self.tree(), {"h/a": new.content})
 
     def test_a_sender_that_starts_again(self) -> None:
-        """Under the same number with another Expires: in conflict in the join, whole in each."""
+        """Two FDT Instances 1 are in conflict when joined, and whole in each journal."""
         one, two = Sent(1, text(1), "http://h/1"), Sent(2, text(2), "http://h/2")
         self.journal("monday", instance(7, 1, fdt([one])), one.packets(7))
         self.journal("tuesday", instance(7, 1, fdt([one, two], EXPIRES + 60)), two.packets(7))
@@ -87,7 +87,7 @@ class Instances(Case):
         (self.folder / "fdt.xml").write_bytes(fdt([one, two]))
         self.files("--list", "-o", "files2", "--fdt", "fdt.xml", "joined")
         self.assertEqual(self.tree("files2"), {"h/1": one.content, "h/2": two.content})
-        # Of the same length it is in conflict in symbols alone.
+        # If both have the same length, only symbols are in conflict.
         self.journal("friday", instance(7, 1, fdt([one], EXPIRES + 60)))
         shutil.copy(self.folder / "monday", self.folder / "sunday")
         answer = self.files("--list", "monday", "friday", "sunday")
@@ -102,7 +102,7 @@ class Instances(Case):
         answer = self.files("--list", "-o", "files", "--fdt", "fdt.xml", "all")
         self.assertIn("FDT Instance fdt.xml, expires 2026", answer.out)
         self.assertEqual(self.tree(), {"h/a": file.content})
-        (self.folder / "None").write_bytes(fdt([file]))  # as no number is named
+        (self.folder / "None").write_bytes(fdt([file]))  # as its number is not given
         answer = self.files("--list", "--fdt", "None", "all")
         self.assertIn("FDT Instance None, expires 2026", answer.out)
         self.journal("other", file.packets(8))
@@ -113,7 +113,7 @@ class Instances(Case):
         self.assertEqual(answer.err, "flutejoin-files: nowhere: No such file or directory\n")
 
     def test_not_whole(self) -> None:
-        """An Instance that came later, and not whole, may describe more."""
+        """A later FDT Instance that is not whole may describe more files."""
         one, many = Sent(1, text(1), "http://h/1"), [Sent(t, b"", "x" * 500) for t in range(2, 9)]
         late = instance(7, 2, fdt(many))
         self.assertGreater(len(late), 1)
@@ -144,7 +144,7 @@ class Instances(Case):
             answer = self.files("--list", "-o", "files", "all")
             self.assertIn("verified  text/html  http://h/a\n", answer.out)
             self.assertEqual(self.tree(), {"h/a": file.content})
-        # What has no namespace at all, entities of XML itself, and an attribute by a prefix
+        # No namespace at all, XML's own entities, and an attribute with a prefix
         xml = (
             '<x:FDT-Instance Expires="4000000000"><x:File TOI="1" y:TOI="5" FEC-OTI-Encoding-Symbol'
             '-Length="1400" FEC-OTI-Maximum-Source-Block-Length="64" Content-Length="5000" '
@@ -157,7 +157,7 @@ class Instances(Case):
             self.assertEqual(self.tree(), {"h/a&b\u263a": file.content})
 
     def test_encoded_without_transfer_length(self) -> None:
-        """Content-Length is that of the decoded file, and no object's length."""
+        """Content-Length is that of the decoded file, not of the object."""
         file = Sent(1, text(1), "http://h/a", gzip.compress(text(1)), is_in_packets=False)
         file.more = {"Content-Encoding": "gzip", "Transfer-Length": None}
         self.session("all", [file])
@@ -187,7 +187,7 @@ class Instances(Case):
         )
 
     def test_packets_disagree(self) -> None:
-        """Information in packets that is another than the FDT's is told, and counts."""
+        """FEC OTI in packets that differs from the FDT's is reported, and has priority."""
         sent = [Sent(toi, text(toi), f"http://h/{toi}") for toi in (1, 2)]
         sent[0].more = {"FEC-OTI-Maximum-Source-Block-Length": 65}
         sent[1].more = {"Transfer-Length": 5001, "Content-Length": 5001}

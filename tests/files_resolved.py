@@ -1,4 +1,4 @@
-"""Cases of tests/files.py: conflicting symbols of which the MD5 shows the right value."""
+"""Cases of tests/files.py: conflicting symbols whose right value the MD5 shows."""
 from __future__ import annotations
 
 import gzip
@@ -14,7 +14,7 @@ class Resolved(Case):
     """Objects that are whole but for a few conflicting symbols."""
 
     def disputed(self) -> tuple[list[Sent], list[list[bytes]], list[list[bytes]]]:
-        """Two files, their packets, and packets that have another value of each symbol."""
+        """Two files, their packets, and packets with another value for each symbol."""
         plain = Sent(1, text(1, 14_100), "http://h/a")
         encoded = Sent(2, text(2, 90_000), "http://h/b", gzip.compress(text(2, 90_000)))
         encoded.more = {"Content-Encoding": "gzip", "Content-MD5": md5(encoded.object)}
@@ -27,7 +27,7 @@ class Resolved(Case):
         return [plain, encoded], [plain.packets(7), encoded.packets(7)], forged
 
     def test_resolve(self) -> None:
-        """A few conflicting symbols are resolved by the MD5, out of datagram files."""
+        """Datagram files have the values of a few conflicting symbols; the MD5 chooses."""
         sent, right, forged = self.disputed()
         some = [forged[0][3], forged[0][7], forged[0][10], forged[1][0], forged[1][9]]
         self.journal("all", instance(7, 1, fdt(sent)), *right, some)
@@ -61,7 +61,7 @@ class Resolved(Case):
         self.assertFalse((self.folder / "fault").exists())
 
     def test_resolve_from_journals(self) -> None:
-        """Each station has one value alone, and the journal of all has neither."""
+        """Each station's journal has one value, and the joined journal has neither."""
         sent, right, forged = self.disputed()
         first = instance(7, 1, fdt(sent))
         self.journal("one", first, right[0], right[1])
@@ -84,7 +84,7 @@ class Resolved(Case):
             self.assertEqual(self.tree(folder), wanted)
 
     def test_not_resolved(self) -> None:
-        """It is told why, and nothing is written."""
+        """The reason is reported, and no file is written."""
         sent, right, forged = self.disputed()
         some = [*forged[0][3:5], forged[1][0]]
         self.journal("all", instance(7, 1, fdt(sent)), *right, some)
@@ -101,7 +101,7 @@ class Resolved(Case):
                 self.assertIn("not resolved: http://h/b (no value of 1 of 1 con", answer.out)
                 self.assertIn("partial 2 (3 symbols", answer.out)
                 self.assertEqual(self.tree("other"), {})
-        # More symbols than are looked at
+        # More conflicting symbols than the tool resolves
         self.journal("many", instance(7, 1, fdt(sent)), *right, forged[0], forged[1][:1])
         words = "many", "--resolve", "--from", "many.fldg", "10.9.0.2.fldg"
         answer = self.files("--list", "-o", "third", *words, status=1)

@@ -1,4 +1,4 @@
-"""Cases of tests/files.py: faults, signals, other runs, memory, and how long it takes."""
+"""Cases of tests/files.py: faults, signals, simultaneous runs, memory and running time."""
 from __future__ import annotations
 
 import contextlib
@@ -19,16 +19,16 @@ from flute_sender import Sent
 
 
 def processor_time() -> float:
-    """Of the children that have ended."""
+    """The processor time of the children that have ended."""
     used = resource.getrusage(resource.RUSAGE_CHILDREN)
     return used.ru_utime + used.ru_stime
 
 
 def wait_for_answers(child: subprocess.Popen[bytes]) -> None:
-    """Waits until the tool answers signals itself, or has ended.
+    """Waits until the tool handles signals itself, or has ended.
 
-    Before its first line a Ctrl-C finds Python, which prints a traceback of its own. Python leaves
-    SIGTERM to the system, and the tool catches it first of all, and ignores it at its end.
+    Before its first line a Ctrl-C ends Python, which prints a traceback of its own. Python leaves
+    SIGTERM to the system; the tool catches it before anything else, and ignores it at its end.
     """
     bit = 1 << (signal.SIGTERM - 1)
     while child.poll() is None:
@@ -41,7 +41,7 @@ def wait_for_answers(child: subprocess.Popen[bytes]) -> None:
 
 
 class Runs(Case):
-    """Faults, signals, other runs, and how long it takes."""
+    """Faults, signals, simultaneous runs, and running time."""
 
     def setUp(self) -> None:
         super().setUp()
@@ -112,7 +112,7 @@ class Runs(Case):
         self.files("-o", "files", "all")
 
     def test_a_full_disk(self) -> None:
-        """Where nothing can be written FOLDER is as it was, and nothing is left."""
+        """If nothing can be written, FOLDER is unchanged, and no other file is left."""
         large = Sent(2, text(2, 300_000), "http://h/b", gzip.compress(text(2, 300_000)))
         large.more = {"Content-Encoding": "gzip"}
         self.session("large", [large])
@@ -127,7 +127,7 @@ class Runs(Case):
             self.assertEqual([*self.folder.glob("files*/**/*")], [])
 
     def test_signals(self) -> None:
-        """A run that is stopped leaves no work, and of FOLDER what is whole."""
+        """A run that is stopped leaves no temporary folder, and only whole files in FOLDER."""
         many = [Sent(toi, text(toi, 3000), f"http://h/{toi}") for toi in range(1, 200)]
         self.session("many", many)
         wanted = {f"h/{file.toi}": file.content for file in many}
@@ -151,7 +151,7 @@ class Runs(Case):
         self.assertEqual(self.tree(), wanted)
 
     def wait_for_work(self) -> None:
-        """Waits until what a killed run began has ended."""
+        """Waits until the children of a killed run have ended."""
         with contextlib.suppress(FileNotFoundError):
             work = os.open(self.folder / "files.partial", os.O_RDONLY)
             fcntl.flock(work, fcntl.LOCK_EX)
@@ -180,7 +180,7 @@ class Runs(Case):
             self.assertEqual(found, hashlib.md5(content).digest())
 
     def test_many_files(self) -> None:
-        """1,000 files of 64 KB, and 4,095: the runs of flutejoin are as many as of one."""
+        """1,000 files of 64 KB, and 4,095 small ones, take as few runs of flutejoin as one file."""
         draw = random.Random(8)
         for count, size in ((1000, 65536), (4095, 4096)):
             sent = [
@@ -192,7 +192,7 @@ class Runs(Case):
             answer = self.files("-o", f"files{count}", "many")
             took, used = time.monotonic() - start, processor_time() - used
             print(f"files: {count} files of {size} bytes: {took:.2f} s, {used:.2f} s of processor")
-            # Some two seconds; a run for each file, or a pass, takes minutes.
+            # This takes about two seconds; a run, or a pass, for each file would take minutes.
             self.assertLess(used, 6)
             self.assertIn(f"written {count}, verified {count};", answer.out)
             self.assertEqual(self.tree(f"files{count}"), {f"h/{it.toi}": it.content for it in sent})

@@ -1,6 +1,7 @@
 """A sender of FLUTE sessions for tests: FDT Instances in XML, and packets in datagram files.
 
-It is written by RFC 6726, RFC 5651 and RFC 5445, with nothing of the tools.
+It follows RFC 6726, RFC 5651 and RFC 5445, and uses nothing of the tools.
+
 usage: tests/flute_sender.py OUT, which makes the datagram file of a small session
 """
 from __future__ import annotations
@@ -22,7 +23,7 @@ import datagram_files
 NAMESPACE = "urn:ietf:params:xml:ns:fdt"
 EXPIRES = 4_007_664_000  # 2026-12-31 00:00:00Z, in seconds since 1900
 FDT_SYMBOL, FDT_BLOCK = 1000, 64
-# A file of 20,000 bytes, encoded here once: other versions of zlib encode it otherwise
+# A file of 20,000 bytes, encoded here since other versions of zlib encode it otherwise
 ENCODED = bytes.fromhex(
     "1f8b0800000000000203edc8390180300000b11d2d37b47c05ffc670c1948c19cdf68eceaeee"
     "564fef369c73ce39e79c73ce39e79c73ce39e79c73ce39e79c73ce39e79c73ce39e79c73ce39"
@@ -37,7 +38,7 @@ class Sent:
     toi: int
     content: bytes
     location: str
-    object: bytes | None = None  # the content as it is encoded
+    object: bytes | None = None  # the content in encoded form
     symbol: int = 1400
     block: int = 64
     is_in_packets: bool = True  # whether its packets have EXT_FTI
@@ -73,7 +74,7 @@ def written(attributes: dict) -> str:
 def fdt(
     files: Iterable[Sent], expires: object = EXPIRES, prefix: str = "", **root: object
 ) -> bytes:
-    """An FDT Instance. Underscores in names of attributes of the root stand for hyphens."""
+    """An FDT Instance. Underscores in names of the root's attributes become hyphens."""
     front = f"{prefix}:" if prefix else ""
     space = {f"xmlns:{prefix}" if prefix else "xmlns": NAMESPACE, "Expires": expires}
     of_root = space | {name.replace("_", "-"): value for name, value in root.items()}
@@ -110,7 +111,7 @@ def packets(
     is_in_packets: bool = True,
     instance: int | None = None,
 ) -> list[bytes]:
-    """The packets of an object, each with a symbol; one without where it has no bytes."""
+    """The packets of an object, one for each symbol; one without a symbol if it is empty."""
     extensions = b""
     if instance is not None:
         extensions += struct.pack(">I", 192 << 24 | 2 << 20 | instance)
@@ -133,7 +134,7 @@ def instance(tsi: int, number: int, xml: bytes) -> list[bytes]:
 
 
 def small_session() -> list[bytes]:
-    """Three files, of which the last lacks two symbols, and symbols that nothing describes."""
+    """Three files, of which the last lacks two symbols, and symbols without a description."""
     numbers = b"".join(b"%d\n" % number for number in range(1_000_000, 1_005_000))
     table = gzip.decompress(ENCODED)
     gzipped = {"Content-Type": "text/csv", "Content-Encoding": "gzip"}

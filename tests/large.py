@@ -22,7 +22,7 @@ PROGRAM = ""
 
 
 def run(*words: str | Path, status: int = 0) -> str:
-    """What the program prints, which has to end with this status."""
+    """What the program prints. It must end with this status."""
     ran = subprocess.run([PROGRAM, *words], capture_output=True, text=True, check=False)
     if ran.returncode != status:
         raise AssertionError(f"{words}: status {ran.returncode}: {ran.stderr}")
@@ -30,7 +30,7 @@ def run(*words: str | Path, status: int = 0) -> str:
 
 
 def counted(told: str) -> dict[str, int]:
-    """The numbers of lines of a word and a number."""
+    """The numbers in lines of a word and a number, by the word."""
     return {word: int(number) for word, number in (line.split() for line in told.splitlines())}
 
 
@@ -123,7 +123,7 @@ class Large(unittest.TestCase):
         self.assertEqual(told.count("\ngap "), len(objects) * 65_536)
 
     def test_gaps_of_few_bytes_take_no_memory(self) -> None:
-        """400 datagrams, 15.6 KB, of which each makes 65,535 symbols missing."""
+        """400 datagrams, 15.6 KB in all, of which each makes 65,535 symbols missing."""
         sent, journal = self.room / "sent", self.room / "journal"
         lengths = struct.pack(">BBHIHHI", 64, 4, 0, 65_536, 0, 1, 1)
         with sent.open("wb") as file:

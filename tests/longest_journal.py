@@ -1,9 +1,9 @@
 #!/usr/bin/env python3
-"""The longest journal there may be, 16,777,216 entries in 755 MB, through a pipe.
+"""Measures the longest possible journal, 16,777,216 entries in 755 MB, through a pipe.
 
-It tells what `gaps` and `extract` take of time. Each runs in 16 MiB of address space, and has to
-print what is in the journal, which is made while it is read, so that no disk is needed. That takes
-some 20 seconds.
+It prints how long each command takes in 16 MiB of address space. `gaps` and `extract` must print
+what is in the journal. `join` writes as many entries, and no command writes one more: it ends with
+`full`. The journal is made while it is read, so that no disk is needed. That takes about a minute.
 
 usage: tests/longest_journal.py PROGRAM
 """
@@ -20,10 +20,12 @@ sys.dont_write_bytecode = True
 from flute_sender import block_sizes
 
 OBJECTS = 16
-SYMBOLS = 1_048_575  # with the entry of its information, an object has 1,048,576 entries
+SYMBOLS = 1_048_575  # with the entry of its FEC OTI an object has 1,048,576 entries
 BLOCK = 65_536
 MOST_MEMORY = 16 << 20
 BYTE = b"x"
+ENTRIES = OBJECTS * (SYMBOLS + 1)  # the most that a command reads or writes
+TOO_LONG = "status 1: full\n"
 
 
 def key(toi: int) -> bytes:
@@ -43,13 +45,13 @@ def write_journal(out: BinaryIO) -> None:
             before = b"\3" + name + struct.pack(">H", sbn)
             entries = [before + struct.pack(">H", esi) + behind for esi in range(size)]
             out.write(b"".join(entries))
-    out.write(b"\xff" + (OBJECTS * (SYMBOLS + 1)).to_bytes(8, "big"))
+    out.write(b"\xff" + ENTRIES.to_bytes(8, "big"))
 
 
 def piped(program: str, *words: str) -> str:
-    """What a command prints that reads the journal from standard input.
+    """What a command prints that reads the journal from standard input, and its status if not 0.
 
-    It gets at most so much memory, and its processor time is told.
+    Its memory is limited, and its processor time is printed.
     """
     read_end, write_end = os.pipe()
     maker = os.fork()
@@ -59,20 +61,22 @@ def piped(program: str, *words: str) -> str:
             with open(write_end, "wb", buffering=1 << 20) as out:
                 write_journal(out)
         except BrokenPipeError:
-            pass  # the command ended before it read all, and its status is told
+            pass  # the command ended before it read everything; its status is checked below
         finally:
             os._exit(0)
     os.close(write_end)
     limited = ["sh", "-c", f'ulimit -v {MOST_MEMORY >> 10}; exec "$@"', "sh", program, *words]
-    command = subprocess.Popen(limited, stdin=read_end, stdout=subprocess.PIPE)
+    command = subprocess.Popen(
+        limited, stdin=read_end, stdout=subprocess.PIPE, stderr=subprocess.STDOUT
+    )
     os.close(read_end)
     printed = command.stdout.read()
     _, status, used = os.wait4(command.pid, 0)
     os.waitpid(maker, 0)
     if status:
-        return f"status {os.waitstatus_to_exitcode(status)}"
+        return f"status {os.waitstatus_to_exitcode(status)}: {printed.decode()}"
     seconds = used.ru_utime + used.ru_stime
-    entries = f"{OBJECTS * (SYMBOLS + 1):,} entries"
+    entries = f"{ENTRIES:,} entries"
     used_time = f"{seconds:.2f} s of processor time"
     print(f"{words[0]}: {entries}, {used_time}, within {MOST_MEMORY >> 20} MiB of memory")
     return printed.decode()
@@ -89,14 +93,35 @@ def main() -> int:
         if os.path.exists(out):
             with open(out, "rb") as file:
                 content = file.read()
+        one = os.path.join(folder, "one")
+        with open(one, "wb") as file:
+            file.write(b"FLJN" + struct.pack(">H", 2) + b"\2" + key(OBJECTS + 1))
+            file.write(b"\xff" + (1).to_bytes(8, "big"))
+        sent = os.path.join(folder, "sent")
+        with open(sent, "wb") as file:
+            file.write(bytes(ENTRIES + 1))
+        null = "-o", "/dev/null"
+        added = "--tsi", "7", "--toi", str(OBJECTS + 1), "--length", "1", "--symbol", "1"
+        whole = piped(program, "join", *null, "-")
+        joined = piped(program, "join", *null, "-", one)
+        merged = piped(program, "merge", *null, "-", one)
+        informed = piped(program, "info", *null, *added, "--block", "1", "-")
+        numbers = "--tsi", "7", "--toi", "1", "--symbol", "1", "--block", str(BLOCK)
+        datagrams = piped(program, "carousel", *null, *numbers, sent)
+    counts = f"datagrams 0\nrefused 0\nentries {ENTRIES}\n"
     found = {
-        "gaps": lines == wanted,
-        "extract": told == f"bytes {SYMBOLS}\n" and content == BYTE * SYMBOLS,
+        "gaps": (lines, lines == wanted),
+        "extract": (told, told == f"bytes {SYMBOLS}\n" and content == BYTE * SYMBOLS),
+        "join": (whole, whole == counts),
+        "join with one more": (joined, joined == TOO_LONG),
+        "merge with one more": (merged, merged == TOO_LONG),
+        "info with one more": (informed, informed == TOO_LONG),
+        "carousel with one more": (datagrams, datagrams == TOO_LONG),
     }
-    for command, printed in ("gaps", lines), ("extract", told):
-        if not found[command]:
+    for command, (printed, is_right) in found.items():
+        if not is_right:
             print(f"longest_journal: {command}: {printed[:200]}")
-    passed = sum(found.values())
+    passed = sum(is_right for _, is_right in found.values())
     print(f"longest_journal: {passed} passed, {len(found) - passed} failed")
     return int(passed < len(found))
 

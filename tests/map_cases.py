@@ -1,7 +1,9 @@
 #!/usr/bin/env python3
-"""What flutejoin-map draws of many objects and stations, and of many gaps.
+"""Tests what flutejoin-map draws of many objects and stations, and of many gaps.
 
-A script that prints what a test puts into files stands for the program. usage: tests/map_cases.py
+A script replaces the program, and prints what a test puts into files.
+
+usage: tests/map_cases.py
 """
 from __future__ import annotations
 
@@ -46,7 +48,7 @@ class Pictures(unittest.TestCase):
             file.write(text)
 
     def journal(self, name: str, states: dict[int, str]) -> None:
-        """What the program tells of a journal: of each object a state, with its gaps."""
+        """Writes what the program would print of a journal: objects' states, with gaps."""
         self.made(name, "")
         told = "".join(f"session 7 object {toi} {state}\n" for toi, state in states.items())
         self.made(f"{name}.gaps", told)
@@ -68,7 +70,7 @@ class Pictures(unittest.TestCase):
         return [group.get("aria-label") for group in page.findall(f"{SVG}g")]
 
     def many(self) -> dict[int, str]:
-        """4,000 objects, of which 20 are partial, 2 in conflict and 3 without information."""
+        """4,000 objects, of which 20 are partial, 2 in conflict and 3 without FEC OTI."""
         states = dict.fromkeys(range(1, 4001), "whole 400")
         for toi in range(100, 2100, 100):
             states[toi] = "partial missing 2 conflicting 0 misfit 0\ngap 1/2-3 missing"
@@ -113,7 +115,7 @@ class Pictures(unittest.TestCase):
         page = self.page("high")
         self.assertLess(int(page.get("height")), 32768)
         drawn = self.titles(page)
-        # Those that are whole are left out first.
+        # Whole objects are left out first.
         self.assertEqual(drawn, [f"session 7 object {n}" for n in self.first(len(drawn), states)])
         rest = f"{500 - len(drawn)} more objects are not drawn, 20 of them whole"
         note = page.findall(f"{SVG}text")[-1].text
@@ -140,7 +142,7 @@ class Pictures(unittest.TestCase):
 
     def test_gaps_are_not_kept(self) -> None:
         class Program:
-            """Tells an object of 65,536 blocks of 16 symbols, of which every second is missing."""
+            """Reports an object of 65,536 blocks of 16 symbols, every second one missing."""
 
             def states(self, _journals: object, _wanted: object) -> dict[str, flutejoin_gaps.State]:
                 return {"object": flutejoin_gaps.State("partial")}
@@ -186,12 +188,12 @@ class Pictures(unittest.TestCase):
         self.assertEqual(list(survey.keys), ["object 9", "object 1"])
         self.assertEqual(survey.left, (2, 0))
         self.assertEqual(len(list(survey.drawings())), 3)
-        flutejoin_survey.MOST_GAPS = 0  # the first is drawn in any case
+        flutejoin_survey.MOST_GAPS = 0  # the first object is drawn in any case
         survey = flutejoin_survey.Survey(Program(), ["journal"], None, True)
         self.assertEqual(list(survey.keys), ["object 9"])
 
     def test_gaps_of_what_is_not_drawn_are_passed_over(self) -> None:
-        """A datagram of 37 bytes makes 65,536 gaps: that many lines are no work for the rest."""
+        """A datagram of 37 bytes makes 65,536 gaps: so many lines must not slow the rest."""
         gap = "".join(f"gap {block}/0-0 missing\n" for block in range(65536))
         hostile = f"partial missing 65536 conflicting 0 misfit 0\n{gap}"[:-1]
         states = {1: "whole 400", **{toi: hostile for toi in range(2, 8)}}

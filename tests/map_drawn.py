@@ -1,5 +1,5 @@
-"""What flutejoin-map draws: the counts of its panels and its cells are what the program says
-(tests/maps.py), as a page and as text."""
+"""Tests what flutejoin-map draws, as a page and as text: its counts and its cells are those that
+the program prints (tests/maps.py)."""
 from __future__ import annotations
 
 import os
@@ -29,8 +29,8 @@ class Case(run.Case):
         return done
 
     def agrees(self, name: str, *journals: str) -> None:
-        """The page and the text of all objects are what `flutejoin gaps` prints of each journal and
-        of all joined."""
+        """The page and the text of all objects agree with what `flutejoin gaps` prints of each
+        journal and of all of them joined."""
         self.map_row(name, ["-o", "page.svg", *journals], 0)
         self.write("text", self.map_row(f"{name}, text", ["--text", *journals], 0, None).out)
         words = [sys.executable, TESTS / "maps.py", "page.svg", "text", *journals]
@@ -38,7 +38,7 @@ class Case(run.Case):
         self.absent(f"{name}, no file beside", "page.svg.partial")
 
     def sent(self, name: str, of: str, symbol: int, block: int, size: int) -> None:
-        """A datagram file of so many bytes, which are `file`."""
+        """Makes a datagram file of an object of so many bytes, which are also in `file`."""
         content = "".join(f"{number:07}\n" for number in range(0, size, 8))
         self.write("file", content[:size])
         self.carousel(name, of, symbol, block, "file")
@@ -47,7 +47,7 @@ class Case(run.Case):
         self.made(f"carousel -o {name} --tsi 7 {of} --symbol {symbol} --block {block} {file}")
 
     def station(self, name: str, sent: str, percent: int, seed: int, source: str = "") -> None:
-        """The journal of a station that lost so much."""
+        """Makes the journal of a station that lost so many percent."""
         self.python(ROOT / "examples" / "lose.py", sent, "received", percent, seed)
         options = ["--source", source] if source else []
         self.made(["join", "-o", name, *options, "received"])
@@ -75,7 +75,7 @@ class Blocks(Case):
         self.map_row("one symbol as text", "--text tiny1", 0, wanted)
 
     def test_60_blocks(self) -> None:
-        """Of 64 symbols, with losses at three stations."""
+        """60 blocks of 64 symbols, with losses at three stations."""
         self.sent("sixty", "--toi 5", 100, 64, 384_000)
         for number in 1, 2, 3:
             self.station(f"sixty{number}", "sixty", 12 * number, number)
@@ -84,10 +84,10 @@ class Blocks(Case):
         rows = [line for line in text.splitlines() if line.endswith("|")]
         self.holds("a row for each block", len(rows) == 60, len(rows))
         cells = text.count("#") + text.count(".")
-        self.holds("a cell for each symbol", cells == 3842, cells)  # two are of the legend
+        self.holds("a cell for each symbol", cells == 3842, cells)  # two are in the legend
 
     def test_many_blocks(self) -> None:
-        """10,000 blocks of 4 and 3, and many symbols in few blocks."""
+        """10,000 blocks of 4 or 3 symbols, and few blocks of many symbols."""
         self.sent("many", "--toi 6", 1, 4, 39_990)
         self.station("many1", "many", 10, 1)
         self.station("many2", "many", 60, 2)
@@ -106,7 +106,7 @@ class Objects(Case):
         self.station("right1", "right", 30, 1)
 
     def test_conflicts_and_misfits(self) -> None:
-        """Values of other bytes, of other lengths, and symbols that are cut."""
+        """Values with other bytes, values with other lengths, and symbols that are cut."""
         self.write("file2", self.read("file").translate(bytes.maketrans(b"01234", b"56789")))
         self.carousel("wrong", "--toi 1", 1000, 16, "file2")
         self.python(TESTS / "maps.py", "cut", "right", "short")
@@ -132,7 +132,7 @@ class Objects(Case):
         lines = self.map("--text empty1").lines()
         wanted = "session 7 object 2: empty: 0 bytes, and no symbol"
         self.holds("it is told in words", wanted in lines, lines)
-        # One object of several
+        # One of several objects
         self.station("from_a", "right", 30, 1, V4)
         self.made("join -o mixed right1 fdt1 from_a empty1")
         for key in (
@@ -147,7 +147,7 @@ class Objects(Case):
             self.map_row(f"an object {name}", words, 1, "", "flutejoin-map: no object")
 
     def test_two_senders(self) -> None:
-        """With one TSI."""
+        """Two senders with one TSI."""
         self.station("from_a", "right", 30, 1, V4)
         self.station("from_b", "right", 30, 2, V6)
         self.agrees("two senders", "from_a", "from_b")
@@ -201,7 +201,7 @@ class Stations(Case):
         self.station("one2", "one", 40, 2)
 
     def test_64_stations(self) -> None:
-        """With names that XML and terminals would take apart."""
+        """64 stations whose names contain special characters of XML and terminals."""
         names = [f"st<&\"{number}>'" for number in range(1, 65)]
         for number, name in enumerate(names):
             self.path(name).symlink_to(f"one{number % 2 + 1}")

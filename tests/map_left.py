@@ -1,4 +1,4 @@
-"""What flutejoin-map leaves: its output, its faults, and a run that a signal ends."""
+"""Tests what flutejoin-map leaves: its output, its faults, and a run that a signal ends."""
 from __future__ import annotations
 
 import os
@@ -109,7 +109,7 @@ class Streams(OneStation):
 
 
 class Signals(OneStation):
-    """A run that is told to end, while the program reads, leaves nothing."""
+    """A run that a signal ends while the program reads leaves nothing."""
 
     def setUp(self) -> None:
         super().setUp()
@@ -119,7 +119,7 @@ class Signals(OneStation):
     def ended(
         self, name: str, status: int | None, *sent: signal.Signals, hangup: signal.Handlers
     ) -> None:
-        """The signals end it; `hangup` is how it takes one at first."""
+        """The signals end the run; `hangup` is its handler of SIGHUP at the start."""
         words = [sys.executable, TOOL, "--flutejoin", "./slow", "-o", "ended.svg", "one1"]
         child = self.start(words, signals={SIGINT: SIG_DFL, SIGHUP: hangup})
         self.assertTrue(until(lambda: self.exists("started")), name)

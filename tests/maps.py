@@ -1,9 +1,9 @@
 #!/usr/bin/env python3
-"""Compares what flutejoin-map drew with what flutejoin tells.
+"""Compares what flutejoin-map drew with what flutejoin prints.
 
-It makes datagram files for its test, too.
+It also makes datagram files for these tests.
 
-  maps.py PAGE TEXT JOURNAL...   the panels and cells of both are those of flutejoin gaps
+  maps.py PAGE TEXT JOURNAL...   compares the panels and cells of both with flutejoin gaps
   maps.py cut IN OUT             each datagram without its last byte
   maps.py forget IN OUT          each datagram without its transmission information
   maps.py objects IN OUT         212 objects, each with one datagram of IN
@@ -35,15 +35,16 @@ def run(*words: str) -> list[str]:
     return told.stdout.splitlines()
 
 
-Numbers = Tuple[int, int, int]  # an object's length, a symbol's and a block's
+Numbers = Tuple[int, int, int]  # transfer length, symbol length, block length
 Symbol = Tuple[int, int]  # its block and its number there
 Panel = Tuple[str, List[Symbol], List[str]]  # its title, its symbols and their kinds
 
 
 class Journal:
-    """What flutejoin tells of a journal.
+    """What flutejoin prints of a journal.
 
-    Of each object it has the state, the information, the kinds by gaps, and the symbols.
+    For each object these are its state, its FEC OTI, the kinds of its symbols by its gaps, and its
+    symbols.
     """
 
     def __init__(self, path: str) -> None:
@@ -107,12 +108,12 @@ def counts(kinds: list[str]) -> str:
 
 
 def expected(paths: list[str]) -> Iterator[tuple[str, list[Panel]]]:
-    """Of each object its panels: what is told, the symbols and their kinds."""
+    """Yields the panels of each object: their words, the symbols and their kinds."""
     journals = [(path, Journal(path)) for path in paths]
     if len(paths) > 1:
         run("join", "-o", "joined", *paths)
         last = Journal("joined")
-        # Where the panels do not fit in one line, that of all is the first.
+        # If the panels do not fit in one line, that of all journals is the first.
         place = len(journals) if len(journals) < 4 else 0
         journals.insert(place, (f"all {len(paths)} joined", last))
     else:
@@ -159,7 +160,7 @@ def see_page(page: str, wanted: list[tuple[str, list[Panel]]]) -> None:
 def see_cells(
     cells: list[ElementTree.Element], listing: list[Symbol], kinds: list[str], words: str
 ) -> None:
-    """The runs of cells stand one behind another, and have the symbols that they tell."""
+    """Checks that the runs of cells follow one another, and contain the symbols that they name."""
     places, at = {symbol: place for place, symbol in enumerate(listing)}, 0
     for cell in cells:
         title = cell.find(f"{SVG}title").text
@@ -181,9 +182,9 @@ def see_cells(
 
 
 def see_edges(panel: ElementTree.Element, words: str) -> None:
-    """Each bar begins with the very number by which its neighbour ends.
+    """Checks that each bar begins with the very number by which its neighbour ends.
 
-    The lines between cells stand at these edges.
+    The lines between cells must be at these edges.
     """
     before, ends = None, set()
     for cell in panel.findall(f"{SVG}g"):

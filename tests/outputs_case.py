@@ -1,6 +1,7 @@
-"""What is received of two files in two stations, and the runs of the tests of outputs.
+"""Files and helpers of the tests of outputs: what two stations received of two files.
 
-Each station, `one` and `two`, has one of the files, `content` and `other`; both come to `both`.
+The stations `one` and `two` have one of the files each, `content` and `other`; both files are in
+`both`.
 """
 from __future__ import annotations
 
@@ -21,16 +22,16 @@ LINES_OF_TWO = "datagrams 0\nrefused 0\nentries 3\n"
 LINES_OF_BOTH = "datagrams 0\nrefused 0\nentries 14\n"
 FIRST, SECOND = "--tsi 7 --toi 1", "--tsi 7 --toi 2"
 CUT = "--symbol 4 --block 2"
-# Information of a third object
+# FEC OTI of a third object
 THIRD = f"--tsi 7 --toi 3 --length 5 {CUT}"
 CREATE, WRITE = "cannot create output", "cannot write"
-# The wish of tests/disk.c comes first; what it is asked goes to stream 9, here standard output.
+# The fault for tests/disk.c comes first; its lines go to stream 9, which is standard output here.
 THROUGH = 'disk=$0 wish=$1; shift; exec env LD_PRELOAD="$disk" DISK="$wish" "$@" 9>&1'
 
 
 @functools.lru_cache(maxsize=None)
 def library(name: str) -> pathlib.Path:
-    """The library of tests/NAME.c, which is loaded before a program."""
+    """Compiles tests/NAME.c, to be loaded before a program, and returns the library's path."""
     folder = pathlib.Path(tempfile.mkdtemp(prefix="flutejoin-test."))
     atexit.register(shutil.rmtree, folder, ignore_errors=True)
     folder.chmod(0o755)
@@ -51,28 +52,28 @@ class Case(run.Case):
         self.made("join -o both one two")
 
     def copy(self, name: str, to: str) -> None:
-        """The bytes of a file, in another that may be there."""
+        """Copies the bytes of a file to another, which may exist."""
         self.write(to, self.read(name))
 
     def part(self, name: str, size: int) -> bytes:
-        """So many bytes of a file, or, below zero, all but so many."""
+        """The first `size` bytes of a file, or, below zero, all but the last ones."""
         return self.read(name)[:size]
 
     def mode(self, name: str) -> str:
         return oct(stat.S_IMODE(self.path(name).stat().st_mode))
 
     def alone(self, name: str, file: str) -> None:
-        """Nothing is beside it."""
+        """Checks that nothing is beside a file."""
         self.absent(f"{name}: nothing beside {file}", f"{file}.partial")
 
     def through(self, wish: str, words: str, **how: Any) -> Run:
-        """A run with tests/disk.c between it and its files. What it asks of the disk and what it
-        prints are its output, in that order."""
+        """Runs the program with tests/disk.c loaded. Its requests to the disk, and then what it
+        prints, are the output."""
         command = ["sh", "-c", THROUGH, library("disk"), wish, run.PROGRAM, *run.split(words)]
         return self.command(command, **how)
 
     def fed(self, name: str) -> int:
-        """The pipe with a name, once a run reads from it."""
+        """The write end of a named pipe, once a run reads from it."""
         found: list[int] = []
 
         def is_read() -> bool:
@@ -87,7 +88,7 @@ class Case(run.Case):
         return found[0]
 
     def feed(self, pipe: int, content: bytes) -> None:
-        """Writes what is left to a pipe, and closes it."""
+        """Writes the rest to a pipe, and closes it."""
         with open(pipe, "wb") as out:
             out.write(content)
 

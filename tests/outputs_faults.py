@@ -1,4 +1,4 @@
-"""Faults after the output was created: it is as it was, and nothing is left beside it."""
+"""Faults after the output was created: it stays as it was, and nothing is left beside it."""
 from __future__ import annotations
 
 import os
@@ -38,7 +38,7 @@ class Inputs(Stays):
                 self.stays(name, self.program(words), target, "one", 1, "", text)
 
     def test_extract(self) -> None:
-        """The object is whole, and the journal is cut behind it, or the object is not whole."""
+        """The journal is cut after a whole object, or the object is not whole."""
         self.write("cut_both", self.part("both", -1))
         first = 8 + int.from_bytes(self.read("sent1")[6:8], "big")
         self.write("sent_part", self.part("sent1", first))
@@ -63,7 +63,7 @@ class Limits(Stays):
         self.made("join -o three sent3")
 
     def test_file_that_may_not_grow(self) -> None:
-        """A write fails in the middle."""
+        """A write fails after some bytes."""
         limits = {resource.RLIMIT_FSIZE: 512_000}
         for target in TARGETS:
             for command in "join", "merge":
@@ -75,7 +75,7 @@ class Limits(Stays):
 
 class Mounted(Case):
     def mount(self, folder: str, *options: str) -> None:
-        """Has a file system at a folder, if this may be."""
+        """Mounts a file system at a folder, if that is permitted."""
         self.path(folder).mkdir()
         words = ["mount", "-t", "tmpfs", *options, "none", self.path(folder)]
         if self.command(words).status != 0:
@@ -99,7 +99,7 @@ class SmallDisk(Mounted):
 
 
 class TwoDisks(Mounted):
-    """Files of two disks may have one number: the leftover on one is no input on the other."""
+    """Files on two disks may have the same number, and are still different files."""
 
     def test_numbers(self) -> None:
         self.mount("disk1")
@@ -113,14 +113,14 @@ class TwoDisks(Mounted):
 
 
 class Disk(Case):
-    """What is asked of the disk before success is told, in this order; and a disk that fails."""
+    """The requests to the disk before success is reported, in this order; and a disk that fails."""
 
     def setUp(self) -> None:
         super().setUp()
         self.path("kept").mkdir()
 
     def asked(self, target: str, wish: str, *wanted: Any) -> Run:
-        """A join of both stations to a file that is there, or that is new."""
+        """A join of both stations to a file that exists, or to a new one."""
         self.copy("one", "kept/there")
         done = self.through(wish, f"join -o kept/{target} one two")
         self.check(f"{wish or 'all'}, {target}", done, *wanted)
@@ -178,7 +178,7 @@ def is_success(done: Run) -> bool:
 
 
 class WithoutLeave(Case):
-    """What only the system keeps from a user."""
+    """What only missing permissions prevent."""
 
     def setUp(self) -> None:
         super().setUp()

@@ -1,4 +1,4 @@
-"""Outputs in place, and what is not overwritten."""
+"""Outputs that are also inputs, and files that are not overwritten."""
 from __future__ import annotations
 
 import os
@@ -19,8 +19,8 @@ class InPlace(Case):
         self.alone("join in place", "all")
 
     def test_versions(self) -> None:
-        """A journal of one conflict of information, in version 1 and in version 2, where its entry
-        has a sender of 16 bytes more."""
+        """A journal with one conflict of FEC OTI, in version 1 and in version 2, where its entry is
+        16 bytes longer by the sender."""
         self.journal("old", f"464C4A4E0001 02 {KEY} FF 0000000000000001")
         self.row("an old journal", "join -o old old", 0, "datagrams 0\nrefused 0\nentries 1\n")
         self.same("it is in version 2", "old", "old2")
@@ -70,7 +70,7 @@ class Kept(Case):
     same command writes it."""
 
     def kept(self, copied: str, text: str, words: str, file: str = "d") -> None:
-        """The file is a copy."""
+        """Checks this with a copy of a file."""
         self.copy(copied, file)
         self.row(words, words, 2, "", text)
         self.same(f"{words}: the file stays", file, copied)
@@ -83,7 +83,7 @@ class Kept(Case):
         for number in 1, 2:
             self.path(f"station{number}").mkdir()
             self.copy(f"sent{number}", f"station{number}/10.0.0.1.fldg")
-        # The shell makes the first input OUT, if that is forgotten.
+        # The shell makes the first input OUT, if OUT is forgotten.
         stations = "station1/10.0.0.1.fldg", "station2/10.0.0.1.fldg"
         words = f"join -o {shlex.join(stations)}"
         self.kept("sent1", DATAGRAMS, words, stations[0])

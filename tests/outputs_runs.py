@@ -18,7 +18,7 @@ class Runs(Case):
         os.mkfifo(self.path("pipe"))
 
     def begun(self, words: str) -> tuple[subprocess.Popen, int]:
-        """A run that reads from `pipe`, and what goes into it."""
+        """Starts a run that reads from `pipe`, and returns it with the pipe's write end."""
         child = self.start([run.PROGRAM, *run.split(words)])
         return child, self.fed("pipe")
 
@@ -29,7 +29,7 @@ class Runs(Case):
 
 
 class Waiting(Runs):
-    """Runs that wait on a pipe for an input, with their output made."""
+    """Runs that have made their output and wait for an input from a pipe."""
 
     def test_two_merges(self) -> None:
         self.copy("one", "all")
@@ -55,7 +55,7 @@ class Waiting(Runs):
         self.alone("the leftover is gone", "fresh")
 
     def test_two_joins(self) -> None:
-        """Which read the first bytes of their inputs before."""
+        """Two joins that have read the first bytes of their inputs."""
         self.copy("one", "all")
         child, pipe = self.begun("join -o all sent2 pipe")
         one = self.read("one")
@@ -117,8 +117,8 @@ class Waiting(Runs):
 
 
 class Overlap(Runs):
-    """The first run opens its inputs, waits for the first bytes of the last, and makes its output
-    once another run has put its own in place. What that run wrote stays."""
+    """The first run opens its inputs, waits for the first bytes of the last one, and makes its
+    output after another run has put its own in place. The other run's output stays."""
 
     def overlap(self, name: str, target: str, words: str) -> None:
         """The first run has these words, and `pipe` as its last input."""
@@ -156,7 +156,7 @@ class Overlap(Runs):
 
 
 class Killed(Case):
-    """Whenever a run is killed, OUT is what it was or what the run makes."""
+    """Whenever a run is killed, OUT is what it was before, or the run's whole output."""
 
     def setUp(self) -> None:
         super().setUp()
@@ -169,7 +169,7 @@ class Killed(Case):
         self.old, self.new = self.read("old"), self.read("new")
 
     def killed(self, words: str, seconds: float) -> bytes:
-        """What `place` has once a run of these words was killed behind so many seconds."""
+        """What `place` contains after a run of these words was killed after so many seconds."""
         child = self.start([run.PROGRAM, *run.split(words)])
         time.sleep(seconds)
         child.kill()
@@ -177,7 +177,7 @@ class Killed(Case):
         return self.read("place")
 
     def test_join_in_place(self) -> None:
-        """At 20 moments of a join of 50 MB."""
+        """Kills at 20 moments of a join of 50 MB."""
         self.write("place", self.old)
         words = "join -o place place sent5"
         begun = time.monotonic()
@@ -197,7 +197,7 @@ class Killed(Case):
         self.alone("it took the leftover over", "place")
 
     def test_forget_in_place(self) -> None:
-        """At each 5 ms of forgetting the half."""
+        """Kills every 5 ms while half of the journal is forgotten."""
         words = "forget -o place --tsi 7 --toi 5 place"
         for moment in range(1, 21):
             self.write("place", self.new)

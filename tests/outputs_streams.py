@@ -1,4 +1,4 @@
-"""Devices, pipes and standard streams as the output, which take their bytes themselves."""
+"""Devices, pipes and standard streams as the output, to which bytes are written directly."""
 from __future__ import annotations
 
 import os
@@ -12,7 +12,7 @@ SYMBOL = "10A004000000000000000007000000010000000068656C6C"
 
 
 class Read:
-    """What comes out of a pipe with a name, read meanwhile."""
+    """Reads a named pipe meanwhile, and returns its bytes."""
 
     def __init__(self, test: Case, name: str) -> None:
         self.child = test.start(["cat", name], to="read")
@@ -64,7 +64,7 @@ class Pipes(Case):
         self.alone("a pipe", "pipe")
 
     def test_part(self) -> None:
-        """Nothing of it: what is read from the pipe afterwards is what is written behind it."""
+        """Nothing is written of a part: the pipe has only the bytes that follow."""
         self.six()
         both = os.open(self.path("pipe"), os.O_RDWR)
         words = "extract -o pipe --tsi 7 --toi 6 part_six"
@@ -74,7 +74,7 @@ class Pipes(Case):
         os.close(both)
 
     def test_parts_of_a_write(self) -> None:
-        """What takes a part of a write gets the rest."""
+        """If a write takes only a part of its bytes, the rest follows."""
         self.six()
         done = self.through("parts", "extract -o - --tsi 7 --toi 6 six")
         self.check("standard output that takes parts", done, 0, self.read("long"), "bytes 300000")
@@ -99,7 +99,7 @@ class Pipes(Case):
 
 
 class StandardOutput(Case):
-    """The lines go to standard error."""
+    """With standard output as the output, the lines go to standard error."""
 
     def test_outputs(self) -> None:
         for out in "-", "/dev/stdout":
@@ -155,8 +155,7 @@ class StandardInput(Case):
 
 
 class Closed(Case):
-    """With standard output, standard error or both closed, a command that writes OUT leaves it
-    whole."""
+    """With standard output, standard error or both closed, a command still writes OUT whole."""
 
     def closed(self, words: str, wanted: str = "") -> None:
         for streams, status, err in (
@@ -189,7 +188,7 @@ class Closed(Case):
             self.closed(words, wanted)
 
     def test_input_in_the_place_of_a_stream(self) -> None:
-        """None is opened there: by the stream's name it would be an output."""
+        """No input is opened in place of a closed stream, whose name may be the output."""
         self.copy("one", "all")
         done = self.program("join -o /dev/stderr all two", closed=[0, 1, 2])
         self.check("standard error as the output", done, 3)
@@ -202,8 +201,8 @@ class Closed(Case):
 
 
 class Sizes(Case):
-    """A content of more than 4,294,967,295 bytes is told by its length, before it is read; the
-    inputs of join have no such bound."""
+    """A content of more than 4,294,967,295 bytes is refused by its length, before it is read;
+    inputs of join have no such limit."""
 
     MOST = (1 << 32) - 1
 
@@ -214,7 +213,7 @@ class Sizes(Case):
     def test_content(self) -> None:
         words = f"carousel -o got {SECOND} --symbol 1400 --block 64 huge"
         self.huge(b"FLDG\0\1", self.MOST + 1)
-        # Reading it takes longer.
+        # Reading it would take longer.
         limits = {resource.RLIMIT_CPU: 10}
         self.row("4 GiB", words, 1, "", "input 1: TooLarge", limits=limits)
         self.huge(b"FLDG\0\1", self.MOST)

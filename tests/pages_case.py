@@ -1,7 +1,7 @@
-"""The command lines of a page, run as they stand.
+"""Runs the command lines of a page as they are printed.
 
-Those of each section's blocks of the kind `console` run in a folder, one after another. Each prints
-what the page shows, and changes no file that was there before it.
+The blocks of kind `console` in a section run in one folder, one after another. Each command must
+print what the page shows, and change no file that was there before.
 """
 from __future__ import annotations
 
@@ -23,7 +23,7 @@ def sections(page: str) -> dict[str, list[str]]:
 
 
 def steps(lines: list[str]) -> list[tuple[str, str]]:
-    """The commands of a section, each with what the page shows behind it."""
+    """The commands of a section, each with the output that the page shows."""
     found: list[tuple[str, str]] = []
     is_shown = False
     for line in lines:
@@ -38,7 +38,7 @@ def steps(lines: list[str]) -> list[tuple[str, str]]:
 
 class Case(run.Case):
     def files(self, folder: str) -> dict[pathlib.Path, tuple[int, bytes]]:
-        """The files of a folder: another in the place of one is told by its number."""
+        """The files of a folder, with inode numbers, which show that a file was replaced."""
         found = {}
         for path in self.path(folder).rglob("*"):
             if path.is_file() and not path.is_symlink():
@@ -46,7 +46,7 @@ class Case(run.Case):
         return found
 
     def session(self, page: str, title: str, folder: str) -> None:
-        """Runs the commands of a section."""
+        """Runs the commands of a section, and checks each."""
         self.path(folder).mkdir(parents=True, exist_ok=True)
         commands = steps(sections(page).get(title, []))
         self.holds(f"{title} has commands", commands)
@@ -60,6 +60,6 @@ class Case(run.Case):
                 self.holds(f"{title}: {command} changes no file", False, changed)
 
     def all_run(self, page: str, *titles: str) -> None:
-        """The sections of the page that have commands are those with these titles."""
+        """Checks that the page has commands only in the sections with these titles."""
         found = {title for title, lines in sections(page).items() if "```console" in lines}
         self.holds("no other section has commands", found == set(titles), found ^ set(titles))

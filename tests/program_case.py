@@ -1,7 +1,7 @@
-"""Journals and datagram files for the tests of the program, in a folder of each test's own.
+"""Journals and datagram files for the tests of the program, in a folder for each test.
 
-Journals are written here in version 1, as they are read in most checks, and compared in version 2,
-as the program writes them. All are of the object 1 of the session 7, "hello", unless said.
+Journals are written here in version 1, read so in most checks, and compared in version 2, which the
+program writes. Unless noted, they are of object 1 of session 7, "hello".
 """
 from __future__ import annotations
 
@@ -19,7 +19,7 @@ SESSION_8 = "000000000008 01 0000000000000000000000000001"
 INFO = f"01 {KEY} 000000000005 0004 00000002"
 FIRST = f"03 {KEY} 0000 0000 0004 68656C6C"
 LAST = f"03 {KEY} 0000 0001 0001 6F"
-# Senders: 10.0.0.1 and one of IPv6
+# Senders: 10.0.0.1, and an IPv6 address
 V4, V6 = "00000000000000000000FFFF0A000001", "20010DB8000000000000000000000001"
 HELLO_OF_ZERO = version2(ZERO, f"{INFO} {FIRST} {LAST}")
 # Another object of the same name, "world"
@@ -34,7 +34,7 @@ CONFLICTING = "session 7 object 1 conflicting information"
 WHOLE = "session 7 object 1 whole 5"
 PART = "session 7 object 1 partial missing 1 conflicting 0 misfit 0\n"
 
-# What these commands need besides -o OUT and an input
+# The options that these commands need besides -o OUT and an input
 NAME = "--tsi 7 --toi 1"
 FIELDS = "--length 5 --symbol 4 --block 2"
 CUT = "--symbol 4 --block 2"
@@ -45,18 +45,18 @@ def lines(*of: str) -> str:
 
 
 def joined(datagrams: int, entries: int, refused: int = 0, others: int | None = None) -> str:
-    """What `join` prints; `others` only where some are left out."""
+    """What `join` prints; `others` only if some are left out."""
     left = [] if others is None else [f"others {others}"]
     return lines(f"datagrams {datagrams}", f"refused {refused}", *left, f"entries {entries}")
 
 
 def made_by(sender: str) -> str:
-    """What stands before a line of this sender."""
+    """The beginning of a line about this sender."""
     return f"source {sender.lower()} "
 
 
 def conflicts(*keys: str) -> str:
-    """Entries: the information of these objects is in conflict."""
+    """Entries: the FEC OTI of these objects is in conflict."""
     return " ".join(f"02 {key}" for key in keys)
 
 
@@ -65,7 +65,7 @@ def ended(entries: int) -> str:
 
 
 def sessions(numbers: range) -> str:
-    """Entries: one object of each session has its information in conflict."""
+    """Entries: in each session the FEC OTI of one object is in conflict."""
     return conflicts(*(f"{number:012X} 01 {1:028X}" for number in numbers))
 
 
@@ -100,7 +100,7 @@ class Case(run.Case):
         self.write("cut", self.read("sent")[:20])
 
     def senders(self) -> None:
-        """Journals of version 2 of several senders."""
+        """Makes journals of version 2 with several senders."""
         both = f"{INFO} {FIRST} {LAST}"
         self.write("world_content", "world")
         self.file("world", HEADER2, WORLD_OF_V4, ended(3))
@@ -118,14 +118,14 @@ class Case(run.Case):
     def makes(
         self, name: str, words: run.Words, out: run.Expected, wanted: run.Content, **how: Any
     ) -> None:
-        """A run that leaves the file `got`, with these bytes; what it had before is gone."""
+        """Checks a run that writes `got`, with these bytes; what the file had before is gone."""
         if self.exists("got"):
             self.write("got", "")
         self.row(name, words, 0, out, **how)
         self.same(f"{name}: what it wrote", "got", wanted)
 
     def refused_by_parser(self, name: str, words: run.Words, text: str) -> None:
-        """The parser refuses the words, and its text begins with this line."""
+        """Checks that the parser refuses the words, with a text that begins with this line."""
         done = self.program(words)
         first = done.err.partition(b"\n")[0] + b"\n"
         self.check(name, done._replace(err=first), 2, "", f"error: {text}")

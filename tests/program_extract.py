@@ -98,7 +98,7 @@ class Info(Case):
 
 
 class InfoList(Case):
-    """Information of many objects, in lines as `show` prints them."""
+    """FEC OTI of many objects, in lines as `show` prints them."""
 
     def setUp(self) -> None:
         super().setUp()

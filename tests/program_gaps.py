@@ -145,7 +145,7 @@ def summed(objects: list[Object]) -> list[str]:
 
 
 def drawn_object(draw: random.Random, key: str) -> list[str]:
-    """Entries of an object: blocks of 2 symbols of 4 bytes."""
+    """Random entries of an object in blocks of 2 symbols of 4 bytes."""
     entries = []
     about = draw.choice(("one", "one", "one", "none", "conflict"))
     length = draw.randrange(1, 40)
@@ -153,7 +153,7 @@ def drawn_object(draw: random.Random, key: str) -> list[str]:
         entries.append(f"01 {key} {length:012X} 0004 00000002")
     elif about == "conflict":
         entries.append(f"02 {key}")
-    odds = draw.choice((0.0, 0.3, 1.0))  # of a symbol that is no fitting value
+    odds = draw.choice((0.0, 0.3, 1.0))  # the chance that a symbol has no fitting value
     for place in range(draw.choice((1, 10))):
         address = f"{key} {place // 2:04X} {place % 2:04X}"
         kind = draw.random() < odds and draw.choice(("left out", "conflict", "misfit"))
@@ -178,7 +178,7 @@ def drawn_journal(draw: random.Random) -> list[str]:
 
 
 class GapsDrawn(Case):
-    """Journals that are drawn, against the lines that plain `gaps` prints of them."""
+    """Random journals, compared with the lines that plain `gaps` prints for them."""
 
     def test_journals(self) -> None:
         wholes = 0

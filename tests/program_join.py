@@ -23,14 +23,14 @@ class Join(Case):
         self.makes("as many as may be", [*words, "others"], joined(0, 4), "joined2")
         self.row("one more", [*words, "whole", "whole"], 2, "", "too many inputs")
         self.row("none", "join -o got", 2, "", None)
-        # The last of the inputs alone has a symbol.
+        # Only the last input has a symbol.
         self.file("last_alone", HEADER, f"03 {KEY} 0000 0001 0001 6F", ended(1))
         for count in 33, 34, 48, 62, 63:
             words = ["join", "-o", "got", *["part"] * (count - 1), "last_alone"]
             self.makes(f"{count} inputs", words, joined(0, 3), "whole2")
 
     def test_memory(self) -> None:
-        """However much may be held, the journal is the same."""
+        """The journal does not depend on how much memory may be used."""
         for size in "1", "1K", "2M", "3G", "4611686018427387904", "4294967296G":
             words = f"join -o got --memory {size} sent whole"
             self.makes(f"at most {size}", words, joined(2, 3), "whole2")
@@ -68,7 +68,7 @@ class Join(Case):
         self.row("a full standard output", words, 3, "", "cannot write", **FULL)
 
     def test_faults_before_the_output(self) -> None:
-        """Where OUT cannot be created or written, a fault of the inputs comes first."""
+        """A fault of the inputs is reported before an OUT that cannot be created or written."""
         for out in "no/got", "/dev/full":
             many = f"info -o {out} --tsi 64 --toi 1 {FIELDS} many"
             kind = f"join -o {out} bad content"
@@ -90,7 +90,7 @@ class Join(Case):
 
 
 class JoinLimits(Case):
-    """Alone before a later fault, together behind each fault."""
+    """A fault of any input is reported before `full` of all inputs together."""
 
     def setUp(self) -> None:
         super().setUp()

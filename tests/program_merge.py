@@ -39,7 +39,7 @@ class Merge(Case):
 
 
 class Forget(Case):
-    """What is left is what the lines of `show` leave, and it is no join."""
+    """The result has the entries that are left in the lines of `show`, and is no join."""
 
     def test_nothing(self) -> None:
         words = "forget -o got --conflicts whole"

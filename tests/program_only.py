@@ -1,4 +1,4 @@
-"""Tests of `join` of the sessions and the objects that are asked for alone."""
+"""Tests of `join` limited to some sessions and objects."""
 from __future__ import annotations
 
 import run
@@ -8,7 +8,7 @@ OTHERS = range(100, 165)  # 65 sessions
 
 
 class Sessions(Case):
-    """Only the sessions that are asked for: 65 others beside them."""
+    """Only the sessions that are named, beside 65 others."""
 
     def setUp(self) -> None:
         super().setUp()
@@ -44,7 +44,7 @@ class Sessions(Case):
         )
 
     def test_journals(self) -> None:
-        """64 sessions, and 65 that no store holds."""
+        """64 sessions are allowed; 65 are more than a store holds."""
         self.row("64 sessions", "join -o journal64 strays64", 0, joined(128, 192))
         words = "merge -o journal65 journal64 whole"
         self.row("merge of 65 sessions", words, 0, "entries 195")
@@ -67,8 +67,8 @@ class Sessions(Case):
         self.absent("no file after it", "got8")
 
     def test_faults_of_others(self) -> None:
-        """What is not asked for is read and checked all the same, and a refused datagram is no
-        other session's."""
+        """Sessions that are not wanted are read and checked too, and a refused datagram is not
+        counted as another session's."""
         self.write("refused_too", self.read("mixed") + b"\0\2ab")
         words = "join -o got --tsi 7 refused_too"
         self.row("a refused datagram", words, 0, joined(133, 3, 1, 130))
@@ -78,7 +78,7 @@ class Sessions(Case):
         self.absent("no file after it", "got8")
 
     def test_numbers(self) -> None:
-        """64 of them, each below 2^48, and looked at before the source."""
+        """At most 64 of them, each below 2^48, and checked before the source."""
         many = " ".join(f"--tsi {number}" for number in range(1, 65))
         highest = "join -o got --tsi 281474976710655 sent"
         above = "join -o got --tsi 4294967303 sent"
@@ -102,7 +102,7 @@ class Sessions(Case):
 
 
 class Names(Case):
-    """The session 0 and the object above 64 bits are themselves."""
+    """Session 0, and a TOI above 64 bits, are kept apart from others."""
 
     def test_names(self) -> None:
         self.made(f"carousel -o sent_other --tsi 9 --toi 1 {CUT} content")
@@ -130,8 +130,8 @@ class Names(Case):
 
 
 class OnlyObjects(Case):
-    """Only the objects that are asked for: an FDT Instance and a file beside them, and a file of
-    the same TOI of another session."""
+    """Only the object that is named, beside an FDT Instance, another file, and a file of the same
+    TOI in another session."""
 
     def setUp(self) -> None:
         super().setUp()
@@ -146,8 +146,8 @@ class OnlyObjects(Case):
         self.made("join -o first_joined sent eighth_sent")
 
     def asked(self, options: str, datagrams: int, entries: int, left: int, wanted: str) -> None:
-        """So many datagrams and entries of others there are, and so many entries are left, as in
-        WANTED: of datagrams, of their journal, and of both."""
+        """Checks how many datagrams and entries are counted as others, and how many entries are
+        left, as in WANTED: of datagrams, of their journal, and of both."""
         words = f"join -o got {options} objects_sent"
         self.makes(f"datagrams, {options}", words, joined(8, left, others=datagrams), wanted)
         words = f"join -o got {options} objects_joined"

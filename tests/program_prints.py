@@ -70,7 +70,7 @@ class Show(Case):
         self.row("standard input", "show /dev/stdin", 0, SHOWN, stdin=self.path("whole"))
 
     def fault(self, name: str, text: str, *before: str) -> None:
-        """A fault of a journal: its name, its bytes and the lines before it."""
+        """Checks a fault of a journal: its name, its bytes and the lines before it."""
         self.file("bad", text)
         self.row(name, "show bad", 1, lines(*before), f"input 1: {name}")
 
@@ -174,7 +174,7 @@ class Objects(Case):
     """As many objects of one session as a store holds, and one more."""
 
     def objects(self, count: int) -> None:
-        """Each has its information in conflict."""
+        """Makes a journal of objects whose FEC OTI is in conflict."""
         keys = [f"000000000007 01 {number:028X}" for number in range(1, count + 1)]
         self.file("objects", HEADER, conflicts(*keys), ended(count))
 

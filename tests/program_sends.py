@@ -6,7 +6,7 @@ import resource
 import struct
 import subprocess
 
-import run  # before datagram_files, which it finds
+import run  # before datagram_files, which it puts on the path
 import datagram_files
 from flute_sender import packets
 from program_case import NAME, Case
@@ -21,13 +21,13 @@ def datagrams(content: bytes, symbol: int, block: int) -> bytes:
 
 
 def counted(number: int) -> bytes:
-    """Bytes in which each place is another."""
+    """Bytes that differ from place to place."""
     return b"".join(struct.pack(">I", place) for place in range(-(-number // 4)))[:number]
 
 
 class Sending(Case):
     def test_lengths(self) -> None:
-        """Around what is believed of a file, held, and read at once; of a file and of a pipe."""
+        """Lengths around those at which a file is believed, held, or read at once."""
         for length in (1, 1400, 65_535, 65_536, 131_072, 131_073, MEBIBYTE, MEBIBYTE + 1):
             content = counted(length)
             self.write("content", content)
@@ -39,7 +39,7 @@ class Sending(Case):
             self.makes(f"{length} bytes of a pipe", piped, told, wanted, stdin=content)
 
     def test_memory(self) -> None:
-        """400 MB of a file, and 40 of a pipe, in 16 MiB of address space."""
+        """400 MB from a file, and 40 MB from a pipe, in 16 MiB of address space."""
         with self.path("large").open("wb") as file:
             file.truncate(400_000_000)
         of = f"carousel -o /dev/null {NAME} --symbol 1400 --block 1024"
@@ -48,8 +48,8 @@ class Sending(Case):
         self.row("a pipe", f"{of} -", 0, "datagrams 28572", stdin=content, limits=LITTLE)
 
     def test_nothing_put_aside(self) -> None:
-        """Without a folder for it, no more than what memory holds is sent of a pipe to standard
-        output; a file of its own is beside OUT."""
+        """Without a temporary folder, a pipe can be sent to standard output only if it fits in
+        memory; to an OUT it can be sent, since the temporary file is beside OUT."""
         of = f"carousel -o - {NAME} --symbol 1400 --block 64 -"
         nowhere = {"TMPDIR": "missing"}
         large = counted(3 * MEBIBYTE)
@@ -70,13 +70,13 @@ class Sending(Case):
         self.holds("nothing aside", not os.listdir(self.path("aside")))
 
     def test_files_of_the_system(self) -> None:
-        """The length that they tell is not theirs."""
+        """The length that the system gives for its own files is wrong."""
         content = self.path("/proc/version").read_bytes()
         of = f"carousel -o got {NAME} --symbol 1400 --block 64 /proc/version"
         self.makes("a file of /proc", of, "datagrams 1", datagrams(content, 1400, 64))
 
     def test_a_length_that_changes(self) -> None:
-        """The program waits for its output to be read when the file is cut, or gets longer."""
+        """The program waits for the reader of its output while the file is cut, or gets longer."""
         for name, length in (("shorter", 2 * MEBIBYTE), ("longer", 8 * MEBIBYTE + 1)):
             self.write("content", bytes(8 * MEBIBYTE))
             words = ["carousel", "-o", "-", *run.split(NAME), "--symbol", "1400", "--block", "64"]

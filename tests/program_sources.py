@@ -1,4 +1,4 @@
-"""Tests of --source: whose objects a command is about."""
+"""Tests of --source, the sender of the objects that a command is about."""
 from __future__ import annotations
 
 from program_case import (
@@ -25,9 +25,9 @@ from program_case import (
 
 OF_V4 = made_by(V4)
 MIXED = "00000000000000000000FfFf0a000001"
-# The ways to write 10.0.0.1
+# The forms in which 10.0.0.1 may be written
 SAME = V4, V4.lower(), MIXED, "0A000001", "0a000001", "10.0.0.1"
-# No addresses
+# Texts that are no addresses
 BAD = (
     *("", "A", "0", "0A00001", "0A0000010", "0A00", "0" * 16, V4[:-1], f"{V4}0", f"{V4}00"),
     *("0G000001", "0g000001", f"{V4[:-1]}G", "-", "+A000001", " A000001", "0A00001 ", "0A 00001"),
@@ -35,7 +35,7 @@ BAD = (
     *(" 10.0.0.1", "1::2::3", "2001:db8::12345", "1:2:3:4:5:6:7", "1:2:3:4:5:6:7:8:9"),
     *("fe80::1%1", "[::1]", "::10.0.0.256"),
 )
-# An address as it is written, and the digits that Python's ipaddress has for it
+# An address in text, and its digits by Python's ipaddress
 ADDRESSES = {
     "10.0.0.1": V4,
     "::ffff:10.0.0.1": V4,
@@ -132,7 +132,7 @@ class InfoOf(Sources):
 
 
 class JoinOf(Sources):
-    """The sender of each datagram file, and of no journal."""
+    """--source is the sender of each datagram file, and of no journal."""
 
     def test_sender(self) -> None:
         for source in V4, V4.lower(), "0A000001", "0a000001":
@@ -160,7 +160,7 @@ class JoinOf(Sources):
 
 
 class BadSources(Sources):
-    """An address that is none: said behind the numbers and before all else, and nothing is made."""
+    """A wrong address is reported after wrong numbers and before other faults; nothing is made."""
 
     def setUp(self) -> None:
         super().setUp()
@@ -217,7 +217,7 @@ class BadSources(Sources):
         self.nothing_made()
 
     def test_hyphens(self) -> None:
-        """A value that begins with a hyphen stands behind `=`; alone it is another option."""
+        """A value that begins with a hyphen needs `=` before it; otherwise it is another option."""
         for source in "-A000001", "-0A00001", "-0A000001", "--", "-h":
             words = f"extract -o kept --source={source} {NAME} three"
             self.row(f"extract, {source}", words, 2, "", "bad source")

@@ -1,5 +1,5 @@
-"""Tests of `join` with many inputs of which each holds few symbols of an object, beside a join that
-is worked out here, address by address."""
+"""Tests `join` of many inputs with few symbols each, compared with a join that is computed here,
+address by address."""
 from __future__ import annotations
 
 import random
@@ -14,13 +14,13 @@ BLOCK, SYMBOL = 64, 4
 
 
 def key_of(toi: int) -> bytes:
-    """An object of session 7 of the sender 0 (docs/FORMATS.md)."""
+    """The key of an object of session 7 of sender 0 (docs/FORMATS.md)."""
     return bytes(16) + (7).to_bytes(6, "big") + b"\1" + toi.to_bytes(14, "big")
 
 
 def journal_of(values: Values) -> bytes:
-    """The journal of what is held at each address: an object and 0, or an object, 1, and a symbol's
-    block and number, so that addresses are in their order."""
+    """The journal of these values. An address is an object and 0, or an object, 1, and a symbol's
+    block and number, so that addresses sort in order."""
     entries = []
     for address, value in sorted(values.items()):
         key, symbol = address[:37], address[38:]
@@ -32,7 +32,7 @@ def journal_of(values: Values) -> bytes:
 
 
 def join(all_values: list[Values]) -> Values:
-    """At each address the one value that all tell, or a conflict."""
+    """At each address the only value of all inputs, or a conflict."""
     both: Values = {}
     for values in all_values:
         for address, value in values.items():
@@ -41,7 +41,7 @@ def join(all_values: list[Values]) -> Values:
 
 
 class Draw:
-    """What one of many inputs holds."""
+    """Draws what one of many inputs contains."""
 
     def __init__(self, draw: random.Random) -> None:
         self.draw = draw

@@ -47,8 +47,8 @@ BY_HAND = """
 
 
 class BothVersions(Case):
-    """What old journals tell is told of the new ones too, and a new one is written again as the
-    same bytes."""
+    """Journals of both versions give the same output, and a journal of version 2 is written again
+    byte for byte."""
 
     def test_by_hand(self) -> None:
         self.file("by_hand", BY_HAND)
@@ -83,7 +83,7 @@ class BothVersions(Case):
 
 
 class Senders(Case):
-    """10.0.0.1 and one of IPv6 send other objects in the session of the same TSI."""
+    """10.0.0.1 and an IPv6 address send different objects in sessions of the same TSI."""
 
     def setUp(self) -> None:
         super().setUp()
@@ -119,7 +119,7 @@ class Senders(Case):
         self.row("gaps", "gaps states", 0, lines(*states))
 
     def test_order(self) -> None:
-        """Senders, then TSIs."""
+        """Entries are ordered by sender, and then by TSI."""
         self.row("gaps of two", "gaps two", 0, lines(WHOLE, OF_V4 + WHOLE))
         states = (
             WHOLE,
@@ -157,7 +157,7 @@ class Senders(Case):
         self.makes("join of all kinds", words, joined(4, 10), "three")
 
     def test_two_senders(self) -> None:
-        """Of one TSI."""
+        """Two senders with one TSI."""
         self.write("reversed", "olleh")
         words = f"carousel -o reversed_sent {NAME} --symbol 4 --block 2 reversed"
         self.row("the second sender", words, 0, "datagrams 2")
@@ -184,7 +184,7 @@ class Faults(Case):
     """Faults of version 2."""
 
     def fault(self, name: str, text: str, *before: str) -> None:
-        """A fault of a journal: its name, its bytes and the lines before it."""
+        """Checks a fault of a journal: its name, its bytes and the lines before it."""
         self.file("bad", text)
         self.row(name, "show bad", 1, lines(*before), f"input 1: {name}")
 
@@ -224,7 +224,7 @@ class Faults(Case):
         self.fault("Kind", f"{HEADER} 02 {ZERO} {KEY} {ended(1)}", line)
 
     def each_command(self, name: str, err: str) -> None:
-        """Each command that reads a journal says so of `bad`, and makes nothing."""
+        """Each command that reads a journal reports this fault of `bad`, and makes nothing."""
         for words in (
             *("show bad", "gaps bad", f"extract -o got8 {NAME} bad"),
             *(f"info -o got8 {NAME} {FIELDS} bad", "join -o got8 bad", "merge -o got8 bad whole"),

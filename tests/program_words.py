@@ -29,7 +29,7 @@ class Words(Case):
 
 
 class Help(Case):
-    """The examples of each help are run as they stand, in one folder, by their order."""
+    """The examples of each help run as they are printed, in one folder, in their order."""
 
     def examples(self, text: str) -> str:
         behind = re.split("[Ee]xample", text, maxsplit=1)[-1]

@@ -1,9 +1,9 @@
 #!/usr/bin/env python3
-"""Reads the Python of tools/ and examples/, which needs no package, and of the tests.
+"""Checks the Python of tools/ and examples/, which needs no package, and of the tests.
 
-Each function has type hints, each file can be read by Python 3.9. What is installed of pyflakes,
-pycodestyle, ruff and mypy finds nothing; mypy reads the tools, the examples, and of the tests what
-several share.
+Each function has type hints, and Python 3.9 can read each file. Those of pyflakes, pycodestyle,
+ruff and mypy that are installed report nothing; mypy checks the tools, the examples, and the
+modules that several tests share.
 
 usage: tests/python.py
 """
@@ -21,18 +21,18 @@ from typing import Iterator
 
 ROOT = pathlib.Path(__file__).resolve().parent.parent
 FOLDERS = "tools", "examples", "tests"
-OLDEST = 3, 9  # the version of Python
+OLDEST = 3, 9  # the oldest version of Python
 MOST_COLUMNS, MOST_LINES = 100, 400
 OF_DASK = {"distributed"}  # examples/join_on_dask.py is run by Dask's Python
 SHARED = "run.py", "captures.py", "flute_sender.py", "*_case.py", "python.py"
-# Imports stand behind what a tool does first, as answering signals (E402). What the formatter does
-# at colons and operators is as it should be (E203, W503).
+# Some imports come after the first thing that a tool does, as catching signals (E402). The
+# formatter's spaces at colons and operators are right (E203, W503).
 IGNORED = "--ignore=E402,E203,W503"
 
 
 def sources(*folders: str) -> list[pathlib.Path]:
     paths = [path for folder in folders for path in sorted((ROOT / folder).iterdir())]
-    return [path for path in paths if path.suffix == ".py" or is_script(path)]
+    return [it for it in paths if it.is_file() and (it.suffix == ".py" or is_script(it))]
 
 
 def is_script(path: pathlib.Path) -> bool:
@@ -60,7 +60,7 @@ def functions(tree: ast.AST) -> list[ast.FunctionDef]:
 
 
 def lacks_hints(function: ast.FunctionDef) -> bool:
-    """Whether a type is missing of what it takes or returns."""
+    """Whether the type of a parameter or of the result is missing."""
     of = function.args
     arguments = [*of.posonlyargs, *of.args, *of.kwonlyargs]
     named = [it for it in arguments if it.arg not in ("self", "cls")]
@@ -104,7 +104,7 @@ class Sources(unittest.TestCase):
 
 
 class Checkers(unittest.TestCase):
-    """Other programs that read Python."""
+    """Other programs that check Python."""
 
     def finds_nothing(self, names: str, *words: object, **paths: str) -> None:
         found = [path for path in map(shutil.which, names.split()) if path]

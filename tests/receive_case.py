@@ -1,6 +1,6 @@
-"""What is sent to flutejoin-receive: a file in 40 datagrams, and 2 small ones of another file.
+"""Helpers of the tests of flutejoin-receive: a file in 40 datagrams, and another in 2 small ones.
 
-Nothing is sent anywhere but to this machine, or to a network namespace.
+Datagrams are sent only to this machine, or to a network namespace.
 """
 from __future__ import annotations
 
@@ -12,13 +12,13 @@ import subprocess
 import sys
 from typing import Any
 
-import run  # before datagram_files, which it finds
+import run  # before datagram_files, which it puts on the path
 import datagram_files
 from run import ROOT, Run, until
 
 TOOL = ROOT / "tools" / "flutejoin-receive"
-# The interpreter itself, and without packages of the machine (-S): what stands for it on the PATH
-# may take longer than the tool.
+# The interpreter itself, and without the machine's packages (-S): a wrapper on the PATH may take
+# longer than the tool.
 PYTHON = sys.executable, "-S"
 # A run that hangs ends by itself.
 OPTIONS = "--buffer 200000 --seconds 600"
@@ -40,7 +40,7 @@ def said(*texts: str) -> str:
 
 
 def join_line(source: str, folder: str, *files: str, address: str = "127.0.0.1") -> str:
-    """The line that joins these files of a sender, or its one file."""
+    """The command that joins these files of a sender, or its only file."""
     names = " ".join(f"{folder}/{name}" for name in files or (f"{address}.fldg",))
     join = f"flutejoin join --any-size --source {source}"
     return f"{join} -o {folder}/{address}.journal {names}\n"
@@ -57,7 +57,7 @@ def free_port() -> int:
 
 
 class Receiver:
-    """A run of the tool, and the files that have what it prints."""
+    """A run of the tool, and the files with its output."""
 
     def __init__(self, test: Case, child: subprocess.Popen, out: str, err: str) -> None:
         self.test, self.child, self.out, self.err = test, child, out, err
@@ -66,7 +66,7 @@ class Receiver:
         return self.test.read(self.err)
 
     def ended(self) -> Run:
-        """What it left, without times and without the line that says that it listens."""
+        """The result of the run, without times and without the line about listening."""
         self.child.wait(run.LONGEST)
         err = LISTENING.sub(b"", TIME.sub(b"", self.told()))
         return Run(self.child.returncode, self.test.bytes_of(self.out) or b"", err)
@@ -85,12 +85,12 @@ class Case(run.Case):
         self.made("carousel -o sent2 --tsi 7 --toi 2 --symbol 4 --block 2 small")
 
     def direct(self, source: str, *files: str) -> str:
-        """The name of the journal that the program makes of datagram files of a sender."""
+        """Makes a journal of a sender's datagram files by the program, and returns its name."""
         self.made(["join", "-f", "-o", "direct", "--source", source, *(files or ("sent",))])
         return "direct"
 
     def records_of(self, name: str, first: int = 0, count: int = 1000) -> bytes:
-        """The datagram file of some records of another."""
+        """The datagram file of some records of another one."""
         found = datagram_files.read(str(self.path(name)))
         return datagram_files.content(itertools.islice(found, first, first + count))
 
@@ -103,7 +103,7 @@ class Case(run.Case):
         count: int = 1000,
         port: int | None = None,
     ) -> None:
-        """Sends the datagrams of a file, of which the first has the number 0."""
+        """Sends `count` datagrams of a file, from number `first` on; numbers begin at 0."""
         words = [*PYTHON, "-c", SEND, file, source, target, port or self.port, first, count]
         done = self.command([*self.prefix, *words], env={"PYTHONPATH": str(ROOT / "examples")})
         self.assertEqual(done.status, 0, done)
@@ -124,10 +124,10 @@ class Case(run.Case):
         return receiver
 
     def tried(self, name: str, words: str, *wanted: Any, **how: Any) -> None:
-        """A run that ends by itself."""
+        """Checks a run that ends by itself."""
         self.check(name, self.receive(words, **how).ended(), *wanted)
 
     def run_lines(self, name: str, done: Run) -> None:
-        """Runs the lines that are printed, as a user would."""
+        """Runs the commands that a run printed, as a user would."""
         lines = [line for line in done.lines() if line.startswith("flutejoin join ")]
         self.check(f"{name}: its lines", self.shell("\n".join(["set -e", *lines])), 0, None)

@@ -40,7 +40,7 @@ class Folders(Case):
 
 class Outputs(Case):
     def test_limit(self) -> None:
-        """On a file's length: the file ends behind a whole record."""
+        """A limit on the length of files: the file ends after a whole record."""
         limits = {resource.RLIMIT_FSIZE: 10_240}
         receiver = self.receive("-o limited", limits=limits, signals={SIGINT: SIG_DFL})
         self.send("sent")

@@ -1,15 +1,22 @@
-"""Groups, in a network namespace of each test's own, whose loopback takes them."""
+"""Tests of groups, each in a network namespace of its own, whose loopback receives them."""
 from __future__ import annotations
 
 from receive_case import Case, count_line, join_line
+from run import until
 
 LOOPBACK = "ip link set lo up && ip link set lo multicast on && ip route add 224.0.0.0/4 dev lo"
-# A loopback takes no groups of IPv6 unless they are routed to it as addresses of its own.
+# A loopback receives IPv6 groups only if they are routed to it as addresses of its own.
 IPV6 = (
     "ip -6 addr add 2001:db8::1/128 dev lo nodad && ip -6 addr add 2001:db8::2/128 dev lo nodad && "
     "ip -6 route add local ff00::/8 dev lo table local"
 )
 FIRST, SECOND = "127.0.0.1", "127.0.0.2"
+# Another interface, to which groups are routed
+OF_D0 = "10.9.0.1"
+INTERFACE = (
+    f"ip link add d0 type veth peer name d1 && ip addr add {OF_D0}/24 dev d0 && "
+    "ip link set d0 up && ip link set d1 up && ip route replace 224.0.0.0/4 dev d0"
+)
 
 
 class Groups(Case):
@@ -28,7 +35,7 @@ class Groups(Case):
         )
 
     def group(self, group: str, first: str, second: str, source: str) -> None:
-        """A group, and the same of one sender."""
+        """Receives a group, and the same group from one sender only."""
         stems = first.replace(":", "-"), second.replace(":", "-")
         of = f"--group {group} --interface lo"
         receiver = self.receive(f"{of} --count 80 -o group")
@@ -56,7 +63,7 @@ class Groups(Case):
         self.group("232.1.1.1", FIRST, SECOND, "7f000001")
 
     def test_interface_by_its_address(self) -> None:
-        """Another group at the port is not received, nor what is sent to the address itself."""
+        """Neither another group at the port nor the address itself is received."""
         of = f"--group 239.1.1.1 --interface {FIRST} --from {SECOND}"
         receiver = self.receive(f"{of} --count 2 -o by_address")
         for target in "239.1.1.2", FIRST, "239.1.1.1":
@@ -64,8 +71,32 @@ class Groups(Case):
         self.check("the interface by its address", receiver.ended(), 0, None)
         self.same("nothing of another group", f"by_address/{SECOND}.fldg", "sent2")
 
+    def test_an_interface_that_is_made_again(self) -> None:
+        """What was joined on it is gone with it, however it was named."""
+        if self.command([*self.prefix, "sh", "-c", INTERFACE]).status != 0:
+            self.skipTest("no interface can be made here")
+        of = "", "--interface d0", f"--interface {OF_D0}", f"--interface d0 --from {OF_D0}"
+        receivers = [
+            self.receive(f"--group 239.1.1.1 -o of{number} {words}")
+            for number, words in enumerate(of)
+        ]
+
+        def are_told(text: bytes) -> bool:
+            return all(text in receiver.told() for receiver in receivers)
+
+        self.send("sent", OF_D0, "239.1.1.1", count=20)
+        self.command([*self.prefix, "ip", "link", "del", "d0"])
+        self.holds("an interface is gone", until(lambda: are_told(b"cannot listen at"), 30))
+        self.command([*self.prefix, "sh", "-c", INTERFACE])
+        self.holds("it is there again", until(lambda: are_told(b"listening again at"), 30))
+        self.send("sent", OF_D0, "239.1.1.1", first=20)
+        for number, receiver in enumerate(receivers):
+            receiver.child.terminate()
+            self.check("an interface made again", receiver.ended(), 0, None, None)
+            self.same(f"what came on it, {number}", f"of{number}/{OF_D0}.fldg", "sent")
+
     def test_two_runs(self) -> None:
-        """At once, which receive all of one group."""
+        """Two runs at once each receive everything that is sent to one group."""
         of = "--group 239.1.1.1 --count 40 -o"
         receivers = [self.receive(f"{of} {folder}") for folder in ("first", "second")]
         self.send("sent", FIRST, "239.1.1.1")
@@ -74,7 +105,7 @@ class Groups(Case):
             self.same(f"the datagrams of the {folder}", f"{folder}/{FIRST}.fldg", "sent")
 
     def test_each_address(self) -> None:
-        """Without a group, what another run joined is not received. The interface by its name."""
+        """Without a group, groups of other runs are not received. The interface is named."""
         first = self.receive("--group 239.1.1.1 --count 2 -o first")
         self.port = 4002
         other = self.receive("--interface lo --count 2 -o alone")

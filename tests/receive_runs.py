@@ -35,7 +35,7 @@ class Senders(Case):
         self.same("the file", "got", "file")
 
     def test_another_run(self) -> None:
-        """It goes on."""
+        """Another run continues the files."""
         receiver = self.receive("--count 80 -o two")
         self.send("sent")
         self.send("sent", "127.0.0.2")
@@ -89,8 +89,8 @@ class Senders(Case):
 
 class Files(Case):
     def test_cut(self) -> None:
-        """A file that a kill cut, at each kind of place: in the header, behind it, in a length, in
-        a datagram, and behind a record."""
+        """A file that a kill cut, in each kind of place: in the header, after it, in a length, in a
+        datagram, and after a record."""
         for length, whole in (
             *((0, 0), (1, 0), (5, 0), (6, 0), (7, 0), (8, 0), (1044, 1), (1045, 1), (20_000, 19)),
         ):
@@ -110,7 +110,7 @@ class Files(Case):
             self.same(f"{length} bytes, mended", f"{folder}/{ONE}", wanted)
 
     def test_others(self) -> None:
-        """What is no datagram file is refused, and left as it is."""
+        """A file that is no datagram file is refused, and not changed."""
         self.path("other").mkdir()
         nine = "other/127.0.0.9.fldg"
         for begin in b"FLDG\0\2", b"FLJN\0\2", b"hello, world", b"x":
@@ -163,7 +163,7 @@ class Files(Case):
         self.same("the journal of many parts", "many/127.0.0.1.journal", self.direct(FIRST))
 
     def test_as_many_as_a_file_may_have(self) -> None:
-        """A file of 16,777,215 datagrams of no bytes takes one more."""
+        """A file of 16,777,215 empty datagrams takes one more."""
         self.path("most").mkdir()
         self.write(f"most/{ONE}", b"FLDG\0\1")
         os.truncate(self.path(f"most/{ONE}"), 6 + 2 * 16_777_215)
@@ -179,7 +179,7 @@ class Files(Case):
 
 class Ends(Case):
     def test_killed(self) -> None:
-        """In the middle, with what came before in the file."""
+        """A run is killed in the middle; the next one keeps what is in the file."""
         receiver = self.receive("-o killed")
         self.send("sent", count=17)
         expected = self.records_of("sent", 0, 17)
@@ -225,7 +225,7 @@ class Ends(Case):
         self.same("what came behind it", f"by_nohup/{ONE}", "sent")
 
     def test_drops(self) -> None:
-        """What the system drops while the receiver stands still. The later option counts."""
+        """The system drops datagrams while the receiver is stopped. The later option counts."""
         receiver = self.receive("--buffer 4096 -o slow", signals={SIGINT: SIG_DFL})
         receiver.child.send_signal(SIGSTOP)
         self.send("sent")

@@ -1,8 +1,9 @@
 #!/usr/bin/env python3
-"""What flutejoin-receive does in a long run: events that lose data, and senders that are made up.
+"""Tests flutejoin-receive in a long run: events that lose data, and invented senders.
 
-Everything is sent to the loopback: of a network namespace of its own where one can be had, and else
-of this machine. Tests run side by side, since most of them wait.
+Everything is sent to the loopback: of a network namespace if one can be made, otherwise of this
+machine. Tests run in parallel, since most of them wait.
+
 usage: tests/receiving.py PROGRAM
 """
 from __future__ import annotations
@@ -44,7 +45,7 @@ STAMP = re.compile(r"^\d{4}-\d\d-\d\dT\d\d:\d\d:\d\dZ (?=flutejoin-receive: )", 
 def packet(
     symbol: bytes, number: int = 0, toi: int = 1, instance: int | None = None, tsi: int = 7
 ) -> bytes:
-    """A FLUTE packet, of an FDT Instance if one is named."""
+    """A FLUTE packet; of an FDT Instance if `instance` is given."""
     extension = b"" if instance is None else struct.pack(">I", 0xC0200000 | instance)
     words = 4 + len(extension) // 4
     toi = toi if instance is None else 0
@@ -53,7 +54,7 @@ def packet(
 
 
 def records(path: str) -> list[bytes]:
-    """The datagrams of a datagram file. It has to be whole."""
+    """The datagrams of a datagram file, which must be whole."""
     with open(path, "rb") as file:
         data = file.read()
     found = list(datagram_files.records(data))
@@ -68,7 +69,7 @@ def free_port() -> int:
 
 
 class Receiver:
-    """A run of the tool, with its folder and what it tells."""
+    """A run of the tool, with its folder and its output."""
 
     def __init__(
         self,
@@ -96,7 +97,7 @@ class Receiver:
         self.process.communicate()
 
     def stderr(self) -> str:
-        """What it told until now, without the times."""
+        """Standard error so far, without the times."""
         return STAMP.sub("", os.pread(self.told.fileno(), 1 << 20, 0).decode())
 
     def until(self, holds: Callable[[], object], what: str) -> None:
@@ -131,7 +132,7 @@ class Receiver:
         return self.ended()
 
     def ended(self) -> tuple[int, list[str]]:
-        """Its status, and the lines of its standard output."""
+        """The status, and the lines of standard output."""
         out, _ = self.process.communicate(timeout=LONGEST_WAIT)
         return self.process.returncode, out.decode().splitlines()
 
@@ -279,7 +280,7 @@ class Telling(Case):
             self.assertRegex(line, STAMP)
 
     def test_a_terminal_that_is_stopped(self) -> None:
-        """Standard error that nobody reads keeps nothing up: what fits no more waits."""
+        """Nobody reads standard error, and the run does not wait: lines that don't fit are kept."""
         leader, follower = os.openpty()
         receiver = Receiver(self, "-o", "kept", stderr=follower, listens=False)
         os.close(follower)
@@ -418,18 +419,37 @@ class Disk(Case):
         self.assertEqual(numbers, list(range(numbers[0], numbers[-1] + 1)))
         kept = [each for number in numbers for each in self.part(number)]
         self.assertEqual(kept, sent[100 - len(kept) :])
-        # The lines name what is there.
+        # The lines name the files that exist.
         self.assertEqual(sum("datagrams from" in line for line in lines), len(left))
         self.assertEqual(lines[-1].count(".fldg"), len(left))
+
+    def test_a_clock_that_was_set_back(self) -> None:
+        """What was written before goes first, though its time is still to come."""
+        os.mkdir(self.path("kept"))
+        later = time.time() + 10**7
+        for name in "127.0.0.1.fldg", "127.0.0.1.2.fldg":
+            datagram_files.write(self.path(f"kept/{name}"), self.symbols(16, 1000, toi=2))
+            os.utime(self.path(f"kept/{name}"), (later, later))
+        receiver = Receiver(self, "-o", "kept", "--most", "40000")
+        sent = self.symbols(40, 1000)
+        for begin in range(0, 40, 5):
+            receiver.send(sent[begin : begin + 5])
+            time.sleep(0.05)
+        self.assertEqual(receiver.end()[0], 0)
+        left = sorted(int(name.split(".")[4]) for name in self.names() if name.count(".") == 5)
+        kept = [each for number in left for each in self.part(number)]
+        self.assertEqual(kept, sent[40 - len(kept) :])
+        self.assertGreater(len(kept), 20)
+        self.assertNotIn("127.0.0.1.fldg", self.names())
 
     def test_there_are_never_more_bytes_than_most(self) -> None:
         receiver = Receiver(self, "-o", "kept", "--most", "40000")
         sent = self.symbols(400, 1000)
-        for begin in range(0, 400, 40):  # each burst is more than all that is kept
+        for begin in range(0, 400, 40):  # each burst is more than what is kept
             receiver.send(sent[begin : begin + 40])
             time.sleep(0.1)  # less than the second after which the folder is looked at
             before = self.held()
-            if before == self.held():  # else files came and went meanwhile
+            if before == self.held():  # otherwise files were added or removed meanwhile
                 self.assertLessEqual(before, 40000)
         receiver.send(sent[:40])
         self.assertEqual(receiver.end()[0], 0)
@@ -445,7 +465,7 @@ class Disk(Case):
         self.assertEqual(records(self.path(f"kept/{name}")), sent[-1:])
 
     def held(self) -> int:
-        """The bytes of all files; one that is removed meanwhile has none."""
+        """The bytes of all files; a file that is removed meanwhile counts as empty."""
         sizes = []
         for name in self.names():
             with contextlib.suppress(FileNotFoundError):
@@ -511,7 +531,7 @@ class Disk(Case):
         self.assertEqual(records(self.path("old/127.0.0.1.fldg")), before)
 
     def test_nothing_is_lost_while_names_are(self) -> None:
-        """What comes while a file is removed, and while the folder is removed or moved, is kept."""
+        """Datagrams are kept while a file is removed, and the folder removed or moved."""
         receiver = Receiver(self, "-o", "kept")
         sent: list[bytes] = []
 
@@ -527,7 +547,7 @@ class Disk(Case):
         send_until(lambda: len(sent) >= 200 and os.path.exists(name))
         os.unlink(name)
         send_until(lambda: "bytes of it are written anew" in receiver.stderr())
-        # This one grows no more, and is gone with its folder.
+        # This file does not grow any more, and is removed with its folder.
         ended = records(name)
         shutil.rmtree(self.path("kept"))
         send_until(lambda: receiver.stderr().count("it is made anew") == 1)
@@ -541,7 +561,7 @@ class Disk(Case):
         self.assertEqual((status, missing, len(kept)), (0, 0, len(sent)), receiver.stderr())
 
     def test_what_is_cut_off_is_kept_beside(self) -> None:
-        """One wrong byte of a length: what does not fit behind it is no record that was cut."""
+        """After one wrong byte in a length, the rest of a file is kept in another file."""
         os.mkdir(self.path("kept"))
         sent = self.symbols(1000, 1380)
         data = datagram_files.content(sent)
@@ -562,7 +582,7 @@ class Disk(Case):
         self.assertEqual(records(self.path("kept/127.0.0.1.fldg"))[:970], sent[:970])
 
     def test_kills(self) -> None:
-        """What was in the files stays there; nothing is twice there, and nothing damaged."""
+        """The contents of the files stay: nothing is there twice, and nothing is damaged."""
         sent: list[bytes] = []
         for number in range(5):
             receiver = Receiver(self, "-o", "kept", *["--split", "20000"] * (number % 2))
@@ -676,7 +696,7 @@ class Strangers(Case):
         # By now the status was replaced.
         receiver.until(lambda: self.status()["sessions"][0]["datagrams"] >= 64, "another status")
         self.assertGreaterEqual(len(self.status()["senders"]), 64)
-        # A silent one has left a place, and its files.
+        # A silent sender has given up its place; its files stay.
         self.assertGreater(time.monotonic() - began, 5)
         receiver.send(self.symbols(2), "127.0.2.64")
         receiver.until_kept(3, "kept/127.0.2.64.fldg")
@@ -684,7 +704,7 @@ class Strangers(Case):
         self.assertEqual((status, sum("datagrams from" in line for line in lines)), (0, 65))
         left_out = int(re.search(r"left out (\d+): more than 64", "\n".join(lines))[1])
         self.assertEqual(len(records(self.path("kept/127.0.0.1.fldg"))), sent - left_out)
-        # Nor do their files keep anybody out at a restart.
+        # Nor do these files exclude other senders after a restart.
         os.unlink(self.path("kept/127.0.0.1.fldg"))
         receiver = Receiver(self, "-o", "kept", "--count", "3")
         again = self.symbols(3)
@@ -723,7 +743,7 @@ class Strangers(Case):
 
 
 class Epochs(Case):
-    """A sender that starts again, with FDT Instance 1 and other contents."""
+    """A sender that restarts, with an FDT Instance 1 of other contents."""
 
     def run_of_sender(self, text: bytes, instance: int = 1) -> list[bytes]:
         fdt = [packet(text + bytes([each]), each, instance=instance) for each in range(3)]
@@ -773,7 +793,7 @@ class Epochs(Case):
         receiver.ended()
         parts = [name for name in self.names() if ".e2." in name]
         self.assertGreater(len(parts), 1)
-        # The same again is no new epoch; what contradicts what an earlier run of the tool took is.
+        # Repeating it begins no epoch; contradicting what an earlier run of the tool received does.
         receiver = Receiver(self, "-o", "kept", "--count", "22")
         receiver.send(runs[1] + runs[2])
         status, lines = receiver.ended()
@@ -787,7 +807,7 @@ class Epochs(Case):
         ])
 
     def test_a_restart_where_a_file_just_began(self) -> None:
-        """What its last file does not tell of FDT Instances, the one before does."""
+        """If the last file contains no FDT Instance, the file before is used."""
         receiver = Receiver(self, "-o", "kept", "--count", "9", "--split", "1000")
         receiver.send([packet(b"first", instance=1), *self.symbols(8)])
         receiver.ended()
@@ -809,7 +829,7 @@ class Epochs(Case):
 
 
 class Patched(Case):
-    """Runs of the tool in which a part of Python or of the system is another."""
+    """Runs of the tool with a part of Python or of the system replaced."""
 
     def run_patched(self, patch: str, *words: str) -> Receiver:
         script = (
@@ -827,7 +847,7 @@ class Patched(Case):
         self.assertEqual(records(self.path("kept/127.0.0.1.fldg")), sent)
 
     def test_a_disk_that_stalls(self) -> None:
-        """Meanwhile the receive buffer is emptied all the same."""
+        """Even while the disk stalls, the receive buffer is emptied."""
         patch = (
             "import os, time\nwrite, began = os.write, []\n"
             "def slow(descriptor, data):\n"
@@ -891,7 +911,7 @@ class Modules(unittest.TestCase):
                         self.assertFalse(senders.has_room(real, now))
                     self.assertLessEqual(len(senders.asking), MOST_ASKING)
                 senders.each_second(now)
-            # The two are silent for 10 seconds by now.
+            # The two have been silent for 10 seconds by now.
             self.assertIn(real, senders.invited)
             self.assertLessEqual(len(senders.invited), 2)
             self.assertTrue(senders.has_room(real, 11))
@@ -932,7 +952,7 @@ def main() -> int:
     loader = unittest.defaultTestLoader
     tests = tests_of(loader.loadTestsFromModule(sys.modules["__main__"]))
     tests = [test for test in tests if not names or any(name in test.id() for name in names)]
-    # What the system counts for all programs is compared while no other test runs.
+    # The system's counts for all programs are compared while no other test runs.
     alone = [test for test in tests if test.id().endswith(".test_causes_of_drops")]
     passed = failed = 0
     with concurrent.futures.ThreadPoolExecutor(8) as pool:
@@ -950,8 +970,8 @@ def main() -> int:
     return int(failed > 0)
 
 
-def is_inside_namespaces() -> None:
-    """Goes on in namespaces of its own, where they can be had."""
+def enter_namespaces() -> None:
+    """Restarts this script in namespaces of its own, if they can be made; otherwise returns."""
     inner = 'ip link set lo up && exec "$@"'
     words = ["unshare", "-rmn", "sh", "-c", inner, "-"]
     try:
@@ -965,6 +985,6 @@ def is_inside_namespaces() -> None:
 
 if __name__ == "__main__":
     if INSIDE not in os.environ:
-        is_inside_namespaces()
+        enter_namespaces()
         os.environ[INSIDE] = "no"
     sys.exit(main())

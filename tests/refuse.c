@@ -3,11 +3,11 @@
    With a number n in the environment, as REFUSE, the n-th request is refused, from 1, and the line
    "refused" is then written to descriptor 9.
 
-   No header is read, so that a compiler without the C library's can compile it. */
+   It includes no header, so that it compiles without those of the C library. */
 
 typedef unsigned long size;
 
-/* The C library's own, under the names that it exports for this purpose. */
+/* The C library's own functions, under names that it exports for this purpose. */
 void *__libc_malloc(size bytes);
 void *__libc_realloc(void *block, size bytes);
 

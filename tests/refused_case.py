@@ -1,4 +1,4 @@
-"""Runs with the requests for memory refused in turn, by tests/refuse.c."""
+"""Runs in which requests for memory are refused in turn, by tests/refuse.c."""
 from __future__ import annotations
 
 import os
@@ -7,11 +7,11 @@ import pathlib
 import run
 from outputs_case import library
 
-OF_REFUSED = 9  # the stream where the library says that it refused a request
+OF_REFUSED = 9  # the stream to which the library writes that it refused a request
 
 
 def by_rattle(path: pathlib.Path) -> pathlib.Path:
-    """What the kit's own code generator built of a program."""
+    """The program as the kit's own code generator built it."""
     return path.with_name(f"{path.name}.by-rattle")
 
 
@@ -25,7 +25,7 @@ class Case(run.Case):
         self.addCleanup(os.close, OF_REFUSED)
 
     def refusing(self, words: run.Words, number: int) -> tuple[run.Run, bool]:
-        """A run whose request of this number is refused, and whether it made so many."""
+        """Runs with this request refused. Returns the run, and whether it made so many requests."""
         os.ftruncate(OF_REFUSED, 0)
         env = {"LD_PRELOAD": str(library("refuse")), "REFUSE": str(number)}
         done = self.command(words, env=env, kept=[OF_REFUSED])

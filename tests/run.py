@@ -42,21 +42,21 @@ ROOT = TESTS.parent
 sys.path.append(str(ROOT / "examples"))  # for datagram_files
 PROGRAM = pathlib.Path(os.environ.get("FLUTEJOIN", ROOT / "bin" / "flutejoin")).absolute()
 LONGEST = 600.0  # seconds that a run may take, on a machine under load
-NOBODY = 65534  # the number of a user without leave
-SHOWN = 600  # bytes of an output that the text of a failure has
+NOBODY = 65534  # the number of a user without permissions
+SHOWN = 600  # bytes of an output that a failure shows
 
 # The words of a command line: a text is split as a shell does
 Words = Union[str, Sequence[object]]
-# A text is whole lines, of which the last may lack its line feed; `None` is any output
+# A text is whole lines, and may lack the last line feed; `None` matches any output
 Expected = Union[str, bytes, Pattern[str], None]
 # The name of a file of the test's folder, or bytes
 Content = Union[str, pathlib.Path, bytes]
 
 
 class Run(NamedTuple):
-    """What a run left."""
+    """The result of a run."""
 
-    status: int  # of a run that a signal ended: below zero
+    status: int  # below zero if a signal ended the run
     out: bytes
     err: bytes
 
@@ -65,7 +65,7 @@ class Run(NamedTuple):
 
 
 class Row(NamedTuple):
-    """A run of the program, and what it has to leave."""
+    """A run of the program, and the expected result."""
 
     name: str
     words: Words
@@ -106,7 +106,7 @@ def end(child: subprocess.Popen) -> None:
 
 
 def until(is_so: Callable[[], object], seconds: float = LONGEST) -> bool:
-    """Waits until something is so; whether it came to be."""
+    """Waits until a condition holds. Returns False if it doesn't in time."""
     ends = time.monotonic() + seconds
     while not is_so():
         if time.monotonic() > ends:
@@ -120,19 +120,19 @@ def hexadecimal(text: str) -> bytes:
 
 
 # An entry of a journal of version 1 begins with its kind, the TSI, and the object's tag and number,
-# with one space between them.
+# separated by single spaces.
 ENTRY = re.compile(r"(?<!\S)(0[1-4])\s+([0-9A-F]{12} 0[01] [0-9A-F]{28})")
 ZERO = "0" * 32
 
 
 def version2(sender: str, text: str) -> str:
-    """A journal of version 1 in hexadecimal, or some of its entries, in version 2 with this sender
-    in each entry."""
+    """Turns a journal of version 1 in hexadecimal, or entries, into version 2, with this sender in
+    each entry."""
     return ENTRY.sub(rf"\1 {sender} \2", re.sub("^464C4A4E0001", "464C4A4E0002", text))
 
 
 class Case(unittest.TestCase):
-    """`folder` is where runs are, `bin` has links to the program and the tools."""
+    """A test: runs are in `folder`, and `bin` has links to the program and the tools."""
 
     def setUp(self) -> None:
         whole = pathlib.Path(tempfile.mkdtemp(prefix="flutejoin-test."))
@@ -156,12 +156,11 @@ class Case(unittest.TestCase):
         return self.path(name).read_bytes()
 
     def file(self, name: str, *text: str) -> None:
-        """Makes a file of bytes in hexadecimal."""
+        """Writes a file of bytes given in hexadecimal."""
         self.write(name, hexadecimal(" ".join(text)))
 
     def journal(self, name: str, *text: str) -> None:
-        """Makes NAME, a journal of version 1, and NAME2, the same in version 2, where each sender
-        is zero."""
+        """Writes NAME, a journal of version 1, and NAME2, the same in version 2 with sender 0."""
         self.file(name, *text)
         self.file(f"{name}2", version2(ZERO, " ".join(text)))
 
@@ -170,7 +169,7 @@ class Case(unittest.TestCase):
             self.path(name).unlink()
 
     def exists(self, *names: str) -> list[str]:
-        """Which of these names the folder has."""
+        """Those of these names that are in the folder."""
         return [name for name in names if os.path.lexists(self.path(name))]
 
     # Runs
@@ -195,11 +194,11 @@ class Case(unittest.TestCase):
         kept: Sequence[int] = (),
         folder: str | pathlib.Path = ".",
     ) -> subprocess.Popen:
-        """Starts a command. `stdin` is its input (of bytes, a pipe for them) or a file's name, `to`
-        a file for its standard output and `err` one for standard error, `closed` the numbers of
-        streams that are closed, `limits` those of `setrlimit`, `signals` how it takes signals at
-        first; `nobody` is a user without leave, if this one is root, `kept` are open files that it
-        has too."""
+        """Starts a command. `stdin` is its input (bytes are sent through a pipe) or a file's name,
+        `to` a file for its standard output and `err` one for standard error. `closed` are the
+        numbers of closed streams, `limits` and `signals` its limits by `setrlimit` and its handlers
+        of signals at the start. `nobody` runs it as a user without permissions, if this user is
+        root; it inherits the open files `kept`."""
 
         def prepare() -> None:
             for number, most in limits.items():
@@ -237,12 +236,12 @@ class Case(unittest.TestCase):
         return child
 
     def finish(self, child: subprocess.Popen, given: bytes = b"", within: float = LONGEST) -> Run:
-        """Waits for what was started, which reads these bytes if its input is a pipe."""
+        """Waits for a started command, which gets these bytes if its input is a pipe."""
         out, err = child.communicate(given if child.stdin else None, timeout=within)
         return Run(child.returncode, out or b"", err or b"")
 
     def command(self, words: Words, *, seconds: float = LONGEST, **how: Any) -> Run:
-        """Runs a command, as `start` says."""
+        """Runs a command, with the options of `start`."""
         given = how.get("stdin", b"")
         child = self.start(words, **how)
         return self.finish(child, given if isinstance(given, bytes) else b"", seconds)
@@ -251,21 +250,21 @@ class Case(unittest.TestCase):
         return self.command([PROGRAM, *split(words)], **how)
 
     def tool(self, name: str, words: Words, **how: Any) -> Run:
-        """Runs a tool, by this Python."""
+        """Runs a tool with this Python."""
         return self.command([sys.executable, ROOT / "tools" / name, *split(words)], **how)
 
     def shell(self, script: str, **how: Any) -> Run:
         return self.command(["sh", "-c", script], **how)
 
     def made(self, words: Words, **how: Any) -> Run:
-        """Runs the program for what it makes: it has to succeed."""
+        """Runs the program to make a file; it must succeed."""
         done = self.program(words, **how)
         self.assertEqual(done.status, 0, (words, done))
         return done
 
     @contextlib.contextmanager
     def piped(self, name: str, content: bytes) -> Iterator[None]:
-        """A pipe with a name, into which these bytes are written meanwhile."""
+        """Makes a named pipe, into which these bytes are written meanwhile."""
         if not self.exists(name):
             os.mkfifo(self.path(name))
         writer = threading.Thread(target=self.path(name).write_bytes, args=[content], daemon=True)
@@ -288,7 +287,7 @@ class Case(unittest.TestCase):
         out: Expected = "",
         err: Expected = "",
     ) -> None:
-        """What a run left must be this (`None`: anything)."""
+        """Checks the result of a run (`None` matches anything)."""
         told = f"status {run.status}, output {run.out[:SHOWN]!r}, error {run.err[:SHOWN]!r}"
         is_status = status is None or run.status == status
         self.holds(
@@ -298,7 +297,7 @@ class Case(unittest.TestCase):
         )
 
     def same(self, name: str, left: Content, right: Content) -> None:
-        """Two files have the same bytes."""
+        """Checks that two files, or texts in bytes, are equal."""
         pair = [it if isinstance(it, bytes) else self.bytes_of(it) for it in (left, right)]
         self.holds(name, pair[0] is not None and pair[0] == pair[1], f"{left!r:.600} is another")
 
@@ -306,7 +305,7 @@ class Case(unittest.TestCase):
         return self.read(name) if self.path(name).is_file() else None
 
     def absent(self, name: str, *files: str) -> None:
-        """The folder has none of these names."""
+        """Checks that the folder has none of these names."""
         found = self.exists(*files)
         self.holds(name, not found, f"there is {found}")
 
@@ -321,19 +320,19 @@ class Case(unittest.TestCase):
         err: Expected = "",
         **how: Any,
     ) -> Run:
-        """Runs the program, and checks what it left."""
+        """Runs the program, and checks the result."""
         done = self.program(words, **how)
         self.check(name, done, status, out, err)
         return done
 
     def rows(self, *rows: Sequence[Any]) -> None:
-        """Rows with the fields of `Row`, of which the last may be left out, one after another."""
+        """Runs rows with the fields of `Row`, whose last ones may be missing, one after another."""
         for row in rows:
             self.row(*Row(*row))
 
 
 def main(suite: str, needs_program: bool = True) -> None:
-    """Runs the tests of the script that calls it; its last line is theirs."""
+    """Runs the tests of the script that calls it, and prints its last line."""
     if needs_program and not PROGRAM.exists():
         sys.exit(f"{suite}: there is no program {PROGRAM}; FLUTEJOIN may name one")
     result = unittest.main(exit=False).result

@@ -1,8 +1,8 @@
 #!/bin/sh
 # The recipes of docs/SCALE.md on this machine: GNU parallel over ssh to 127.0.0.1, Slurm with a
 # controller and two daemons, and Dask with two workers of which one is killed. 5,000 stations each.
-# No part of the gate: it needs Debian's openssh-server, parallel, slurm-wlm, munge and
-# python3-distributed, and tells what it leaves out.
+# Not part of the gate: it needs Debian's openssh-server, parallel, slurm-wlm, munge and
+# python3-distributed, and reports what it skips.
 # usage: tests/scale.sh PROGRAM [parallel|slurm|dask]
 set -u
 program=$(readlink -f "$1")
@@ -26,7 +26,7 @@ mkdir bin
 ln -s "$program" bin/flutejoin
 PATH=$work/bin:$here/../examples:$PATH:/usr/sbin
 
-# check NAME COMMAND..: the command has to succeed
+# check NAME COMMAND..: the command must succeed
 check() {
     name=$1
     shift
@@ -43,7 +43,7 @@ has() {
         command -v "$command" > told || return 1
     done
 }
-# begin COMMAND..: starts what runs until the end
+# begin COMMAND..: starts a command that runs until the end
 begin() {
     "$@" > "$work/${1##*/}.log" 2>&1 &
     started="$started $!"
@@ -68,7 +68,7 @@ ls -d 'the stations'/* > list
 check 'on this machine' reduce.sh list once xargs -d '\n' -n 1 -P 4 sh -c
 cp "$(sed -n 3000p list)" kept
 
-# engine NAME COMMAND..: the list with it, a group that fails, and no inputs
+# engine NAME COMMAND..: runs the command on the list, on a group that fails, and on no inputs
 engine() {
     engine=$1
     shift
@@ -158,7 +158,7 @@ END
     begin slurmd -D -N two
     until_true sh -c 'sinfo -h -o %T | grep -q idle'
     engine slurm slurm.sh
-    # Jobs that are killed while they run, and given again
+    # Jobs are killed while they run, and submitted again
     mkdir slow
     printf '#!/bin/sh\nsleep 2\nexec %s "$@"\n' "$program" > slow/flutejoin
     chmod 755 slow slow/flutejoin

@@ -1,9 +1,9 @@
 #!/usr/bin/env python3
-"""Stations that run by themselves: what they keep, what they lose to kills and full disks (nothing
-that was on the disk), and what their folders take.
+"""Tests flutejoin-station: what stations keep, what they lose by kills and full disks (nothing
+that was on the disk), and how large their folders become.
 
-Datagrams are sent to 127.0.0.1 alone. A full disk is a memory file system in a mount namespace of
-its own; where none can be made, that is told.
+Datagrams are sent only to 127.0.0.1. A full disk is a memory file system in a mount namespace; if
+none can be made, that test is skipped with a message.
 
 usage: tests/station.py PROGRAM [--soak] [NAME..]
        --soak: ten times as many kills and rounds; NAME: these tests alone
@@ -11,10 +11,12 @@ usage: tests/station.py PROGRAM [--soak] [NAME..]
 from __future__ import annotations
 
 import contextlib
+import fcntl
 import json
 import os
 import pathlib
 import random
+import shutil
 import signal
 import socket
 import subprocess
@@ -37,6 +39,7 @@ sys.path[:0] = [str(TOOLS), str(PUSH.parent)]
 import datagram_files
 import flute_sender
 import flutejoin_files
+import flutejoin_keeping
 from datagram_files import HEADER, record
 from flutejoin_joining import Program
 from flutejoin_keeping import Keeper, Settings
@@ -60,7 +63,7 @@ def flutejoin(*words: object) -> subprocess.CompletedProcess:
 
 
 def records(data: bytes) -> list[bytes]:
-    """The whole records of a datagram file, which may be cut."""
+    """The whole records of a datagram file, which may be cut at its end."""
     return list(datagram_files.records(data))
 
 
@@ -71,7 +74,7 @@ def datagram_file(path: pathlib.Path, of: list[bytes]) -> pathlib.Path:
 
 
 def sent_file(folder: pathlib.Path, size: int, symbol: int, toi: int = 1) -> list[bytes]:
-    """The records of a file that is sent."""
+    """Makes a random file, and returns the records of its datagram file."""
     file, sent = folder / f"file{toi}", folder / f"sent{toi}"
     file.write_bytes(random.Random(toi).randbytes(size))
     words = "--tsi", 7, "--toi", toi, "--symbol", symbol, "--block", 64
@@ -81,18 +84,18 @@ def sent_file(folder: pathlib.Path, size: int, symbol: int, toi: int = 1) -> lis
 
 
 def described(file: pathlib.Path) -> list[bytes]:
-    """The records of an FDT Instance of a file."""
+    """The records of an FDT Instance that describes a file."""
     location = f"http://example.com/{file.name}"
     sent = flute_sender.Sent(1, file.read_bytes(), location, symbol=1000, block=64)
     return list(map(record, flute_sender.instance(7, 2, flute_sender.fdt([sent]))))
 
 
 def journal_of(*inputs: object) -> bytes:
-    """The journal of journals and datagram files. These may be cut at their ends."""
+    """The journal of these inputs joined. Datagram files may be cut at their ends."""
     with tempfile.TemporaryDirectory() as folder:
         paths: list[object] = []
         for number, path in enumerate(map(pathlib.Path, inputs)):
-            # A station that runs may replace it or take it away meanwhile.
+            # A running station may replace or remove it meanwhile.
             with contextlib.suppress(FileNotFoundError):
                 data = path.read_bytes()
                 copy = pathlib.Path(folder, str(number))
@@ -131,13 +134,19 @@ class Port:
 
 
 class Run:
-    """A station that runs."""
+    """A station that is running."""
 
     def __init__(
-        self, folder: pathlib.Path, port: int | None, *words: object, wait: bool = True
+        self,
+        folder: pathlib.Path,
+        port: int | None,
+        *words: object,
+        wait: bool = True,
+        code: str | None = None,
     ) -> None:
+        """`code` is Python that runs the station."""
         self.told = tempfile.NamedTemporaryFile()
-        command = [sys.executable, STATION, "-o", folder]
+        command = [sys.executable, *(["-c", code] if code else []), STATION, "-o", folder]
         if port is not None:
             command += ["--port", port, "--interface", NAME]
         self.child = subprocess.Popen(
@@ -169,7 +178,7 @@ class Run:
 
 
 def until(holds: Callable[[], object], run: Run | None = None) -> bool:
-    """Waits until something holds, 30 seconds at most."""
+    """Waits until a condition holds, at most 30 seconds."""
     end = time.monotonic() + 30
     while not holds():
         if time.monotonic() > end:
@@ -180,23 +189,27 @@ def until(holds: Callable[[], object], run: Run | None = None) -> bool:
 
 
 def of_once(folder: pathlib.Path, *words: object) -> Run:
-    """A run that receives nothing, and joins what is there."""
+    """A run that receives nothing, and joins the files that are there."""
     run = Run(folder, Port().number, "--seconds", 0.1, *words, wait=False)
     run.wait()
     return run
 
 
-def keep(folder: pathlib.Path, has_outbox: bool = False) -> None:
-    """The same, without a receiver."""
+def keeper(folder: pathlib.Path, has_outbox: bool, program: str = PROGRAM) -> Keeper:
     settings = Settings(0, 0, has_outbox)
     report = flutejoin_files.Report("station")
-    keeper = Keeper(str(folder), Program(PROGRAM, lambda: None), settings, report)
-    while keeper.waiting():
-        keeper.work(False)
+    return Keeper(str(folder), Program(program, lambda: None), settings, report)
+
+
+def keep(folder: pathlib.Path, has_outbox: bool = False) -> None:
+    """The same, without a receiver."""
+    of_folder = keeper(folder, has_outbox)
+    while of_folder.waiting():
+        of_folder.work(False)
 
 
 def disk(folder: pathlib.Path) -> tuple[int, int]:
-    """The bytes of a folder's files, and of those that are being written."""
+    """The bytes of a folder's whole files, and of its partial files."""
     whole = partial = 0
     for path in folder.rglob("*"):
         with contextlib.suppress(FileNotFoundError):
@@ -208,7 +221,7 @@ def disk(folder: pathlib.Path) -> tuple[int, int]:
 
 
 def carousel_at_three_stations(work: pathlib.Path) -> None:
-    """Ten rounds; each station never gets a third of the symbols, and loses others at random."""
+    """Ten rounds. Each station never gets a third of the symbols, and randomly loses others."""
     window = 200_000
     sent = [*sent_file(work, 1_000_000, 1000), *described(work / "file1")]
     names, ports = ["one", "two", "three"], [Port() for _ in range(3)]
@@ -225,7 +238,7 @@ def carousel_at_three_stations(work: pathlib.Path) -> None:
                 0.002,
             )
         for number, name in enumerate(names):
-            # What a slow machine has not joined yet is not a carousel's.
+            # What a slow machine has not joined yet does not count.
             until(lambda: len(list((work / name / "in").iterdir())) < 2)
             most[number] = max(most[number], disk(work / name))
     for name, run, of in zip(names, runs, most):
@@ -259,7 +272,7 @@ def carousel_at_three_stations(work: pathlib.Path) -> None:
 
 
 class Witness:
-    """Hard links of each datagram file that was ever in a folder, so that none is removed."""
+    """Keeps hard links to each datagram file that ever was in a folder."""
 
     def __init__(self, folder: pathlib.Path, links: pathlib.Path) -> None:
         self.folder, self.links, self.is_over = folder, links, False
@@ -303,19 +316,19 @@ def kills(work: pathlib.Path) -> None:
         words = "--window", 150_000, "--every", 0.2, *["--outbox"] * (number % 2)
         run = Run(work / "news", port.number, *words)
         time.sleep(draw.random())
-        # Every third run is killed while it joins, if it does within ten seconds.
+        # Every third run is killed during a join, if one begins within ten seconds.
         end = time.monotonic() + 10 * (number % 3 == 0)
         while not (is_joining := any((work / "news").rglob("*.partial"))):
             if time.monotonic() >= end:
                 break
             time.sleep(0.001)
         joining += is_joining
-        if number % 2:
+        check(f"run {number} goes on", run.child.poll() is None, run.text())
+        if run.child.returncode is None and number % 2:
             os.killpg(run.child.pid, signal.SIGKILL)
-        else:
-            run.child.kill()
+        run.child.kill()
         run.wait()
-        # The receiver may still write what it received, and so what is looked at last has more.
+        # The receiver may still write what it received, so files that are read last have more.
         links = list((work / "links").iterdir())
         (work / "seen").write_bytes(journal_of(*links))
         have = journal_of(*kept(work / "news"), *(work / "news/in").glob("*.fldg"))
@@ -338,7 +351,7 @@ def kills(work: pathlib.Path) -> None:
 
 
 def faults(work: pathlib.Path) -> None:
-    """What is at fault is set aside and told, and the rest goes on."""
+    """An input at fault is set aside and reported, and the others are joined."""
     sent = sent_file(work, 60_000, 1000)
     datagram_file(work / "all.fldg", sent)
     wanted = journal_of(work / "all.fldg")
@@ -365,7 +378,7 @@ def parts_at_fault(folder: pathlib.Path, sent: list[bytes], wanted: bytes) -> No
 
 
 def damaged_journals(work: pathlib.Path, sent: list[bytes], wanted: bytes) -> None:
-    """What the datagram file that is still there has of one is joined again."""
+    """Facts of a damaged journal are joined again, if their datagram file still exists."""
     folder = work / "news"
     journal = folder / f"journals/{NAME}.journal"
     damaged = journal.read_bytes()[:-30]
@@ -393,7 +406,7 @@ def damaged_journals(work: pathlib.Path, sent: list[bytes], wanted: bytes) -> No
 
 
 def programs_that_fail(work: pathlib.Path, sent: list[bytes]) -> None:
-    """One that fails each time, and one that is not there."""
+    """A program that fails each time, and one that doesn't exist."""
     folder, failing = work / "news", work / "failing"
     failing.write_text(f'#!/bin/sh\necho "$*" >> {work}/tries\necho cannot write >&2\nexit 3\n')
     failing.chmod(0o755)
@@ -412,7 +425,7 @@ def programs_that_fail(work: pathlib.Path, sent: list[bytes]) -> None:
 
 
 def runs(work: pathlib.Path) -> None:
-    """One run in a folder; a receiver that ends is begun again; options that it does not take."""
+    """One run in a folder; a receiver that ends is restarted; options that are refused."""
     sent, port, folder = sent_file(work, 60_000, 1000), Port(), work / "news"
     run = Run(folder, port.number, "--every", 0.2, "--keep-raw", "30K", "--window", "10K")
     second = of_once(folder)
@@ -443,6 +456,10 @@ def runs(work: pathlib.Path) -> None:
     run = Run(work / "wrong", port.number, "--senders", "none", wait=False)
     run.wait()
     check("a wrong option: status", run.child.returncode == 2, run.text())
+    run = of_once(work / "wrong", *(word for tsi in range(65) for word in ("--tsi", tsi)))
+    check("more sessions than a join takes: status", run.child.returncode == 2, run.text())
+    run = of_once(pathlib.Path(os.fsdecode(bytes(work) + b"/\xff")))
+    check("a path that flutejoin does not take: status", run.child.returncode == 2, run.text())
     settings_in_a_file(work, sent)
     run = of_once(work / "others", "--tsi", 8)
     datagram_file(work / f"others/in/{NAME}.fldg", sent)
@@ -450,8 +467,79 @@ def runs(work: pathlib.Path) -> None:
     check("other sessions are left out", len(journal_of(*kept(work / "others"))) == 15)
 
 
+def folders_at_fault(work: pathlib.Path) -> None:
+    """Folders that cannot be made, and one that is removed while the run ends."""
+    (work / "file").mkdir()
+    (work / "file/in").touch()
+    run = of_once(work / "file")
+    told = f"{work}/file/in: File exists"
+    check("a folder that cannot be made: status", run.child.returncode == 3, run.text())
+    is_told = told in run.text() and "Traceback" not in run.text()
+    check("a folder that cannot be made is told", is_told, run.text())
+    run = Run(work / "removed", Port().number)
+    run.child.send_signal(signal.SIGTERM)
+    while run.child.poll() is None:
+        shutil.rmtree(work / "removed", ignore_errors=True)
+    check("a folder that is removed: status", run.child.returncode == 3, run.text())
+    check("a folder that is removed", "Traceback" not in run.text(), run.text())
+
+
+def a_fault_that_lasts(work: pathlib.Path) -> None:
+    """It is told once, and not each ten seconds, until it is another one."""
+    status, port = work / "later/status.json", Port()
+    run = Run(work / "news", port.number, "--status", status)
+    told = f"{status}: No such file or directory; it is tried again"
+    run.until(told)
+    time.sleep(11)
+    check("a fault that lasts is told once", run.text().count(told) == 1, run.text())
+    status.parent.mkdir()
+    until(status.exists, run)
+    shutil.rmtree(status.parent)
+    until(lambda: run.text().count(told) == 2, run)
+    run.end()
+    check("and once more when it is there again", run.text().count(told) == 2, run.text())
+
+
+def lines_that_nobody_reads(work: pathlib.Path) -> None:
+    """They keep up no join, and not the end."""
+    sent, port, folder = sent_file(work, 30_000, 1000), Port(), work / "news"
+    read, write = os.pipe()
+    os.set_blocking(write, False)
+    with contextlib.suppress(BlockingIOError):
+        while True:
+            os.write(write, bytes(4096))
+    os.set_blocking(write, True)
+    words = "--port", port.number, "--interface", NAME, "--every", 0.1, "--status", work / "no/file"
+    command = sys.executable, STATION, "-o", folder, "--flutejoin", PROGRAM, *words
+    child = subprocess.Popen([*map(str, command)], stdout=subprocess.DEVNULL, stderr=write)
+    until((folder / "receiver.json").exists)
+    port.send(sent, 0.01)
+    is_joined = until((folder / f"journals/{NAME}.journal").exists)
+    check("lines that nobody reads: the journal", is_joined)
+    child.terminate()
+    try:
+        check("lines that nobody reads: the end", child.wait(30) == 0)
+    except subprocess.TimeoutExpired:
+        child.kill()
+        check("lines that nobody reads: the end", False, "it hangs")
+    os.close(read)
+    os.close(write)
+
+
+def many_signals(work: pathlib.Path) -> None:
+    """They end a run at once, and it tells nothing of how."""
+    for _ in range(3 * SOAK):
+        run = Run(work / "news", Port().number)
+        for number in flutejoin_files.STOPPING:
+            with contextlib.suppress(ProcessLookupError):
+                run.child.send_signal(number)
+            time.sleep(random.uniform(0, 0.0002))
+        check("many signals: status", run.wait() == 130, run.text())
+        check("many signals", "Traceback" not in run.text(), run.text())
+
+
 def a_sender_that_starts_again(work: pathlib.Path) -> None:
-    """Each of its runs has a journal of its own, also where the station starts again meanwhile."""
+    """Each run of the sender gets its own journal, even if the station restarts meanwhile."""
     folder, port, sent = work / "again", Port(), []
     words = "--tsi", 7, "--toi", 0, "--fdt", 1, "--symbol", 100, "--block", 8
     for number in range(2):
@@ -473,7 +561,7 @@ def a_sender_that_starts_again(work: pathlib.Path) -> None:
 
 
 def settings_in_a_file(work: pathlib.Path, sent: list[bytes]) -> None:
-    """Two sessions, and what a station takes and does not."""
+    """Two sessions, and settings that a station accepts or refuses."""
     config, ports, folder = work / "news.toml", [Port(), Port()], work / "of_file"
     table = '[[session]]\nport = {}\ninterface = "{}"\n'
     sessions = "".join(table.format(port.number, NAME) for port in ports)
@@ -495,7 +583,7 @@ def settings_in_a_file(work: pathlib.Path, sent: list[bytes]) -> None:
 
 
 def growing(work: pathlib.Path) -> None:
-    """A small journal is joined into the large one once it is a tenth of it, or at the hour."""
+    """A small journal is joined into the large one at a tenth of it, or at the given hour."""
     folder = work / "news"
     sent = sent_file(work, 400_000, 1000)
     datagram_file(folder / f"in/{NAME}.fldg", sent[:300])
@@ -523,18 +611,62 @@ def growing(work: pathlib.Path) -> None:
     check("all is kept", journal_of(*kept(folder)) == journal_of(work / "all.fldg"))
 
 
+# Runs a station whose clock is ahead by the seconds in a file.
+SET_CLOCK = """
+import datetime, runpy, sys
+class Set(datetime.datetime):
+    @classmethod
+    def now(cls, zone=None):
+        with open({path!r}) as ahead:
+            return super().now(zone) + datetime.timedelta(seconds=float(ahead.read() or 0))
+datetime.datetime = Set
+del sys.argv[0]
+sys.path.insert(0, {tools!r})
+runpy.run_path(sys.argv[0], run_name="__main__")
+"""
+
+
+def a_clock_that_is_set_back(work: pathlib.Path) -> None:
+    """The newest datagram files are kept, and the next night is not a year away."""
+    folder, ahead, port = work / "news", work / "ahead", Port()
+    sent = sent_file(work, 400_000, 1000)
+    old = folder / f"raw/{NAME}.20990101000000000000.fldg"
+    datagram_file(old, sent[:20])
+    for number in range(3):
+        datagram_file(folder / f"in/{NAME}.{number + 2}.fldg", sent[20 * number : 20 * number + 20])
+    run = of_once(folder, "--keep-raw", "45K")
+    of_raw = [path.read_bytes() for path in sorted((folder / "raw").iterdir())]
+    wanted = [HEADER + b"".join(sent[begin : begin + 20]) for begin in (0, 20)]
+    check("a clock set back: the newest files", of_raw == wanted, run.text())
+
+    datagram_file(folder / f"in/{NAME}.5.fldg", sent[60:])
+    datagram_file(folder / f"in/{NAME}.6.fldg", sent[:4])
+    of_once(folder)
+    ahead.write_text("3e7")
+    code = SET_CLOCK.format(path=str(ahead), tools=str(TOOLS))
+    recent = folder / f"recent/{NAME}.journal"
+    run = Run(folder, port.number, "--nightly", "03:00", "--every", 0.1, code=code)
+    until(recent.exists, run)
+    time.sleep(1)
+    check("a clock set back: before", recent.exists(), run.text())
+    ahead.write_text("0")
+    until(lambda: not recent.exists(), run)
+    check("a clock set back: status", run.end() == 1, run.text())
+
+
 def push(work: pathlib.Path, *command: str) -> subprocess.CompletedProcess:
     path = f"{work / 'bin'}:{os.environ['PATH']}"
     return subprocess.run(
-        [PUSH, work / "news", work / "centre/north", *command],
-        env={**os.environ, "PATH": path},
+        [PUSH, "news", work / "centre/north", *command],
+        cwd=work,
+        env={**os.environ, "PATH": path, "CDPATH": "."},
         capture_output=True,
         text=True,
     )
 
 
 def to_the_centre(work: pathlib.Path) -> None:
-    """What came since the last push gets to the centre, whatever fails under way."""
+    """What came since the last push reaches the centre, whatever fails on the way."""
     sent, folder = sent_file(work, 300_000, 1000), work / "news"
     (work / "bin").mkdir()
     (work / "bin/flutejoin").symlink_to(PROGRAM)
@@ -550,7 +682,7 @@ def to_the_centre(work: pathlib.Path) -> None:
     check("no centre: status", done.returncode == 1, done)
     check("no centre is told", f"{NAME} is not pushed" in done.stderr, done.stderr)
     check("no centre: all waits", sorted(waiting) == sorted((folder / "outbox").iterdir()))
-    # What is cut under way changes nothing there.
+    # Data that is cut on the way changes nothing at the centre.
     done = push(work, "sh", "-c", 'head -c 1000 | sh -c "$1"', "cut")
     check("a cut connection: status", done.returncode == 1 and not centre.exists(), done)
     done = push(work, "sh", "-c")
@@ -560,10 +692,10 @@ def to_the_centre(work: pathlib.Path) -> None:
     check("a push: the journal", centre.read_bytes() == journal_of(work / "first.fldg"))
     datagram_file(folder / f"in/{NAME}.12.fldg", sent[200:])
     of_once(folder, "--outbox")
-    # Of the file that grew in the run before, all is joined again.
+    # The file that grew in the run before is joined again, from its beginning.
     waiting = sum(path.stat().st_size for path in (folder / "outbox").iterdir())
     check("what came since is what waits", 100_000 < waiting < 130_000, waiting)
-    # The centre has it, and the connection is lost before it can tell.
+    # The centre has the journal, but the connection is lost before it can report that.
     done = push(work, "sh", "-c", 'sh -c "$1"; false', "lost")
     check("a lost answer: status", done.returncode == 1, done)
     done = push(work, "sh", "-c")
@@ -573,6 +705,125 @@ def to_the_centre(work: pathlib.Path) -> None:
     check("a second push: as the station", centre.read_bytes() == journal_of(*kept(folder)))
     done = push(work, "false")
     check("nothing to push: status", done.returncode == 0, done)
+    too_many_at_the_centre(work, centre)
+
+
+def too_many_at_the_centre(work: pathlib.Path, centre: pathlib.Path) -> None:
+    """A journal there that would get more entries than flutejoin reads stays as it is."""
+    before, folder = centre.read_bytes(), work / "news"
+    sent = sent_file(work, 20_000, 1000, toi=2)
+    datagram_file(folder / f"in/{NAME}.13.fldg", sent)
+    keep(folder, has_outbox=True)
+    program = work / "bin/flutejoin"
+    program.unlink()
+    script = f'case "$*" in *"-o - "*) exec {PROGRAM} "$@" ;; *) echo full >&2; exit 1 ;; esac'
+    program.write_text(f"#!/bin/sh\n{script}\n")
+    program.chmod(0o755)
+    done = push(work, "sh", "-c")
+    check("too many entries: status", done.returncode == 1, done)
+    others = [path.read_bytes() for path in centre.parent.iterdir()]
+    check("too many entries: the journal stays", others == [before], done)
+    program.unlink()
+    program.symlink_to(PROGRAM)
+    done = push(work, "sh", "-c")
+    check("behind too many entries: status", done.returncode == 0, done)
+    check("behind too many entries: nothing waits", not list((folder / "outbox").iterdir()), done)
+    check("behind too many entries: another journal", 0 < len(centre.read_bytes()) < len(before))
+    check("behind too many entries: both", len(list(centre.parent.iterdir())) == 2)
+
+
+# A join that refuses more than 60 entries, as flutejoin does more than 16,777,216.
+OF_60_ENTRIES = f"""
+import os, subprocess, sys
+words = sys.argv[1:]
+out = words.index("-o") + 1
+path, words[out] = words[out], words[out] + ".try"
+done = subprocess.run([{PROGRAM!r}, *words], stdout=subprocess.PIPE, text=True)
+if done.returncode == 0 and int(done.stdout.split()[-1]) > 60:
+    os.unlink(words[out])
+    sys.exit(print("full", file=sys.stderr) or 1)
+if done.returncode == 0 and path != os.devnull:
+    os.replace(words[out], path)
+print(done.stdout, end="")
+sys.exit(done.returncode)
+"""
+
+
+def the_longest_journals(work: pathlib.Path) -> None:
+    """A journal that would get more entries than flutejoin writes, here 60, is kept as it is."""
+    sent, folder = sent_file(work, 150_000, 1000), work / "news"
+    program = work / "flutejoin"
+    program.write_text(f"#!{sys.executable}\n{OF_60_ENTRIES}")
+    program.chmod(0o755)
+    most, flutejoin_keeping.MOST = flutejoin_keeping.MOST, 60
+    try:
+        of_folder = keeper(folder, has_outbox=True, program=str(program))
+        for begin in range(0, 150, 10):
+            name = f"{NAME}.{begin // 10 + 2}.fldg"
+            datagram_file(folder / "in" / name, sent[begin : begin + 10])
+            of_folder.work(False)
+    finally:
+        flutejoin_keeping.MOST = most
+    journals = [*folder.glob("journals/*"), *folder.glob("recent/*")]
+    entries = [flutejoin_keeping.entries_of(str(path)) or 0 for path in journals]
+    check("the longest journals: entries", max(entries) <= 60 and len(entries) >= 3, entries)
+    datagram_file(work / "all.fldg", sent)
+    wanted = journal_of(work / "all.fldg")
+    check("the longest journals: all is kept", journal_of(*journals) == wanted, journals)
+    waiting = [*folder.glob("outbox/*")]
+    entries = [flutejoin_keeping.entries_of(str(path)) or 0 for path in waiting]
+    check("the longest journals: the outbox", max(entries) <= 60 and len(entries) <= 11, entries)
+    check("the longest journals: all waits", journal_of(*waiting) == wanted, waiting)
+
+
+def a_push_meanwhile(work: pathlib.Path) -> None:
+    """What is taken away from the outbox while the station joins it is in its journals too."""
+    sent, folder = sent_file(work, 60_000, 1000), work / "news"
+    pushed: list[str] = []
+    of_folder = keeper(folder, has_outbox=True)
+
+    def push_at_once(path: str) -> None:
+        bring_to_disk(path)
+        if "/outbox/" in path and not pushed:
+            pushed.append(path)
+            os.unlink(path)
+
+    bring_to_disk = flutejoin_keeping.bring_to_disk
+    try:
+        for number, part in enumerate((sent[:50], sent[50:52], sent[52:56], sent[56:])):
+            datagram_file(folder / f"in/{NAME}.{number + 2}.fldg", part)
+            if number == 2:
+                check("a push meanwhile: two journals", len(kept(folder)) == 2, kept(folder))
+                flutejoin_keeping.bring_to_disk = push_at_once
+            while of_folder.waiting():
+                of_folder.work(False, has_patience=False)
+    finally:
+        flutejoin_keeping.bring_to_disk = bring_to_disk
+    datagram_file(work / "all.fldg", sent)
+    have = journal_of(*kept(folder))
+    check("a push meanwhile", len(pushed) == 1 and have == journal_of(work / "all.fldg"), pushed)
+
+
+def other_disks(work: pathlib.Path) -> None:
+    """Folders of a station that lead to other disks. Runs in a mount namespace of its own."""
+    folder, other = work / "others", work / "other"
+    other.mkdir()
+    subprocess.run(["mount", "-t", "tmpfs", "none", other], check=True)
+    (folder / "in").mkdir(parents=True)
+    for name in "raw", "journals":
+        (other / name).mkdir()
+        (folder / name).symlink_to(other / name)
+    sent = sent_file(work, 60_000, 1000, toi=2)
+    for number, part in enumerate((sent[:30], sent[30:40], sent[40:])):
+        datagram_file(folder / f"in/{NAME}.{number + 2}.fldg", part)
+    run = of_once(folder, "--keep-raw", "1M")
+    datagram_file(work / "all.fldg", sent)
+    have = journal_of(other / f"journals/{NAME}.journal")
+    check("on other disks: the journal", have == journal_of(work / "all.fldg"), run.text())
+    of_raw = [path.read_bytes() for path in sorted((other / "raw").iterdir())]
+    wanted = [HEADER + b"".join(part) for part in (sent[:30], sent[30:40])]
+    check("on other disks: what is kept raw", of_raw == wanted, run.text())
+    check("on other disks: the last part stays", os.listdir(folder / "in") == [f"{NAME}.4.fldg"])
 
 
 def full_disk(work: pathlib.Path) -> None:
@@ -609,34 +860,70 @@ def full_disk(work: pathlib.Path) -> None:
     check("behind a full disk: all is kept", have == wanted, (len(have), len(wanted)))
 
 
+def a_run_that_was_killed(work: pathlib.Path) -> None:
+    """A child that it was about to begin has its lock for a moment, and does not outlive it."""
+    folder = work / "news"
+    folder.mkdir()
+    lock = os.open(folder, os.O_RDONLY)
+    fcntl.flock(lock, fcntl.LOCK_EX)
+    run = Run(folder, Port().number, wait=False)
+    time.sleep(0.7)
+    os.close(lock)
+    run.until("listening")
+    check("a lock is waited for", "listening" in run.text(), run.text())
+    check("its status", run.end() in (0, 1), run.text())
+    code = f"""
+import os, sys, time
+sys.path.insert(0, {str(TOOLS)!r})
+from flutejoin_joining import die_with_parent
+ask, parent = die_with_parent(), os.getpid()
+if not os.fork():
+    while os.getppid() == parent:
+        time.sleep(0.01)
+    ask()
+    print("it goes on", flush=True)
+os._exit(0)
+"""
+    done = subprocess.run([sys.executable, "-c", code], capture_output=True, timeout=60)
+    check("a child whose parent ended", done.stdout == done.stderr == b"", done)
+
+
 def in_mounts(work: pathlib.Path) -> None:
-    """Runs the test of the full disk as another process in a mount namespace."""
+    """Runs the tests of disks as another process in a mount namespace."""
     words = "unshare", "-m", "mount", "-t", "tmpfs", "none", work
     if subprocess.run(words, capture_output=True).returncode:
-        print("station: skipped: a full disk, since no file system can be mounted here")
+        print("station: skipped: disks, since no file system can be mounted here")
         return
-    words = sys.executable, __file__, PROGRAM, "--full-disk", work
+    words = sys.executable, __file__, PROGRAM, "--in-mounts", work
     done = subprocess.run(["unshare", "-m", *words], capture_output=True, text=True)
-    check("a full disk", done.returncode == 0, done.stdout + done.stderr)
+    check("disks", done.returncode == 0, done.stdout + done.stderr)
 
 
 TESTS = {
     test.__name__: test
     for test in (
         kills,
+        a_run_that_was_killed,
         carousel_at_three_stations,
         runs,
+        folders_at_fault,
+        a_fault_that_lasts,
+        lines_that_nobody_reads,
+        many_signals,
         a_sender_that_starts_again,
         growing,
+        a_clock_that_is_set_back,
         faults,
         to_the_centre,
+        the_longest_journals,
+        a_push_meanwhile,
         in_mounts,
     )
 }
 
 
 def run_beside_one_another() -> None:
-    """Runs each test as a process of its own, since they wait for most of their time."""
+    """Runs each test in a process of its own, since tests mostly wait."""
     global passed, failed
     words = sys.executable, __file__, *sys.argv[1:]
     children = [
@@ -653,8 +940,9 @@ def run_beside_one_another() -> None:
 
 
 def main() -> int:
-    if sys.argv[2:3] == ["--full-disk"]:
+    if sys.argv[2:3] == ["--in-mounts"]:
         full_disk(pathlib.Path(sys.argv[3]))
+        other_disks(pathlib.Path(sys.argv[3]))
         return int(failed > 0)
     named = [word for word in sys.argv[2:] if word != "--soak"]
     for name in named:

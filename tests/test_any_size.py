@@ -1,6 +1,6 @@
 #!/usr/bin/env python3
-"""Beyond a store's limits: `full` without `--any-size`, and what is right with it, up to the limits
-that it has itself.
+"""Tests sizes beyond a store's limits: `full` without `--any-size`, and the right result with it,
+up to its own limits.
 
 usage: tests/test_any_size.py [CLASS[.TEST]..], with the program's path in FLUTEJOIN
 """
@@ -12,7 +12,7 @@ import struct
 import sys
 
 sys.dont_write_bytecode = True
-import run  # before datagram_files, which it finds
+import run  # before datagram_files, which it puts on the path
 import datagram_files
 
 SESSIONS, OBJECTS = 64, 4096  # as many as a store holds
@@ -23,7 +23,7 @@ ANY = "--any-size"
 
 
 def key_of(tsi: int, toi: int) -> bytes:
-    """An object's name in a journal: of the sender 0, a file (docs/FORMATS.md)."""
+    """The key of an object of sender 0, a file, in a journal (docs/FORMATS.md)."""
     return bytes(16) + tsi.to_bytes(6, "big") + b"\1" + toi.to_bytes(14, "big")
 
 
@@ -35,7 +35,7 @@ def information_of(tsi: int, toi: int) -> bytes:
 
 
 def whole_of(tsi: int, toi: int) -> list[bytes]:
-    """The entries of an object that is whole, whose last symbol is not padded."""
+    """The entries of a whole object, whose last symbol is not padded."""
     symbol = b"\3" + key_of(tsi, toi)
     return [
         information_of(tsi, toi),
@@ -55,7 +55,7 @@ def joined(datagrams: int, entries: int) -> str:
 class AnySize(run.Case):
     def is_full(self, *words: str) -> None:
         done = self.program(words)
-        # `extract --all` tells of the objects before the first that is too many.
+        # `extract --all` reports the objects before the first one beyond the limits.
         self.check(f"{words}", done, 1, None if "--all" in words else "", "full\n")
         self.absent(f"{words}: OUT", "out")
 
@@ -102,7 +102,7 @@ class AnySize(run.Case):
         self.leaves(told, more, "info", ANY, "-o", "out", "--list", "lines", "all")
 
     def test_a_list_of_many_objects(self) -> None:
-        """The lines alone are more than a store holds, and the journal has none of them."""
+        """The list alone has more objects than a store holds; the journal has none."""
         numbers = range(1, OBJECTS + 2)
         line = "session 7 object {} info length 5 symbol 4 block 2\n"
         self.write("lines", "".join(map(line.format, numbers)).encode())
@@ -113,7 +113,7 @@ class AnySize(run.Case):
         self.leaves(f"entries {len(numbers)}\n", wanted, "info", ANY, *words)
 
     def test_datagrams_of_many_objects(self) -> None:
-        """Datagram files that are held: as many objects as a store holds, and one more."""
+        """Datagram files that are joined in memory, with one object more than a store holds."""
         self.write("content", CONTENT)
         datagrams = b""
         for toi in range(1, 3):
@@ -124,7 +124,7 @@ class AnySize(run.Case):
         first, second = datagrams[:half], datagrams[half:]
         differ = [at for at in range(half) if first[at] != second[at]]
         self.assertTrue(differ)
-        # A TOI has 4 bytes in these datagrams, which both have at the same places.
+        # A TOI has 4 bytes in these datagrams, at the same places in both.
         toi = (1).to_bytes(4, "big")
         places = [at for at in range(half) if first.startswith(toi, at) and at + 3 in differ]
         self.assertEqual(len(places), len(differ))

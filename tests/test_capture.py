@@ -1,7 +1,7 @@
 #!/usr/bin/env python3
-"""From captures to journals, and what killed writers left: runs tools/flutejoin-capture and
-tools/flutejoin-mend as a user would, and compares with what the program makes of the datagram files
-themselves.
+"""Tests tools/flutejoin-capture and tools/flutejoin-mend as a user would run them: captures become
+journals, and files of killed writers are mended. The results are compared with what the program
+makes of the datagram files themselves.
 
 usage: tests/test_capture.py [CLASS[.TEST]..], with the program's path in FLUTEJOIN
 """

@@ -1,6 +1,6 @@
 #!/usr/bin/env python3
-"""The completion for bash: its function is called with words of a command line, as bash does. The
-options that it offers are those of each help.
+"""Tests the completion for bash: calls its function with the words of a command line, as bash does.
+It must offer the options of each help.
 
 usage: tests/test_completion.py [CLASS[.TEST]..], with the program's path in FLUTEJOIN
 """
@@ -15,7 +15,7 @@ from run import ROOT
 
 TOOLS = sorted(path.name for path in (ROOT / "tools").glob("flutejoin-*"))
 FILES = "a name,folder,station1,station2"
-# Prints what is offered with the cursor in the last of the words
+# Prints what is offered with the cursor in the last word
 SCRIPT = r"""
 . "$0"
 COMP_WORDS=("$@")
@@ -37,7 +37,7 @@ class Completion(run.Case):
         self.commands = re.findall("^  ([a-z]+) ", listed[1], re.MULTILINE)
 
     def offers(self, wanted: str, *words: str) -> None:
-        """With the cursor in the last of the words, these are offered."""
+        """Checks that these are offered with the cursor in the last word."""
         completion = ROOT / "completions" / "flutejoin.bash"
         done = self.command(["bash", "-c", SCRIPT, completion, *words])
         offered = sorted(done.lines())
@@ -46,12 +46,12 @@ class Completion(run.Case):
         self.holds(f"{words}", is_told and offered == names, f"{done}, and not {names}")
 
     def rows(self, *rows: tuple[str, str]) -> None:
-        """What is offered, and the words, of which an empty last one is written as a space."""
+        """Checks rows of offers and words; an empty last word is written as a space."""
         for wanted, words in rows:
             self.offers(wanted, *words.split(" "))
 
     def options_of(self, command: str) -> str:
-        """The options that a help text has, by their long names where they have one."""
+        """The options in a help text, by their long names if they have one."""
         text = self.shell(f"{command} --help").out.decode()
         long = re.findall("^ +(?:-[a-zA-Z], )?(--[a-z-]+)", text, re.MULTILINE)
         short = re.findall("^ +(-[a-z])(?: .*)?$", text, re.MULTILINE)

@@ -1,5 +1,5 @@
 #!/usr/bin/env python3
-"""The examples that join many inputs: levels.sh and reduce.sh.
+"""Tests the examples that join many inputs: levels.sh and reduce.sh.
 
 usage: tests/test_examples.py [CLASS[.TEST]..], with the program's path in FLUTEJOIN
 """
@@ -19,7 +19,7 @@ from run import ROOT, Run
 EXAMPLES = ROOT / "examples"
 FOLDER = "the stations"
 HERE = "xargs -d '\\n' -n 1 -P 4 sh -c"
-# Each line twice, and at once
+# Runs each line twice, at the same time
 TWICE = (
     'while read -r line; do printf "%s\\n" "$line" "$line"; done | '
     "xargs -d '\\n' -n 1 -P 8 sh -c\n"
@@ -27,7 +27,7 @@ TWICE = (
 
 
 class Stations(run.Case):
-    """200 stations, each with a thirtieth of 40,000 bytes; their journals, and one of all."""
+    """200 stations, each with a thirtieth of 40,000 bytes: their journals, and that of all."""
 
     def setUp(self) -> None:
         super().setUp()
@@ -42,7 +42,7 @@ class Stations(run.Case):
         self.once(*self.names)
 
     def once(self, *names: str) -> None:
-        """The journal `once` of these."""
+        """Makes `once`, the journal of these inputs."""
         self.file("once", "464C4A4E0002 FF 0000000000000000")
         for at in range(0, len(names), 63):
             self.made(["join", "-o", "once", "once", *names[at : at + 63]])
@@ -108,7 +108,7 @@ class Levels(Stations):
         return [str(path.relative_to(self.folder)) for path in sorted(paths)]
 
     def as_once(self, name: str) -> None:
-        """Seven journals a level at most, and all of them are what all inputs are at once."""
+        """Checks that levels have at most seven journals, which join to that of all inputs."""
         for folder in self.path("store").iterdir():
             count = len(os.listdir(folder))
             self.holds(f"{name}: seven at most of level {folder.name}", count <= 7, count)
@@ -125,8 +125,23 @@ class Levels(Stations):
         half = [*self.path("store").rglob("*.partial")]
         self.holds("nothing half done", not half, half)
 
+    def test_too_many_entries(self) -> None:
+        """What would be a journal that flutejoin doesn't read stays in several."""
+        self.grow(*self.names[:7])
+        more = f'echo full >&2; exit 1 ;; *) exec "{run.PROGRAM}" "$@" ;; esac'
+        self.write("more", f'#!/bin/sh\ncase "$*" in *"-o store/1/"*) {more}\n')
+        self.path("more").chmod(0o755)
+        environment = {"FLUTEJOIN": str(self.path("more"))}
+        done = self.command([EXAMPLES / "levels.sh", "store", self.names[7]], env=environment)
+        self.refused("too many entries", done, "full")
+        stored = len(self.stored("0")), self.stored("1")
+        self.holds("too many entries: all stays", stored == (8, []), stored)
+        self.grow(self.names[8])
+        self.once(*self.names[:9])
+        self.as_once("behind too many entries")
+
     def test_killed(self) -> None:
-        """A kill between the join and the removal leaves some twice."""
+        """A kill between the join and the removal leaves some journals twice."""
         self.grow(*self.names[:15])
         kept = {name: self.read(name) for name in self.stored("0")}
         self.grow(self.names[15])
@@ -137,7 +152,7 @@ class Levels(Stations):
         self.as_once("behind a kill")
 
     def test_kills(self) -> None:
-        """At any moment, each followed by the same input again."""
+        """Kills at any moment, each followed by the same input again."""
         for name in self.names[:60]:
             words = ["setsid", EXAMPLES / "levels.sh", "store", name]
             child = self.start(words)
@@ -145,7 +160,7 @@ class Levels(Stations):
             try:
                 os.killpg(child.pid, signal.SIGKILL)
             except ProcessLookupError:
-                child.kill()  # It has no group of its own yet, or has ended.
+                child.kill()  # It has no process group of its own yet, or has ended.
             self.finish(child)
             self.grow(name)
         self.once(*self.names[:60])

@@ -1,7 +1,7 @@
 #!/usr/bin/env python3
-"""The examples on the pages of the libraries (the docs of src/lib.rt, and README.md) stand, line
-after line, in the crate that their page names. Each crate has a README of at most 40 lines, whose
-links lead to files and headings that are there.
+"""Checks that the examples in the libraries' documentation (of src/lib.rt, and README.md) are, line
+after line, in the crate that the page names. Each crate has a README of at most 40 lines, whose
+links lead to files and headings that exist.
 
 usage: tests/test_libraries.py [CLASS[.TEST]..]
 """
@@ -21,13 +21,14 @@ MOST_LINES = 40  # of a README
 LIBRARIES = (
     *("flute_join", "flute_parts", "flute_wire", "flute_store", "flute_journal", "flutejoin"),
     *("flute_output", "flute_output_memory", "flutejoin_replicas", "flutejoin_commands"),
+    *("flutejoin_line", "flutejoin_run"),
 )
 # A crate, or a file of the library itself
 NAMED = re.compile(r"\(from `(\w+)(\.rt)?`[),]")
 
 
 class Example(NamedTuple):
-    crate: Optional[str]  # where it stands, if its page says so
+    crate: Optional[str]  # the crate that contains it, if the page names one
     lines: list[str]
 
 
@@ -36,13 +37,13 @@ def stripped(text: str) -> list[str]:
 
 
 def docs_of(library: str) -> list[str]:
-    """The page of a library."""
+    """The documentation of a library."""
     text = (CRATES / library / "src" / "lib.rt").read_text()
     return [line[3:].strip() for line in text.splitlines() if line.startswith("//!")]
 
 
 def readme_of(library: str) -> list[str]:
-    """The README of a crate, of whose examples only those of Rust are kept."""
+    """The README of a crate. Of its examples only those in Rust are kept."""
     text = (CRATES / library / "README.md").read_text()
     return [line.replace("```rust", "```") for line in stripped(text)]
 
@@ -64,7 +65,7 @@ def examples(library: str, page: list[str]) -> Iterator[Example]:
 
 
 def stands(example: Example) -> bool:
-    """Whether its lines follow one another in a file of its crate, however they are indented."""
+    """Whether the example's lines follow one another in a file of its crate."""
     if not example.lines or not example.crate:
         return False
     size = len(example.lines)
@@ -76,7 +77,7 @@ def stands(example: Example) -> bool:
 
 
 def anchors_of(path: pathlib.Path) -> set[str]:
-    """The headings of a page, as links name them."""
+    """The headings of a page, in the form that links use."""
     heads = [line.lstrip("# ") for line in path.read_text().splitlines() if line.startswith("#")]
     return {re.sub(r"[^\w\- ]", "", head.lower()).replace(" ", "-") for head in heads}
 

@@ -1,6 +1,6 @@
 #!/usr/bin/env python3
-"""The man pages: groff, if it is installed, has no warning of them, the worked session prints what
-flutejoin.1 shows, and they name each option of each help text and each fault of the program.
+"""Tests the man pages: groff, if it is installed, has no warnings; the worked session prints what
+flutejoin.1 shows; and the pages name each option of each help text and each fault of the program.
 
 usage: tests/test_man.py [CLASS[.TEST]..], with the program's path in FLUTEJOIN
 """
@@ -21,7 +21,7 @@ LIMITS = "64 inputs", "16,777,216 entries", "64 sessions", "4,096 objects", "1,0
 
 
 def plain(page: str) -> str:
-    """A man page without the escapes and macros of fonts."""
+    """A man page without escapes and macros for fonts."""
     text = (ROOT / "man" / f"{page}.1").read_text()
     text = re.sub(r"\\f[BIR]", "", text).replace("\\-", "-")
     text = re.sub(r"^\.(B|I|BR|IR|SH|SS) ", "", text, flags=re.MULTILINE)
@@ -61,7 +61,7 @@ class Man(Case):
                 self.has("flutejoin", f"flutejoin {command}", *options)
 
     def test_faults(self) -> None:
-        """As the program's source has them, up to the first number or name."""
+        """Faults as the program's source has them, up to the first number or name."""
         source = ROOT / "crates" / "flutejoin" / "src" / "command_fault.rt"
         faults = re.findall(r'^ *#\[error\("([^{"]*)', source.read_text(), re.MULTILINE)
         self.assertGreater(len(faults), 20)

@@ -1,5 +1,5 @@
 #!/usr/bin/env python3
-"""What is missing as a picture: runs tools/flutejoin-map on journals of several stations.
+"""Tests the picture of what is missing: runs tools/flutejoin-map on journals of several stations.
 
 usage: tests/test_map.py [CLASS[.TEST]..], with the program's path in FLUTEJOIN
 """

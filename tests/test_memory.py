@@ -1,5 +1,6 @@
 #!/usr/bin/env python3
-"""`join --memory`: what is put aside, beside the same join in memory; full disks and kills.
+"""Tests `join --memory`, which puts facts aside, against the same join in memory; also with full
+disks and kills.
 
 usage: tests/test_memory.py [CLASS[.TEST]..], with the program's path in FLUTEJOIN
 """
@@ -42,7 +43,7 @@ class Sent(run.Case):
 
 
 class Groups(Sent):
-    """Random groups of inputs, each joined in memory and with room for few symbols."""
+    """Random groups of inputs, each joined in memory, and again with room for few symbols."""
 
     def setUp(self) -> None:
         super().setUp()
@@ -54,7 +55,7 @@ class Groups(Sent):
         ]
 
     def input(self, name: str) -> None:
-        """A datagram file with losses, repeats and damage, out of order; or its journal."""
+        """Makes a datagram file with losses, repeats and damage, out of order; or its journal."""
         draw = self.draw
         records = []
         for each in draw.sample(self.objects, draw.randint(1, len(self.objects))):
@@ -136,10 +137,36 @@ class Full(Mounted, Sent):
 
 
 class Killed(Sent):
-    def test_kills(self) -> None:
+    def setUp(self) -> None:
+        super().setUp()
         self.datagrams("large", self.records(os.urandom(6_000_000), 1, 1_400, 64))
         self.path("out").mkdir()
         self.path("tmp").mkdir()
+
+    def left_aside(self) -> list[int]:
+        """The sizes of files beside the output: a kill may leave one that just got its name."""
+        names = {*os.listdir(self.path("out"))} - {"all", "all.partial"}
+        return [self.path(f"out/{name}").stat().st_size for name in names]
+
+    def test_names_that_were_left(self) -> None:
+        self.made("join -o whole large")
+        for name in ["out/all.aside.0", "out/all.aside.2", "tmp/flutejoin.0"]:
+            self.write(name, b"")
+        self.write("out/all.aside.1", b"of a user")
+        self.path("out/all.aside.3").symlink_to("../large")
+        env = {"TMPDIR": str(self.path("tmp"))}
+        for output in ["-o out/all", "-o - > all"]:
+            done = self.shell(f"flutejoin join --memory 100K {output} large", env=env)
+            self.check(f"{output} where names were left", done, 0, None, None)
+        self.same("beside the output", "out/all", "whole")
+        self.same("in the folder for temporary files", "all", "whole")
+        self.same("a file that is not empty stays", "out/all.aside.1", b"of a user")
+        kept = {"out": ["all", "all.aside.1", "all.aside.3"], "tmp": []}
+        for folder, names in kept.items():
+            found = sorted(os.listdir(self.path(folder)))
+            self.holds(f"what is in {folder}", found == names, found)
+
+    def test_kills(self) -> None:
         env = {"TMPDIR": str(self.path("tmp"))}
         for number in range(KILLS):
             child = self.start(
@@ -148,8 +175,8 @@ class Killed(Sent):
             time.sleep(0.005 * number)
             child.kill()
             self.finish(child)
-            left = {*os.listdir(self.path("out"))} - {"all", "all.partial"}
-            self.holds(f"after {5 * number} ms nothing is left aside", not left, left)
+            left = self.left_aside()
+            self.holds(f"after {5 * number} ms no bytes are left aside", not any(left), left)
         self.made("join --memory 100K -f -o out/all large")
         self.made("join -o whole large")
         self.same("the run after them", "out/all", "whole")

@@ -1,6 +1,6 @@
 #!/usr/bin/env python3
-"""Outputs whole or not at all: runs the built program as a user would, and looks at what is there
-after faults, kills and in odd places.
+"""Tests that outputs are whole or not there: runs the built program as a user would, and looks at
+the files after faults, kills and unusual outputs.
 
 usage: tests/test_outputs.py [CLASS[.TEST]..], with the program's path in FLUTEJOIN
 """

@@ -1,11 +1,12 @@
 #!/usr/bin/env python3
-"""Installs by make and takes it away; makes the package for Debian, installs it in a scratch root,
-runs what is in it and removes it; and has systemd look at the unit.
+"""Tests the installation: installs by make and uninstalls; builds the Debian package, installs it
+in a scratch root, runs its programs and removes it; and has systemd check the unit.
 
 usage: tests/test_package.py [CLASS[.TEST]..], with the program's path in FLUTEJOIN
 """
 from __future__ import annotations
 
+import os
 import re
 import shutil
 import sys
@@ -23,7 +24,7 @@ IN_PACKAGE = (
     "./usr/share/bash-completion/completions/flutejoin",
     *("./usr/share/flutejoin/examples/push.sh", f"./usr/lib/systemd/system/{UNIT}"),
 )
-# Below a scratch root this system is, in a mount namespace of its own; status 3: it can't be.
+# Mounts this system below a scratch root, in a mount namespace; status 3 if that is not possible.
 SCRATCH = """
 mount -t tmpfs none scratch && mkdir scratch/new scratch/work scratch/root &&
     mount -t overlay overlay -o \\
@@ -58,6 +59,7 @@ class Installed(run.Case):
 
     def test_make(self) -> None:
         self.path("by_make").mkdir()
+        self.addCleanup(os.umask, os.umask(0o077))
         self.check("make install", self.make("install"), 0, None, None)
         local = self.path("by_make/usr/local")
         for name in COMMANDS:
@@ -65,6 +67,8 @@ class Installed(run.Case):
             self.check(f"{name} runs", done, 0, None, None)
             page = local / "share" / "man" / "man1" / f"{name}.1"
             self.holds(f"{name} has a man page", page.is_file())
+        hidden = [path for path in local.rglob("*") if path.stat().st_mode & 0o444 != 0o444]
+        self.holds("all may read what is installed, whoever installs it", not hidden, hidden)
         unit = (local / "lib" / "systemd" / "system" / UNIT).read_text()
         is_installed = "\nExecStart=/usr/local/bin/flutejoin-station" in unit
         self.holds("the unit runs what is installed", is_installed, unit)
@@ -74,7 +78,7 @@ class Installed(run.Case):
 
     @needs("systemd-analyze")
     def test_unit(self) -> None:
-        # It looks for the program at its place.
+        # Systemd looks for the program at its installed path.
         unit = (ROOT / "packaging" / UNIT).read_text()
         self.write(UNIT, unit.replace("/usr/bin/", f"{ROOT}/tools/"))
         done = self.command(["systemd-analyze", "verify", "--man=no", self.path(UNIT)])

@@ -1,7 +1,7 @@
 #!/usr/bin/env python3
-"""The sessions of README, of docs/OPERATING.md and of docs/TUTORIAL.md, run as they are printed. A
-page's block of commands that is not run is a failure. The commands that need a network are not
-run: what they leave is made of the files of the first session.
+"""Runs the sessions of README, of docs/OPERATING.md and of docs/TUTORIAL.md as they are printed. A
+block of commands on a page that is not run is a failure. Commands that need a network are not run:
+their results are made from the files of the first session.
 
 usage: tests/test_pages.py [CLASS[.TEST]..], with the program's path in FLUTEJOIN
 """
@@ -23,13 +23,13 @@ CAROUSEL = "carousel -o {} --tsi 7 {} --symbol 1000 --block 16 {}"
 
 class Sessions(Case):
     def short(self) -> None:
-        """The session of README, and its datagrams behind those of an FDT Instance."""
+        """Runs the session of README, and puts its datagrams after those of an FDT Instance."""
         self.session(README, "A short session", "short")
         self.instance("fdt_sent", "numbers.txt", "short/file")
         self.write("all_sent", self.read("fdt_sent") + self.read("short/sent")[6:])
 
     def instance(self, sent: str, name: str, file: str) -> None:
-        """The datagrams of an FDT Instance that describes a file."""
+        """Makes the datagrams of an FDT Instance that describes a file."""
         fdt = ROOT / "examples" / "fdt.py"
         words = [sys.executable, fdt, 1, f"http://example.com/{name}", file]
         self.write("fdt.xml", self.command(words).out)
@@ -50,7 +50,7 @@ class Sessions(Case):
     def test_operating(self) -> None:
         self.short()
         self.session(OPERATING, "Two stations, two senders", "session")
-        # The first two stations of it as a picture
+        # Its first two stations, as a picture
         self.path("picture").mkdir()
         for station in "station1", "station2":
             self.write(f"picture/{station}", self.read(f"session/{station}"))
@@ -64,7 +64,7 @@ class Sessions(Case):
         )
 
     def named(self) -> None:
-        """The session of which files are listed and written."""
+        """Runs the session in which files are listed and written."""
         self.path("named").mkdir()
         words = [sys.executable, run.TESTS / "flute_sender.py", "sent"]
         self.check("datagrams", self.command(words, folder="named"), 0, None)
@@ -74,8 +74,8 @@ class Sessions(Case):
         self.same("the file", "session/file", "named/files/example.com/news/numbers.txt")
 
     def events(self) -> None:
-        """Two events: station 2 received a wrong symbol 1/2, and station 3 both; and a sender that
-        restarts."""
+        """Makes two events: station 2 received a wrong symbol 1/2, and station 3 both values; and a
+        sender restarts."""
         for station in 1, 2, 3:
             self.path(f"events/station{station}").mkdir(parents=True)
         every = self.read("all_sent")
@@ -102,7 +102,7 @@ class Sessions(Case):
 
 
 class Tutorial(Case):
-    """docs/TUTORIAL.md, in an empty folder beside an installed program."""
+    """docs/TUTORIAL.md, in an empty folder, with an installed program."""
 
     def test_tutorial(self) -> None:
         share = self.bin.parent / "share" / "flutejoin"

@@ -1,6 +1,6 @@
 #!/usr/bin/env python3
-"""Receives what is sent to 127.0.0.1, and to groups on the loopback of a network namespace, and
-compares the datagram files and the journals with those of what was sent.
+"""Tests flutejoin-receive: sends to 127.0.0.1, and to groups on the loopback of a network
+namespace, and compares the datagram files and the journals with those of what was sent.
 
 usage: tests/test_receive.py [CLASS[.TEST]..], with the program's path in FLUTEJOIN
 """

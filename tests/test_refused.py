@@ -31,7 +31,7 @@ ARE_NEEDED = CRATES in PROGRAM.parents
 FAULT = re.compile(rb"out of memory\n|input [12]: OutOfMemory\n")
 # `Start` is the fault of a run whose replicas find no memory.
 OF_MEMORY = "OutOfMemory|out of memory|AllocError|AllocFailed|memory allocation failed|Start"
-# Of sinks that keep what they take in memory.
+# Faults of sinks that keep their bytes in memory.
 OF_DEVICES = "DeviceFault|(Cannot)?Write|CannotPutAside"
 ERROR = re.compile(rf"error: (.*\W)?({OF_MEMORY}|{OF_DEVICES})[\W\d]*$", re.I | re.M)
 MOST = 10_000  # runs of a command
@@ -67,14 +67,14 @@ class Sweeps(Case):
         self.write("content", "hello")
 
     def begin(self, before: bytes | None) -> None:
-        """OUT is not there, or as it was before."""
+        """Makes OUT as it was before, or removes it."""
         if before is not None:
             self.write("made", before)
         elif self.exists("made"):
             self.remove("made")
 
     def left(self) -> bytes | None:
-        """What OUT has; nothing may be beside it."""
+        """The bytes of OUT. Nothing may be beside it."""
         self.assertFalse(self.exists("made.partial"))
         return self.bytes_of("made")
 
@@ -100,7 +100,7 @@ class Sweeps(Case):
         print(f"refused: {words}: {told} refused requests told, {as_ample} as with ample memory")
 
     def is_told(self, words: str, done: Run, ample: Run) -> bool:
-        """It ended with a fault of memory, and wrote nothing but lines of first entries."""
+        """Whether a run ended with a fault of memory and printed only first lines, if any."""
         is_part = done.out.endswith(b"\n") and ample.out.startswith(done.out)
         is_quiet = not done.out or words.startswith("show") and is_part
         return done.status == 3 and bool(FAULT.fullmatch(done.err)) and is_quiet
@@ -125,7 +125,7 @@ class SweepsByRattle(Sweeps):
 
 
 def tested_crates() -> list[str]:
-    """The crates with proved tests, which are built as a program for each crate."""
+    """The crates with proved tests, each of which is built as a program."""
     files = CRATES.glob("*/src/**/*.rt")
     return sorted({it.relative_to(CRATES).parts[0] for it in files if "#[test]" in it.read_text()})
 

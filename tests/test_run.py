@@ -1,6 +1,6 @@
 #!/usr/bin/env python3
-"""The helper of the other tests refuses what is wrong: each kind of check with a right row and with
-wrong ones. No program is needed but `sh`.
+"""Tests the helper of the other tests: each kind of check accepts a right row and refuses wrong
+ones. No program is needed but `sh`.
 
 usage: tests/test_run.py [CLASS[.TEST]..]
 """

@@ -34,8 +34,8 @@ NO_ADDRESSES = (
 
 
 class Tree(run.Case):
-    """A file of 40,000 bytes as 40 datagrams. Each station lost about 97 of 100, and all lost the
-    last. Odd ones are journals, the others datagram files."""
+    """A file of 40,000 bytes as 40 datagrams. Each station lost about 97 % of them, and all lost
+    the last. Stations with odd numbers are journals, the others datagram files."""
 
     def setUp(self) -> None:
         super().setUp()
@@ -46,7 +46,7 @@ class Tree(run.Case):
         for number in range(1, 100, 2):
             name = f"stations/s{number:05}"
             self.made(f"join -f -o {name} {name}")
-        # The program, with a line in `joins` for each time that it is run
+        # The program; each run adds a line to `joins`
         counted = f"#!/bin/sh\necho \"$*\" >> '{self.path('joins')}'\nexec '{run.PROGRAM}' \"$@\"\n"
         self.write("counted", counted)
         self.path("counted").chmod(0o755)
@@ -61,30 +61,30 @@ class Tree(run.Case):
         return sorted(str(path.relative_to(self.folder)) for path in paths)
 
     def tree(self, words: run.Words) -> Run:
-        """One run of make."""
+        """Runs make once."""
         self.write("joins", "")
         tree = "-f", EXAMPLES / "tree.mk", "-j2", f"FLUTEJOIN={self.path('counted')}"
         return self.command(["make", *tree, *run.split(words)])
 
     def joined(self, name: str, words: run.Words, count: int) -> None:
-        """It succeeds, with so many joins."""
+        """Checks that make succeeds, with so many joins."""
         done = self.tree(words)
         joins = self.read("joins").count(b"\n")
         self.holds(name, done.status == 0 and joins == count, f"{joins} joins, {done}")
 
     def refused(self, name: str, words: run.Words, text: str) -> None:
-        """It fails, and says so."""
+        """Checks that make fails with this text."""
         done = self.tree(words)
         self.holds(name, done.status != 0 and text.encode() in done.err, done)
 
     def untouched(self, name: str, words: run.Words, text: str) -> None:
-        """It stops with this text, before any join."""
+        """Checks that make stops with this text before any join."""
         self.refused(name, words, text)
         self.same(f"{name}: before any join", "joins", b"")
 
     def as_once(self, name: str, out: str) -> None:
-        """OUT is the journal of all stations, 64 in the first join and the others with its journal
-        in the second, and so not the journal before a change."""
+        """OUT is the journal of all stations: 64 are in the first join, and the others are joined
+        with its journal in the second. So OUT is not the journal from before a change."""
         names = self.stations()
         self.made(["join", "-o", "first", *names[:64]])
         self.made(["join", "-o", "once", "first", *names[64:]])
@@ -115,7 +115,7 @@ class Stations(Tree):
         self.same("merges one by one", "merged", "all")
 
     def test_changes(self) -> None:
-        """A station receives all, also the last."""
+        """A station receives all datagrams, also the last."""
         self.tree("INPUTS=stations OUT=all")
         self.tree(f"INPUTS=stations {FOUR}")
         before = self.read("all")
@@ -148,7 +148,7 @@ class Stations(Tree):
         self.absent("its journal and list are gone", "four/1-0.journal", "four/1-0.list")
 
     def test_damage(self) -> None:
-        """OUT stays."""
+        """A damaged input leaves OUT unchanged."""
         self.tree("INPUTS=stations OUT=all")
         before = self.read("all")
         shutil.copy2(self.path("stations/s00011"), self.path("kept"))
@@ -210,8 +210,7 @@ class Names(Tree):
 
 
 class Senders(Tree):
-    """Datagram files that the tools named: two senders with one session, each with its own
-    bytes."""
+    """Datagram files that the tools named: two senders with one session, but different bytes."""
 
     def setUp(self) -> None:
         super().setUp()
@@ -261,7 +260,7 @@ class Senders(Tree):
         self.untouched("two runs", "INPUTS=named OUT=none", "two runs of one sender")
 
     def all_names(self) -> dict[str, str]:
-        """All names that the tools give, and others; and the digits of their senders."""
+        """Names that the tools give, and others, with the digits of their senders."""
         draw, found = random.Random(1), {}
         for number in range(300):
             if number % 3:

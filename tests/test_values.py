@@ -1,6 +1,6 @@
 #!/usr/bin/env python3
-"""A wrong datagram with a right checksum, and the way out: which values of a symbol came, and a
-datagram file without one of them. Runs tools/flutejoin-values as a user would.
+"""Tests a wrong datagram with a right checksum, and its repair: which values of a symbol came, and
+a datagram file without one of them. Runs tools/flutejoin-values as a user would.
 
 usage: tests/test_values.py [CLASS[.TEST]..], with the program's path in FLUTEJOIN
 """
@@ -18,8 +18,8 @@ from run import Run
 
 SYMBOL = "--tsi 7 --toi 1 --symbol 1/2"
 ONE = "one/10.0.0.1.fldg"
-RECORD = 1038  # bytes of a record of 1,000 bytes in a datagram file
-BEFORE = 6 + 16 * RECORD  # what is before symbol 1/2: 14 symbols of block 0, and two of block 1
+RECORD = 1038  # bytes of a record, in a datagram file with symbols of 1,000 bytes
+BEFORE = 6 + 16 * RECORD  # bytes before symbol 1/2: 14 symbols of block 0, and two of block 1
 CUT = "Cut: flutejoin-mend makes a right file of what is whole in it"
 JOURNAL = "is a journal, and not a datagram file"
 NO_VALUE = "flutejoin-values: no value of this symbol"
@@ -111,7 +111,7 @@ class Listed(Values):
             self.values_row(name, f"{key} {files}", 1, "", NO_VALUE)
 
     def test_instances(self) -> None:
-        """FDT Instances, and senders of IPv6 in names and journals."""
+        """FDT Instances, and IPv6 senders in names and journals."""
         sent = "2001-db8--1.e2.7.fldg"
         self.made(f"carousel -o {sent} --tsi 7 --toi 0 --fdt 3 --symbol 1000 --block 16 file")
         source = "20010db8000000000000000000000001"
@@ -126,7 +126,7 @@ class Listed(Values):
 
 
 class Without(Values):
-    """The way out."""
+    """The repair: a datagram file without the wrong value."""
 
     def test_without_the_wrong_value(self) -> None:
         for name, left in ("one", 41), ("two", 16):

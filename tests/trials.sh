@@ -1,8 +1,7 @@
 #!/bin/sh
 # Runs the tests of trials/, which are not proved, with checks at run time: in a copy of the
-# repository where they are a crate. Those that fail are shown, with what they told. (rt ci takes no
-# .rt file that it does not prove, so the files of trials/ have a name of their own, and get that
-# one in the copy.)
+# repository where they are a crate. Failures are shown with their messages. (rt ci requires each
+# .rt file to be proved, so the files of trials/ have another ending, and get .rt in the copy.)
 set -u
 cd "$(dirname "$0")/.." || exit 1
 room=$(mktemp -d)
@@ -20,7 +19,8 @@ find "$crate/src" -name '*.trial' | while read -r file; do
     mv "$file" "${file%.trial}.rt"
 done
 libraries='flute_join flute_parts flute_output flute_wire flute_store flute_journal flutejoin'
-libraries="$libraries flutejoin_replicas flutejoin_commands flutejoin_memory flute_output_memory"
+libraries="$libraries flutejoin_line flutejoin_replicas flutejoin_commands flutejoin_run"
+libraries="$libraries flutejoin_memory flute_output_memory"
 echo "flutejoin_trials: $libraries test_vectors" >> "$room/crates.txt"
 
 (cd "$crate" && rt try --test --seconds 1200) > "$room/told" 2> "$room/faults"

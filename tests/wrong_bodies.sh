@@ -1,5 +1,5 @@
 #!/bin/sh
-# Tests tools/wrong_bodies.py: what it may count as refused, on flute_join.
+# Tests tools/wrong_bodies.py on flute_join: what it may count as refused.
 set -u
 cd "$(dirname "$0")/.." || exit 1
 room=$(mktemp -d)
@@ -20,14 +20,14 @@ over() {
     printf 'file: %s\nover: %s\nnew: %s\n' "$2" "$3" "$4" > "$room/$1.edit"
 }
 
-# try FOLDER STATUS: tries the edits of the folder, which has to end with this status.
+# try FOLDER STATUS: tries the edits of the folder, which must end with this status.
 try() {
     tools/wrong_bodies.py --edits "$room/$1" flute_join > "$room/told" 2>&1
     status=$?
     is "$1 ends with status $2" "$status" "$2"
 }
 
-# is WHAT GIVEN WANTED: they have to be the same.
+# is WHAT GIVEN WANTED: the two must be the same.
 is() {
     if [ "$2" = "$3" ]; then
         passed=$((passed + 1))
@@ -38,19 +38,22 @@ is() {
     fi
 }
 
-# told WHAT PATTERN: what was told has a line with this pattern.
+# told WHAT PATTERN: the output must have a line with this pattern.
 told() {
     is "$1" "$(grep -c "$2" "$room/told")" 1
 }
 
-# A wrong body, and one of a function that is called by a third, which is wrong too.
+# Each check begins with what this one keeps.
+(cd crates/flute_join && rt check > "$room/told" 2>&1) || { cat "$room/told"; exit 1; }
+
+# A wrong body, and one of a function that a third one calls, which is wrong too.
 edit wrong/never_equal src/cell.rt '*held != value,' '*held != *held,'
 edit wrong/not_inserted src/map.rt 'self.insert(key, value)' 'Ok(())'
 edit wrong/never_full src/map.rt 'self.entries.len() as u32' '0'
 try wrong 0
 told 'three are refused' '^wrong bodies: 3 refused, 0 unfit, 0 failed$'
 
-# One that means the same, one that does not compile, and a wrong one with them.
+# A body that means the same, one that does not compile, and a wrong one with them.
 edit mixed/means_the_same src/cell.rt 'Cell::Conflict => return,' '_ => return,'
 edit mixed/does_not_compile src/cell.rt 'matches!(self, Cell::Conflict)' 'Nothing::at_all(self)'
 edit mixed/never_full src/map.rt 'self.entries.len() as u32' '0'
@@ -60,7 +63,7 @@ told 'what does not compile is not refused' '^flute_join/does_not_compile: FAILE
 told 'the wrong one is refused' '^flute_join/never_full: refused'
 told 'one of three is refused' '^wrong bodies: 1 refused, 0 unfit, 2 failed$'
 
-# One that means the same under another name, which the written proof does not know.
+# A body that means the same under another name, which the written proof does not know.
 edit renamed/copied_is_fresh src/map.rt 'let mut copied = JoinMap::new(alloc);' \
     'let mut fresh = JoinMap::new(alloc);'
 printf 'old: %s\nnew: %s\n' 'copied.add_new(*key' 'fresh.add_new(*key' 'Ok(copied)' 'Ok(fresh)' \
@@ -68,7 +71,7 @@ printf 'old: %s\nnew: %s\n' 'copied.add_new(*key' 'fresh.add_new(*key' 'Ok(copie
 try renamed 1
 told 'a proof that does not fit shows nothing' '^wrong bodies: 0 refused, 1 unfit, 0 failed$'
 
-# One that calls its function and changes nothing, and one that changes the answer.
+# A body that calls its function and changes nothing, and one that changes the result.
 over over/calls_alone src/cell.rt 'pub fn is_conflict(&self) -> bool' 'self.is_conflict()'
 over over/the_other_answer src/map.rt 'pub fn is_empty(&self) -> bool' '!self.is_empty()'
 try over 1
@@ -77,15 +80,50 @@ told 'what calls its function is proved by the clauses' \
 told 'another answer than its is refused' '^flute_join/the_other_answer: refused'
 told 'one of two is refused' '^wrong bodies: 1 refused, 0 unfit, 1 failed$'
 
-# Two over one function, and an edit of it, are tried in one check.
+# Two over one function, and two edits of it, are tried in one check.
 over several/not_so src/map.rt 'pub fn is_empty(&self) -> bool' '!self.is_empty()'
 over several/always src/map.rt 'pub fn is_empty(&self) -> bool' 'self.is_empty() || true'
+edit several/ever src/map.rt 'self.entries.is_empty()' 'true'
 edit several/never src/map.rt 'self.entries.is_empty()' 'false'
 try several 0
 told 'the first over it is refused' '^flute_join/not_so: refused: .*wrong_is_empty_not_so$'
 told 'the second over it is refused' '^flute_join/always: refused: .*wrong_is_empty_always$'
-told 'the edit of it is refused' '^flute_join/never: refused: .*::JoinMap::is_empty$'
-told 'all in one check' '^flute_join: 3 wrong bodies in 1 checks$'
+told 'the first edit is of it' '^flute_join/ever: refused: .*::JoinMap::is_empty$'
+told 'the second edit is of a copy' '^flute_join/never: refused: .*::wrong_is_empty_never$'
+told 'all in one check' '^flute_join: 4 wrong bodies in 1 checks$'
+
+# Two edits of a function with a written proof: the second is of a copy, with that proof. So are
+# second edits that mean the same, with such a proof and without.
+edit copies/at_a_copied_over src/map.rt 'return held.join_from(alloc, value);' \
+    'let fresh = value.copy(alloc)?; *held = fresh; return held.join_from(alloc, value);'
+edit copies/at_b_copied_twice src/map.rt 'if let Some(held) = self.get_mut(&key) {' \
+    'let _spare = value.copy(alloc)?; if let Some(held) = self.get_mut(&key) {'
+edit copies/at_c_means_the_same src/map.rt 'self.insert(key, value.copy(alloc)?)' \
+    '(self.insert(key, value.copy(alloc)?))'
+edit copies/put_a_never_equal src/cell.rt '*held != value,' '*held != *held,'
+edit copies/put_b_means_the_same src/cell.rt 'Cell::Conflict => return,' '_ => return,'
+# No copy has the clauses of a trait: a second edit of its method waits.
+edit copies/trait_a_back src/cell.rt 'Cell::Absent => *self = Cell::One(value.copy(alloc)?),' \
+    'Cell::Absent | Cell::Conflict => *self = Cell::One(value.copy(alloc)?),'
+edit copies/trait_b_first src/cell.rt '                _ => *self = Cell::Conflict,' \
+    '                _ => {}'
+try copies 1
+told 'the copy with a written proof' \
+    '^flute_join/at_b_copied_twice: refused: .*::wrong_join_at_at_b_copied_twice$'
+told 'a copy with a written proof that is proved' \
+    '^flute_join/at_c_means_the_same: FAILED: still proved: .*::wrong_join_at_at_c_means_the_same$'
+told 'a copy that is proved' \
+    '^flute_join/put_b_means_the_same: FAILED: still proved: .*::wrong_put_put_b_means_the_same$'
+told 'the method of a trait' '^flute_join/trait_b_first: refused: .*::CellJoin::join_from$'
+told 'five of seven are refused' '^wrong bodies: 5 refused, 0 unfit, 2 failed$'
+told 'the method of a trait waits' '^flute_join: 7 wrong bodies in 2 checks$'
+
+# An edit outside functions is tried alone, with the function that it names.
+edit outside/a_comment src/cell.rt '//! A cell: nothing, one value, or a conflict.' '//! A cell.'
+echo 'of: Cell::is_conflict' >> "$room/outside/a_comment.edit"
+try outside 1
+told 'its function is proved' '^only=1 proved=1$'
+told 'it is not refused' '^wrong bodies: 0 refused, 0 unfit, 1 failed$'
 
 edit absent/no_such_text src/cell.rt 'no such text' 'nor this'
 try absent 2
@@ -94,6 +132,10 @@ told 'its text is not there' 'no_such_text: its text is 0 times in src/cell.rt, 
 mkdir "$room/none"
 try none 1
 told 'none were tried' '^wrong bodies: 0 refused, 0 unfit, 0 failed$'
+
+# A crate of private functions alone
+tools/wrong_bodies.py flutejoin_cli > "$room/told" 2>&1
+told 'those of private functions are left out' '^flutejoin_cli: 0 wrong bodies in 0 checks$'
 
 echo "the wrong bodies' tool: $passed passed, $failed failed"
 [ "$failed" = 0 ]

@@ -1,6 +1,6 @@
 #!/bin/sh
-# Proves what changed, builds the program and leaves it at bin/flutejoin. What the tools print goes
-# to bin/build.log.
+# Proves what changed, builds the program and leaves it at bin/flutejoin. The output of the tools
+# goes to bin/build.log.
 set -eu
 cd "$(dirname "$0")/.."
 if ! command -v rt > /dev/null; then
@@ -12,17 +12,17 @@ mkdir -p bin
 echo "flutejoin: proving and building the program;" \
     "the first time this takes 20 to 35 minutes (log: bin/build.log)" >&2
 
-# What the program is made of, the lowest first: built so, each is read once, and no pass over all
+# The crates of the program, the lowest first: in this order each is read once, and no pass over all
 # sources comes before.
 libraries='flute_join flute_parts flute_output flute_wire flute_store flute_journal flutejoin'
-libraries="$libraries flutejoin_commands"
+libraries="$libraries flutejoin_line flutejoin_commands flutejoin_run"
 
 # build CRATE WORD..: builds a crate by these words of rt.
 build() {
     crate=$1
     shift
     step=$((step + 1))
-    echo "flutejoin: $crate ($step of 9)" >&2
+    echo "flutejoin: $crate ($step of 11)" >&2
     if ! (cd "crates/$crate" && rt "$@") >> bin/build.log 2>&1; then
         tail -n 20 bin/build.log >&2
         echo "flutejoin: the build failed; bin/build.log has all of it" >&2

@@ -1,6 +1,6 @@
-"""Datagrams that the system gives together, by one call for many of them where it has such a call.
+"""Receives datagrams in batches: many by one system call, on systems that have such a call.
 
-Each stands in a place of its own in one buffer, with room for its length before it: a record.
+Each datagram has a place of its own in one buffer, with its length before it: a record.
 """
 from __future__ import annotations
 
@@ -20,19 +20,19 @@ try:
 except ImportError:  # a Python without it receives them one by one
     CALLS_SYSTEM = False
 
-MOST = 32  # datagrams of one call
+MOST = 32  # datagrams of one call, at most
 ROOM = 1 << 16  # bytes of a datagram, one more than a record can hold
-# Between two places; so that they do not all fall into the same lines of a cache.
+# The distance of two places, chosen so that they do not all fall into the same cache lines.
 STRIDE = 2 + ROOM + 1470
 DONT_WAIT = 0x40  # MSG_DONTWAIT of Linux
 
-# The sender's address, the datagram's length, its first bytes, and where its record begins. Of a
-# short datagram the first bytes end with some of an earlier one.
+# The sender's address, the datagram's length, its first bytes, and where its record begins. If the
+# datagram is short, its first bytes are followed by bytes of an earlier one.
 Datagram = Tuple[bytes, int, Tuple[bytes, ...], int]
 
 
 class Batch:
-    """The datagrams of one call on one socket."""
+    """The datagrams that one call received from one socket."""
 
     def __init__(self, udp: socket.socket) -> None:
         self.udp, self.descriptor = udp, udp.fileno()
@@ -43,7 +43,7 @@ class Batch:
         self.many = many_at_once(self)
 
     def receive(self, most: int) -> Iterable[Datagram]:
-        """What waits, up to so many and to MOST. Nothing where nothing waits."""
+        """Receives datagrams that wait, at most `most` and at most MOST. There may be none."""
         if self.many is None:
             return self.one_by_one(min(most, MOST))
         return self.many(min(most, MOST))
@@ -65,7 +65,7 @@ class Batch:
 
 
 def many_at_once(batch: Batch) -> Optional[Callable[[int], Iterable[Datagram]]]:
-    """The call recvmmsg of Linux for a batch; None where it cannot be had."""
+    """Returns a function that receives by Linux's recvmmsg, or None if the system lacks it."""
     if not CALLS_SYSTEM:
         return None
     system = ctypes.CDLL(None, use_errno=True)
@@ -111,7 +111,7 @@ def many_at_once(batch: Batch) -> Optional[Callable[[int], Iterable[Datagram]]]:
     # The address in struct sockaddr_in and sockaddr_in6
     place, size = (4, 4) if batch.udp.family == socket.AF_INET else (8, 16)
     address = struct.Struct(f"{place}x{size}s{name_room - place - size}x").iter_unpack
-    # What the system writes into is kept for as long as the call.
+    # The buffers that the system writes into are kept alive until the call ends.
     kept = data, name_data, pieces, received
 
     def receive(most: int, _kept: tuple = kept) -> Iterable[Datagram]:

@@ -1,6 +1,6 @@
-"""Packet captures, read as they come: pcap and pcapng, also compressed by gzip.
+"""Reads packet captures, pcap and pcapng, while they grow or whole, also compressed by gzip.
 
-They are files, or come from a pipe that still grows.
+A capture is a file, or comes through a pipe.
 """
 from __future__ import annotations
 
@@ -21,9 +21,9 @@ import flutejoin_files as files
 
 MOST_PACKET = 1 << 20  # bytes; a longer one is damage
 MOST_INTERFACES = 1 << 16  # of a section
-GRACE = 1.0  # seconds that a capture in a pipe has for its last packets after a signal
-TICK = 1.0  # seconds between two writes of what waits
-GZIP = b"\x1f\x8b"  # how a member begins
+GRACE = 1.0  # seconds after a signal in which a capture in a pipe may send its last packets
+TICK = 1.0  # seconds between two calls of `tick`
+GZIP = b"\x1f\x8b"  # how a gzip member begins
 SECTION = b"\x0a\x0d\x0d\x0a"  # how pcapng begins
 ORDERS = {  # how pcap begins
     b"\xd4\xc3\xb2\xa1": "<",
@@ -35,9 +35,9 @@ ORDERS = {  # how pcap begins
 MODIFIED_ORDERS = {b"\x34\xcd\xb2\xa1": "<", b"\xa1\xb2\xcd\x34": ">"}
 SECTION_ORDERS = {b"\x4d\x3c\x2b\x1a": "<", b"\x1a\x2b\x3c\x4d": ">"}
 INTERFACE, OLD_PACKET, SIMPLE_PACKET, PACKET = 1, 2, 3, 6  # the blocks of pcapng that are read
-RESOLUTION = 9  # the option of an interface that tells the units of its times
+RESOLUTION = 9  # the option of an interface with the units of its timestamps
 
-# Its link type, its bytes, whether more of them were on the network, and the second, if it is known
+# Its link type, its bytes, whether it is cut short, and its second, if that is known
 Packet = Tuple[int, bytes, bool, Optional[int]]
 
 
@@ -63,8 +63,10 @@ class Damage(Fault):
 
 
 class Interface(NamedTuple):
-    """Of whom the packets of a section are: the link type, the most bytes of a packet, and how many
-    units of its times a second has.
+    """An interface of a section.
+
+    `snap` is the most bytes of a packet that it captures, and `units` how many units of its
+    timestamps a second has.
     """
 
     link: int
@@ -78,7 +80,7 @@ class Interface(NamedTuple):
 
 
 def units_of(order: str, body: bytes) -> int:
-    """The units of a second by the option of an interface block, or a million."""
+    """The units of a second in an interface block, or a million if it has no such option."""
     at = 8
     while at + 5 <= len(body):
         code, size = struct.unpack_from(order + "HH", body, at)
@@ -89,7 +91,7 @@ def units_of(order: str, body: bytes) -> int:
 
 
 class Stop:
-    """How often a signal asked for the end, and when first. `wakes` can be waited for."""
+    """How many signals asked for the end, and when the first came. A wait can include `wakes`."""
 
     def __init__(self) -> None:
         self.asked, self.since = 0, 0.0
@@ -104,10 +106,11 @@ class Stop:
 
 
 class Input(io.RawIOBase):
-    """The bytes of a file or pipe, which end where it ends or once a signal asked for it.
+    """The bytes of a file or pipe, up to its end or a signal.
 
-    A pipe has a moment more: Ctrl-C also reaches the program that captures, which then hands over
-    its last packets. `tick` is called once a second at most, while bytes come and after them.
+    After a signal a pipe has a moment more: Ctrl-C also reaches the program that captures, which
+    then sends its last packets. `tick` is called at most once a second, while bytes arrive and
+    between them.
     """
 
     def __init__(self, file: BinaryIO, stop: Stop, tick: Callable[[], None]) -> None:
@@ -126,7 +129,7 @@ class Input(io.RawIOBase):
         return True
 
     def is_ready(self) -> bool:
-        """Waits for bytes, or the end of the file. False where there is no more waiting."""
+        """Waits for bytes or the end of the file. Returns False once waiting is over."""
         is_quiet = False
         while not self.stop.asked:
             left = self.tick_at - time.monotonic()
@@ -154,9 +157,10 @@ class Input(io.RawIOBase):
 
 
 class Inflated(io.RawIOBase):
-    """What gzip compressed, one member after another (RFC 1952), as far as it goes.
+    """The decompressed bytes of a gzip stream, one member after another (RFC 1952).
 
-    What is behind a member and is none, as zeros that fill a tape, is passed over as gzip does.
+    Bytes after a member that begin no other one, as the zeros that fill a tape, are ignored, as
+    gzip does.
     """
 
     def __init__(self, stream: io.BufferedReader) -> None:
@@ -185,7 +189,7 @@ class Inflated(io.RawIOBase):
         raise self.fault
 
     def next_member(self, data: bytes) -> bytes:
-        """What begins the next member, whose first bytes these may be; nothing where none comes."""
+        """The first bytes of the next member, from `data` on; empty if there is none."""
         data = data.lstrip(b"\0")
         while len(data) < len(GZIP):
             more = self.stream.read1(65536)
@@ -198,7 +202,7 @@ class Inflated(io.RawIOBase):
         return b""
 
     def inflate(self, data: bytes, most: int) -> bytes:
-        """So many bytes at most. What came before a fault is answered before the fault is."""
+        """Returns at most `most` bytes. After a fault it returns the bytes before it first."""
         before = self.member.copy()
         try:
             return self.member.decompress(data, most)
@@ -212,7 +216,7 @@ class Inflated(io.RawIOBase):
 
 
 def opened(name: str) -> BinaryIO:
-    """A capture as a file. One that waits for its writer, as a pipe may, is waited for later."""
+    """Opens a capture. Opening a pipe does not wait for its writer; reading does."""
     if name != "-":
         file = open(name, "rb", buffering=0, opener=files.open_at_once)
         os.set_blocking(file.fileno(), True)
@@ -228,10 +232,10 @@ def read(
     tick: Callable[[], None],
     take: Callable[[int, bytes, bool, Optional[int]], None],
 ) -> Optional[str]:
-    """Hands each packet of a capture to `take`, up to its end or a signal.
+    """Passes each packet of a capture to `take`, up to its end or a signal.
 
-    Answers what is to be told of a capture that is whole, or None. `Fault` where it is damaged or
-    cut, `OSError` where it cannot be read.
+    Returns a note on a capture that is whole, or None. Raises `Fault` if the capture is damaged or
+    cut short, and `OSError` if it cannot be read.
     """
     with opened(name) as file:
         try:
@@ -251,9 +255,9 @@ def read(
 
 
 def packets(stream: io.BufferedReader) -> Iterator[Packet]:
-    """Of each packet: its link type, its bytes, whether more of them were on the network, and when.
+    """Yields each packet: its link type, its bytes, whether it is cut short, and its second.
 
-    That is the second, or None where the capture does not tell.
+    The second is None if the capture does not give it.
     """
     magic = stream.read(4)
     if magic == SECTION:
@@ -265,7 +269,7 @@ def packets(stream: io.BufferedReader) -> Iterator[Packet]:
         raise Fault("is no capture (pcap or pcapng, which gzip may have compressed)")
     order = ORDERS.get(magic) or MODIFIED_ORDERS[magic]
     link = struct.unpack(order + "16xI", taken(stream, 20, "its header"))[0] & 0xFFFF
-    # Modified pcap has the interface and the protocol behind the lengths.
+    # Modified pcap has the interface and the protocol after the lengths.
     fields = struct.Struct(order + ("I4xII8x" if magic in MODIFIED_ORDERS else "I4xII"))
     next_bytes, size = stream.read, fields.size
     while head := next_bytes(size):
@@ -288,9 +292,9 @@ def taken(stream: io.BufferedReader, size: int, what: str = "a packet") -> bytes
 
 
 def block_packets(stream: io.BufferedReader) -> Iterator[Packet]:
-    """The same of a pcapng capture, whose first four bytes were read.
+    """Yields the packets of a pcapng capture, of which four bytes were already read.
 
-    It has sections, each with its order of bytes and its interfaces.
+    It has sections, each with its own byte order and its own interfaces.
     """
     order, kind = "<", SECTION
     interfaces: list[Interface] = []
@@ -322,7 +326,7 @@ def block_packets(stream: io.BufferedReader) -> Iterator[Packet]:
 
 
 def block_body(stream: io.BufferedReader, length: int, is_read: bool) -> bytes:
-    """The bytes of a block up to its second length; what is not read is passed over."""
+    """The bytes of a block up to its second length; empty if the block is skipped."""
     if is_read:
         return taken(stream, length)
     while length:
@@ -333,7 +337,8 @@ def block_body(stream: io.BufferedReader, length: int, is_read: bool) -> bytes:
 def block_packet(order: str, interfaces: list[Interface], number: int, body: bytes) -> Packet:
     """The packet of a block.
 
-    A simple one is of the first interface, and tells neither where that cut it nor when it came.
+    A simple packet block belongs to the first interface, and gives neither a time nor the length at
+    which the packet was cut.
     """
     if number == SIMPLE_PACKET:
         (original,) = struct.unpack_from(order + "I", body)

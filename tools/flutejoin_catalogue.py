@@ -1,4 +1,4 @@
-"""The files of sessions, as FDT Instances describe them and as journals hold their objects."""
+"""The files of sessions, as FDT Instances describe them and as journals hold them."""
 from __future__ import annotations
 
 import ipaddress
@@ -16,15 +16,15 @@ from flutejoin_partition import Partition, fault_of
 
 MOST_FILES = 1 << 14  # that are described in all
 MOST_OBJECTS = 1 << 24  # of a session, with --any-size
-MOST_TOLD = 20  # lines of one kind
+MOST_TOLD = 20  # lines of one kind that are printed
 KEY = re.compile(r"(?:source ([0-9a-f]{32}) )?session (\d+) object (fdt )?(\d+)")
 
 
 class State(NamedTuple):
-    """What flutejoin tells of an object."""
+    """What flutejoin reports about an object."""
 
     words: str
-    wanted: int = 0  # symbols that are not held as one fitting value
+    wanted: int = 0  # symbols that are missing, in conflict or misfits
     disputed: int = 0  # those of them that are in conflict
     is_disputed: bool = False  # whether some of them are in conflict or misfits
 
@@ -48,7 +48,7 @@ MISSING = State("missing")
 
 
 def key_of(text: str) -> Key:
-    """The object of a line of flutejoin."""
+    """The object that a line of flutejoin names."""
     found = KEY.fullmatch(text)
     assert found, text
     source, tsi, is_instance, number = found.groups()
@@ -57,14 +57,14 @@ def key_of(text: str) -> Key:
 
 
 class Described(NamedTuple):
-    """A file as the FDT Instance describes it that counts."""
+    """The description of a file, from the FDT Instance that has priority."""
 
     file: fdt.File
     rank: tuple[int, int]
     instance: str
 
     def left_alone(self) -> str:
-        """Why nothing is made of its object."""
+        """Why the object is left alone; empty if it is not."""
         if self.file.fec != fdt.NO_CODE:
             return f"FEC Encoding ID {self.file.fec}"
         if self.file.encoding and self.file.encoding not in ENCODINGS:
@@ -77,11 +77,11 @@ class Outcome(NamedTuple):
 
     checked: Checked
     path: str  # below the folder
-    put: Optional[str]  # "new" or "changed"; None where the file was there as it is
+    put: Optional[str]  # "new" or "changed"; None if the file was there already, unchanged
 
 
 class Told:
-    """Tells lines of one kind, the first of them each and of the others how many there are."""
+    """Prints lines of one kind: the first ones, and then how many more there are."""
 
     def __init__(self, report: files.Report) -> None:
         self.report, self.count = report, 0
@@ -97,11 +97,11 @@ class Told:
 
 
 class Session:
-    """A session: its FDT Instances, its files by TOI, and what is held."""
+    """A session: its FDT Instances, its files by TOI, and what is held of its objects."""
 
     def __init__(self, source: bytes, tsi: int) -> None:
         self.source, self.tsi = source, tsi
-        self.heads: list[fdt.Instance] = []  # without their files
+        self.heads: list[fdt.Instance] = []  # the FDT Instances, without their files
         self.unread: dict[int, State] = {}  # FDT Instances that are not whole
         self.newest: Optional[fdt.Instance] = None
         self.files: dict[int, Described] = {}
@@ -109,8 +109,8 @@ class Session:
         self.states: dict[int, State] = {}
         self.outcomes: dict[int, Outcome] = {}
         self.replaced: set[int] = set()
-        self.resolved: dict[int, int] = {}  # how many conflicting symbols each had
-        self.unresolved: dict[int, str] = {}  # why no values of conflicting symbols were chosen
+        self.resolved: dict[int, int] = {}  # how many symbols of an object were resolved
+        self.unresolved: dict[int, str] = {}  # why symbols in conflict were not resolved
 
     def title(self) -> str:
         address = ipaddress.IPv6Address(self.source)
@@ -120,7 +120,7 @@ class Session:
         return Key(self.source, self.tsi, FILE, toi)
 
     def add(self, instance: fdt.Instance, differs: Callable[[str], None]) -> None:
-        """Takes an FDT Instance. Of two the one that expires later counts."""
+        """Adds an FDT Instance. Of two descriptions of a file the one that expires later counts."""
         rank = instance.rank()
         for toi, file in instance.files.items():
             before = self.files.get(toi)
@@ -146,16 +146,17 @@ class Session:
         )
 
     def tois(self) -> list[int]:
-        """The objects that are described, or of which something is held."""
+        """The objects that are described, or that are held in part, in order."""
         return sorted(self.files.keys() | self.held.keys())
 
     def state(self, toi: int) -> State:
         return self.states.get(toi, MISSING)
 
     def wanted_lines(self) -> Iterator[tuple[Key, tuple[int, int, int]]]:
-        """The transmission information that an FDT Instance has, and the journal not.
+        """Yields transmission information that an FDT Instance has and the journal lacks.
 
-        Files of no bytes, of which nothing has to be received, have the room that is left.
+        Empty files, of which nothing has to be received, are added only while the limit of objects
+        allows.
         """
         room = MOST_OBJECTS - len(self.held) - len(self.heads) - len(self.unread)
         for toi, described in self.files.items():
@@ -170,7 +171,10 @@ class Session:
                 yield self.key(toi), information
 
     def disagreements(self) -> Iterator[str]:
-        """Where packets have other transmission information than the FDT, or that is not valid."""
+        """Yields lines about FEC OTI in the FDT that is not valid or contradicts the packets.
+
+        An object that is left alone gets a line too.
+        """
         for toi, described in sorted(self.files.items()):
             front = f"{self.title()} object {toi}"
             told, fault = described.file.information(), described.file.fault()
@@ -183,21 +187,21 @@ class Session:
                 yield f"{front}: packets have {numbers(held)}, and the FDT has {numbers(told)}"
 
     def information(self, toi: int) -> tuple[int, int, int] | None:
-        """What is known of an object's length, its symbols and its blocks."""
+        """The transmission information from packets, else from the FDT; None if unknown."""
         held = self.held.get(toi, NOTHING)
         described = self.files.get(toi)
         told = described.file.information() if described else None
         return held.information or told
 
     def symbols(self, toi: int) -> int | None:
-        """How many symbols an object has."""
+        """How many symbols an object has; None if that is unknown."""
         information = self.information(toi)
         if information is None or fault_of(*information):
             return None
         return Partition(*information).symbols
 
     def gaps_of_strays(self) -> int:
-        """At most so many gaps are in the objects that nothing describes."""
+        """An upper bound of the number of gaps in objects that no FDT Instance describes."""
         found = 0
         for toi in self.held.keys() - self.files.keys():
             information = self.held[toi].information
@@ -206,12 +210,12 @@ class Session:
         return found
 
     def wanted_bytes(self, toi: int) -> int:
-        """At most so many bytes of an object are missing."""
+        """An upper bound of the missing bytes of an object."""
         length, symbol, _ = self.information(toi) or (0, 0, 0)
         return min(length, self.state(toi).wanted * symbol)
 
     def is_done(self) -> bool:
-        """Whether each file of the newest FDT Instance is here, and none is wrong."""
+        """Whether each file of the newest FDT Instance is written, and none is wrong."""
         if self.newest is None:
             return False
         if any(map(self.may_be_newest, self.unread.items())):
@@ -222,9 +226,9 @@ class Session:
         return all(self.is_here(toi) for toi in self.newest.files)
 
     def may_be_newest(self, unread: tuple[int, State]) -> bool:
-        """Whether an FDT Instance that is not whole may be newer than those that are.
+        """Whether an FDT Instance that is not whole may be newer than all whole ones.
 
-        One in conflict has its place taken by one that was handed in.
+        One in conflict is not counted if the user gave an FDT Instance as a file.
         """
         number, state = unread
         known = [head.number for head in self.heads]
@@ -241,7 +245,7 @@ class Session:
         return self.state(toi).is_whole()
 
     def claims(self) -> list[names.Claim]:
-        """The paths that its files ask for, the newest before others."""
+        """The paths that the files ask for, those of newer descriptions first."""
         described = sorted(
             self.files.values(), key=lambda it: (-it.rank[0], -it.rank[1], it.file.toi)
         )
@@ -282,14 +286,14 @@ class Catalogue:
         return session is not None and key.tag == FILE and key.number in session.files
 
     def hold(self, found: dict[Key, Held]) -> None:
-        """Takes what a journal holds."""
+        """Adds what a journal holds of objects."""
         for key, held in found.items():
             session = self.session(key.source, key.tsi)
             if key.tag == FILE:
                 session.held[key.number] = held
 
     def read(self, session: Session, path: str, number: Optional[int], name: str) -> None:
-        """Reads an FDT Instance. One that is refused is told, and the others go on."""
+        """Reads an FDT Instance. If it is refused, that is reported, and the others are read."""
         whose = f"{session.title()}: FDT Instance {name}"
         try:
             instance = fdt.read(path, number, name)
@@ -302,7 +306,10 @@ class Catalogue:
         session.add(instance, self.differences.tell)
 
     def make_room(self, session: Session, instance: fdt.Instance) -> None:
-        """Counts what an FDT Instance adds. The memory of a run has a bound."""
+        """Counts the files and characters that an FDT Instance adds.
+
+        Raises Refused beyond the limits.
+        """
         count, text, rank = self.count, self.text, instance.rank()
         for toi, file in instance.files.items():
             before = session.files.get(toi)
@@ -318,7 +325,11 @@ class Catalogue:
         return iter(self.sessions[key] for key in sorted(self.sessions))
 
     def paths(self) -> dict[Key, str]:
-        """The path of each file below the folder. Which are replaced is known then."""
+        """The path of each file below the folder.
+
+        Reports each path that another file's name changes, and notes which files are replaced by
+        newer ones.
+        """
         claims = [claim for session in self for claim in session.claims()]
         paths = names.assign(claims)
         moved = Told(self.report)

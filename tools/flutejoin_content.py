@@ -1,4 +1,4 @@
-"""Whether an object is the file that its FDT Instance describes, and the file out of the object."""
+"""Checks an object against its description in the FDT Instance, and decodes the file in it."""
 from __future__ import annotations
 
 import contextlib
@@ -13,7 +13,7 @@ from flutejoin_fdt import File
 PIECE = 1 << 18
 GZIP, ZLIB, RAW = 31, 15, -15  # zlib's names of the formats (RFC 1952, RFC 1950, RFC 1951)
 ENCODINGS = {"gzip": GZIP, "x-gzip": GZIP, "zlib": ZLIB, "deflate": RAW}
-DEFLATED = 8  # the method in the first byte of a zlib format
+DEFLATED = 8  # the compression method in the first byte of a zlib stream
 
 
 class Verdict(enum.Enum):
@@ -24,11 +24,11 @@ class Verdict(enum.Enum):
 
 
 class Checked(NamedTuple):
-    """What an object turned out to be."""
+    """The result of the check of an object."""
 
     verdict: Verdict
-    told: str  # what else there is to know of it, or why it is wrong
-    is_decoded: bool  # whether the file is another one than the object
+    told: str  # a note on it, or why it is wrong
+    is_decoded: bool  # whether the file was decoded, and so differs from the object
 
 
 class Undecodable(Exception):
@@ -36,7 +36,10 @@ class Undecodable(Exception):
 
 
 class Decoder:
-    """The file out of the bytes of an object, piece by piece, and never more bytes than `most`."""
+    """Decodes the file in an object, piece by piece.
+
+    Raises Undecodable if that fails, or if the file has more than `most` bytes.
+    """
 
     def __init__(self, encoding: str, most: int) -> None:
         self.format, self.most, self.size = ENCODINGS[encoding], most, 0
@@ -66,9 +69,9 @@ class Decoder:
             yield piece
 
     def begin(self, data: bytes) -> zlib._Decompress:
-        """Begins a stream; a file of gzip may have several.
+        """Begins a stream; a gzip file may have several.
 
-        What is called deflate is a zlib format at many senders, as HTTP has it.
+        Many senders call the zlib format deflate, as HTTP does.
         """
         form = self.format
         if form == RAW and len(data) > 1 and data[0] & 15 == DEFLATED:
@@ -95,7 +98,7 @@ def md5_of(path: str) -> bytes:
 
 
 def decode(path: str, out: BinaryIO, decoder: Decoder) -> tuple[bytes, bytes]:
-    """Decodes a file. Answers the MD5 of its bytes, and of those that come out."""
+    """Decodes a file into `out`, and returns the MD5 of its bytes and of the decoded ones."""
     before, after = (hashlib.md5(usedforsecurity=False) for _ in range(2))
     for data in pieces_of(path):
         before.update(data)
@@ -107,7 +110,10 @@ def decode(path: str, out: BinaryIO, decoder: Decoder) -> tuple[bytes, bytes]:
 
 
 def check(path: str, file: File, most: int, out: str) -> Checked:
-    """Compares an object's bytes with what is described. A file that is decoded goes to `out`."""
+    """Compares an object with its description.
+
+    If it is encoded, the decoded file is written to `out`.
+    """
     if file.encoding:
         return check_encoded(path, file, most, out)
     size = os.stat(path).st_size
@@ -138,7 +144,7 @@ def check_encoded(path: str, file: File, most: int, out: str) -> Checked:
 
 
 def of_length(file: File, size: int, is_decoded: bool) -> Checked:
-    """Where there is no MD5 the length tells what it can."""
+    """The result of a check without an MD5: only the length is compared."""
     told = told_of_length(file, size)
     return Checked(Verdict.WRONG if told else Verdict.NO_MD5, told or "no MD5", is_decoded)
 

@@ -1,6 +1,6 @@
-"""UDP datagrams out of the frames of captures.
+"""Finds the UDP datagrams in the frames of captures.
 
-Only those are taken that came whole and right; the others are counted by their cause.
+Only whole, undamaged datagrams are taken; the others are counted by cause.
 """
 from __future__ import annotations
 
@@ -30,10 +30,10 @@ QUOTE = "ICMP error that quotes a datagram"
 SEVERAL = "perhaps several datagrams as one (UDP segmentation offload; capture at a station)"
 PORT_UNKNOWN = ", of a port that is not known"
 UNKNOWN = "which is not known here"
-MOST_NAMED = 16  # link types, and EtherTypes, that are told apart
+MOST_NAMED = 16  # link types, and EtherTypes, that are counted one by one
 
 UDP, ICMP, ICMP6, FRAGMENT = 17, 1, 58, 44
-# IPv6 extension headers that tell their length in one way (RFC 6564).
+# IPv6 extension headers with the usual length field (RFC 6564).
 HEADERS = (0, 43, 60, 135, 139, 140)
 ICMP_ERRORS = {ICMP: (3, 4, 5, 11, 12), ICMP6: (1, 2, 3, 4)}
 IP_TUNNELS = {4: "IPv4 in IP", 41: "IPv6 in IP", 47: "GRE", 50: "IPsec", 51: "IPsec", 115: "L2TP"}
@@ -60,9 +60,9 @@ HandOn = Callable[[bytes, bytes, int, bytes], None]
 
 
 class Datagrams:
-    """Takes the UDP datagrams out of frames.
+    """Finds the UDP datagrams in frames.
 
-    It hands on those that are wanted, and counts what it leaves out.
+    It passes on those that are wanted, and counts those that it leaves out.
     """
 
     def __init__(
@@ -74,7 +74,7 @@ class Datagrams:
         self.left_out: collections.Counter[str] = collections.Counter()
         self.fragments = Fragments(self.lose)
         self.unknown: dict[str, set] = collections.defaultdict(set)
-        # Of the frame that is looked at
+        # Of the frame that is being read
         self.when: Optional[int] = None
         self.vlans: tuple[int, ...] = ()
 
@@ -85,13 +85,13 @@ class Datagrams:
         self.leave_out(f"in a tunnel ({name}), which is not opened")
 
     def leave_udp_tunnel(self, udp: bytes) -> None:
-        """Counts a datagram that carries packets, unless its port is wanted for itself."""
+        """Counts a datagram that carries other packets, unless the user asked for its port."""
         port = int.from_bytes(udp[2:4], "big")
         if port in UDP_TUNNELS and port not in self.ports:
             self.leave_tunnel(UDP_TUNNELS[port])
 
     def leave_unknown(self, what: str, number: int | str) -> None:
-        """Counts a frame of a link type or an EtherType; of the first ones by their numbers."""
+        """Counts a frame of an unknown kind: the first kinds by number, the rest together."""
         numbers = self.unknown[what]
         if number in numbers or len(numbers) < MOST_NAMED:
             numbers.add(number)
@@ -100,7 +100,10 @@ class Datagrams:
             self.leave_out(f"another {what}, {UNKNOWN}")
 
     def take(self, link: int, frame: bytes, is_cut: bool, when: Optional[int] = None) -> None:
-        """Takes the IP packet in a frame. `when` is the second of its capture, if that is told."""
+        """Takes the IP packet in a frame.
+
+        `when` is the second of its capture, or None if unknown.
+        """
         kind, start, self.vlans = carried(link, frame)
         self.when = when
         if kind in IP:
@@ -113,7 +116,7 @@ class Datagrams:
             self.leave_out(CUT_BEFORE_PORT)
 
     def leave_frame(self, kind: bytes, frame: bytes, start: int) -> None:
-        """Counts a frame that may carry an IP packet which is not seen here."""
+        """Counts a frame that may carry an IP packet which this tool does not read."""
         if kind in TUNNELS:
             self.leave_tunnel(TUNNELS[kind])
         elif kind in VLAN_TAGS:
@@ -187,7 +190,7 @@ class Datagrams:
     def take_udp(
         self, source: bytes, target: bytes, data: bytes, is_whole: bool, is_joined: bool = False
     ) -> None:
-        """Takes a datagram, which may have been joined of fragments."""
+        """Takes a datagram, which may be assembled from fragments."""
         if len(data) < 8:
             self.take_short_udp(data, is_whole)
             return
@@ -212,7 +215,10 @@ class Datagrams:
                 self.hand_on_one(source, target, port, data[8:size])
 
     def take_unfilled(self, source: bytes, target: bytes, udp: bytes) -> None:
-        """Takes what may be several datagrams as one, unless its checksum shows that it is one."""
+        """Takes a payload without a right checksum, which may be several datagrams in one.
+
+        If it can't be taken apart, it is counted.
+        """
         port, _, checksum = UDP_HEAD.unpack_from(udp)
         payload = udp[8:]
         payloads = datagrams_in(payload)
@@ -236,9 +242,9 @@ class Datagrams:
             self.leave_out(LENGTHS if is_whole else CUT)
 
     def take_other(self, protocol: int, data: bytes) -> None:
-        """Counts what may carry datagrams and is not opened.
+        """Counts a packet that may carry datagrams and is not opened.
 
-        An ICMP error quotes the packet that it is about behind 8 bytes.
+        An ICMP error quotes the packet that it is about after 8 bytes.
         """
         if protocol in IP_TUNNELS:
             self.leave_tunnel(IP_TUNNELS[protocol])
@@ -254,11 +260,11 @@ class Datagrams:
                 self.leave_out(QUOTE)
 
     def may_want(self, udp: bytes) -> bool:
-        """Whether its port is wanted, or there is none to see."""
+        """Whether a datagram's port is wanted, or is not known because the datagram is cut."""
         return not self.ports or len(udp) < 4 or int.from_bytes(udp[2:4], "big") in self.ports
 
     def lose(self, key: Key, first: bytes, cause: str) -> None:
-        """A datagram in fragments is left out. Its port stands in the first of them."""
+        """Counts a datagram in fragments that is left out. Only its first fragment has its port."""
         kind, udp = behind_headers(key[3], first)
         if kind != UDP or len(udp) < 4:
             self.leave_out(cause + (PORT_UNKNOWN if self.ports else ""))
@@ -270,9 +276,9 @@ class Datagrams:
 
 
 def behind_headers(kind: int, data: bytes) -> tuple[int, bytes]:
-    """What stands behind the extension headers of an IPv6 packet: its kind and its bytes.
+    """The protocol and the bytes after the extension headers of an IPv6 packet.
 
-    Where it ends within one of them: that one.
+    If the packet ends within an extension header, they are that header's.
     """
     at = 0
     while kind in HEADERS and len(data) >= at + 8 and len(data) >= at + 8 + data[at + 1] * 8:
@@ -281,7 +287,7 @@ def behind_headers(kind: int, data: bytes) -> tuple[int, bytes]:
 
 
 def checksum_fault(source: bytes, target: bytes, udp: bytes, checksum: int) -> Optional[str]:
-    """Why the UDP checksum does not hold (RFC 768; RFC 8200, section 8.1), or None.
+    """Why the UDP checksum is wrong (RFC 768; RFC 8200, section 8.1), or None.
 
     The sum of words in ones' complement is the number modulo 65,535.
     """

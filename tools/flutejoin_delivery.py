@@ -1,4 +1,4 @@
-"""From journals to named files: a few runs of flutejoin, whatever the number of files."""
+"""Makes named files of journals by a few runs of flutejoin, whatever the number of files."""
 from __future__ import annotations
 
 import os
@@ -18,11 +18,11 @@ from flutejoin_records import Cut
 from flutejoin_records import Fault as RecordFault
 
 JOINED = "the journals joined"
-MOST_GAPS = 1 << 20  # of objects that nothing describes, where only a list is wanted
+MOST_GAPS = 1 << 20  # of objects that nothing describes, if only a list is wanted
 
 
 class Wanted(NamedTuple):
-    """The sessions that are taken: those of a sender, and with these TSIs, where any are named."""
+    """The sessions that are taken: of one sender or all, with these TSIs or all."""
 
     source: Optional[bytes]
     tsis: Sequence[int]
@@ -40,7 +40,7 @@ class Wanted(NamedTuple):
 
 
 class Delivery:
-    """What journals hold of files, what FDT Instances describe, and what flutejoin makes of it."""
+    """The objects of journals, the FDT Instances that describe them, and the runs of flutejoin."""
 
     def __init__(
         self,
@@ -56,7 +56,7 @@ class Delivery:
         self.read_before: set[tuple[Key, bytes]] = set()
 
     def read(self, handed_in: Iterable[str]) -> None:
-        """Reads what is held, and what FDT Instances describe."""
+        """Reads what the journals hold, and the FDT Instances."""
         self.join()
         self.catalogue.hold(self.scan(self.journal, self.wanted.has))
         self.read_instances()
@@ -67,7 +67,7 @@ class Delivery:
         self.write_lines()
 
     def join(self) -> None:
-        """Joins the journals, where there are several, or where some sessions alone count."""
+        """Joins the journals, if there are several or only some sessions are wanted."""
         if len(self.journals) == 1 and not self.wanted.tsis:
             (self.journal,) = self.journals
             self.name = shown(self.journal)
@@ -81,7 +81,10 @@ class Delivery:
             pass
 
     def scan(self, path: str, choice: holdings.Choice) -> dict[Key, Held]:
-        """What a journal holds of objects; FDT Instances among them become a journal."""
+        """What a journal holds of each object.
+
+        Its FDT Instances are copied to a journal of their own.
+        """
         name = self.name if path == self.journal else shown(path)
         try:
             with open(self.work.at("fdt.journal"), "wb") as out:
@@ -108,9 +111,9 @@ class Delivery:
                 self.read_alone(journal, disputed)
 
     def read_alone(self, journal: str, disputed: set[Key]) -> None:
-        """Reads those that are in conflict in all journals together, and whole in this one.
+        """Reads FDT Instances in conflict between the journals that are whole in this one.
 
-        What was the same in a journal before is read once.
+        One that an earlier journal has with the same bytes is read once.
         """
         self.scan(journal, disputed.__contains__)
         for key, state in self.instances(shown(journal)):
@@ -122,7 +125,10 @@ class Delivery:
                     self.read_instance(key, f"{key.number} of {shown(journal)}")
 
     def instances(self, name: str) -> Iterator[tuple[Key, State]]:
-        """Extracts the FDT Instances that were found last, for as long as they are looked at."""
+        """Extracts the FDT Instances that `scan` copied, and yields the state of each.
+
+        The files are removed afterwards.
+        """
         yield from list(self.extract(self.work.at("fdt.journal"), "fdt", [], name))
         self.work.remove("fdt.journal")
         self.work.remove("fdt")
@@ -130,7 +136,7 @@ class Delivery:
     def extract(
         self, journal: str, folder: str, words: list[str], name: str
     ) -> Iterator[tuple[Key, State]]:
-        """Extracts all that is whole, and tells what flutejoin says of each object."""
+        """Extracts all whole objects, and yields the state that flutejoin prints of each object."""
         command = ["extract", "--all", "--any-size", "-o", self.work.at(folder)]
         command += [*words, argument(journal)]
         for line in self.program.lines([(command, [name])]):
@@ -142,7 +148,7 @@ class Delivery:
         self.catalogue.read(self.catalogue.session(key.source, key.tsi), path, key.number, name)
 
     def read_handed_in(self, paths: Iterable[str]) -> None:
-        """Reads FDT Instances that are files."""
+        """Reads the FDT Instances that the user gave as files."""
         for path in paths:
             sessions = list(self.catalogue)
             if len(sessions) != 1:
@@ -157,7 +163,7 @@ class Delivery:
         told.finish("such files")
 
     def write_lines(self) -> None:
-        """Writes the transmission information that FDT Instances alone have."""
+        """Writes the list of transmission information that only FDT Instances have."""
         with open(self.work.at("lines"), "w", encoding="ascii") as lines:
             for session in self.catalogue:
                 for key, (length, symbol, block) in session.wanted_lines():
@@ -166,16 +172,16 @@ class Delivery:
             self.has_lines = lines.tell() > 0
 
     def add_lines(self, journal: str, out: str) -> tuple[list[str], list[str]]:
-        """What adds those lines to the journal."""
+        """The command that adds this list to the journal."""
         words = ["info", "--any-size", "-o", out, "--list", self.work.at("lines")]
         words.append(argument(journal))
         return words, [self.name]
 
     def look(self) -> None:
-        """Has flutejoin tell of each object whether it is whole, and writes no object.
+        """Reads from flutejoin whether each object is whole, and writes no object.
 
-        A few datagrams of objects that nothing describes can have millions of gaps. Then only the
-        others are looked at.
+        A few datagrams of objects that nothing describes can make millions of gaps. Then only
+        described objects are looked at.
         """
         journal = self.journal
         if sum(session.gaps_of_strays() for session in self.catalogue) > MOST_GAPS:
@@ -190,9 +196,9 @@ class Delivery:
                 self.take(*self.told(line))
 
     def extract_all(self, with_values: Sequence[str]) -> None:
-        """Has flutejoin write all objects that are whole, and tell of the others.
+        """Has flutejoin write all whole objects, and reads the state of the others.
 
-        Of some that are in conflict, these datagram files and journals may have the values.
+        These datagram files and journals may contain values of symbols in conflict.
         """
         journal = self.journal
         if self.has_lines:

@@ -9,34 +9,34 @@ from flutejoin_records import MOST, Buffer, Fault, Reader, Records
 
 # How an entry begins.
 INFORMATION, INFORMATION_CONFLICT, SYMBOL, SYMBOL_CONFLICT, END = 1, 2, 3, 4, 0xFF
-HEADER = b"FLJN\0\2"  # of the newest version
+HEADER = b"FLJN\0\2"  # of version 2
 FDT_INSTANCE, FILE = 0, 1
 
 
 class Address(NamedTuple):
-    """What an entry is about. Addresses rise in a journal."""
+    """The address of an entry. Addresses rise in a journal."""
 
-    source: bytes  # 16 bytes; none in version 1, where it is sender zero
+    source: bytes  # 16 bytes; empty in version 1, where the sender is 0
     tsi: int
     tag: int
     number: int  # an FDT Instance ID, or a TOI
-    symbol: bytes  # block and symbol, of 2 bytes each; none of information
+    symbol: bytes  # block and symbol, of 2 bytes each; empty for transmission information
 
 
 class Entry(NamedTuple):
     address: Address
     kind: int
-    value: bytes  # of a symbol that is in no conflict
+    value: bytes  # of a symbol without conflict
 
 
 def information_of(value: Buffer) -> tuple[int, int, int]:
-    """An object's length, the bytes of a symbol and the symbols of a block."""
+    """The transfer length, symbol length and block length."""
     high, low, symbol, block = struct.unpack(">HIHI", value)
     return high << 32 | low, symbol, block
 
 
 class Entries(Reader):
-    """The entries of a journal. The first fault is told as flutejoin does."""
+    """The entries of a journal. It raises the first fault, with flutejoin's name for it."""
 
     magic, versions = HEADER[:4], (1, 2)
 
@@ -58,7 +58,7 @@ class Entries(Reader):
             raise Fault("Trailing")
 
     def entry(self, kind: int) -> Entry:
-        """An entry up to its value."""
+        """Reads an entry up to its value. Raises Fault if a field is not valid."""
         if not INFORMATION <= kind <= SYMBOL_CONFLICT:
             raise Fault("Kind")
         if self.count == MOST:
@@ -84,7 +84,10 @@ class Entries(Reader):
 
 
 def reader_of(file: BinaryIO) -> Union[Records, Entries]:
-    """Reads a file by its first four bytes as a datagram file or as a journal."""
+    """Returns a reader of a datagram file or a journal, chosen by the first four bytes.
+
+    Raises Fault if the file is neither.
+    """
     magic = file.read(4)
     file.seek(0)
     if magic == Records.magic:

@@ -1,7 +1,8 @@
-"""Notices a sender that starts again, by what it tells of an FDT Instance.
+"""Notices that a sender starts again, by the contents of its FDT Instances.
 
 A sender that is started anew numbers its FDT Instances from the beginning, with other contents. In
-one journal these are in conflict for good, and so each of its runs, an epoch, has files of its own.
+one journal these would be in conflict for good, so each run of a sender, an epoch, gets its own
+files.
 """
 from __future__ import annotations
 
@@ -10,22 +11,22 @@ from typing import Iterator, Optional
 from flutejoin_packets import TOI_PLACES, ZEROS, packet_of
 from flutejoin_records import Buffer
 
-MOST_SYMBOLS = 4096  # that are remembered of a sender
-MOST_BEGUN, BEGUN_IN = 4, 60  # epochs that may begin in so many seconds
+MOST_SYMBOLS = 4096  # symbols of a sender that are remembered
+MOST_BEGUN, BEGUN_IN = 4, 60  # at most so many epochs begin in so many seconds
 CONTRADICTING = "of an FDT Instance that came with other contents, again and again (two senders?)"
 
 
 def may_tell_of_instance(payload: Buffer) -> bool:
-    """Whether a datagram has a TOI 0, if it is one of FLUTE. That is soon seen."""
+    """Whether a datagram has TOI 0, if it is a FLUTE packet: a quick test."""
     if len(payload) < 2:
         return False
     return bytes(payload[TOI_PLACES[(payload[0] & 15) << 8 | payload[1]]]) in ZEROS
 
 
 def told_of_instance(payload: Buffer) -> Iterator[tuple[bytes, int]]:
-    """What a datagram tells of an FDT Instance: the address of each fact, and a hash of its value.
+    """Yields the address of each fact about an FDT Instance in a datagram, and a hash of its value.
 
-    Nothing where it is of a file, or no FLUTE packet.
+    Yields nothing if the datagram is of a file, or is no FLUTE packet.
     """
     packet = packet_of(payload)
     if packet is None or packet.toi or packet.instance is None:
@@ -38,18 +39,19 @@ def told_of_instance(payload: Buffer) -> Iterator[tuple[bytes, int]]:
 
 
 class Epoch:
-    """What came of the FDT Instances of one sender since it started, as far as it is remembered.
+    """What is remembered of the FDT Instances that one sender sent since it started.
 
-    That are the facts that came or were repeated last, so that memory has a bound.
+    These are the most recent facts, so that memory has a bound.
     """
 
     def __init__(self) -> None:
         self.hashes: dict[bytes, int] = {}
 
     def contradicts(self, payload: Buffer) -> bool:
-        """Whether a datagram has another value of an FDT Instance than came before.
+        """Whether a datagram has another value for an FDT Instance than came before.
 
-        Then the sender started again, and nothing is noted. Else it is noted.
+        If so, the sender started again, and nothing is remembered; otherwise the datagram's facts
+        are.
         """
         told = list(told_of_instance(payload))
         if any(self.hashes.get(address, value) != value for address, value in told):
@@ -68,9 +70,9 @@ class Epoch:
 
 
 class Epochs:
-    """The epochs of one sender, of which not many begin in a short time.
+    """The epochs of one sender, of which only a few may begin in a short time.
 
-    Two senders of one address would begin one with each datagram.
+    Two senders with one address would otherwise begin one with each datagram.
     """
 
     def __init__(self) -> None:
@@ -78,10 +80,11 @@ class Epochs:
         self.begun = [float("-inf")] * MOST_BEGUN
 
     def begins(self, payload: Buffer, now: float) -> Optional[bool]:
-        """Whether a datagram that comes at this second begins the next; None to leave it out."""
+        """Whether a datagram of this second begins the next epoch; None if it is left out."""
         if not may_tell_of_instance(payload) or not self.epoch.contradicts(payload):
             return False
-        if now < self.begun[0] + BEGUN_IN:
+        # Captures may be read in another order than they came in.
+        if 0 <= now - self.begun[0] < BEGUN_IN:
             return None
         self.begun = [*self.begun[1:], now]
         self.number += 1

@@ -1,7 +1,7 @@
-"""FDT Instances: the files of a session that they describe (RFC 6726, section 3.4.2).
+"""Reads FDT Instances, which describe the files of a session (RFC 6726, section 3.4.2).
 
-Names of elements and attributes are local names, of whatever namespace. What the XML contains is
-text of whoever sent it: a DTD, and what would take much memory, is refused.
+Elements and attributes are known by their local names, in any namespace. The XML is text of whoever
+sent it: a DTD, and anything that would take much memory, is refused.
 """
 from __future__ import annotations
 
@@ -23,7 +23,7 @@ MOST_DEPTH = 16
 MOST_LOCATION, MOST_TYPE = 2048, 100  # characters that are kept of a name and of a type
 PIECE = 1 << 16
 COMPRESSED = b"\x1f", b"x"  # how gzip (RFC 1952) and zlib (RFC 1950) formats begin
-EITHER = 47  # zlib's name of the two
+EITHER = 47  # zlib's name for either format
 DIGITS = 39
 NTP_TO_UNIX = 2208988800  # seconds from 1900 to 1970
 ERA = 1 << 32  # seconds of an era of NTP; the second begins in 2036 (RFC 4330, section 3)
@@ -31,33 +31,36 @@ NO_CODE = 0  # the FEC Encoding ID of Compact No-Code FEC
 
 
 class Refused(Exception):
-    """Why an FDT Instance is not taken."""
+    """Why an FDT Instance is refused."""
 
 
 class File(NamedTuple):
-    """How an FDT Instance describes an object. What it does not say is None, or empty."""
+    """The description of an object in an FDT Instance. Missing attributes are None, or empty."""
 
     toi: int
     location: str
     type: str
     encoding: str
     length: int | None  # of the file, in bytes
-    transfer: int | None  # of the object, which may be the file as it is encoded
+    transfer: int | None  # of the object, which may be the file in encoded form
     md5: bytes | None
     fec: int
     symbol: int | None
     block: int | None
 
     def text(self) -> int:
-        """How many characters are kept of it."""
+        """How many characters are kept of this description."""
         return len(self.location) + len(self.type) + len(self.encoding)
 
     def transfer_length(self) -> int | None:
-        """The object's length. Of an encoded file Content-Length is another one."""
+        """The object's length; None if unknown.
+
+        Content-Length is that of the file before encoding.
+        """
         return self.length if self.transfer is None and not self.encoding else self.transfer
 
     def information(self) -> tuple[int, int, int] | None:
-        """The object's length, the bytes of a symbol and the symbols of a block."""
+        """The transfer length, symbol length and block length; None unless all are known."""
         length = self.transfer_length()
         if length == 0:
             return 0, self.symbol or 0, self.block or 0
@@ -66,17 +69,17 @@ class File(NamedTuple):
         return length, self.symbol, self.block
 
     def fault(self) -> str | None:
-        """Why its transmission information is not valid, as flutejoin names it."""
+        """Why the transmission information is not valid, by flutejoin's name for the fault."""
         information = self.information()
         return fault_of(*information) if information else None
 
     def differences(self, other: File) -> str:
-        """The attributes that another description has otherwise."""
+        """The attributes in which another description differs."""
         names = zip(self._fields, ATTRIBUTES)
         return ", ".join(name for at, name in names if getattr(self, at) != getattr(other, at))
 
 
-# The attributes of a file, in the order of its fields
+# The attributes of a File element, in the order of the fields
 ATTRIBUTES = (
     "TOI",
     "Content-Location",
@@ -91,15 +94,15 @@ ATTRIBUTES = (
 )
 # Those that the root element may have for all files
 COMMON = frozenset(ATTRIBUTES[2:4] + ATTRIBUTES[7:])
-ENDS = 1 << 112, 1 << 48, 1 << 16, 1 << 32  # of a TOI, a length, a symbol's, a block's
+ENDS = 1 << 112, 1 << 48, 1 << 16, 1 << 32  # bounds of TOI, transfer, symbol and block length
 PLAIN = frozenset(("", "identity", "null"))  # encodings that change nothing
 
 
 class Instance(NamedTuple):
     """An FDT Instance."""
 
-    number: int | None  # its FDT Instance ID; none of one that was handed in
-    name: str  # as it is told
+    number: int | None  # its FDT Instance ID; None for one that the user gave as a file
+    name: str  # as it is printed
     expires: int | None  # in seconds since 1970
     files: dict[int, File]
     notes: collections.Counter  # what is wrong in it, and how often
@@ -108,7 +111,7 @@ class Instance(NamedTuple):
         return self.number is not None and self.name == str(self.number)
 
     def rank(self) -> tuple[int, int]:
-        """The one of several Instances that counts has the greatest."""
+        """The order of FDT Instances: of several the greatest counts."""
         last = -1 if self.number is None else self.number
         return (-ERA if self.expires is None else self.expires), last
 
@@ -127,7 +130,7 @@ def number(text: str, end: int) -> int | None:
 
 
 def expires(text: str) -> int | None:
-    """A time of NTP in seconds since 1970."""
+    """An Expires attribute, in seconds of NTP, as seconds since 1970; None if it is not valid."""
     seconds = number(text, ERA)
     if seconds is None:
         return None
@@ -143,9 +146,9 @@ def digest(text: str) -> bytes | None:
 
 
 def pieces(file: BinaryIO) -> Iterator[bytes]:
-    """The bytes of an FDT Instance. One that is compressed (RFC 6726, section 3.4.3) is decoded.
+    """Yields the bytes of an FDT Instance, decoded if it is compressed (RFC 6726, section 3.4.3).
 
-    A journal does not say which are; gzip and zlib formats begin as no XML does.
+    A journal does not record the encoding, but no XML begins as the gzip and zlib formats do.
     """
     data = file.read(PIECE)
     if data[:1] not in COMPRESSED:
@@ -192,7 +195,7 @@ class Reader:
             self.parser.Parse(b"", True)
         except expat.ExpatError as fault:
             raise Refused(f"is no XML: {fault}") from None
-        except (LookupError, ValueError, TypeError) as fault:  # an encoding that is not known
+        except (LookupError, ValueError, TypeError) as fault:  # an unknown encoding
             raise Refused(f"is no XML that can be read: {fault}") from None
         finally:
             del self.parser  # which refers to this reader
@@ -224,7 +227,7 @@ class Reader:
         self.common = {name: text for name, text in attributes.items() if name in COMMON}
 
     def add(self, attributes: dict[str, str]) -> None:
-        """Takes a File element."""
+        """Adds the file that a File element describes."""
         file = self.file({**self.common, **attributes})
         if not file.toi:
             self.notes["a File has no TOI"] += 1
@@ -270,14 +273,14 @@ class Reader:
 
 
 def local_names(attributes: dict[str, str]) -> dict[str, str]:
-    """Attributes by their local names. One without a prefix counts before others."""
+    """Attributes by their local names. An attribute without a prefix has priority."""
     named = {name.rpartition(":")[2]: text for name, text in attributes.items() if ":" in name}
     named.update({name: text for name, text in attributes.items() if ":" not in name})
     return named
 
 
 def read(path: str, number: int | None, name: str) -> Instance:
-    """The FDT Instance of a file."""
+    """Reads the FDT Instance in a file. Raises Refused if it is not valid, and OSError."""
     reader = Reader()
     with open(path, "rb") as file:
         reader.read(file)

@@ -1,5 +1,4 @@
-"""What the tools take and tell, the names of datagram files, and files that are whole or not there.
-"""
+"""What the tools share: options, reports, the names of datagram files, and files written whole."""
 from __future__ import annotations
 
 import argparse
@@ -17,7 +16,7 @@ from typing import IO, BinaryIO, Callable, Iterator, NamedTuple, NoReturn, Optio
 
 from flutejoin_records import PIECE
 
-MOST_BYTES = (1 << 32) - 1  # of a datagram file, so that it can be kept on any disk
+MOST_BYTES = (1 << 32) - 1  # of a datagram file, so that it fits on any file system
 MOST_INPUTS = 64  # of one `flutejoin join`
 PARTIAL = ".partial"
 STANDARD_OUTPUT = "-"  # as the name of an output
@@ -27,13 +26,13 @@ IPAddress = Union[ipaddress.IPv4Address, ipaddress.IPv6Address]
 
 
 class Report:
-    """What a tool tells: lines of standard output, and faults.
+    """Prints the lines and faults of a tool.
 
-    The greatest status of the faults is kept.
+    `status` is the greatest status of the faults.
     """
 
     def __init__(self, tool: str, out: Optional[str] = None) -> None:
-        """Where the output of the tool is standard output, its lines go to standard error."""
+        """If `out` is standard output, the lines go to standard error."""
         self.tool, self.status, self.is_mute = tool, 0, False
         self.has_lines_aside = out == STANDARD_OUTPUT
 
@@ -48,7 +47,7 @@ class Report:
         self.warn(text)
 
     def tell(self, stream: IO[str], *lines: str) -> None:
-        """Writes lines. A stream that is closed or cannot be written ends no work."""
+        """Writes lines. If the stream is closed or cannot be written, the work continues."""
         try:
             put(stream, *lines)
         except (OSError, AttributeError):
@@ -58,9 +57,9 @@ class Report:
 
 
 class CommandLine(argparse.ArgumentParser):
-    """What a tool takes and its help.
+    """The options of a tool and its help.
 
-    The help is an output like any other: where it cannot be written, that is told.
+    If the help cannot be written, that is a fault, as for any other output.
     """
 
     def __init__(self, tool: str, description: Optional[str], epilog: Optional[str] = None) -> None:
@@ -100,7 +99,10 @@ def number_of_bytes(text: str) -> int:
 
 
 def sender_bytes(text: str) -> bytes:
-    """A sender's address as journals have it: of text as it is written elsewhere, or of digits."""
+    """A sender's address as 16 bytes, from the usual text or from 8 or 32 digits.
+
+    Raises ValueError.
+    """
     is_digits = len(text) in (8, 32) and set(text) <= set(string.hexdigits)
     if "%" in text:
         raise ValueError("an address with a zone")
@@ -124,9 +126,9 @@ def is_same(one: str, other: str) -> bool:
 
 
 def answer_stops(answer: Callable[..., None]) -> None:
-    """Has the signals that end a run answered so.
+    """Sets the handler of the signals that end a run.
 
-    A hangup is none of them where it is ignored, as under nohup.
+    A hangup that is ignored, as under nohup, stays ignored.
     """
     for number in STOPPING:
         if number != signal.SIGHUP or signal.getsignal(number) != signal.SIG_IGN:
@@ -134,9 +136,9 @@ def answer_stops(answer: Callable[..., None]) -> None:
 
 
 def stop(number: int, _frame: object) -> None:
-    """Ends a run by the first signal.
+    """Ends a run at the first signal, by raising KeyboardInterrupt.
 
-    Others that come change nothing: what is left is to clear up.
+    Later signals are ignored while the run cleans up.
     """
     answer_stops(lambda *_: None)
     raise KeyboardInterrupt(number)
@@ -144,9 +146,9 @@ def stop(number: int, _frame: object) -> None:
 
 @contextlib.contextmanager
 def later() -> Iterator[None]:
-    """Signals that come meanwhile are answered behind it.
+    """A context in which signals are delayed until its end.
 
-    What was begun by then is known, and is ended with the run.
+    So a process or file that is begun in it is known, and is ended with the run.
     """
     came: list[int] = []
     before = {
@@ -163,21 +165,33 @@ def later() -> Iterator[None]:
 
 
 def keep_status() -> None:
-    """For the end of a run: it keeps the status that the run ends with.
+    """At the end of a run: ignores signals, so that the run keeps its status.
 
-    Python lets signals kill while it ends, and a late Ctrl-C would then take the status away.
+    Python lets signals kill it while it ends, and a late Ctrl-C would then change the status.
     """
     for number in STOPPING:
         signal.signal(number, signal.SIG_IGN)
 
 
 def shown(text: str) -> str:
-    """A text as it can stand in a line: a name of a file may have what a terminal obeys."""
-    return "".join(char if char.isprintable() else "?" for char in text)
+    """A text that is safe to print.
+
+    A file's name may contain terminal control characters, or characters that the encoding of this
+    system lacks.
+    """
+    return "".join(char if char.isprintable() and has_bytes(char) else "?" for char in text)
+
+
+def has_bytes(char: str) -> bool:
+    """Whether the encoding of this system, which may not be UTF-8, has a character."""
+    try:
+        return bool(os.fsencode(char))
+    except UnicodeEncodeError:
+        return False
 
 
 def quoted(word: str) -> str:
-    """A word as the shell takes it, printable whatever it has. It ends with no line feed."""
+    """A word quoted for the shell, with printable characters only, and no line feed at its end."""
     if word.isprintable():
         return shlex.quote(word)
     marks = {"%": "%%", "\\": "\\\\", "'": "'\\''"}
@@ -191,12 +205,12 @@ def quoted(word: str) -> str:
 
 
 def open_at_once(name: str, flags: int) -> int:
-    """Opens a file for `open`, and does not wait for the writer of a pipe."""
+    """Opens a file for `open`, without waiting for the writer of a pipe."""
     return os.open(name, flags | os.O_NONBLOCK)
 
 
 def opened(name: str) -> BinaryIO:
-    """Opens a file that may be read from any place."""
+    """Opens a file that allows seeking. Raises OSError for any other."""
     file = open(name, "rb", buffering=PIECE, opener=open_at_once)
     if not file.seekable():
         file.close()
@@ -205,16 +219,16 @@ def opened(name: str) -> BinaryIO:
 
 
 def put(stream: IO[str], *lines: str) -> None:
-    """Writes lines, as they can be shown."""
+    """Writes lines, each made safe to print."""
     text = os.fsencode("".join(f"{shown(line)}\n" for line in lines))
     while text:
         text = text[os.write(stream.fileno(), text) :]
 
 
 def stem(text: str, epoch: int = 1) -> str:
-    """What the names of a sender's files begin with: the address without colons, and the epoch.
+    """The prefix of the names of a sender's files: the address without colons, and the epoch.
 
-    Some systems and tools do not take colons in names.
+    Some systems and tools do not accept colons in names.
     """
     return text.replace(":", "-") + (f".e{epoch}" if epoch > 1 else "")
 
@@ -222,14 +236,14 @@ def stem(text: str, epoch: int = 1) -> str:
 def file_name(text: str, part: int, epoch: int = 1) -> str:
     """The name of a sender's datagram file.
 
-    It is made of the address as text, of the epoch, and of the number of the file in it:
-    10.0.0.1.fldg, 10.0.0.1.2.fldg, 10.0.0.1.e2.fldg, 10.0.0.1.e2.2.fldg.
+    It is made of the address, the epoch, and the number of the file in the epoch: 10.0.0.1.fldg,
+    10.0.0.1.2.fldg, 10.0.0.1.e2.fldg, 10.0.0.1.e2.2.fldg.
     """
     return stem(text, epoch) + (f".{part}" if part > 1 else "") + ".fldg"
 
 
 class Name(NamedTuple):
-    """What the name of a sender's file tells."""
+    """The address, the epoch and the number in the name of a sender's file."""
 
     address: IPAddress
     epoch: int
@@ -237,7 +251,7 @@ class Name(NamedTuple):
 
 
 def name_of(name: str) -> Optional[Name]:
-    """What the name of a file tells, if it is the name of a sender's file."""
+    """The parts of a file's name, or None if it is not the name of a sender's file."""
     if not name.endswith(".fldg"):
         return None
     fields = name.split(".")[:-1]
@@ -258,10 +272,10 @@ def name_of(name: str) -> Optional[Name]:
 
 
 def join_lines(sender: bytes, journal: str, inputs: list[str]) -> Iterator[str]:
-    """The lines that join a sender's files, and what an earlier run of such a line made of some.
+    """Yields the commands that join a sender's files, with the journal that an earlier run made.
 
-    A line takes 64 inputs. It has `--any-size`, since whoever can send to a port chooses how many
-    sessions and objects there are.
+    A command takes 64 inputs. It has `--any-size`, since whoever can send to a port chooses how
+    many sessions and objects there are.
     """
     inputs = [journal, *inputs] if os.path.lexists(journal) else inputs
     while inputs:
@@ -280,8 +294,8 @@ def address(sender: bytes) -> str:
 def write_new(name: str, ending: str, fill: Callable[[BinaryIO], None]) -> None:
     """Makes a file that is not there yet: whole, or not at all.
 
-    Until it is whole it has another name, with this ending. `-` is standard output, which keeps
-    what it took before a fault.
+    Until it is whole its name has this ending. `-` is standard output, which keeps what was written
+    before a fault. Raises OSError.
     """
     if name == STANDARD_OUTPUT:
         write_out(fill)
@@ -314,7 +328,7 @@ def new_file(partial: str) -> BinaryIO:
 
 
 def write_out(fill: Callable[[BinaryIO], None]) -> None:
-    """Writes to standard output."""
+    """Writes to standard output. Raises OSError if that is closed or cannot be written."""
     if sys.stdout is None:
         raise OSError(errno.EBADF, os.strerror(errno.EBADF), "standard output")
     try:
@@ -325,12 +339,12 @@ def write_out(fill: Callable[[BinaryIO], None]) -> None:
 
 
 def give_name(partial: str, path: str) -> None:
-    """Names a file that is whole. A file of that name is never replaced."""
+    """Gives a whole file its name. Raises FileExistsError if there is a file of that name."""
     try:
         os.link(partial, path)
     except FileExistsError:
         raise
-    except OSError:  # a file system where no file has two names
+    except OSError:  # a file system without hard links
         if os.path.lexists(path):
             raise FileExistsError(errno.EEXIST, "is there already", path) from None
         os.rename(partial, path)

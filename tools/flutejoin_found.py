@@ -1,4 +1,4 @@
-"""Datagram files that earlier runs left in a folder: whose they are, and where they end."""
+"""Datagram files that earlier runs left in a folder: their senders, and where they end."""
 from __future__ import annotations
 
 import collections
@@ -14,21 +14,21 @@ from flutejoin_files import IPAddress, Name, file_name, name_of
 from flutejoin_notes import Fault, note
 from flutejoin_records import HEADER, LENGTH, PIECE, Looked, ends, last_whole
 
-MOST_LOOKED = 64  # pieces at a file's end in which FDT Instances are looked for
-MOST_RECORDS = 1 << 17  # records in which they are looked for
+MOST_LOOKED = 64  # pieces at a file's end that are searched for FDT Instances
+MOST_RECORDS = 1 << 17  # records that are searched for them
 
 
 def address_of(text: Union[str, bytes]) -> IPAddress:
-    """The address that a socket names, as text or packed.
+    """The address of a socket's peer, given as text or as bytes.
 
-    An IPv4 address may come in IPv6 form, and a link's name behind an address is no part of it.
+    An IPv4 address may come in IPv6 form. The name of a link after an address is left out.
     """
     address = ipaddress.ip_address(text.partition("%")[0] if isinstance(text, str) else text)
     return getattr(address, "ipv4_mapped", None) or address
 
 
 def newest(names: Iterable[str]) -> dict:
-    """The newest file of each sender, by its address: the last part of its last epoch."""
+    """The newest file of each sender, by address: the last number of the last epoch."""
     last: dict = {}
     for found in filter(None, map(name_of, names)):
         last[found.address] = max(last.get(found.address, found), found)
@@ -36,17 +36,20 @@ def newest(names: Iterable[str]) -> dict:
 
 
 class Found(NamedTuple):
-    """The newest file of a sender: where it ends, and what it tells of FDT Instances."""
+    """The newest file of a sender: where it ends, and what is known of its FDT Instances."""
 
     name: Name
-    identity: Tuple[int, int]  # device and number
-    size: Optional[int]  # None where it is left as it is, and another file is begun
+    identity: Tuple[int, int]  # device and inode number
+    size: Optional[int]  # None if it is left as it is, and another file is begun
     records: int
     epoch: Epoch
 
 
 def look_at(folder: str, name: Name) -> Found:
-    """Looks through a file, and takes away a record that was cut at its end."""
+    """Reads a file, and removes a record that is cut at its end.
+
+    Raises Fault if the file can't be read or is no datagram file.
+    """
     path = os.path.join(folder, file_name(str(name.address), name.part, name.epoch))
     looked: Looked = collections.deque(maxlen=MOST_LOOKED)
     try:
@@ -64,7 +67,10 @@ def look_at(folder: str, name: Name) -> Found:
 
 
 def last_of(file: io.FileIO, path: str, found: os.stat_result, looked: Looked) -> tuple[int, int]:
-    """Where the last whole record of a file ends, and how many there are."""
+    """Where the last whole record of a file ends, and how many records there are.
+
+    Raises Fault if it is no datagram file.
+    """
     if not stat.S_ISREG(found.st_mode):
         raise Fault(1, f"{path}: is no regular file, and is left as it is")
     head = file.read(len(HEADER))
@@ -74,10 +80,10 @@ def last_of(file: io.FileIO, path: str, found: os.stat_result, looked: Looked) -
 
 
 def mended(file: io.FileIO, path: str, end: int, size: int) -> bool:
-    """Takes away a record that was cut at a file's end, and keeps it in a file beside it.
+    """Removes a cut record at a file's end, keeping it in a file beside it; False if that fails.
 
-    Where a length in the file is wrong, it is more than a record that a kill cut. It is not taken
-    away where it cannot be kept.
+    If a length in the file is wrong, this may be more than one record. So nothing is removed that
+    can't be kept.
     """
     if end == size:
         return True
@@ -96,7 +102,7 @@ def mended(file: io.FileIO, path: str, end: int, size: int) -> bool:
 
 
 def keep_beside(path: str, cut: bytes) -> str:
-    """Writes what is cut off a file into a new one beside it, and answers its name."""
+    """Writes the bytes that are cut off a file to a new one beside it, and returns its name."""
     number = 1
     while True:
         beside = f"{path}.cut" + (f".{number}" if number > 1 else "")
@@ -113,7 +119,7 @@ def keep_beside(path: str, cut: bytes) -> str:
 
 
 def epoch_in(folder: str, name: Name) -> Epoch:
-    """What an earlier file tells of FDT Instances. Nothing where it is not there any more."""
+    """What an earlier file contains of FDT Instances; nothing if it is no longer there."""
     looked: Looked = collections.deque(maxlen=MOST_LOOKED)
     try:
         path = os.path.join(folder, file_name(str(name.address), name.part, name.epoch))
@@ -125,7 +131,7 @@ def epoch_in(folder: str, name: Name) -> Epoch:
 
 
 def epoch_of(file: io.FileIO, size: int, looked: Looked) -> Epoch:
-    """What a file tells at its end of FDT Instances."""
+    """What a file contains, near its end, of FDT Instances."""
     epoch, records = Epoch(), sum(count for _, count in looked)
     while records > MOST_RECORDS:
         records -= looked.popleft()[1]
@@ -137,7 +143,7 @@ def epoch_of(file: io.FileIO, size: int, looked: Looked) -> Epoch:
 
 
 def datagrams_of_instances(piece: bytes) -> Iterable[bytes]:
-    """Those datagrams of a piece that may be of an FDT Instance."""
+    """The datagrams in a piece of a file that may be of an FDT Instance."""
     begin = 0
     for end in ends(piece):
         datagram = piece[begin + LENGTH.size : end]

@@ -1,4 +1,4 @@
-"""Datagrams that come in fragments, put together where all of them came."""
+"""Puts datagrams together that come in fragments."""
 from __future__ import annotations
 
 import collections
@@ -13,12 +13,12 @@ LOST = "a fragment is lost"
 DISAGREE = "fragments overlap or disagree"
 TOO_MANY = f"more than {MOST_FRAGMENTS} fragments"
 
-# Whose fragments belong together: source, target, identification, protocol and VLANs
+# Fragments of one datagram have the same source, target, identification, protocol and VLANs
 Key = Tuple[bytes, bytes, int, int, Tuple[int, ...]]
 
 
 class Fragmented:
-    """A datagram that comes in fragments, the first of which came at a second."""
+    """A datagram that comes in fragments; `when` is the second of the first one."""
 
     def __init__(self, when: int | None) -> None:
         self.pieces: dict[int, bytes] = {}  # by their offsets
@@ -30,20 +30,20 @@ class Fragmented:
         return self.pieces.get(offset) == data and (offset + len(data) == self.end) != more
 
     def is_over(self, when: int | None) -> bool:
-        """Whether what comes at this second is too late for it. A capture may tell no times."""
+        """Whether a fragment of this second is too late for this datagram. Times may be unknown."""
         if when is None or self.when is None:
             return False
         return abs(when - self.when) > MOST_SECONDS
 
     def fail(self, cause: str) -> None:
-        """It is never put together, whatever comes. What is kept is where its port stands."""
+        """Gives a datagram up. Only the start of its first fragment is kept, for its port."""
         self.cause = cause
         self.pieces = {0: self.pieces[0][:256]} if 0 in self.pieces else {}
 
     def add(self, offset: int, more: bool, data: bytes) -> None:
-        """Takes a fragment that is no repeat.
+        """Adds a fragment that is no repeat.
 
-        No two overlap, so they are the whole where their lengths come to its end.
+        Fragments do not overlap, so the datagram is whole once their lengths sum up to its own.
         """
         end = offset + len(data)
         is_wrong = not data or end > 65535 or (more and len(data) % 8)
@@ -65,7 +65,7 @@ class Fragmented:
 class Fragments:
     """The last datagrams that came in fragments.
 
-    Those that are whole stay among them, since a capture may have a fragment twice.
+    Whole ones stay in the list, since a capture may have a fragment twice.
     """
 
     def __init__(self, lose: Callable[[Key, bytes, str], None]) -> None:
@@ -75,14 +75,14 @@ class Fragments:
     def add(
         self, key: Key, offset: int, more: bool, data: bytes, is_whole: bool, when: int | None
     ) -> bytes | None:
-        """The whole datagram, with the last of its fragments that comes."""
+        """Adds a fragment, and returns the datagram if that makes it whole."""
         datagram = self.last.get(key)
         if datagram and datagram.is_over(when):
             self.forget(key)
             datagram = None
         if datagram and (datagram.cause or datagram.is_repeat(offset, more, data)):
             return None
-        if datagram and datagram.is_done:  # its identification is used again
+        if datagram and datagram.is_done:  # the identification is used again
             self.forget(key)
             datagram = None
         if datagram is None:
@@ -99,7 +99,7 @@ class Fragments:
         return b"".join(datagram.pieces[at] for at in sorted(datagram.pieces))
 
     def forget(self, key: Key) -> None:
-        """Forgets a datagram. One that is not whole by now is lost."""
+        """Forgets a datagram. If it is not whole, it is counted as lost."""
         datagram = self.last.pop(key)
         if not datagram.is_done:
             self.lose(key, datagram.pieces.get(0, b""), datagram.cause or LOST)

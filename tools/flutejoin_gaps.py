@@ -1,6 +1,6 @@
-"""What flutejoin tells of journals: of each object its state, its gaps and its information.
+"""Reads what flutejoin prints about journals: the state, the gaps and the FEC OTI of each object.
 
-Its lines are read as they come, and none is kept.
+Lines are read as they come, and none is kept.
 """
 from __future__ import annotations
 
@@ -42,7 +42,7 @@ INFORMATION = re.compile(OBJECT + rb"info length (\d+) symbol (\d+) block (\d+)\
 
 
 class Fault(Exception):
-    """What ends the run, and the status that it ends with."""
+    """What ends the run, with the exit status."""
 
     def __init__(self, status: int, text: str, is_write: bool = False) -> None:
         super().__init__(text)
@@ -50,7 +50,10 @@ class Fault(Exception):
 
 
 def find(name: Optional[str]) -> str:
-    """The program: the one that is named, or beside this tool, or on the PATH."""
+    """The path of the program: the one that is named, or beside this tool, or on the PATH.
+
+    Raises Fault.
+    """
     beside = os.path.join(os.path.dirname(os.path.abspath(sys.argv[0])), "flutejoin")
     if name is None and os.path.isfile(beside) and os.access(beside, os.X_OK):
         return beside
@@ -63,13 +66,13 @@ def find(name: Optional[str]) -> str:
 
 
 class Enough(Exception):
-    """What wants no gaps of further objects."""
+    """No more gaps are wanted."""
 
 
 class State(NamedTuple):
-    """What journals tell of an object.
+    """What flutejoin reports about an object.
 
-    There is how many of its symbols are in conflict or misfits, and how many gaps follow.
+    `disputed` counts its symbols in conflict and its misfits, and `gaps` the gap lines that follow.
     """
 
     words: str
@@ -88,26 +91,26 @@ class State(NamedTuple):
 
 # Takes a gap: its block, its first and last symbol, and the reason
 Take = Callable[[int, int, int, int], None]
-# Answers what takes the gaps of an object, or None
+# Returns the function that takes the gaps of an object, or None
 Begin = Callable[[str, State], Optional[Take]]
 
-# Information of an object: its length, the bytes of a symbol and the symbols of a block
+# Transmission information: the transfer length, the symbol length and the block length
 Numbers = Tuple[int, int, int]
-# The words of a run of the program, and the names of its inputs
+# A command line of the program, and the names of its inputs
 Command = Tuple[List[str], List[str]]
 
 
 class Program:
-    """Runs flutejoin. A journal is a path, and is named in faults by its path."""
+    """Runs flutejoin. A journal is given by its path, and faults name that path."""
 
     def __init__(self, path: str) -> None:
         self.path = path
-        self.kept: tuple[int, ...] = ()  # open files that a run of it keeps open
+        self.kept: tuple[int, ...] = ()  # open files that the program inherits
 
     def states(self, journals: list[str], wanted: Container[str] | None) -> dict[str, State]:
-        """What these journals together tell of objects, of all or of those that are wanted.
+        """The state of each object, or of those that are wanted, in these journals together.
 
-        The text that names each is that of flutejoin gaps.
+        Objects are named as flutejoin gaps prints them.
         """
         states: dict[str, State] = {}
         key, state, gaps = None, State(""), 0
@@ -126,12 +129,12 @@ class Program:
         return states
 
     def gaps(self, journals: list[str], begin: Begin) -> None:
-        """Hands the gaps of these journals together to what `begin` answers for their object."""
+        """Passes the gaps of these journals together to what `begin` returns for each object."""
         self.read_gaps(self.commands(journals), begin)
 
     @staticmethod
     def commands(journals: list[str]) -> list[Command]:
-        """What tells the gaps of these journals together."""
+        """The commands that print the gaps of these journals together."""
         paths = [argument(path) for path in journals]
         names = [shown(path) for path in journals]
         if len(paths) == 1:
@@ -142,7 +145,7 @@ class Program:
     def gaps_with(
         self, journal: str, information: Iterable[Tuple[str, Numbers]], begin: Begin
     ) -> None:
-        """The same of a journal once information is added to it: pairs `(object, numbers)`."""
+        """As `gaps`, for one journal with this information added: pairs `(object, numbers)`."""
         name = shown(journal)
         added = [
             (["info", "--any-size", "-o", "-", *options(key), *numbers_of(numbers), "-"], [name])
@@ -165,9 +168,9 @@ class Program:
                     take(int(gap[1]), int(gap[2]), int(gap[3]), REASONS[gap[4]])
 
     def information(self, journal: str, keys: set[str]) -> dict[str, Numbers]:
-        """The information of these objects, of which the journal has it.
+        """The transmission information of those of these objects for which the journal has it.
 
-        It is the object's length, the bytes of a symbol and the symbols of a block.
+        It is the transfer length, the symbol length and the block length.
         """
         found: dict[str, Numbers] = {}
         show = (["show", argument(journal)], [shown(journal)])
@@ -186,9 +189,9 @@ class Program:
         raise Fault(3, f"{shown(journal)}: changed while it was read")
 
     def lines(self, commands: list[Command]) -> Generator[bytes, None, None]:
-        """The lines that the last command prints.
+        """Yields the lines that the last command prints.
 
-        Each command is its words and the names of its inputs, and takes what the one before it
+        A command is its words and the names of its inputs. Each one reads what the one before it
         writes.
         """
         running: list[subprocess.Popen[bytes]] = []
@@ -208,7 +211,7 @@ class Program:
                 out_of(process).close()
                 told_by(process).close()
                 process.wait()
-        # The one before a command that stopped reading could not write.
+        # An earlier command failed to write because the next one had stopped reading.
         first = [fault for fault in faults if not fault.is_write] or faults
         if first:
             raise first[0]
@@ -227,7 +230,7 @@ class Program:
 
 
 def state_of(line: bytes) -> re.Match:
-    """What a line tells of an object."""
+    """The parts of a line about an object. Raises Fault if it is no such line."""
     told = STATE.fullmatch(line)
     if not told:
         raise unknown(line)
@@ -235,7 +238,7 @@ def state_of(line: bytes) -> re.Match:
 
 
 def argument(path: str) -> str:
-    """A path as the program takes it: `-` is no file there, and what begins so no name."""
+    """A path as an argument: with `./` if it begins with `-`, as options do."""
     return f"./{path}" if path.startswith("-") else path
 
 
@@ -254,21 +257,21 @@ def numbers_of(information: Numbers) -> list[str]:
 
 
 def out_of(process: subprocess.Popen[bytes]) -> IO[bytes]:
-    """What a run of the program prints, through a pipe."""
+    """The standard output of a run of the program."""
     assert process.stdout
     return process.stdout
 
 
 def told_by(process: subprocess.Popen[bytes]) -> IO[bytes]:
-    """What it writes to standard error."""
+    """The standard error of a run of the program."""
     assert process.stderr
     return process.stderr
 
 
 def fault_of(process: subprocess.Popen[bytes], names: list[str]) -> Optional[Fault]:
-    """What a run of the program tells to be wrong, with the name of the file.
+    """Waits for a run of the program, and returns its fault with the name of the file at fault.
 
-    None where it did its work.
+    Returns None if it succeeded.
     """
     told = told_by(process).read().decode(errors="replace").strip()
     status = process.wait()

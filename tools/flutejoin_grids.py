@@ -1,4 +1,4 @@
-"""Cells of pictures: each stands for a run of symbols, or of objects, and tells their kinds."""
+"""The cells of pictures: each is a run of symbols, or of objects, and counts them by kind."""
 from __future__ import annotations
 
 import array
@@ -38,9 +38,9 @@ def partition_words(partition: Partition) -> str:
 
 
 class Grid:
-    """Cells that each stand for a run of symbols, and rows that each stand for a block or several.
+    """Rows of cells: a cell is a run of symbols, and a row one block or several.
 
-    It has how many symbols of each cell, and of all, are held, missing, conflicting or misfit.
+    It counts the symbols that are held, missing, conflicting or misfits, for each cell and in all.
     """
 
     names = NAMES
@@ -68,11 +68,11 @@ class Grid:
         return self.group == 1 and self.run == 1
 
     def begin(self, row: int) -> int:
-        """The place of the first symbol of a row, and of the one behind the last row."""
+        """The place of the first symbol of a row; after the last row, the number of symbols."""
         return self.partition.start(min(row * self.group, self.partition.blocks))
 
     def add(self, block: int, first: int, last: int, reason: int) -> bool:
-        """Takes a gap; False where the object has no such symbols."""
+        """Adds a gap. Returns False if the object has no such symbols."""
         if block >= self.partition.blocks or not first <= last < self.partition.size(block):
             return False
         row = block // self.group
@@ -91,7 +91,7 @@ class Grid:
             self.add(block, 0, self.partition.size(block) - 1, MISSING)
 
     def row_cells(self, row: int) -> Iterator[Counts]:
-        """How many symbols of each cell of a row are of each kind."""
+        """Yields the counts by kind of each cell of a row."""
         size = self.begin(row + 1) - self.begin(row)
         for column in range(-(-size // self.run)):
             at = row * self.columns + column
@@ -99,9 +99,9 @@ class Grid:
             yield (min(self.run, size - column * self.run) - sum(other), *other)
 
     def row_runs(self, row: int) -> Iterator[tuple[int, int, Counts]]:
-        """Cells side by side that are wholly of one kind, and each other cell alone.
+        """Yields runs of neighbouring cells of a single kind, and every other cell by itself.
 
-        Of each its first column, the one behind, and its counts.
+        Of each it yields its first column, the column after its last, and its counts.
         """
         begin = column = 0
         one: Counts = ()
@@ -123,7 +123,7 @@ class Grid:
         return first, min(self.begin(row) + end * self.run, self.begin(row + 1)) - 1
 
     def range_words(self, row: int, begin: int, end: int) -> str:
-        """Which symbols stand in cells of a row."""
+        """Which symbols the cells of a row are, as text."""
         first, last = map(self.partition.id_at, self.places(row, begin, end))
         if first == last:
             return "%d/%d" % first
@@ -132,7 +132,7 @@ class Grid:
         return "%d/%d to %d/%d" % (*first, *last)
 
     def label(self, row: int) -> int:
-        """What stands before a row: its first block."""
+        """The label of a row: its first block."""
         return row * self.group
 
     def scale_words(self) -> str:
@@ -140,16 +140,16 @@ class Grid:
         return f"{row}, a cell is {'a symbol' if self.run == 1 else f'{self.run} symbols'}"
 
     def words(self, counts: Iterable[int] | None = None, is_short: bool = False) -> str:
-        """How many are of each kind, of all or of these counts."""
+        """How many are of each kind, in all or in these counts, as text."""
         of = list(zip(self.names, self.counts if counts is None else counts))
         return ", ".join(f"{name} {count}" for name, count in of if count or not is_short)
 
 
 class Overview(Grid):
-    """Cells that each stand for an object, or for a run of them: what is told of many objects."""
+    """Rows of cells that are each an object, or a run of objects: an overview."""
 
     names = OBJECT_NAMES
-    ROW = 64  # objects, at most
+    ROW = 64  # objects in a row, at most
 
     def __init__(
         self, states: dict[str, State], most_rows: int, columns_of: Callable[[int], int]
@@ -179,6 +179,6 @@ class Overview(Grid):
 
 
 def scales(grids: Iterable[Grid | None]) -> str:
-    """Once what the rows and cells of all grids stand for; nothing where they differ."""
+    """What the rows and cells are, as text, if that is the same for all grids; otherwise empty."""
     words = {grid.scale_words() for grid in grids if grid and grid.rows}
     return words.pop() if len(words) == 1 else ""

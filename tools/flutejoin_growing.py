@@ -1,7 +1,7 @@
 """Datagram files that grow while datagrams are received.
 
-Each sender has one of them, or several. Whatever touches them is done by one thread, the writer's,
-so that receiving never waits for the disk.
+Each sender has one of them, or several. Only one thread, the writer's, touches them, so that
+receiving never waits for the disk.
 """
 from __future__ import annotations
 
@@ -17,7 +17,7 @@ from flutejoin_records import HEADER, PIECE, Buffer, last_whole, whole_records
 if TYPE_CHECKING:
     from flutejoin_writer import Opened
 
-COPY_STEP = 8  # pieces between two looks at what else waits
+COPY_STEP = 8  # pieces that are copied before other orders are looked at
 LOOK_FLAGS = os.O_RDWR | os.O_APPEND | os.O_NONBLOCK | os.O_CLOEXEC
 MAKE_FLAGS = os.O_RDWR | os.O_APPEND | os.O_CREAT | os.O_EXCL | os.O_CLOEXEC
 
@@ -30,7 +30,7 @@ class Block(NamedTuple):
 
 
 class Begin(enum.Enum):
-    """What the next records begin."""
+    """What begins with the next records."""
 
     PART = 1
     EPOCH = 2
@@ -55,7 +55,7 @@ class Growing:
         self.epoch, self.part = epoch, part
         self.orders: collections.deque[Union[Block, Begin]] = collections.deque()
         self.descriptor: Optional[int] = None
-        self.identity: Optional[Tuple[int, int]] = None  # device and number of a file that is made
+        self.identity: Optional[Tuple[int, int]] = None  # of a file that is made: device and number
         self.size = self.records = self.before = 0
         self.taken = 0  # bytes of all blocks that are written
         self.lost = 0  # records that were written, and then lost
@@ -70,12 +70,12 @@ class Growing:
         return os.path.join(self.folder, file_name(str(self.address), part, epoch))
 
     def go_on(self, identity: Tuple[int, int], size: int, records: int) -> None:
-        """Goes on with a file of an earlier run, once its sender comes."""
+        """Continues a file of an earlier run, once its sender sends again."""
         self.identity = identity
         self.size, self.records, self.before = size, records, records
 
     def work(self) -> None:
-        """Does what was ordered. After a fault the files end behind their last whole records."""
+        """Carries out the orders. After a fault each file ends after its last whole record."""
         try:
             while self.orders:
                 order = self.orders[0]
@@ -134,7 +134,10 @@ class Growing:
         self.records += records
 
     def keep_whole(self, descriptor: int, block: Block, data: Buffer, written: int) -> None:
-        """After a write of which so many bytes got to the file: the rest of the block waits."""
+        """Cuts the file after its last whole record, once only `written` bytes were written.
+
+        The rest of the block is put in the queue again.
+        """
         begin = 0 if self.size else len(HEADER)
         end, records = whole_records(memoryview(data)[begin:written])
         whole = begin + end if records else 0
@@ -150,9 +153,10 @@ class Growing:
             self.orders[0] = Block(memoryview(data)[whole:], block.records - records)
 
     def open(self) -> int:
-        """Makes the file, or opens again what is made, where nobody changed it since.
+        """Makes the file, or opens it again if nobody changed it since. Returns its descriptor.
 
-        A file of its name that somebody else made is left as it is, and the next number taken.
+        If somebody else made a file of this name, that is left as it is, and the next number is
+        taken.
         """
         while True:
             is_made = self.identity is not None
@@ -164,7 +168,7 @@ class Growing:
                 continue
             except FileNotFoundError:
                 if not is_made:
-                    raise  # it is the folder that is not there
+                    raise  # the folder is missing, and not the file
                 self.lose("was removed or moved while it was closed")
                 continue
             found = os.fstat(descriptor)
@@ -183,9 +187,10 @@ class Growing:
         self.part += 1
 
     def look(self) -> None:
-        """Sees whether the file that grows is still there under its name.
+        """Checks that the growing file is still there under its name.
 
-        What a removed file holds is copied to a new one of its name. Later records go to another.
+        If it was removed, its bytes are copied to a new file of its name, and later records go to
+        another file.
         """
         if self.descriptor is None:
             return
@@ -218,7 +223,7 @@ class Growing:
             note(f"{self.path()}: what was written last may be lost: {fault.strerror}")
 
     def finish(self) -> None:
-        """At the end of a run. A file that got no record is removed."""
+        """Ends the work at the end of a run. A file without records is removed."""
         self.work()
         self.look()
         while self.copies and self.fault is None:
@@ -235,7 +240,7 @@ class Growing:
 
 
 class Copy:
-    """What a removed file held, which is written anew from the descriptor that is still there."""
+    """Copies a removed file to a new one, from the descriptor that is still open."""
 
     def __init__(self, growing: Growing, source: int) -> None:
         self.growing, self.source = growing, source
@@ -248,7 +253,7 @@ class Copy:
         return self.growing.path_of(self.part, self.epoch)
 
     def step(self) -> None:
-        """Copies some of it. What fails in the middle is written again from there."""
+        """Copies a few pieces. After a fault the next call continues there."""
         target = self.make() if self.target is None else self.target
         for _ in range(COPY_STEP):
             piece = os.pread(self.source, min(PIECE, self.size - self.copied), self.copied)
@@ -280,7 +285,7 @@ class Copy:
                 os.close(descriptor)
 
     def give_up(self) -> None:
-        """At the end of a run: what could not be written anew is lost."""
+        """Ends the copy at the end of a run: bytes that are not copied yet are lost."""
         if self.is_done:
             return
         note(f"{self.path()}: {self.size - self.copied} bytes of it are lost")

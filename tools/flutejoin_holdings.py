@@ -1,8 +1,8 @@
 """What a journal holds of each object, and a journal of its FDT Instances alone.
 
-One pass over a journal (docs/FORMATS.md) tells the transmission information of each object and how
-many symbols there are. It is quick and checks little: flutejoin reads the same journal, and tells
-what is wrong in it.
+One pass over a journal (docs/FORMATS.md) finds the transmission information and the number of
+symbols of each object. It is quick and checks little: flutejoin reads the same journal, and reports
+its faults.
 """
 from __future__ import annotations
 
@@ -22,17 +22,17 @@ from flutejoin_records import Cut, Fault
 
 PIECE = 1 << 20
 KEY = 37  # bytes of an entry's sender, TSI, tag and number
-TAG = 22  # where the tag stands in them
+TAG = 22  # where the tag is in them
 SENDER = 16
 SYMBOL_ID, LENGTH, NUMBERS = 4, 2, 12
-# Bytes behind the object of an entry that is no symbol
+# Bytes after the object's number, of an entry that is no symbol
 SIZES = {INFORMATION: NUMBERS, INFORMATION_CONFLICT: 0, SYMBOL_CONFLICT: SYMBOL_ID}
 LONGEST = 1 + KEY + SYMBOL_ID + LENGTH + (1 << 16)
 MOST_OBJECTS = 1 << 18  # that are kept
 
 
 class Key(NamedTuple):
-    """An object of a journal. They are in its order."""
+    """An object of a journal. Keys have the order of a journal."""
 
     source: bytes
     tsi: int
@@ -40,13 +40,13 @@ class Key(NamedTuple):
     number: int
 
     def text(self) -> str:
-        """As flutejoin names it in its lines."""
+        """The name of the object in flutejoin's lines."""
         source = f"source {self.source.hex()} " if any(self.source) else ""
         fdt = "fdt " if self.tag == FDT_INSTANCE else ""
         return f"{source}session {self.tsi} object {fdt}{self.number}"
 
     def file_name(self) -> str:
-        """As `flutejoin extract --all` names its file."""
+        """The name that `flutejoin extract --all` gives the object's file."""
         fdt = "fdt" if self.tag == FDT_INSTANCE else ""
         return f"{self.source.hex()}-{self.tsi}-{fdt}{self.number}"
 
@@ -57,14 +57,14 @@ def key_of(raw: bytes) -> Key:
 
 
 class Held:
-    """What is held of an object."""
+    """What a journal holds of an object."""
 
     __slots__ = "information", "is_disputed", "symbols"
 
     def __init__(self) -> None:
-        self.information: Optional[tuple[int, int, int]] = None  # its length, symbol's, block's
-        self.is_disputed = False  # whether its information is in conflict
-        self.symbols = 0  # those in conflict too
+        self.information: Optional[tuple[int, int, int]] = None  # transfer, symbol and block length
+        self.is_disputed = False  # whether its transmission information is in conflict
+        self.symbols = 0  # also counts those in conflict
 
     def add(self, kind: int, more: memoryview) -> None:
         if kind == INFORMATION:
@@ -76,12 +76,15 @@ class Held:
 
 
 NOTHING = Held()
-# Whether an object counts
+# Whether an object is chosen
 Choice = Callable[[Key], bool]
 
 
 def entries(file: BinaryIO) -> Iterator[tuple[int, bytes, memoryview]]:
-    """Each entry of a journal: its kind, its object and the bytes behind that."""
+    """Yields each entry of a journal: its kind, its object and the bytes after that.
+
+    Raises Fault.
+    """
     head = file.read(len(HEADER))
     if head[:4] != HEADER[:4]:
         raise Fault("Magic" if len(head) >= 4 else "Cut")
@@ -113,7 +116,7 @@ def entries(file: BinaryIO) -> Iterator[tuple[int, bytes, memoryview]]:
 
 
 class Copy:
-    """A journal of some entries of another."""
+    """Writes a journal of some entries of another."""
 
     def __init__(self, out: BinaryIO) -> None:
         self.out, self.count = out, 0
@@ -128,7 +131,7 @@ class Copy:
 
 
 def holdings(file: BinaryIO, choice: Choice, instances: Copy) -> dict[Key, Held]:
-    """What a journal holds of the objects that are chosen. Their FDT Instances are copied."""
+    """What a journal holds of the chosen objects. Their FDT Instances are copied to `instances`."""
     found: dict[Key, Held] = {}
     last, key, held = b"", None, NOTHING
     for kind, raw, more in entries(file):
@@ -152,7 +155,7 @@ def holdings(file: BinaryIO, choice: Choice, instances: Copy) -> dict[Key, Held]
 
 
 def copy(file: BinaryIO, choice: Choice, out: BinaryIO) -> None:
-    """Writes the journal of the objects that are chosen."""
+    """Writes a journal of the chosen objects."""
     copied, last, is_chosen = Copy(out), b"", False
     for kind, raw, more in entries(file):
         if raw != last:

@@ -1,4 +1,4 @@
-"""Datagram files that a station joins, and whose they are."""
+"""The datagram files that a station joins, and their senders."""
 from __future__ import annotations
 
 import os
@@ -12,7 +12,7 @@ from flutejoin_records import HEADER, last_whole
 
 
 class Sender(NamedTuple):
-    """Whose facts one journal has: an address and an epoch."""
+    """The sender of a journal: an address and an epoch."""
 
     address: IPAddress
     epoch: int
@@ -22,13 +22,13 @@ class Sender(NamedTuple):
 
 
 def sender_of(name: str) -> Optional[tuple[Sender, int]]:
-    """The sender and the number of a datagram file with this name, or None."""
+    """The sender and the number in the name of a datagram file, or None if it is no such name."""
     found = name_of(name)
     return (Sender(found.address, found.epoch), found.part) if found else None
 
 
 class NoDatagramFile(Exception):
-    """A file has the name of a datagram file and is none."""
+    """A file has the name of a datagram file, but is none."""
 
 
 class Part:
@@ -41,7 +41,10 @@ class Part:
         self.inode: Optional[int] = None
 
     def look(self) -> None:
-        """Sees how long the file is by now, and where its last whole record ends."""
+        """Reads the file's length, and finds where its last whole record ends.
+
+        Raises NoDatagramFile.
+        """
         found = os.lstat(self.path)
         if found.st_ino != self.inode or found.st_size < self.size:
             self.check(found)
@@ -53,7 +56,10 @@ class Part:
             self.size = found.st_size
 
     def check(self, found: os.stat_result) -> None:
-        """Refuses what is no datagram file. The receiver would not start beside it."""
+        """Raises NoDatagramFile unless the file is one.
+
+        The receiver would not start beside another.
+        """
         head = b""
         if stat.S_ISREG(found.st_mode):
             with open(self.path, "rb") as file:

@@ -1,4 +1,4 @@
-"""Runs of flutejoin join at a low priority, beside something that goes on meanwhile."""
+"""Runs flutejoin join at a low priority, while other work continues."""
 from __future__ import annotations
 
 import errno
@@ -11,12 +11,12 @@ from flutejoin_records import HEADER
 
 PIECE = 1 << 20  # bytes that are handed to a join at once
 NICE = 10
-LOOK = 0.5  # seconds between two looks at what goes on beside a join
+LOOK = 0.5  # seconds between two calls of `tend` during a join
 DIE_WITH_PARENT = 1  # prctl's PR_SET_PDEATHSIG
 
 
 class Answer(NamedTuple):
-    """How a join ended, and what it told of a fault."""
+    """How a join ended, and its message if it failed."""
 
     status: int
     told: str
@@ -41,27 +41,42 @@ class Fed(NamedTuple):
                 yield piece
 
 
-def die_with_parent(number: int = signal.SIGTERM) -> None:
-    """In a child: has the system end it with its parent, however that is killed.
+def die_with_parent(number: int = signal.SIGTERM) -> Callable[[], None]:
+    """Returns what a child calls before it runs a program, so that it ends with its parent.
 
-    Where the system cannot, the child ends when it is stopped by somebody else.
+    The system ends the child when its parent ends, even if that is killed; a child whose parent
+    ended before ends itself. If the system cannot do that, it runs until somebody stops it.
     """
+    parent = os.getpid()
     try:
         import ctypes
 
-        ctypes.CDLL(None).prctl(DIE_WITH_PARENT, int(number))
+        prctl = ctypes.CDLL(None).prctl
     except (ImportError, AttributeError, OSError, MemoryError):
-        pass
+        prctl = None
+
+    def ask() -> None:
+        if prctl:
+            prctl(DIE_WITH_PARENT, int(number))
+        if os.getppid() != parent:
+            os._exit(1)
+
+    return ask
 
 
-def in_background() -> None:
-    os.nice(NICE)
-    # A join that is killed leaves its output as it was.
-    die_with_parent(signal.SIGKILL)
+def in_background() -> Callable[[], None]:
+    # A join that is killed leaves its output unchanged.
+    ask = die_with_parent(signal.SIGKILL)
+
+    def prepare() -> None:
+        os.nice(NICE)
+        ask()
+
+    return prepare
 
 
 class Program:
-    """The program flutejoin. `tend` is called while it works, once a second at least."""
+    """Runs the program flutejoin. Meanwhile `tend` is called, at least once a second."""
 
     def __init__(self, path: str, tend: Callable[[], None], sessions: Sequence[int] = ()) -> None:
         self.path, self.tend = path, tend
@@ -78,7 +93,7 @@ class Program:
                 stdin=subprocess.PIPE if fed else subprocess.DEVNULL,
                 stdout=subprocess.DEVNULL,
                 stderr=subprocess.PIPE,
-                preexec_fn=in_background,
+                preexec_fn=in_background(),
             )
         except (OSError, subprocess.SubprocessError) as fault:
             return Answer(3, f"{self.path} cannot be run: {fault}")
@@ -92,7 +107,7 @@ class Program:
                 raise
 
     def feed(self, child: subprocess.Popen, fed: Fed) -> None:
-        """Hands records to a join. One that ends before has something to tell."""
+        """Sends records to a join. If it ends early, its message says why."""
         pipe, child.stdin = child.stdin, None
         assert pipe
         try:

@@ -1,11 +1,12 @@
-"""What a station keeps: its datagram files are brought into journals, and then removed.
+"""What a station keeps: it joins its datagram files into journals, and then removes them.
 
-Each sender, and each epoch of it, has a large journal and a small one of what came since. The small
-one is joined into the large one once it is a tenth of it, so a minute of datagrams has not all
-written anew, and what a carousel repeats takes no room.
+Each sender, and each epoch of it, has a large journal and a small one of recent facts. The small
+one is joined into the large one once it is a tenth of it: so a minute of datagrams doesn't rewrite
+everything, and what a carousel repeats takes no room.
 
-A datagram file goes once a journal with its facts is on the disk, and a fact that is joined twice
-is one fact: so a kill at any moment loses nothing, and costs what was being joined once more.
+A datagram file is removed once its facts are in a journal on the disk, and a fact that is joined
+twice is one fact. So a kill at any moment loses nothing, and only repeats the join that it
+interrupted.
 """
 from __future__ import annotations
 
@@ -17,23 +18,23 @@ from typing import Callable, Iterable, NamedTuple, Optional
 import flutejoin_files as files
 from flutejoin_joining import Answer, Program
 from flutejoin_incoming import NoDatagramFile, Part, Sender, sender_of
-from flutejoin_records import HEADER
-from flutejoin_shelves import Shelf, bring_to_disk, remove, size_of
+from flutejoin_records import HEADER, MOST
+from flutejoin_shelves import Shelf, bring_to_disk, move, remove, size_of
 
-SHARE = 10  # the large journal has so many times the bytes of the small one
+SHARE = 10  # a small journal is joined once the large one has at most so many times its bytes
 MOST_AT_ONCE = 1 << 28  # bytes of the datagram files of one join, which holds them in memory
 MOST_IN_OUTBOX = 7  # journals of one sender
-FIRST_DELAY, LONGEST_DELAY = 10, 300  # seconds until a join that failed is tried again
-ROOM = 1 << 20  # bytes that a join needs beside those of its inputs
+FIRST_DELAY, LONGEST_DELAY = 10, 300  # seconds until a join that failed is repeated
+ROOM = 1 << 20  # bytes that a join needs in addition to those of its inputs
 
 
 class State:
-    """When a sender's datagrams were joined last, and when that is tried again."""
+    """When a sender's datagrams were joined last, and when the next try is due after a failure."""
 
     def __init__(self) -> None:
         self.joined_at = self.next_try = float("-inf")
-        self.delay = self.wanted = 0  # bytes that were missing on the disk
-        self.suspects: set[str] = set()  # the paths of parts that are joined one by one
+        self.delay = self.wanted = 0  # free bytes that a failed join needed
+        self.suspects: set[str] = set()  # paths of datagram files that are joined one by one
 
     def is_due(self, part: Part, now: float, every: float) -> bool:
         return part.is_new() and (not part.is_last or now >= self.joined_at + every)
@@ -43,14 +44,14 @@ class State:
         self.delay = self.wanted = 0
 
     def fail(self, now: float) -> int:
-        """Answers in how many seconds it is tried again."""
+        """Puts off the next try after a failure, and returns for how many seconds."""
         self.delay = min(max(2 * self.delay, FIRST_DELAY), LONGEST_DELAY)
         self.next_try = now + self.delay
         return self.delay
 
 
 def entries_of(path: str) -> Optional[int]:
-    """The number of entries of a journal, which its end tells. None where it has no such end."""
+    """The number of entries of a journal, from its last bytes; None if it has no such end."""
     try:
         with open(path, "rb") as file:
             file.seek(-9, os.SEEK_END)
@@ -62,12 +63,12 @@ def entries_of(path: str) -> Optional[int]:
 
 class Settings(NamedTuple):
     every: float  # seconds between two joins of a file that grows
-    keep_raw: int  # bytes of datagram files that are kept once they are joined
+    keep_raw: int  # bytes of joined datagram files that are kept
     has_outbox: bool
 
 
 class Keeper:
-    """Brings what a receiver writes into a folder into journals beside it."""
+    """Joins the files that a receiver writes to a folder into journals beside that."""
 
     def __init__(
         self, folder: str, program: Program, settings: Settings, report: files.Report
@@ -82,12 +83,12 @@ class Keeper:
             for name in ("recent", "journals", "outbox", "raw", "aside")
         )
         self.make_folders()
-        for shelf in self.small, self.journals, self.outbox:
+        for shelf in self.small, self.journals, self.outbox, self.raw, self.aside:
             shelf.clear_partial()
         self.raw.trim(settings.keep_raw)
 
     def make_folders(self) -> None:
-        """Makes those that are not there, also after somebody removed them."""
+        """Makes the folders that are missing, also if somebody removed them meanwhile."""
         for path in self.incoming, self.small.path, self.journals.path:
             os.makedirs(path, exist_ok=True)
         if self.settings.has_outbox:
@@ -132,9 +133,9 @@ class Keeper:
         return True
 
     def work(self, is_receiving: bool, has_patience: bool = True) -> bool:
-        """Does what is due, and answers whether that was anything.
+        """Joins what is due, and returns whether anything was.
 
-        Without patience what failed is tried now.
+        Without patience, joins that failed are repeated at once.
         """
         has_worked, self.is_receiving = False, is_receiving
         self.make_folders()
@@ -152,9 +153,9 @@ class Keeper:
         return has_worked
 
     def batch(self, state: State, due: list[Part]) -> list[Part]:
-        """The first of them, as many as one join takes.
+        """The first of the files that are due, as many as one join takes.
 
-        A suspect is alone, and one at most goes through a pipe.
+        A suspect is joined alone, and at most one file goes through a pipe.
         """
         chosen, size = due[:1], due[0].end
         for part in due[1 : files.MOST_INPUTS - 1]:
@@ -167,7 +168,7 @@ class Keeper:
         return chosen
 
     def attempt(self, sender: Sender, step: Callable[[], None]) -> None:
-        """Takes a step. Where the system refuses it, that is told and tried again later."""
+        """Takes a step. If the system refuses it, that is reported, and it is repeated later."""
         try:
             step()
         except OSError as fault:
@@ -178,10 +179,18 @@ class Keeper:
         self.report.warn(f"{sender.stem()}: {told}; tried again in {delay} seconds")
 
     def join(
-        self, sender: Sender, out: str, journals: Iterable[str], parts: Iterable[Part] = ()
+        self,
+        sender: Sender,
+        out: str,
+        journals: Iterable[str],
+        parts: Iterable[Part] = (),
+        needed: Iterable[str] = (),
     ) -> Answer:
-        """Joins those of the journals that are there, and the parts."""
-        inputs, fed = [path for path in journals if os.path.exists(path)], None
+        """Joins the journals that exist, those that are needed, and the datagram files.
+
+        Returns how the join ended.
+        """
+        inputs, fed = [*filter(os.path.exists, journals), *needed], None
         for part in parts:
             if part.is_plain():
                 inputs.append(part.path)
@@ -190,7 +199,7 @@ class Keeper:
         return self.program.join(sender.address.packed, out, inputs, fed)
 
     def bring(self, sender: Sender, batch: list[Part]) -> None:
-        """Joins parts into the small journal of their sender."""
+        """Joins datagram files into the small journal of their sender."""
         ends, recent = [part.end for part in batch], self.recent(sender)
         if self.settings.has_outbox:
             answer = self.join_through_outbox(sender, batch)
@@ -207,13 +216,16 @@ class Keeper:
             self.promote(sender)
 
     def join_through_outbox(self, sender: Sender, batch: list[Part]) -> Answer:
-        """The same, where a journal of what is new is left for who brings it elsewhere."""
+        """Joins as `bring` does, and leaves a journal of the new facts alone in the outbox.
+
+        If that is taken away before it is joined here, the join fails, and is repeated.
+        """
         new, recent = self.outbox.next(sender.stem(), ".journal"), self.recent(sender)
         answer = self.join(sender, new, [], batch)
         if answer.status:
             return answer
         bring_to_disk(new)
-        answer = self.join(sender, recent, [recent, new])
+        answer = self.join(sender, recent, [recent], needed=[new])
         if answer.status:
             remove(new)
         else:
@@ -221,12 +233,15 @@ class Keeper:
         return answer
 
     def join_outbox(self, sender: Sender) -> None:
-        """Makes one journal of those of a sender in the outbox.
+        """Joins the journals of a sender in the outbox into one.
 
-        That is once they are many, or those beside the largest have as many bytes as that, so that
-        what a carousel repeats takes no room here either.
+        It does so if they are many, or if those beside the largest have as many bytes as that: so
+        what a carousel repeats takes no room here either. The largest are left out if all together
+        would have more entries than a journal may have.
         """
-        waiting = list(self.outbox.files(sender.stem()))[: files.MOST_INPUTS]
+        waiting = sorted(self.outbox.files(sender.stem()), key=size_of)[: files.MOST_INPUTS]
+        while sum(entries_of(path) or 0 for path in waiting) > MOST:
+            waiting.pop()
         sizes = [size_of(path) for path in waiting]
         if len(waiting) <= MOST_IN_OUTBOX and sum(sizes) < 2 * max(sizes, default=1):
             return
@@ -237,7 +252,7 @@ class Keeper:
                 remove(path)
 
     def answer_fault(self, sender: Sender, batch: list[Part], answer: Answer) -> None:
-        """After a join that failed: what is at fault is set aside, so that the others go on."""
+        """After a join that failed: sets the input at fault aside, and the others can be joined."""
         recent = self.recent(sender)
         if answer.status != 1:
             size = sum(part.end for part in batch) + size_of(recent)
@@ -252,7 +267,7 @@ class Keeper:
         elif self.is_at_fault(sender, [recent]):
             self.set_journal_aside(sender, recent, answer.told)
         elif os.path.exists(recent):
-            # Each is right, and together they are more than a join takes.
+            # Each is valid, but together they are beyond the limits of a join.
             self.promote(sender)
         else:
             self.put_off(sender, answer.told)
@@ -260,11 +275,11 @@ class Keeper:
     def is_at_fault(
         self, sender: Sender, journals: Iterable[str], parts: Iterable[Part] = ()
     ) -> bool:
-        """Whether an input is refused though it is joined alone."""
+        """Whether an input is refused when it is joined alone."""
         return self.join(sender, os.devnull, journals, parts).status == 1
 
     def wait_for_room(self, sender: Sender, answer: Answer, size: int) -> None:
-        """After a join in which no input is at fault: makes room, where the disk is full."""
+        """After a join that failed without an input at fault: makes room, if the disk is full."""
         state, wanted = self.states[sender], size + ROOM
         missing = wanted - self.free()
         removed = self.raw.trim(max(0, self.raw.size() - missing)) if missing > 0 else 0
@@ -295,11 +310,11 @@ class Keeper:
         else:
             if answer.status:
                 self.close_large(sender, answer)
-            os.rename(recent, large)
+            move(recent, large)
             bring_to_disk(large)
 
     def close_large(self, sender: Sender, answer: Answer) -> None:
-        """Puts a journal away that takes no more, so that another is begun."""
+        """Puts a large journal away that can't grow any more, and lets another begin."""
         large = self.large(sender)
         if self.is_at_fault(sender, [large]):
             self.set_journal_aside(sender, large, answer.told)
@@ -316,9 +331,9 @@ class Keeper:
                 self.attempt(sender, lambda: self.promote(sender))
 
     def retire(self, sender: Sender, parts: list[Part]) -> None:
-        """Takes away each part of which all is joined, but for the last one.
+        """Removes each datagram file that is joined to its end, except for the last one.
 
-        With that the receiver goes on, after a new start too.
+        The receiver continues that one, even after a restart.
         """
         for part in parts:
             if part.is_last or part.is_new() or not os.path.exists(part.path):
@@ -336,7 +351,10 @@ class Keeper:
             remove(part.path)
 
     def set_journal_aside(self, sender: Sender, path: str, told: str) -> None:
-        """What it had of datagram files that are still there is joined again."""
+        """Sets a journal aside.
+
+        Datagram files of its sender that are still there are joined again.
+        """
         self.set_aside(path, told)
         for name, part in self.parts.items():
             if (sender_of(name) or (None, 0))[0] == sender:
@@ -354,7 +372,7 @@ class Keeper:
         return sum(part.end - part.taken for part in parts)
 
     def status(self) -> dict:
-        """What is kept, by sender, and how many bytes it takes."""
+        """The status: the journals of each sender, and bytes that wait or are kept."""
         journals: dict[str, dict] = collections.defaultdict(dict)
         for kind, folder in ("entries", self.journals.path), ("recent entries", self.small.path):
             for name in sorted(os.listdir(folder)):

@@ -1,8 +1,8 @@
-"""Paths of files below a folder, made of the names that a sender gives them (RFC 3986).
+"""Makes paths below a folder of the names that a sender gives its files (RFC 3986).
 
-A name is text of whoever sent it. Of it come a host and a path, without a way out of the folder,
-hidden files, control characters, and what else is not safe in a name: that is `%` and two
-hexadecimal digits of each byte. Several names may have one path; `assign` tells them apart.
+A name is text of whoever sent it. Its host and its path become a path that never leaves the folder,
+and has no hidden files, control characters, or other unsafe bytes: these become `%` and two
+hexadecimal digits. Several names may give one path; `assign` makes their paths different.
 """
 from __future__ import annotations
 
@@ -10,12 +10,13 @@ import hashlib
 import re
 from typing import NamedTuple, Sequence
 
+from flutejoin_files import has_bytes
 from flutejoin_holdings import Key
 
-MOST_PART, MOST_PATH = 180, 900  # bytes of a part of a path, and of all of them
+MOST_PART, MOST_PATH = 180, 900  # bytes of a part of a path, and of a path
 MOST_DEPTH = 16
 ENDING = 12  # bytes of an ending that a name keeps when it is shortened
-INDEX = "index"  # the name of what a folder's name names
+INDEX = "index"  # the file name for a name that ends in a folder
 UNVERIFIED = ".unverified"
 OWN_ENDINGS = (".partial", UNVERIFIED)
 
@@ -27,7 +28,7 @@ ESCAPE_CUT = re.compile(r"%[0-9A-F]?\Z")
 
 
 def decoded(text: str) -> str:
-    """A text without percent-encoding. Bytes that are no UTF-8 stay apart, as surrogates."""
+    """A text without percent-encoding. Bytes that are not UTF-8 become surrogates."""
     raw = ENCODED.sub(lambda of: bytes.fromhex(of[1].decode()), text.encode(errors="replace"))
     return raw.decode(errors="surrogateescape")
 
@@ -36,22 +37,26 @@ def encoded(text: str) -> str:
     return "".join(f"%{byte:02X}" for byte in text.encode(errors="surrogateescape"))
 
 
+def is_safe(char: str) -> bool:
+    return char.isprintable() and char not in "/%\\" and has_bytes(char)
+
+
 def part(text: str) -> str:
-    """A part of a path that is safe, of a text without percent-encoding."""
-    chars = [char if char.isprintable() and char not in "/%\\" else encoded(char) for char in text]
+    """A safe part of a path, from a text without percent-encoding."""
+    chars = [char if is_safe(char) else encoded(char) for char in text]
     if chars and chars[0] in (".", "-"):
         chars[0] = encoded(chars[0])
     for ending in OWN_ENDINGS:
         if text.endswith(ending):
             chars[-len(ending)] = encoded(".")
-    # What is told apart here has `~` in it.
+    # `~` marks the names that this module makes different.
     chars[1:] = [encoded(char) if char == "~" else char for char in chars[1:]]
     name = "".join(chars)
     return shortened(name, name) if len(name.encode()) > MOST_PART else name
 
 
 def shortened(name: str, whole: str) -> str:
-    """A name with digits of what it stands for in the place of its middle."""
+    """A name with its middle replaced by digits of a hash."""
     digits = hashlib.sha256(whole.encode()).hexdigest()[:16]
     _, dot, ending = name.rpartition(".")
     ending = dot + ending if len(ending.encode()) < ENDING else ""
@@ -60,7 +65,7 @@ def shortened(name: str, whole: str) -> str:
 
 
 def path_of(location: str) -> str:
-    """The path that a Content-Location has below a folder."""
+    """The path below a folder for a Content-Location."""
     found = URI.fullmatch(location)
     assert found, "it is of any text"
     authority, path, query = found[1] or "", found[2], found[3] or ""
@@ -84,7 +89,7 @@ def path_of(location: str) -> str:
 
 
 def descend(steps: list[str], step: str) -> None:
-    """One step of a path. The folder itself is never left (RFC 3986, section 5.2.4)."""
+    """Takes one step of a path, without leaving the folder (RFC 3986, section 5.2.4)."""
     if step == "..":
         del steps[-1:]
     elif step not in ("", "."):
@@ -92,20 +97,20 @@ def descend(steps: list[str], step: str) -> None:
 
 
 class Claim(NamedTuple):
-    """What asks for a path."""
+    """A file that asks for a path."""
 
     key: Key
     path: str
     session: tuple[bytes, int]
-    of: str  # in a session a later claim of another one is an older file of the same name
-    mark: str  # tells it apart from others with this path
+    of: str  # its FDT Instance; a later claim from another of the session is an older file
+    mark: str  # added to the path if another claim has it
 
 
 def assign(claims: Sequence[Claim]) -> dict[Key, str]:
-    """The path of each claim: those before come first.
+    """The path of each claim, of which earlier ones have priority.
 
-    A path that another has, or that is a folder of another's, gets the claim's mark. One without a
-    path is an older file of the same name.
+    If another claim has the path, or has a file below it, the claim's mark is added. A claim
+    without a path in the result is an older file of the same name.
     """
     folders = set()
     for claim in claims:

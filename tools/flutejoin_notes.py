@@ -1,7 +1,7 @@
-"""What flutejoin-receive tells on standard error while it runs.
+"""The lines that tools write to standard error while they run.
 
-A terminal that is stopped (Ctrl-S) and a pipe that nobody reads keep nothing up: what cannot be
-written waits.
+A stopped terminal (Ctrl-S) or a pipe that nobody reads never blocks the run: lines that cannot be
+written wait.
 """
 from __future__ import annotations
 
@@ -15,12 +15,12 @@ import time
 from flutejoin_files import shown
 
 MOST_WAITING = 200  # lines
-PIECE = 4096  # bytes that a pipe takes at once
+PIECE = 4096  # bytes that a pipe accepts at once
 EACH = 60  # seconds between two lines about one cause
 
 
 class Fault(Exception):
-    """What ends the run, and the status that it ends with."""
+    """What ends the run, with the exit status."""
 
     def __init__(self, status: int, text: str) -> None:
         super().__init__(text)
@@ -28,9 +28,10 @@ class Fault(Exception):
 
 
 class Notes:
-    """Lines for standard error, with the time where that is no terminal."""
+    """Writes lines to standard error, with the time unless that is a terminal."""
 
-    def __init__(self) -> None:
+    def __init__(self, tool: str) -> None:
+        self.tool = tool
         self.lock = threading.Lock()
         self.waiting: collections.deque[bytes] = collections.deque()
         self.missed = 0
@@ -43,16 +44,18 @@ class Notes:
                 self.missed += 1
         self.write()
 
-    @staticmethod
-    def line(text: str) -> bytes:
+    def line(self, text: str) -> bytes:
         stamp = ""
         if sys.stderr is None or not sys.stderr.isatty():
             stamp = time.strftime("%Y-%m-%dT%H:%M:%SZ ", time.gmtime())
         lines = "\n".join(map(shown, text.split("\n")))
-        return os.fsencode(f"{stamp}flutejoin-receive: {lines}\n")
+        return os.fsencode(f"{stamp}{self.tool}: {lines}\n")
 
     def write(self) -> None:
-        """Writes what standard error takes now. Where it is closed, nothing waits."""
+        """Writes the lines that standard error accepts now.
+
+        If it is closed, the lines are dropped.
+        """
         with self.lock:
             try:
                 while self.waiting and is_writable(sys.stderr.fileno()):
@@ -67,7 +70,7 @@ class Notes:
                 self.waiting.clear()
 
     def finish(self) -> None:
-        """At the end of a run: waits a second at most for what still waits."""
+        """At the end of a run: waits at most a second for the lines that are left."""
         for _ in range(10):
             self.write()
             if not self.waiting:
@@ -81,12 +84,12 @@ def is_writable(descriptor: int) -> bool:
     return bool(ready.poll(0))
 
 
-NOTES = Notes()
+NOTES = Notes("flutejoin-receive")
 note = NOTES.add
 
 
 class EachMinute:
-    """Tells of counts that rise: at once, and then once a minute while they rise."""
+    """Reports counts that rise: at once, and then once a minute while they rise."""
 
     def __init__(self) -> None:
         self.told: dict[str, tuple[float, int]] = {}

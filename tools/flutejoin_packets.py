@@ -6,7 +6,7 @@ from typing import Iterator, NamedTuple, Optional
 from flutejoin_records import Buffer
 
 EXT_FTI, EXT_FDT = 64, 192  # types of header extensions
-FIXED_ALL = 40  # the most bytes of a header before its extensions
+FIXED_ALL = 40  # the greatest length of the header without extensions, in bytes
 
 
 class Header(NamedTuple):
@@ -19,13 +19,13 @@ class Header(NamedTuple):
 
 
 class Packet(NamedTuple):
-    """What a packet tells, without what is said of its transport."""
+    """The contents of a packet, without those that concern its transport."""
 
     tsi: int
     toi: int
     instance: Optional[int]  # the FDT Instance ID of EXT_FDT
     information: Optional[bytes]  # lengths of EXT_FTI: transfer (6 bytes), symbol (2), block (4)
-    payload_id: bytes  # SBN and ESI, of 2 bytes each; empty where there is no symbol
+    payload_id: bytes  # SBN and ESI, of 2 bytes each; empty if there is no symbol
     symbol: bytes
 
 
@@ -44,10 +44,10 @@ ZEROS = frozenset(bytes(size) for size in range(2, 15, 2))
 
 
 def header_of(payload: Buffer) -> Optional[Header]:
-    """The header of a packet as flutejoin takes it, or None.
+    """The header of a packet that flutejoin would accept, or None.
 
-    It has version 1, TSI, TOI, codepoint 0, and a length that holds its fields and lies within the
-    datagram. Its extensions are not looked at.
+    It has version 1, a TSI, a TOI, codepoint 0, and a length that covers its fields and lies within
+    the datagram. Its extensions are not checked.
     """
     if len(payload) < 4 or payload[0] >> 4 != 1 or payload[3]:
         return None
@@ -60,9 +60,9 @@ def header_of(payload: Buffer) -> Optional[Header]:
 
 
 def extensions_of(payload: Buffer, header: Header) -> Iterator[tuple[int, int, int]]:
-    """The type of each header extension, and where it begins and ends.
+    """Yields the type of each header extension, and where it begins and ends.
 
-    The last ends at the header's end, unless one of them has no right length.
+    The last one ends where the header ends, unless a length is wrong.
     """
     place = header.extensions
     while place < header.end:
@@ -74,9 +74,9 @@ def extensions_of(payload: Buffer, header: Header) -> Iterator[tuple[int, int, i
 
 
 def is_like_flute(payload: Buffer) -> bool:
-    """Whether a datagram has the LCT header of a FLUTE packet as flutejoin takes it.
+    """Whether a datagram has a valid LCT header of a FLUTE packet.
 
-    What its extensions say does not matter (RFC 5651, section 5).
+    Extensions only need the right length (RFC 5651, section 5).
     """
     header = header_of(payload)
     if not header:

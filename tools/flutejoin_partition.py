@@ -3,7 +3,10 @@ from __future__ import annotations
 
 
 class Partition:
-    """An object's source blocks. The first `larger` of them have a symbol more than the others."""
+    """The source blocks of an object.
+
+    The first `larger` of them have one symbol more than the others.
+    """
 
     def __init__(self, length: int, symbol: int, block: int) -> None:
         self.numbers = length, symbol, block
@@ -12,14 +15,14 @@ class Partition:
         self.small, self.larger = divmod(self.symbols, self.blocks) if length else (0, 0)
 
     def start(self, block: int) -> int:
-        """How many symbols are in the blocks before this one."""
+        """How many symbols the blocks before this one have."""
         return block * self.small + min(block, self.larger)
 
     def size(self, block: int) -> int:
         return self.small + (block < self.larger)
 
     def id_at(self, place: int) -> tuple[int, int]:
-        """The block and the number in it of the symbol before which so many are."""
+        """The block and the symbol's number in it, of the symbol with this place in the object."""
         edge = self.start(self.larger)
         if place < edge:
             return divmod(place, self.small + 1)
@@ -28,9 +31,9 @@ class Partition:
 
 
 def fault_of(length: int, symbol: int, block: int) -> str | None:
-    """Why transmission information is not valid, as flutejoin names it, or None.
+    """Why transmission information is not valid, by flutejoin's name for the fault, or None.
 
-    The numbers are an object's length, the bytes of a symbol and the symbols of a block.
+    The numbers are the transfer length, the symbol length and the block length.
     """
     if not length:
         return None

@@ -1,4 +1,4 @@
-"""The datagram files that flutejoin-capture writes, for each sender and epoch one or several parts.
+"""The datagram files that flutejoin-capture writes: one or several for each sender and epoch.
 
 A file gets its name once it is whole.
 """
@@ -13,7 +13,7 @@ import flutejoin_files as files
 from flutejoin_epochs import CONTRADICTING, Epochs, may_tell_of_instance
 from flutejoin_records import HEADER, LENGTH, MOST, whole_records
 
-MOST_SENDERS = 200  # each has a file open
+MOST_SENDERS = 200  # each has an open file
 SENDERS = f"more than {MOST_SENDERS} senders"
 OCCUPIED = "its sender's file cannot be made"
 
@@ -23,9 +23,9 @@ class Unwritable(Exception):
 
 
 class Part:
-    """A datagram file that is being written beside its name.
+    """A datagram file that is being written under another name.
 
-    What is not written yet begins with a whole record.
+    The bytes that wait to be written begin with a whole record.
     """
 
     def __init__(self, path: str, epoch: int) -> None:
@@ -36,9 +36,9 @@ class Part:
         self.waiting = bytearray(HEADER)
 
     def flush(self) -> None:
-        """Writes what waits.
+        """Writes the bytes that wait.
 
-        After a failure the file ends behind the last record of which all was written.
+        If that fails, the file ends after the last record that was written whole.
         """
         written = 0
         try:
@@ -52,10 +52,7 @@ class Part:
             self.waiting.clear()
 
     def keep_whole(self, written: int) -> None:
-        """Of what waited so many bytes were written.
-
-        Cuts the file behind the whole records among them.
-        """
+        """After a write of only `written` bytes: cuts the file after its last whole record."""
         begin = 0 if self.size else len(HEADER)
         with memoryview(self.waiting) as waiting:
             whole, records = whole_records(waiting[begin:written])
@@ -64,9 +61,9 @@ class Part:
         self.file.truncate(self.size)
 
     def finish(self) -> None:
-        """Brings the file to the disk and gives it its name.
+        """Syncs the file and gives it its name. A file without records is removed.
 
-        It does not, where another file has taken that since. A file of no record is removed.
+        Raises FileExistsError if there is another file of that name by now.
         """
         with self.file:
             if self.count:
@@ -91,7 +88,10 @@ class Files:
         self.is_made = False
 
     def make_folder(self) -> None:
-        """Makes the folder, in one that is there, and sees that files can be made in it."""
+        """Makes the folder, if it is missing, and checks that files can be made in it.
+
+        Raises Unwritable.
+        """
         try:
             if not os.path.isdir(self.folder):
                 os.mkdir(self.folder)
@@ -105,7 +105,7 @@ class Files:
         return os.path.join(self.folder, files.file_name(files.address(sender), part, epoch))
 
     def add(self, sender: bytes, payload: bytes, when: int | None = None) -> None:
-        """Adds a datagram, which came at this second if that is known."""
+        """Adds a datagram. `when` is the second at which it came, if that is known."""
         if may_tell_of_instance(payload) and self.is_too_often(sender, payload, when or 0):
             self.left_out[CONTRADICTING] += 1
             return
@@ -126,9 +126,9 @@ class Files:
                 self.flush(part)
 
     def is_too_often(self, sender: bytes, payload: bytes, when: int) -> bool:
-        """Looks at a datagram of an FDT Instance, which may begin the sender's next epoch.
+        """Whether a datagram is left out, since too many epochs would begin.
 
-        Answers whether it is left out since too many would begin.
+        A datagram of an FDT Instance may begin the sender's next epoch.
         """
         epochs = self.epochs.get(sender)
         if epochs is None and sender not in self.refused and len(self.epochs) < MOST_SENDERS:
@@ -143,9 +143,9 @@ class Files:
         return begins is None
 
     def begin(self, sender: bytes) -> Part | None:
-        """The next part of a sender.
+        """Begins the next file of a sender, and returns it.
 
-        None where it can have none, of which the first time is told.
+        Returns None if the sender can have none, and reports that the first time.
         """
         is_new = sender not in self.epochs
         if sender in self.refused or is_new and len(self.epochs) >= MOST_SENDERS:
@@ -184,7 +184,7 @@ class Files:
             self.flush(part)
 
     def close(self, sender: bytes) -> None:
-        """Finishes a sender's file, and tells of it."""
+        """Finishes a sender's file, and prints its line."""
         part = self.open.pop(sender)
         try:
             try:
@@ -211,7 +211,7 @@ class Files:
                 pass  # others have put something into it
 
     def join_lines(self) -> Iterator[str]:
-        """The lines that join the files of each sender, and of each of its epochs by itself."""
+        """Yields the commands that join the files of each sender, epoch by epoch."""
         for (sender, epoch), parts in self.parts.items():
             if parts:
                 stem = files.stem(files.address(sender), epoch)

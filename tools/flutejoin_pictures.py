@@ -11,15 +11,15 @@ from typing import Callable, Iterator, NamedTuple
 from flutejoin_gaps import CONFLICTING, HELD, MISFIT, MISSING
 from flutejoin_grids import NAMES, Counts, Grid, scales
 
-# Told apart by their lightness alone too, for those who see fewer colours, and on paper.
+# They differ in lightness too, for readers who see fewer colours, and on paper.
 COLOURS = ("#7db8dc", "#c44500", "#1a1a1a", "#ffe436")
 SIGNS = ("#", ".", "!", "?")
 
 
 class Panel(NamedTuple):
-    """A station's part: its name, what is told in words, and its grid.
+    """The panel of a station, or of all stations: its name, its words, and its grid.
 
-    There is no grid where no symbol is known. One panel may be that of all stations.
+    There is no grid if the object's symbols are not known.
     """
 
     name: str
@@ -29,10 +29,9 @@ class Panel(NamedTuple):
 
 
 class Drawing(NamedTuple):
-    """An object that is drawn, or an overview of many.
+    """An object that is drawn, or an overview of many: its title, its words, and its panels.
 
-    What it is called, what is told about it, a panel for each station and for all of them, and
-    whether it may be left out before others.
+    `is_whole` drawings are left out first if a page has no room.
     """
 
     title: str
@@ -64,7 +63,7 @@ TEXT_ROWS, TEXT_COLUMNS = 64, 64
 
 
 def kinds_words(names: tuple[str, ...]) -> str:
-    """What the signs of cells stand for."""
+    """The legend: the kind that each sign means."""
     return "  ".join(f"{sign} {name}" for sign, name in zip(SIGNS, names))
 
 
@@ -97,7 +96,7 @@ def panel_lines(panel: Panel, scale: str) -> Iterator[str]:
 
 
 def sign(counts: Counts) -> str:
-    """The sign of a cell. What is rare and matters most goes before the others."""
+    """The sign of a cell. Rare kinds that matter most have priority."""
     for reason in (CONFLICTING, MISFIT):
         if counts[reason]:
             return SIGNS[reason]
@@ -110,8 +109,8 @@ def sign(counts: Counts) -> str:
 
 WIDTH, MARGIN, LABEL = 1280, 24, 46
 MOST_ROWS, LEAST_CELL, MOST_CELL = 64, 3, 18
-LEAST_ROW, LEAST_SHARED_ROW = 6, 12  # high enough for shares to be seen
-MOST_CELLS = 40000  # of a page, so that it has some megabytes at most
+LEAST_ROW, LEAST_SHARED_ROW = 6, 12  # high enough to show shares
+MOST_CELLS = 40000  # of a page, which limits it to a few megabytes
 MOST_HEIGHT = 32000  # of a page; some programs show no more than 32,767
 
 
@@ -124,7 +123,7 @@ def plot_width(panels: int) -> int:
 
 
 def shape(panels: int, objects: int) -> tuple[int, Callable[[int], int]]:
-    """How many rows a grid of the page may have, and how many columns for a number of rows."""
+    """How many rows a grid may have, and a function from that to the number of columns."""
     cells = max(64, min(6144, MOST_CELLS // (panels * objects)))
     rows = min(MOST_ROWS, max(8, math.isqrt(cells)))
     columns = plot_width(panels) // LEAST_CELL
@@ -132,9 +131,9 @@ def shape(panels: int, objects: int) -> tuple[int, Callable[[int], int]]:
 
 
 def placed(drawings: list[Drawing], top: float) -> tuple[list[str], float, Left]:
-    """The drawings one below the other, where they end, and what a page has no room for.
+    """Places drawings one below the other: the lines, the end, and what has no room.
 
-    Those of whole objects are left out before others.
+    Whole objects are left out first.
     """
     made = [drawing_svg(drawing) for drawing in drawings]
     order = sorted(range(len(drawings)), key=lambda place: drawings[place].is_whole)
@@ -157,7 +156,7 @@ def placed(drawings: list[Drawing], top: float) -> tuple[list[str], float, Left]
 
 
 def svg_lines(title: str, drawings: list[Drawing], notes: list[str], left: Left) -> Iterator[str]:
-    """The page. Some objects are left out already, and notes tell the rest."""
+    """Yields the lines of the page. `left` counts objects that are already left out."""
     body, top, more = placed(drawings, 84)
     for note in [*notes, *Left(left.objects + more.objects, left.whole + more.whole).notes()]:
         top += 22
@@ -196,7 +195,7 @@ def swatch(x: float, y: float, kind: int, words: str) -> str:
 
 
 def drawing_svg(drawing: Drawing) -> tuple[list[str], float]:
-    """Draws an object, and answers how high that is."""
+    """Draws an object, and returns its lines and its height."""
     body: list[str] = []
     top: float = 24
     body.append(f'<path d="M{MARGIN} {top - 20}H{WIDTH - MARGIN}" stroke="#bbb"/>')
@@ -219,7 +218,7 @@ def drawing_svg(drawing: Drawing) -> tuple[list[str], float]:
 
 
 def panel_svg(body: list[str], panel: Panel, x: float, y: float, width: int, scale: str) -> float:
-    """Draws a station's part, and answers where it ends."""
+    """Draws a panel into `body`, and returns where it ends."""
     grid = panel.grid
     told = f"{panel.name}: {panel.words}" + (f": {grid.words()}" if grid else "")
     body.append(f'<g><title>{html.escape(told)}</title>')
@@ -275,15 +274,18 @@ def grid_svg(body: list[str], grid: Grid, x: float, y: float, width: int) -> flo
 
 
 def edge(place: float) -> str:
-    """A place as text.
+    """A coordinate as text.
 
-    An edge that two neighbours have is written by its place in both, so that they meet exactly.
+    Two neighbours write the edge between them by the same number, so that they meet exactly.
     """
     return f"{place:.2f}".rstrip("0").rstrip(".")
 
 
 def bars(counts: Counts, left: float, right: float, y: float, height: float) -> Iterator[str]:
-    """The share of each kind, one above the other. What is there at all can be seen."""
+    """Yields a bar for the share of each kind, one above the other.
+
+    Even the smallest can be seen.
+    """
     kinds = [kind for kind in (MISSING, CONFLICTING, MISFIT, HELD) if counts[kind]]
     parts = {kind: max(1, height * counts[kind] / sum(counts)) for kind in kinds}
     most = max(kinds, key=lambda kind: parts[kind])
@@ -295,9 +297,9 @@ def bars(counts: Counts, left: float, right: float, y: float, height: float) -> 
 
 
 def shortened(words: str, most: int) -> str:
-    """Words in so many characters.
+    """Words shortened to `most` characters.
 
-    Their end stays, which tells files apart, and a part of their beginning.
+    A part of their beginning stays, and most of their end, in which the names of files differ.
     """
     if len(words) <= most:
         return words
@@ -306,7 +308,7 @@ def shortened(words: str, most: int) -> str:
 
 
 def wrapped(words: str, most: int) -> Iterator[str]:
-    """Lines of about so many characters."""
+    """Yields lines of about `most` characters."""
     line = ""
     for word in words.split():
         if line and len(line) + 1 + len(word) > most:

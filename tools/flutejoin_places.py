@@ -1,5 +1,4 @@
-"""A folder whose files appear whole under their names, and the work beside it that goes at the end.
-"""
+"""A folder whose files appear whole under their names, and the temporary folder beside it."""
 from __future__ import annotations
 
 import contextlib
@@ -18,7 +17,7 @@ REGULAR = os.O_RDONLY | os.O_NOFOLLOW | os.O_NONBLOCK | os.O_CLOEXEC
 
 
 def bring_to_disk(folder: int) -> None:
-    """Has the system bring the file system of an open folder to the disk."""
+    """Has the system sync the file system of an open folder. Raises OSError."""
     try:
         import ctypes
 
@@ -29,11 +28,11 @@ def bring_to_disk(folder: int) -> None:
 
 
 class Work:
-    """A folder for what is made on the way, of one run at a time.
+    """A temporary folder, used by one run at a time.
 
-    It stands beside another, with `.partial` behind its name, so that files move from one to the
-    other; or in it, where nothing can be made beside it. What a run that was killed left there is
-    removed, and nothing else.
+    It is beside another folder, with `.partial` added to that one's name, so that files can be
+    renamed from one to the other; or in that, if nothing can be made beside it. Files that a killed
+    run left there are removed, and nothing else.
     """
 
     NAMES = (
@@ -83,7 +82,7 @@ class Work:
 
 
 def work_beside(folder: str) -> str:
-    """Where the work for a folder is done: on its file system."""
+    """The path of the temporary folder for a folder, on the same file system. Raises OSError."""
     path = os.path.realpath(folder)
     above = os.path.dirname(path)
     if os.path.lexists(path):
@@ -95,7 +94,7 @@ def work_beside(folder: str) -> str:
 
 
 class Place:
-    """A folder that takes files. No link in it is followed, so that none leads out of it."""
+    """A folder that takes files. No link in it is followed, so none leads out of it."""
 
     def __init__(self, path: str) -> None:
         self.path = path
@@ -108,7 +107,7 @@ class Place:
 
     @contextlib.contextmanager
     def parent(self, path: str, is_made: bool) -> Iterator[tuple[int, str]]:
-        """The open folder of a path, and the last part of its name."""
+        """The open folder that contains a path, and the last part of the path."""
         *parts, name = path.split("/")
         folder = os.dup(self.folder)
         try:
@@ -124,9 +123,9 @@ class Place:
             os.close(folder)
 
     def put(self, source: str, path: str) -> str | None:
-        """Gives a file this name, with the bytes of another that moves here.
+        """Moves a file to this path.
 
-        Answers whether it is "new" or "changed"; nothing where it was the same before.
+        Returns "new" or "changed", or None if the file there had the same bytes.
         """
         with self.parent(path, True) as (folder, name):
             try:
@@ -144,7 +143,7 @@ class Place:
 
     @staticmethod
     def is_same(source: str, folder: int, name: str) -> bool:
-        """Whether a file that is here has the bytes of another."""
+        """Whether the file of this name in the folder has the same bytes as another."""
         with open(source, "rb", buffering=0) as one:
             here = os.open(name, REGULAR, dir_fd=folder)
             with open(here, "rb", buffering=0) as other:
@@ -156,7 +155,7 @@ class Place:
         return True
 
     def remove(self, path: str) -> None:
-        """Removes a file, if it is here."""
+        """Removes a file, if there is one."""
         with contextlib.suppress(FileNotFoundError):
             with self.parent(path, False) as (folder, name):
                 os.remove(name, dir_fd=folder)

@@ -1,4 +1,4 @@
-"""flutejoin-receive as a child, which is begun again where it ends."""
+"""Runs flutejoin-receive as a child, and restarts it when it ends."""
 from __future__ import annotations
 
 import json
@@ -13,12 +13,12 @@ from flutejoin_joining import die_with_parent
 from flutejoin_notes import Fault
 
 PATH = os.path.join(os.path.dirname(os.path.realpath(__file__)), "flutejoin-receive")
-FIRST_DELAY, LONGEST_DELAY = 1, 60  # seconds until one that ended is begun again
-WELL = 60  # seconds after which one that ran is begun again as at first
+FIRST_DELAY, LONGEST_DELAY = 1, 60  # seconds until a child that ended is restarted
+WELL = 60  # seconds; a child that ran longer is restarted after FIRST_DELAY
 
 
 class Receiver:
-    """Writes what comes into one folder, and what it tells of that into a file."""
+    """Runs a receiver that writes to one folder, and writes its status to a file."""
 
     def __init__(
         self, words: Sequence[str], folder: str, status_path: str, report: files.Report
@@ -30,7 +30,7 @@ class Receiver:
         self.is_stopped, self.status = False, 0
 
     def tend(self) -> None:
-        """Sees whether it runs, and begins it where that is due."""
+        """Checks whether the child runs, and starts it when that is due."""
         now = time.monotonic()
         if self.child and self.child.poll() is not None:
             self.end(self.child, now)
@@ -40,12 +40,12 @@ class Receiver:
     def begin(self, now: float) -> None:
         self.started_at = now
         try:
-            # Its lines are about files that are joined here.
+            # Its lines name files that the station joins itself.
             self.child = subprocess.Popen(
                 self.words,
                 stdin=subprocess.DEVNULL,
                 stdout=subprocess.DEVNULL,
-                preexec_fn=die_with_parent,
+                preexec_fn=die_with_parent(),
             )
         except (OSError, subprocess.SubprocessError) as fault:
             self.put_off(now, f"the receiver cannot be run: {fault}")
@@ -65,7 +65,7 @@ class Receiver:
         self.delay = min(2 * self.delay, LONGEST_DELAY)
 
     def stop(self) -> None:
-        """Ends it, and waits until it has written what it received."""
+        """Ends the child, and waits until it has written what it received."""
         self.is_stopped = True
         if self.child:
             self.child.terminate()
@@ -73,7 +73,7 @@ class Receiver:
             self.end(self.child, time.monotonic())
 
     def told(self) -> Optional[dict]:
-        """What it told last of what it receives."""
+        """The last status that the child wrote; None if there is none."""
         try:
             with open(self.status_path, encoding="utf-8") as file:
                 return json.load(file)

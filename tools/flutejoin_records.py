@@ -1,4 +1,4 @@
-"""Datagram files as they are read: records, each a datagram behind its length in two bytes."""
+"""Reads datagram files: records, each a length in two bytes and a datagram."""
 from __future__ import annotations
 
 import struct
@@ -6,7 +6,7 @@ from typing import BinaryIO, Deque, Iterator, Optional, Tuple, Union
 
 HEADER = b"FLDG\0\1"
 LENGTH = struct.Struct(">H")
-MOST = 1 << 24  # records of a datagram file, or entries of a journal, that flutejoin reads
+MOST = 1 << 24  # records of a datagram file, or entries of a journal, that flutejoin reads at most
 PIECE = 1 << 20  # bytes that are read at once
 
 Buffer = Union[bytes, bytearray, memoryview]
@@ -14,15 +14,15 @@ Looked = Deque[Tuple[int, int]]  # places of pieces of a file, and how many reco
 
 
 class Fault(Exception):
-    """What is wrong in a file, as flutejoin names it."""
+    """What is wrong in a file, by flutejoin's name for it."""
 
 
 class Cut(Exception):
-    """A file ends where bytes are wanted."""
+    """A file ends where more bytes are needed."""
 
 
 def ends(data: Buffer, place: int = 0) -> Iterator[int]:
-    """Where each record ends whose length stands in these bytes; the last may end behind them."""
+    """Yields where each record ends whose length is in these bytes; the last may end after them."""
     last = len(data) - LENGTH.size
     while place <= last:
         place += LENGTH.size + (data[place] << 8 | data[place + 1])
@@ -30,7 +30,7 @@ def ends(data: Buffer, place: int = 0) -> Iterator[int]:
 
 
 def whole_records(data: Buffer) -> tuple[int, int]:
-    """Where the last record ends that is whole in these bytes, and how many there are."""
+    """Where the last whole record in these bytes ends, and how many whole records there are."""
     whole = records = 0
     for end in ends(data):
         if end > len(data):
@@ -42,10 +42,10 @@ def whole_records(data: Buffer) -> tuple[int, int]:
 def last_whole(
     file: BinaryIO, size: int, place: int, looked: Optional[Looked] = None
 ) -> tuple[int, int]:
-    """Where the last whole record ends that begins at `place` or behind, and how many there are.
+    """Where the last whole record ends, from `place` on, and how many whole records there are.
 
-    That is of a file of this size. The places of the pieces that were read, and how many records
-    each has, are added to `looked`.
+    `size` is that of the file. The place of each piece that is read, and the number of its records,
+    are added to `looked`.
     """
     records, begin = 0, place
     while place + LENGTH.size <= size:
@@ -62,9 +62,10 @@ def last_whole(
 
 
 class Reader:
-    """Takes the datagrams of a datagram file, or the entries of a journal, one after another.
+    """Iterates over the datagrams of a datagram file, or the entries of a journal.
 
-    It knows how many of them stand whole, and where the last of these ends.
+    `count` is how many whole ones were read, and `end` where the last of these ends. Raises Fault
+    or Cut.
     """
 
     magic: bytes = HEADER[:4]
@@ -84,7 +85,7 @@ class Reader:
         return int.from_bytes(self.take(size), "big")
 
     def begin(self) -> None:
-        """Takes the header; the first four bytes are known to be right."""
+        """Reads the header; its first four bytes are known to be right."""
         self.take(4)
         self.version = self.number(2)
         if self.version not in self.versions:

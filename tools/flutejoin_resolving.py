@@ -1,8 +1,8 @@
-"""Objects that are whole but for a few conflicting symbols: the values that make their MD5.
+"""Completes objects with a few conflicting symbols: finds the values that give the MD5.
 
-A journal keeps no value of a symbol that came with two. Datagram files have them, and journals of
-stations to which one alone came. The MD5 of the FDT shows which combination was sent. The object is
-then extracted by flutejoin, out of a journal that has it alone, with those values.
+A journal keeps no value of a symbol that came with two. Datagram files have both, and so may the
+journals of single stations. The MD5 in the FDT shows which combination was sent. flutejoin then
+extracts the object from a journal of it alone, with those values.
 """
 from __future__ import annotations
 
@@ -29,7 +29,7 @@ MOST_HASHED = 1 << 36  # bytes of all combinations of an object
 
 
 class Wanted(NamedTuple):
-    """An object that is looked at."""
+    """An object that is to be completed."""
 
     session: Session
     toi: int
@@ -37,7 +37,7 @@ class Wanted(NamedTuple):
     values: dict[bytes, list[bytes]]  # of each conflicting symbol by its block and number
 
     def take(self, symbol: bytes, value: bytes) -> None:
-        """Takes a value of a symbol, if the symbol is in conflict and the value fits."""
+        """Adds a value of a symbol, if that is in conflict and the value has the right length."""
         found = self.values.get(symbol)
         if found is None or len(found) >= MOST_VALUES or value in found:
             return
@@ -48,7 +48,7 @@ class Wanted(NamedTuple):
         return math.prod(map(len, self.values.values()))
 
     def why_not(self) -> str:
-        """Why no combination is the one that was sent."""
+        """Why no combination of values was chosen."""
         without = sum(not values for values in self.values.values())
         if without:
             return f"no value of {without} of {len(self.values)} conflicting symbols was found"
@@ -72,7 +72,7 @@ class Wanted(NamedTuple):
 
 
 class Resolving:
-    """The objects of a journal that datagram files may complete."""
+    """The objects of a journal that datagram files and other journals may complete."""
 
     def __init__(self, journal: str, sessions: Iterable[Session]) -> None:
         self.journal = journal
@@ -92,7 +92,7 @@ class Resolving:
         return Wanted(session, toi, Partition(*information), {}) if information else None
 
     def wanted_entries(self) -> Iterator[tuple[Key, int, bytes, memoryview]]:
-        """The entries of these objects, and their object as bytes."""
+        """Yields the entries of these objects, each with its object as a key and as bytes."""
         last, key = b"", None
         with open(self.journal, "rb", buffering=0) as file:
             for kind, raw, more in holdings.entries(file):
@@ -108,7 +108,7 @@ class Resolving:
                 self.wanted[key].values[bytes(more)] = []
 
     def look(self, path: str) -> None:
-        """Takes the values that a datagram file or a journal has of conflicting symbols."""
+        """Adds the values of conflicting symbols in a datagram file or a journal. Raises Fault."""
         try:
             with files.opened(path) as file:
                 reader = entries.reader_of(file)
@@ -141,9 +141,9 @@ class Resolving:
                     wanted.take(packet.payload_id, packet.symbol)
 
     def choices(self) -> dict[Key, dict[bytes, bytes]]:
-        """The value of each conflicting symbol of each object whose MD5 they make.
+        """The values of the conflicting symbols, for each object whose MD5 they give.
 
-        A session notes of the others why.
+        For the other objects the session gets the reason.
         """
         found = {}
         for key, of in itertools.groupby(self.wanted_entries(), lambda entry: entry[0]):
@@ -157,7 +157,7 @@ class Resolving:
         return found
 
     def write(self, path: str, choices: dict[Key, dict[bytes, bytes]]) -> None:
-        """Writes the journal of the objects that are made whole."""
+        """Writes a journal of the objects that are completed."""
         with open(path, "wb") as out:
             copy = holdings.Copy(out)
             for key, kind, raw, more in self.wanted_entries():
@@ -172,12 +172,12 @@ class Resolving:
             copy.finish()
 
 
-# An MD5 of some symbols, and which of their values it has of those that are in conflict
+# An MD5 of the symbols so far, and the chosen value of each conflicting one among them
 State = Tuple["hashlib._Hash", Tuple[bytes, ...]]
 
 
 def choice_of(wanted: Wanted, of: Iterable[tuple[int, memoryview]]) -> dict[bytes, bytes] | None:
-    """The values that make the MD5. The symbols of a journal come in the object's order."""
+    """The values that give the MD5, or None. `of` has the object's symbols in order."""
     states: list[State] = [(hashlib.md5(usedforsecurity=False), ())]
     for kind, more in of:
         if kind == entries.SYMBOL and wanted.has(more):

@@ -1,7 +1,7 @@
-"""Datagrams that a capture on the sending host has as one.
+"""Splits datagrams that a capture on the sending host has in one piece.
 
-With UDP segmentation offload (`UDP_SEGMENT`, GSO) a sender hands many datagrams of one length over
-at once, and the last may be shorter. A capture there has them before they are taken apart.
+With UDP segmentation offload (`UDP_SEGMENT`, GSO) a sender passes many datagrams of one length to
+the system at once; the last may be shorter. A capture on that host sees them before they are split.
 """
 from __future__ import annotations
 
@@ -14,16 +14,16 @@ MOST_OF_FRAME = 1472  # bytes of a datagram that one Ethernet frame holds
 
 
 class Told(NamedTuple):
-    """What a header tells: its session, where that stands, and the most bytes of a datagram."""
+    """The session in a header, the place of its TSI, and the greatest length of a datagram."""
 
     tsi: bytes
     place: int
-    longest: int | None  # None where it does not tell the length of symbols (EXT_FTI)
+    longest: int | None  # None if the symbol length (EXT_FTI) is missing
 
 
 @functools.lru_cache(maxsize=1024)
 def told_by(head: bytes) -> Told | None:
-    """What the header of a datagram tells; None of what is no datagram of FLUTE."""
+    """Reads these three from the header of a datagram; None if it is no FLUTE packet."""
     header, packet = header_of(head), packet_of(head)
     if header is None or packet is None:
         return None
@@ -34,21 +34,21 @@ def told_by(head: bytes) -> Told | None:
 
 
 def told_at(payload: bytes, start: int) -> Told | None:
-    """What the header of a datagram tells that may begin here."""
+    """Reads the same from the header that may begin at `start`; None if none does."""
     end = start + 4 * payload[start + 2] if start + 2 < len(payload) else start
     return told_by(payload[start:end]) if end <= len(payload) else None
 
 
 def datagrams_in(payload: bytes) -> list[bytes] | None:
-    """The datagrams in what a capture has as one without a right checksum.
+    """The datagrams in a captured payload without a right checksum.
 
-    A datagram that tells the length of its symbols (EXT_FTI) is no longer than one of them with its
-    header. What is longer is several, and is taken apart if each part begins as a datagram of that
-    session. None where it may be several and nothing tells their length.
+    With EXT_FTI the length of a datagram is at most that of its header and one symbol. A longer
+    payload is several datagrams, and is split if a datagram of the session begins at each place.
+    Returns None if it may be several and can't be split.
     """
     told = told_at(payload, 0)
     if told is None:
-        return [payload]  # no datagram of FLUTE, and joined as none
+        return [payload]  # no FLUTE packet, which a join refuses
     size = told.longest or MOST_OF_FRAME
     if len(payload) <= size:
         return None if may_be_several(payload, told) else [payload]
@@ -59,7 +59,7 @@ def datagrams_in(payload: bytes) -> list[bytes] | None:
 
 
 def is_of_session(payload: bytes, told: Told, start: int) -> bool:
-    """Whether a datagram of the same session may begin here."""
+    """Whether a datagram of the same session may begin at `start`."""
     other = told_at(payload, start)
     return other is not None and other[:2] == told[:2]
 

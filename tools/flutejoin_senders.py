@@ -1,4 +1,4 @@
-"""The senders whose datagrams are kept in one folder, and what of them waits to be written."""
+"""The senders of one folder, with the datagrams that wait to be written."""
 from __future__ import annotations
 
 import collections
@@ -17,11 +17,11 @@ from flutejoin_records import HEADER, Buffer
 from flutejoin_records import MOST as MOST_RECORDS
 from flutejoin_writer import Folder, Writer
 
-WRITE_AT = 1 << 18  # bytes that wait for a file before they are handed over in any case
-MOST_SILENT = 4096  # senders that fell silent of which is known what they sent
+WRITE_AT = 1 << 18  # bytes that wait for a file before they are handed to the writer in any case
+MOST_SILENT = 4096  # silent senders whose totals are remembered
 MOST_ASKING = 4096
-FEW = 16  # datagrams, of what may be a made-up address
-SILENCE, LONG_SILENCE = 10, 60  # seconds after which another sender may have the place
+FEW = 16  # datagrams; a sender with fewer may be a made-up address
+SILENCE, LONG_SILENCE = 10, 60  # seconds of silence after which another sender may take the place
 
 UNWRITTEN = "not written, after a fault"
 TOO_SLOW = "not written, since the disk was slower than what came"
@@ -34,8 +34,8 @@ class Sender:
         self, growing: Growing, writer: Writer, split: int, causes: collections.Counter
     ) -> None:
         self.growing, self.writer, self.split = growing, writer, split
-        self.of_all = causes  # what is left out of all senders, by cause
-        self.keys: list[tuple[dict, bytes]] = []  # where it is found by its address
+        self.of_all = causes  # datagrams of all senders that are left out, by cause
+        self.keys: list[tuple[dict, bytes]] = []  # where it is registered under its address
         self.waiting = bytearray()
         self.begin_file()
         self.epochs = Epochs()
@@ -46,18 +46,18 @@ class Sender:
 
     def begin_file(self) -> None:
         self.grown, self.records, self.handed = len(HEADER), 0, 0
-        self.room = 0  # bytes up to which the file may grow before `make_room` is called
+        self.room = 0  # length up to which the file may grow before `make_room` is called again
 
     def make_room(self, size: int) -> None:
-        """Makes room for a record: hands others over, or begins another file.
+        """Makes room for a record: hands others to the writer, or begins another file.
 
-        Each file holds one at least, however small a file is to be.
+        Each file gets at least one record, however short files are to be.
         """
         if self.grown + size > self.split and self.records or self.records >= MOST_RECORDS:
             self.begin(Begin.PART)
         elif len(self.waiting) > WRITE_AT:
             self.hand_over()
-        # A record has 2 bytes at least.
+        # A record has at least 2 bytes.
         most = min(WRITE_AT, 2 * (MOST_RECORDS - self.records))
         self.room = max(self.grown + size, min(self.split, self.grown + most))
 
@@ -67,7 +67,7 @@ class Sender:
         self.begin_file()
 
     def hand_over(self) -> None:
-        """Has what waits written."""
+        """Hands the waiting records to the writer."""
         count = self.records - self.handed
         if not count:
             return
@@ -84,9 +84,10 @@ class Sender:
         self.of_all[cause] += count
 
     def contradicts(self, datagram: Buffer, now: float) -> bool:
-        """Looks at what may be of an FDT Instance. Answers whether it is left out.
+        """Looks at a datagram that may be of an FDT Instance, and returns whether it is left out.
 
-        One that contradicts an earlier one begins an epoch, but not many of them in a short time.
+        One that contradicts an earlier one begins an epoch, but only a few may begin in a short
+        time.
         """
         begins = self.epochs.begins(datagram, now)
         if begins is None:
@@ -108,7 +109,7 @@ class Senders:
         self.admitted: dict = {}  # by address
         self.known: collections.OrderedDict = collections.OrderedDict()  # the others
         self.remembered: collections.deque = collections.deque()
-        # By their addresses, who asks for a place and how often, and who may have one.
+        # The senders that ask for a place, and how often; and those that may have one.
         self.asking: dict[bytes, int] = {}
         self.invited: set[bytes] = set()
         self.asked = False  # in the last second
@@ -121,10 +122,9 @@ class Senders:
         return Sender(growing, self.writer, self.split, self.causes)
 
     def look(self, only: Optional[set]) -> None:
-        """Looks through what earlier runs left of these senders, or of all.
+        """Looks through the files of earlier runs: those of these senders, or of all.
 
-        That is before anything is received, since looking through long files takes seconds. No
-        file stays open.
+        This comes before anything is received, since long files take seconds. No file stays open.
         """
         found = newest(self.folder.names())
         for address in sorted(found, key=lambda it: (it.version, it)):
@@ -145,7 +145,7 @@ class Senders:
         return sender
 
     def remember(self, sender: Sender) -> None:
-        """What a sender told of FDT Instances is kept of so many as may send."""
+        """Keeps what a sender sent of FDT Instances, for as many senders as may send."""
         if sender.epochs.epoch.hashes:
             self.remembered.append(sender)
             if len(self.remembered) > self.most:
@@ -155,10 +155,10 @@ class Senders:
                     other.epochs.epoch = Epoch()
 
     def has_room(self, key: bytes, now: float) -> bool:
-        """Whether another sender may come; a silent one leaves, where all places are taken.
+        """Whether another sender may come: a silent one leaves, if all places are taken.
 
-        Where several ask for a place, those get it that asked most often in the last second: of
-        many made-up addresses each asks seldom.
+        If several ask for a place, those get it that asked most often in the last second: with many
+        made-up addresses, each one asks seldom.
         """
         if len(self.admitted) < self.most:
             return True
@@ -177,7 +177,7 @@ class Senders:
         return [sender for sender in self.admitted.values() if sender.is_silent(now)]
 
     def invite(self, now: float) -> None:
-        """Each second: invites as many of those that asked as there are silent ones."""
+        """Once a second: invites as many of the senders that asked as there are silent ones."""
         self.asked = bool(self.asking)
         if self.asked:
             count = len(self.silent(now))
@@ -208,7 +208,7 @@ class Senders:
         return itertools.chain(list(self.known.values()), list(self.admitted.values()))
 
     def heard(self) -> list[Sender]:
-        """Those of whom something came in this run: of the silent ones as many as may send."""
+        """The senders that sent something in this run: silent ones at most as many as may send."""
         silent = [sender for sender in list(self.known.values()) if sender.datagrams]
         return silent[-self.most :] + list(self.admitted.values())
 
@@ -222,7 +222,7 @@ class Senders:
             self.told.tell(cause, count, now)
 
     def finish(self) -> None:
-        """At the end of a run: what could not be written is left out."""
+        """At the end of a run: counts what could not be written as left out."""
         self.folder.look()
         for growing in {sender.growing for sender in self.all()} | self.writer.unfinished:
             if growing.folder == self.folder.path:
@@ -242,7 +242,7 @@ class Senders:
         return self.causes[UNWRITTEN] + self.causes[TOO_SLOW]
 
     def grew(self) -> Iterator[tuple[Sender, list[Grown]]]:
-        """The senders whose files grew, with those files that are still there."""
+        """Yields the senders whose files grew, each with those files that are still there."""
         for sender in self.all():
             files = [grown for grown in sender.growing.done if os.path.lexists(grown.path)]
             if files:
@@ -255,7 +255,7 @@ class Senders:
                 yield f"{path}: {records} datagrams from {sender.growing.address}{more}"
 
     def join_lines(self) -> Iterator[str]:
-        """The lines that join the files of each epoch that grew, with those of earlier runs."""
+        """Yields the commands that join the files of each epoch that grew, old ones too."""
         parts = collections.defaultdict(list)
         for name in filter(None, map(name_of, self.folder.names())):
             parts[name.address, name.epoch].append(name.part)

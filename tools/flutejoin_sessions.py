@@ -1,7 +1,8 @@
-"""What is received at one port: datagrams of the senders that are kept, and of others."""
+"""Receives at one port: takes the datagrams of admitted senders, and counts the others."""
 from __future__ import annotations
 
 import collections
+import errno
 import ipaddress
 import socket
 import time
@@ -15,9 +16,17 @@ from flutejoin_packets import TOI_PLACES, ZEROS, is_like_flute
 from flutejoin_records import LENGTH, Buffer
 from flutejoin_senders import Sender, Senders
 from flutejoin_settings import SessionOptions
-from flutejoin_sockets import Interface, ask_for_buffer, dropped_by_system, open_socket
+from flutejoin_sockets import (
+    LINUX,
+    Interface,
+    ask_for_buffer,
+    dropped_by_system,
+    listen_again,
+    open_socket,
+)
 
 LONGEST = 65535  # bytes of a datagram that a record can hold
+LOOK_EACH = 10  # seconds between two looks at whether the system still receives for a socket
 MOST_TESTS = 10000  # datagrams of unknown senders that are looked at in a second
 
 UNLIKE = "of senders from whom nothing like FLUTE came"
@@ -33,10 +42,11 @@ def packed_for(family: int, address: IPAddress) -> bytes:
 
 
 class Session:
-    """One socket, and what came to it."""
+    """One socket, and the datagrams that come to it."""
 
     def __init__(self, options: SessionOptions, interface: Interface, senders: Senders) -> None:
-        self.options, self.senders = options, senders
+        self.options, self.senders, self.interface = options, senders, interface
+        self.where, self.is_lost, self.look_at = "", False, float("-inf")
         self.udp = self.listen(interface)
         self.batch = Batch(self.udp)
         self.only = packed_for(self.udp.family, options.sender) if options.sender else None
@@ -48,7 +58,7 @@ class Session:
         self.told = EachMinute()
 
     def listen(self, interface: Interface) -> socket.socket:
-        """The socket, once the system receives for it."""
+        """Opens the socket, and returns it. Raises Fault if the system refuses it."""
         options = self.options
         where = options.group or interface.address or "every address"
         try:
@@ -62,12 +72,44 @@ class Session:
         named = options.interface and where != interface.address
         on = f" on {options.interface}" if named else ""
         of = f" to {options.sender}" if options.sender else ""
-        address = f"{where} port {options.port}{on}"
-        note(f"listening{of} at {address}, with a receive buffer of {buffer} bytes")
+        self.where = f"{where} port {options.port}{on}"
+        note(f"listening{of} at {self.where}, with a receive buffer of {buffer} bytes")
         return udp
 
+    def look(self, now: float) -> None:
+        """Looks whether the system still receives for the socket.
+
+        After the interface was removed it does not: the socket listens again once there is one
+        with that name.
+        """
+        if not LINUX or now < self.look_at:
+            return
+        self.look_at = now + LOOK_EACH
+        try:
+            interface = Interface(self.options.interface)
+            is_again = listen_again(self.udp, self.options, interface, self.interface)
+        except Fault as fault:
+            self.lose(str(fault))
+        except OSError as error:
+            if error.errno != errno.ENODEV:
+                raise Fault(3, f"cannot listen at {self.where} any more: {error.strerror}")
+            self.lose(f"{error.strerror}")
+        else:
+            if is_again or self.is_lost:
+                note(f"listening again at {self.where}")
+            self.interface, self.is_lost = interface, False
+
+    def lose(self, why: str) -> None:
+        if not self.is_lost:
+            told = f"cannot listen at {self.where}: {why}"
+            note(f"{told}; it is tried again each {LOOK_EACH} seconds")
+        self.is_lost = True
+
     def receive(self, most: int, now: float) -> tuple[int, int]:
-        """Takes what waits, up to a batch. Answers how many came, and how many are kept."""
+        """Takes the waiting datagrams, up to a batch.
+
+        Returns how many came, and how many are kept.
+        """
         came = kept = size = 0
         get, put_length = self.by_key.get, LENGTH.pack_into
         buffer, view = self.batch.buffer, self.batch.view
@@ -77,7 +119,7 @@ class Session:
             sender = get(key) or self.admit(key, view[begin:end], now)
             if sender is None:
                 continue
-            # What may be of an FDT Instance has TOI 0.
+            # Datagrams of FDT Instances have TOI 0.
             if head[TOI_PLACES[(head[0] & 15) << 8 | head[1]]] in ZEROS:
                 if sender.contradicts(view[begin:end], now):
                     continue
@@ -101,10 +143,10 @@ class Session:
         return came, kept
 
     def admit(self, key: bytes, datagram: Buffer, now: float) -> Optional[Sender]:
-        """The sender of whom nothing was kept until now; None where it is left out.
+        """Admits a sender that is not known here, and returns it; None if it is left out.
 
-        Whoever can send here can make addresses up, any number of them. So this takes as little
-        time as can be, and keeps nothing of who is left out.
+        Anyone who can send here can invent addresses, any number of them. So this is as quick as
+        possible, and remembers nothing of a sender that is left out.
         """
         if self.only is not None:
             if key != self.only:
@@ -133,7 +175,7 @@ class Session:
         return dropped_by_system(self.udp) or 0
 
     def left_out(self) -> collections.Counter:
-        """How many were left out of those that came here, by cause."""
+        """How many datagrams that came here were left out, by cause."""
         only, most = self.options.sender, self.senders.most
         full = f"more than {most} senders (--senders takes more, and --from names the one)"
         causes = {

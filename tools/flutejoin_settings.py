@@ -41,7 +41,7 @@ def name(text: str) -> str:
 
 
 def interface_version(text: Optional[str]) -> Optional[int]:
-    """The version of IP of an interface's address; None of a name."""
+    """The version of IP of an interface's address; None if it is a name."""
     try:
         return ipaddress.ip_address(text).version if text else None
     except ValueError:
@@ -49,7 +49,7 @@ def interface_version(text: Optional[str]) -> Optional[int]:
 
 
 class SessionOptions:
-    """What is received at one port, and where it goes."""
+    """What is received at one port, and in which folder it is kept."""
 
     def __init__(
         self,
@@ -64,7 +64,7 @@ class SessionOptions:
         self.folder, self.buffer = folder, BUFFER
 
     def wrong(self) -> Optional[str]:
-        """What of it does not fit together."""
+        """Which of these options contradict each other, as a message; None if they fit."""
         group, sender = self.group, self.sender
         if group and not group.is_multicast:
             return f"argument --group: {group} is no multicast group"
@@ -77,7 +77,7 @@ class SessionOptions:
         return None
 
 
-# Type, name of the value, and help of what the file of settings may have too
+# Type, name of the value, and help of each option that the file of settings may have too
 SETTINGS = {
     "group": (
         plain_address,
@@ -131,7 +131,7 @@ DEFAULTS = {"folder": ".", "senders": 64, "split": MOST_BYTES, "buffer": BUFFER}
 
 
 def command_line(description: str, epilog: str) -> argparse.Namespace:
-    """The options of a run: `sessions`, and what holds for all of them."""
+    """The options of a run: `sessions`, and those that concern the whole run."""
     parser = CommandLine("flutejoin-receive", description, epilog)
     for key, (kind, metavar, text) in SETTINGS.items():
         word = "-o" if key == "folder" else f"--{key}"
@@ -161,7 +161,7 @@ def command_line(description: str, epilog: str) -> argparse.Namespace:
 
 
 def complete(options: argparse.Namespace) -> None:
-    """Adds what the file of settings has, and what is asked for by default."""
+    """Adds the settings of the file, and the defaults."""
     file = read_config(options.config) if options.config is not None else {}
     file.pop("station", None)  # settings of flutejoin-station
     tables = file.pop("session", [])
@@ -190,9 +190,10 @@ def complete(options: argparse.Namespace) -> None:
 
 
 def sessions_of(options: argparse.Namespace) -> list[SessionOptions]:
-    """The sessions of the command line.
+    """The sessions of the command line. Raises ValueError.
 
-    What was given several times belongs together in its order, and what was given once to all.
+    Options that were given several times belong together in their order; an option that was given
+    once belongs to all sessions.
     """
     lists = {key: getattr(options, key) or [None] for key in ("port", "group", "from", "interface")}
     if lists["port"] == [None]:
@@ -220,12 +221,12 @@ def read_config(path: str) -> dict:
             return tomllib.load(file)
     except OSError as fault:
         raise ValueError(f"argument --config: {shown(path)}: {fault.strerror}") from None
-    except ValueError as fault:  # no UTF-8, or no TOML
+    except ValueError as fault:  # not UTF-8, or not TOML
         raise ValueError(f"argument --config: {shown(path)}: {fault}") from None
 
 
 def value_of(path: str, key: str, value: Any, keys: Container[str] = tuple(SETTINGS)) -> Any:
-    """A value of the file of settings, as the option of its name takes it."""
+    """A value of the file of settings, as the option of that name takes it. Raises ValueError."""
     at = f"argument --config: {shown(path)}: {key}"
     if key not in keys or keys is not OF_SESSION and key in OF_SESSION[:4]:
         raise ValueError(f"{at}: there is no such setting there")

@@ -1,7 +1,8 @@
-"""Sockets that receive a group, a group of one sender, or what is sent to this machine."""
+"""Sockets that receive a group, one sender in a group, or what is sent to this machine."""
 from __future__ import annotations
 
 import collections
+import errno
 import ipaddress
 import os
 import socket
@@ -13,15 +14,17 @@ from flutejoin_files import IPAddress
 from flutejoin_notes import Fault, note
 from flutejoin_settings import SessionOptions
 
-# What Python's socket module does not name. The numbers are Linux's.
+# Linux's numbers for options that Python's socket module does not name.
 SO_RCVBUFFORCE, SO_MEMINFO, SO_BINDTODEVICE = 33, 55, 25
 IP_MULTICAST_ALL, IPV6_MULTICAST_ALL = 49, 29
 IP_ADD_SOURCE_MEMBERSHIP, MCAST_JOIN_SOURCE_GROUP = 39, 46
 LINUX = sys.platform == "linux"
+# The errors of joining a group that is joined already, without a sender and with one.
+JOINED = errno.EADDRINUSE, errno.EADDRNOTAVAIL
 
 
 class Interface:
-    """Where to receive, by the name of an interface or by one of its addresses.
+    """Where to receive: the name of an interface, or one of its addresses.
 
     Without either the system chooses.
     """
@@ -46,7 +49,7 @@ class Interface:
 def index_of(address: IPAddress) -> int:
     """The number of the interface with this IPv6 address.
 
-    The calls for IPv6 groups take that alone.
+    The system's calls for IPv6 groups take only this number.
     """
     try:
         with open("/proc/net/if_inet6", encoding="ascii") as table:
@@ -60,7 +63,7 @@ def index_of(address: IPAddress) -> int:
 
 
 def set_option(udp: socket.socket, level: int, option: int, value: Union[int, bytes]) -> bool:
-    """Sets what not every system has, and answers whether it could."""
+    """Sets an option that some systems lack, and returns whether that succeeded."""
     try:
         udp.setsockopt(level, option, value)
         return True
@@ -69,9 +72,9 @@ def set_option(udp: socket.socket, level: int, option: int, value: Union[int, by
 
 
 def open_socket(options: SessionOptions, interface: Interface) -> socket.socket:
-    """A socket that receives what the command line names.
+    """Opens a socket that receives what the command line asks for. Raises OSError.
 
-    It receives nothing that other programs asked for.
+    It receives nothing that only other programs asked for.
     """
     local = options.group or interface.address
     is_ip4 = local and local.version == 4 or not socket.has_ipv6
@@ -83,17 +86,17 @@ def open_socket(options: SessionOptions, interface: Interface) -> socket.socket:
             raise
         family, udp = socket.AF_INET, socket.socket(socket.AF_INET, socket.SOCK_DGRAM)
     if LINUX:
-        # Else groups and senders that other programs join are received too.
+        # Otherwise groups and senders that other programs joined are received too.
         set_option(udp, socket.IPPROTO_IP, IP_MULTICAST_ALL, 0)
         set_option(udp, socket.IPPROTO_IPV6, IPV6_MULTICAST_ALL, 0)
     if family == socket.AF_INET6:
         udp.setsockopt(socket.IPPROTO_IPV6, socket.IPV6_V6ONLY, 1 if local else 0)
     if options.group:
-        # Several runs may receive one group. Of one address the last run would get all, so there
-        # the second is refused.
+        # Several runs may receive one group. Of one address only the last run would receive, so the
+        # second is refused.
         udp.setsockopt(socket.SOL_SOCKET, socket.SO_REUSEADDR, 1)
     elif interface.name:
-        udp.setsockopt(socket.SOL_SOCKET, SO_BINDTODEVICE, interface.name.encode() + b"\0")
+        bind_to_interface(udp, interface.name)
     if family == socket.AF_INET:
         udp.bind((str(local or ""), options.port))
     else:
@@ -104,12 +107,43 @@ def open_socket(options: SessionOptions, interface: Interface) -> socket.socket:
     return udp
 
 
+def bind_to_interface(udp: socket.socket, name: str) -> None:
+    udp.setsockopt(socket.SOL_SOCKET, SO_BINDTODEVICE, name.encode() + b"\0")
+
+
+def listen_again(
+    udp: socket.socket, options: SessionOptions, interface: Interface, before: Interface
+) -> bool:
+    """Makes a socket receive again after its interface was removed and made anew.
+
+    Returns whether the system had ceased to receive for it. A group, or a sender in one, that was
+    joined on an interface is left when the interface is removed, even if a new one has its name.
+    """
+    try:
+        if options.group:
+            join_group(udp, options.group, options.sender, interface)
+        elif interface.name and interface.index != before.index:
+            bind_to_interface(udp, interface.name)
+        else:
+            return False
+    except OSError as error:
+        if error.errno in JOINED:
+            return False
+        raise
+    return True
+
+
 def join_group(
     udp: socket.socket, group: IPAddress, sender: Optional[IPAddress], interface: Interface
 ) -> None:
-    """Joins the group: of one sender where one is named and the system can, and else of all."""
-    if sender and LINUX and join_source(udp, group, sender, interface):
-        return
+    """Joins a group: of one sender, if one is named and the system can do so, or else of all."""
+    if sender and LINUX:
+        try:
+            join_source(udp, group, sender, interface)
+            return
+        except OSError as error:
+            if error.errno in JOINED:
+                raise
     if group.version == 4:
         address = interface.address.packed if interface.address else bytes(4)
         request = group.packed + address
@@ -126,16 +160,17 @@ def join_group(
 
 def join_source(
     udp: socket.socket, group: IPAddress, sender: IPAddress, interface: Interface
-) -> bool:
-    """Whether the system joined a group of one sender (RFC 4607)."""
+) -> None:
+    """Joins a group of one sender (RFC 4607)."""
     if interface.address and group.version == 4:
         request = group.packed + interface.address.packed + sender.packed
-        return set_option(udp, socket.IPPROTO_IP, IP_ADD_SOURCE_MEMBERSHIP, request)
+        udp.setsockopt(socket.IPPROTO_IP, IP_ADD_SOURCE_MEMBERSHIP, request)
+        return
     level = socket.IPPROTO_IP if group.version == 4 else socket.IPPROTO_IPV6
     # The number of the interface, and two addresses as the system keeps them, each in 128 bytes.
     addresses = system_address(group), system_address(sender)
     request = struct.pack("@I0L128s128s", interface.index, *addresses)
-    return set_option(udp, level, MCAST_JOIN_SOURCE_GROUP, request)
+    udp.setsockopt(level, MCAST_JOIN_SOURCE_GROUP, request)
 
 
 def system_address(address: IPAddress) -> bytes:
@@ -145,7 +180,10 @@ def system_address(address: IPAddress) -> bytes:
 
 
 def ask_for_buffer(udp: socket.socket, wanted: int) -> int:
-    """Asks for a receive buffer, and tells where the system gives much less. Answers its bytes."""
+    """Asks for a receive buffer, and returns its bytes.
+
+    Reports it if the system gives much less.
+    """
     if not LINUX or not set_option(udp, socket.SOL_SOCKET, SO_RCVBUFFORCE, wanted):
         set_option(udp, socket.SOL_SOCKET, socket.SO_RCVBUF, wanted)
     got = udp.getsockopt(socket.SOL_SOCKET, socket.SO_RCVBUF)
@@ -159,9 +197,9 @@ def ask_for_buffer(udp: socket.socket, wanted: int) -> int:
 
 
 def dropped_by_system(udp: socket.socket) -> Optional[int]:
-    """How many datagrams the system dropped, or None where it does not tell.
+    """How many datagrams the system dropped; None if it does not report that.
 
-    SO_RXQ_OVFL comes with the next datagram, and so never tells of the last.
+    SO_RXQ_OVFL comes with the next datagram, and so misses the last drops.
     """
     try:
         counts = udp.getsockopt(socket.SOL_SOCKET, SO_MEMINFO, 36)
@@ -183,14 +221,14 @@ def dropped_by_system(udp: socket.socket) -> Optional[int]:
 
 
 class Errors(NamedTuple):
-    """Datagrams that the system dropped for all programs."""
+    """Counts of datagrams that the system dropped, for all programs together."""
 
-    full: int  # a receive buffer, or the memory for all of them
+    full: int  # a full receive buffer, or all buffers together
     checksum: int
 
 
 def system_errors() -> Optional[Errors]:
-    """What the system counts of UDP over IPv4 and IPv6, where it does."""
+    """The system's counts for UDP over IPv4 and IPv6; None if it has none."""
     counts: collections.Counter = collections.Counter()
     try:
         with open("/proc/net/snmp", encoding="ascii") as table:
@@ -212,10 +250,10 @@ CHECKSUM = "a checksum did not hold, here or for another program"
 
 
 class Drops:
-    """What the system dropped of what came to some sockets, by its cause.
+    """Counts the datagrams that the system dropped for some sockets, by cause.
 
-    A full buffer it counts for each socket. A checksum that does not hold it counts for all
-    programs together, and for the socket only where that is noticed while a datagram is received.
+    The system counts a full buffer for each socket. It counts a wrong checksum for all programs
+    together, and for the socket only if it notices that while a datagram is received.
     """
 
     def __init__(self, sockets: Iterable[socket.socket]) -> None:

@@ -1,4 +1,4 @@
-"""What came so far, as JSON: in a file that is replaced in one step, or on standard error."""
+"""The status of a run as JSON: in a file that is replaced in one step, or on standard error."""
 from __future__ import annotations
 
 import json
@@ -20,7 +20,7 @@ def instant(seconds: Optional[float]) -> Optional[str]:
 
 
 class Status:
-    """What a run tells of itself."""
+    """The status that a run reports."""
 
     def __init__(
         self,
@@ -87,7 +87,7 @@ class Status:
         note(f"status\n{self.text(entries)}")
 
     def write(self, entries: list[Entry]) -> None:
-        """Replaces the file, if there is to be one, in one step. A fault is told once."""
+        """Replaces the status file, if one is wanted, in one step. A fault is reported once."""
         if self.path is None:
             return
         beside = f"{self.path}.partial"

@@ -1,4 +1,4 @@
-"""What each of several journals, and all of them together, tell of the objects that are drawn."""
+"""What several journals contain of the objects that are drawn: each by itself, and all together."""
 from __future__ import annotations
 
 import ipaddress
@@ -17,7 +17,7 @@ NOTHING = "nothing of this object"
 
 
 class Waiting(NamedTuple):
-    """A panel that waits for the information of another journal."""
+    """A panel that waits for another journal's transmission information."""
 
     key: str
     place: int
@@ -27,8 +27,8 @@ class Waiting(NamedTuple):
 class Survey:
     """The panels of the objects that are drawn.
 
-    The states of all objects are read first. Gaps are read of those that are drawn alone, and go to
-    their grids as they come, so memory does not grow with them.
+    The states of all objects are read first. Gaps are read only for objects that are drawn, and are
+    counted as they come, so memory does not grow with them.
     """
 
     def __init__(
@@ -43,7 +43,7 @@ class Survey:
         left = [state for key, state in self.all.items() if key not in self.keys]
         whole = sum(state.words == gaps.WHOLE for state in left)
         self.left = pictures.Left(len(left), whole)
-        self.partitions: dict[str, Partition] = {}  # of those that all journals agree about
+        self.partitions: dict[str, Partition] = {}  # of objects about which all journals agree
         self.panels: dict[str, list[pictures.Panel]] = {key: [] for key in self.keys}
         for journal, waiting in [(journal, self.look(journal)) for journal in journals]:
             self.complete(journal, waiting)
@@ -51,7 +51,7 @@ class Survey:
             self.look_at_all()
 
     def chosen(self) -> dict[str, None]:
-        """All objects, or of too many as many of those that are not whole as a page takes."""
+        """All objects; if they are too many, those not whole, as many as a page takes."""
         most = max(1, MOST_PANELS // self.count)
         keys = list(self.all)
         if len(keys) > most:
@@ -65,9 +65,9 @@ class Survey:
         return chosen
 
     def look(self, journal: str) -> list[Waiting]:
-        """Draws what a journal tells by itself.
+        """Draws a journal by itself.
 
-        Answers what waits for the information of others.
+        Returns the panels that wait for other journals' information.
         """
         states = self.all
         if len(self.journals) > 1:
@@ -82,7 +82,7 @@ class Survey:
         return waiting
 
     def look_at_all(self) -> None:
-        """Draws all journals joined: the first of the panels, where they do not fit in one line."""
+        """Draws all journals joined: as the first panel, if the panels do not fit in one line."""
         name = self.name_of_all()
         grids = self.grids(self.journals, name, self.all, self.partitions)
         for key in self.keys:
@@ -95,9 +95,9 @@ class Survey:
         return f"all {count} joined" if count > 1 else shown(self.journals[0])
 
     def partitions_of(self, journal: str, states: dict[str, gaps.State]) -> dict[str, Partition]:
-        """The partitions of objects by a journal's information.
+        """The partitions of objects by a journal's transmission information.
 
-        Where all journals agree, one of them alone is asked for it.
+        If all journals agree on an object, only the first is asked.
         """
         own = [key for key in self.keys if key in states and states[key].has_information()]
         asked = {key for key in own if key not in self.partitions}
@@ -117,7 +117,7 @@ class Survey:
         states: dict[str, gaps.State],
         partitions: dict[str, Partition],
     ) -> dict[str, Grid]:
-        """The grids of what journals tell together of objects that they have information of."""
+        """The grids of these journals together, for objects with transmission information."""
         wanted = [key for key in self.keys if key in states and states[key].has_information()]
         filling = Filling(self, name, {key: partitions[key] for key in wanted})
         if any(states[key].words != gaps.WHOLE for key in wanted):
@@ -128,7 +128,7 @@ class Survey:
         return {key: filling.grid_of(key) for key in wanted}
 
     def complete(self, journal: str, waiting: list[Waiting]) -> None:
-        """Draws with the information of other journals what has none of its own."""
+        """Draws objects without transmission information by that of other journals."""
         waiting = [one for one in waiting if one.key in self.partitions]
         for key, place, is_held in waiting:
             if not is_held:
@@ -160,7 +160,7 @@ class Survey:
         return pictures.shape(panels, objects)
 
     def drawings(self) -> Iterator[pictures.Drawing]:
-        """What is drawn, and before it an overview where that is not all objects."""
+        """Yields what is drawn: before the objects an overview, if some objects are left out."""
         if self.left.objects:
             grid = Overview(self.all, *self.shape(1, 1))
             words = pictures.kinds_words(grid.names) if self.is_text else ""
@@ -183,7 +183,7 @@ class Survey:
 
 
 class Filling:
-    """Grids that are filled with the gaps of a journal as it tells them."""
+    """Grids that are filled with the gaps of a journal as flutejoin prints them."""
 
     def __init__(self, survey: Survey, name: str, partitions: dict[str, Partition]) -> None:
         self.survey, self.name, self.partitions = survey, name, partitions
@@ -214,7 +214,7 @@ class Filling:
 
 
 def title_of(key: str) -> str:
-    """The name of an object, with the sender's address as it is written elsewhere."""
+    """The name of an object, with the sender's address in its usual form."""
     words = key.split()
     if words[0] != "source":
         return key

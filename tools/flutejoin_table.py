@@ -1,4 +1,4 @@
-"""What is told of the files of sessions: a table, and a line of numbers."""
+"""Prints the files of sessions: as a table, and as a line of numbers."""
 from __future__ import annotations
 
 import collections
@@ -10,12 +10,12 @@ from flutejoin_content import Verdict
 from flutejoin_holdings import NOTHING
 
 HEAD = ("toi", "bytes", "have", "state", "type", "name")
-RIGHT = 3  # columns whose texts stand at the right
+RIGHT = 3  # columns that are aligned to the right
 MOST_NAME = 300  # characters of a name in a line
 
 
 def ranges(numbers: list[int]) -> str:
-    """Numbers as 1-3, 5."""
+    """Numbers as text: 1-3, 5."""
     runs: list[list[int]] = []
     for number in sorted(set(numbers)):
         if runs and number == runs[-1][1] + 1:
@@ -42,7 +42,7 @@ def title(session: Session) -> str:
 
 
 def share(session: Session, toi: int) -> str:
-    """How much of an object is held. Not everything is never 100.0%."""
+    """How much of an object is held, in percent. Only a whole object is 100.0%."""
     state, symbols = session.state(toi), session.symbols(toi)
     if state.is_whole():
         return "100.0%"
@@ -53,7 +53,10 @@ def share(session: Session, toi: int) -> str:
 
 
 def row(session: Session, toi: int) -> list[str]:
-    """The columns of a file; in the fourth stands what is told of an object that is none."""
+    """The columns of a file.
+
+    If no file is described, the fourth column contains the object's state.
+    """
     described, information = session.files.get(toi), session.information(toi)
     length = information[0] if information else None
     if described and length is None:
@@ -81,7 +84,7 @@ def location(session: Session, toi: int) -> str:
 
 
 def notes(session: Session, toi: int, outcome: Outcome | None) -> str:
-    """What stands behind a name."""
+    """The notes after a file's name."""
     described = session.files[toi]
     told = [described.file.encoding] * bool(described.file.encoding)
     if told and described.file.length is not None:
@@ -98,7 +101,7 @@ def notes(session: Session, toi: int, outcome: Outcome | None) -> str:
 
 
 def table(session: Session) -> Iterator[str]:
-    """The lines of a session."""
+    """Yields the lines of a session."""
     yield title(session)
     for number, state in session.unread.items():
         yield f"  FDT Instance {number}: {state}"
@@ -118,7 +121,7 @@ def table(session: Session) -> Iterator[str]:
 
 
 def outcome_lines(session: Session) -> Iterator[str]:
-    """A line for each file that is not as the others."""
+    """Yields a line for each file that was not written and verified as usual."""
     for toi, outcome in sorted(session.outcomes.items()):
         verdict = outcome.checked.verdict
         told = f" ({outcome.checked.told})" if outcome.checked.told else ""
@@ -135,7 +138,7 @@ def outcome_lines(session: Session) -> Iterator[str]:
 
 
 class Sum:
-    """The numbers of all sessions."""
+    """The totals of all sessions."""
 
     def __init__(self, catalogue: Catalogue) -> None:
         self.counts: collections.Counter = collections.Counter()

@@ -1,4 +1,4 @@
-"""The thread that writes what was received, and sees to the folders that it is written to."""
+"""The thread that writes received datagrams, and looks after their folders."""
 from __future__ import annotations
 
 import collections
@@ -14,15 +14,16 @@ from flutejoin_found import Name, name_of
 from flutejoin_growing import Begin, Block, Growing
 from flutejoin_notes import Fault, note
 
-MOST_WAITING = 1 << 26  # bytes that wait for the disk in all
-MANY_WAITING = 1 << 23  # from here on the thread that receives makes way
-MAKE_WAY = 0.001  # seconds
-SPARE = 16  # descriptors for what is no file of a sender
+MOST_WAITING = 1 << 26  # bytes that wait for the disk in all, at most
+MANY_WAITING = 1 << 23  # from this number on the receiving thread pauses
+MAKE_WAY = 0.001  # seconds of that pause
+SPARE = 16  # descriptors for other files than those of senders
 MOST_OPEN = 4096
+AHEAD = 3600 * 10**9  # nanoseconds that the clock of a file system may be ahead
 
 
 class Entry(NamedTuple):
-    """A sender's file in a folder. The oldest is the least."""
+    """A sender's file in a folder. Entries are ordered from the oldest on."""
 
     changed: int
     path: str
@@ -32,7 +33,7 @@ class Entry(NamedTuple):
 
 
 class Folder:
-    """A folder of datagram files, into which one run alone writes."""
+    """A folder of datagram files, into which only one run writes."""
 
     def __init__(self, path: str) -> None:
         self.path = path
@@ -48,9 +49,9 @@ class Folder:
         self.take_lock()
 
     def take_lock(self) -> None:
-        """Keeps other runs out: two would write into one another's files.
+        """Locks the folder against other runs, which would write to the same files. Raises Fault.
 
-        Where the file system has no locks they are not told apart.
+        Without file locks in the file system, other runs are not noticed.
         """
         try:
             fcntl.flock(self.lock, fcntl.LOCK_EX | fcntl.LOCK_NB)
@@ -60,7 +61,7 @@ class Folder:
             pass
 
     def look(self) -> None:
-        """Makes the folder anew where it was removed or moved."""
+        """Makes the folder again if it was removed or moved."""
         try:
             if os.path.samestat(os.stat(self.path), os.fstat(self.lock)):
                 return
@@ -106,7 +107,7 @@ class Folder:
 
 
 def descriptors() -> int:
-    """How many descriptors this run may have. It asks for as many as it has a use for."""
+    """How many descriptors this run may have. It asks the system for as many as it can use."""
     soft, hard = resource.getrlimit(resource.RLIMIT_NOFILE)
     most = MOST_OPEN if hard == resource.RLIM_INFINITY else min(hard, MOST_OPEN)
     if soft == resource.RLIM_INFINITY or soft >= most:
@@ -119,9 +120,9 @@ def descriptors() -> int:
 
 
 class Opened:
-    """The files of senders that are open: no more than the system has descriptors for.
+    """The open files of senders: at most as many as the system has descriptors for.
 
-    Before bytes are written to one, `make_room` is called with their number; `held` counts them.
+    `make_room` is called with the number of bytes before they are written; `held` counts the bytes.
     """
 
     def __init__(self, reserved: int, make_room: Callable[[int], None]) -> None:
@@ -161,7 +162,7 @@ class Opened:
 
 
 class Writer(threading.Thread):
-    """Writes what it is given. Only its work touches the folders and the files in them."""
+    """The thread that writes. Only this thread uses the folders and the files in them."""
 
     def __init__(self, folders: Iterable[Folder], most: Optional[int], reserved: int) -> None:
         super().__init__(daemon=True)
@@ -178,11 +179,11 @@ class Writer(threading.Thread):
         self.fault: Optional[BaseException] = None
 
     def give(self, growing: Growing, order: Union[Block, Begin]) -> bool:
-        """Has an order done soon. Answers no where too much waits already."""
+        """Gives the thread an order. Returns False if too much waits already."""
         if isinstance(order, Block):
             waiting = self.given - self.taken
             if waiting > MANY_WAITING and growing.fault is None:
-                time.sleep(MAKE_WAY)  # both may have one processor, and this one does not wait
+                time.sleep(MAKE_WAY)  # both may share one processor, which this one gives away
             if waiting + len(order.data) > MOST_WAITING:
                 return False
             self.given += len(order.data)
@@ -192,7 +193,7 @@ class Writer(threading.Thread):
         return True
 
     def report(self, to: Callable[[list[Entry]], None]) -> None:
-        """Has a report made of what is in the folders."""
+        """Orders a report of what is in the folders."""
         self.reports.append(to)
         self.event.set()
 
@@ -210,7 +211,7 @@ class Writer(threading.Thread):
                 while self.reports:
                     self.reports.popleft()(self.entries())
             self.work()
-        except BaseException as fault:  # the run ends with it
+        except BaseException as fault:  # the run ends with this fault
             self.fault = fault
 
     def entries(self) -> list[Entry]:
@@ -238,7 +239,7 @@ class Writer(threading.Thread):
             self.unfinished.discard(growing)
 
     def look(self) -> None:
-        """Each second: sees whether all is still there, and tries again what failed."""
+        """Once a second: checks that all is still there, and repeats what failed."""
         for folder in self.folders:
             folder.look()
         for growing in list(self.opened.growing):
@@ -251,9 +252,9 @@ class Writer(threading.Thread):
         self.make_room(0)
 
     def make_room(self, size: int) -> None:
-        """Removes the oldest files where so many more bytes are more than the run may keep.
+        """Removes the oldest files if this many more bytes would be more than the run may keep.
 
-        Where some cannot be removed, that is tried again each second.
+        If some cannot be removed, this is repeated once a second.
         """
         if self.most is None or self.opened.held + size <= self.most or self.is_stuck:
             return
@@ -261,12 +262,14 @@ class Writer(threading.Thread):
         self.is_stuck = bool(self.unremovable) and self.opened.held + size > self.most
 
     def remove_oldest(self, most: int) -> None:
-        """Removes the oldest files until the others have at most so many bytes.
+        """Removes the oldest files until the others have at most this many bytes.
 
-        A file that grows is ended before.
+        A file that grows is ended first.
         """
         growing = {each.path(): each for each in self.opened.growing}
-        for entry in sorted(self.entries()):
+        now = time.time_ns() + AHEAD
+        # One of a time to come was written before the clock was set back.
+        for entry in sorted(self.entries(), key=lambda it: (it.changed <= now, it)):
             if self.opened.held <= most:
                 return
             if entry.path in growing:
@@ -284,7 +287,7 @@ class Writer(threading.Thread):
             note(f"{told}, since the datagram files would have more than {self.most} in all")
 
     def end(self) -> None:
-        """Ends the thread, once what waits was tried."""
+        """Ends the thread, after a try to write what waits."""
         self.is_ending = True
         self.event.set()
         self.join()

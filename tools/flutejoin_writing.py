@@ -1,4 +1,4 @@
-"""Writes the objects that are whole as named files, once each was checked."""
+"""Writes whole objects as named files, after checking each."""
 from __future__ import annotations
 
 import contextlib
@@ -18,7 +18,7 @@ WRONG = (Verdict.WRONG, Verdict.WRONG_MD5)
 
 
 class Ready(NamedTuple):
-    """An object that was checked, and where the file stands that was made of it."""
+    """An object that was checked, and the path of the file that was made of it."""
 
     session: Session
     toi: int
@@ -28,7 +28,7 @@ class Ready(NamedTuple):
 
 
 class Writing:
-    """The files of one run: they are all checked, then on the disk, then under their names."""
+    """The files of one run: first all are checked, then synced, then given their names."""
 
     def __init__(self, catalogue: Catalogue, work: Work, most: int, report: files.Report) -> None:
         self.catalogue, self.work, self.most, self.report = catalogue, work, most, report
@@ -49,7 +49,7 @@ class Writing:
             place.close()
 
     def whole(self, paths: dict[Key, str]) -> Iterator[tuple[Session, int, str]]:
-        """The objects that are whole, of which a file is made, and its path."""
+        """Yields the whole objects of which a file is made, each with its path."""
         for session in self.catalogue:
             for toi, described in sorted(session.files.items()):
                 path = paths.get(session.key(toi))
@@ -86,7 +86,7 @@ class Writing:
 
 
 def told_of(fault: OSError) -> str:
-    """Why a file cannot have its place."""
+    """The reason, as text, why a file cannot be put in its place."""
     if isinstance(fault, NotADirectoryError):
         return "a file or a link is in the way, where a folder is wanted"
     return fault.strerror or str(fault)

@@ -9,12 +9,19 @@ it is proved by its clauses alone, so a goal that is left open is left by what t
 has the edit's name in its own, so that a function may have several at a time.
 
 A function is proved from the contracts of those that it calls, and from nothing else of them. So
-the edits of a crate are tried together, one of a function at a time, in a copy of the crate: each
-function that was edited has to be refused for a goal of its own, and no other function may be. One
-that only waits for an edited function that it calls is tried again without that one. What is in
-doubt is tried alone, and so is an edit outside functions. As many crates are tried side by side as
-there are processors. The edits of must-fail/ are tried by `rt ci`, and here only with --all or
---alone.
+the edits of a crate are tried together, in a copy of the crate: the first of a function in its
+place, and each other in a copy of the function that is put behind it, with its clauses and its
+written proof. A trait's method has no copy: another edit of it waits for a further check. Each
+function that was edited or put there has to be refused for a goal of its own, and no other function
+may be. One that only waits for an edited function that it calls is tried again without that one.
+What is in doubt is tried alone, and so is an edit outside functions: with the whole crate, or with
+the functions that its lines 'of: FUNCTION' name. As many crates are tried side by side as there are
+processors.
+
+If the contract of a function that no other crate can call lets a wrong body through, no promise of
+the crate does: those of its public functions are proved from it. So edits of other functions, those
+of wrong-bodies/more/ and those of must-fail/, which `rt ci` tries, are tried with --all, --alone or
+--edits only.
 
 A goal that the check leaves open is what refuses a body: the check names it. Where it names none,
 only an answer of the written proof no longer fits. That alone shows nothing of the contract, so
@@ -27,7 +34,6 @@ from __future__ import annotations
 
 import argparse
 import os
-import re
 import shutil
 import subprocess
 import sys
@@ -36,105 +42,23 @@ from concurrent.futures import ThreadPoolExecutor
 from typing import Iterable, Optional
 
 sys.dont_write_bytecode = True
-from wrong_edits import ROOT, Body, crate_folder, text_of
-
-KIT = os.path.dirname(os.path.dirname(os.path.realpath(shutil.which("rt") or "rt")))
-
-# What a check says of a function.
-ANSWER = re.compile(r"^fn (\S+): (.*)$", re.M)
-# A goal that it leaves open, in a note before the function's answer, and in that answer.
-OPEN = re.compile(r"^note: \S+ it is not proved .*?\(`([^`]+)`\)", re.M)
-UNFOUND = re.compile(r"`search` did not prove ((?:`[^`]+`(?:, )?)+)")
-# The end of what it says where it came to its end, and not all is proved.
-UNPROVED = re.compile(r"^(logic=not-proved|only=\d+ proved=\d+)", re.M)
-# The place of a fault.
-FAULT = re.compile(r"(note: )?\S+:\d+:\d+: (error|it is not proved)")
-# What it says of a limit of its own, which it meets wherever it checks the same.
-LIMIT = re.compile(
-    r"antt ran out of (stack|the (steps|memory) that the check of one declaration may (take|use))"
-    r"|(outgrew the memory limit|stopped at the step limit) \("
+from wrong_checks import (
+    ANSWER,
+    FAULT,
+    LIMIT,
+    are_built,
+    checking,
+    found_in,
+    goals_of,
+    is_refused,
+    is_unproved,
+    last_names,
+    libraries_of,
+    listed_libraries,
+    shown,
+    wait_for,
 )
-
-
-def last_names(name: str) -> str:
-    """A method is told with the module of its type, not with its own."""
-    return "::".join(name.split("::")[-2:])
-
-
-def found_in(answers: dict[str, str], name: str) -> str:
-    """The name that a check tells for this one."""
-    alike = [it for it in answers if it.endswith(f"::{last_names(name)}")]
-    return name if name in answers or len(alike) != 1 else alike[0]
-
-
-def is_refused(said: str) -> bool:
-    """Whether a function is refused for what it does itself, and not only for what it calls."""
-    return said.startswith("not proved") or "` did not prove `" in said
-
-
-def goals_of(told: str) -> dict[str, list[str]]:
-    """The goals that a check leaves open, by function: notes come before their function."""
-    goals: dict[str, list[str]] = {}
-    open_goals: list[str] = []
-    for line in told.split("\n"):
-        note, answer = OPEN.match(line), ANSWER.match(line)
-        if note:
-            open_goals.append(note[1])
-        elif answer:
-            unfound = UNFOUND.search(answer[2])
-            named = re.findall("`([^`]+)`", unfound[1]) if unfound else []
-            goals[answer[1]] = [*dict.fromkeys([*open_goals, *named])]
-            open_goals = []
-    return goals
-
-
-def shown(goals: list[str]) -> str:
-    """The first of these goals that is of a clause, or else the first, and how many more."""
-    first = next((it for it in goals if it.startswith("returns")), goals[0])
-    more = f" and {len(goals) - 1} more" if len(goals) > 1 else ""
-    return f"{first}{more}"
-
-
-def is_unproved(status: int, told: str) -> bool:
-    return status == 1 and UNPROVED.search(told) is not None
-
-
-def listed_libraries() -> dict[str, list[str]]:
-    """The libraries that crates.txt lists for each crate."""
-    lines = text_of(f"{ROOT}/crates.txt").split("\n")
-    listed = [it.partition("#")[0].partition(":") for it in lines]
-    return {it[0].split()[0]: it[2].split() for it in listed if it[0].strip()}
-
-
-def libraries_of(name: str) -> tuple[list[str], list[str], list[str]]:
-    """The crate's libraries: the repository's, with those below them, and the kit's."""
-    listed = listed_libraries()
-    own = [it for it in listed[name] if it in listed]
-    below = [*own]
-    for one in below:
-        below += [it for it in listed[one] if it in listed and it not in below]
-    return own, below, [it for it in listed[name] if it not in listed]
-
-
-def rlibs(name: str) -> str:
-    return f"{crate_folder(name)}/out/rlib"
-
-
-def checking(name: str) -> list[str]:
-    """The command that checks the crate in the current folder over its libraries as built."""
-    own, below, of_kit = libraries_of(name)
-    root = "main" if os.path.isfile(f"{crate_folder(name)}/src/main.rt") else "lib"
-    words = [f"{KIT}/bin/rattle", "check", "--crate-name", name, f"src/{root}.rt"]
-    for it in ["std", *of_kit]:
-        words += ["--extern", f"{it}={KIT}/rlibs/{it}.rlib"]
-    words += ["-L", f"dependency={KIT}/rlibs"]
-    for it in own:
-        words += ["--extern", f"{it}={rlibs(it)}/{it}.rlib"]
-    for it in below:
-        words += ["-L", f"dependency={rlibs(it)}"]
-    words += ["--antt-project", f"{KIT}/rattle/logic/antt-project.json"]
-    words += ["--logic-built", f"{KIT}/logic_built"]
-    return [*words, "--links", f"{name}=", "--jobs", "1", "--incremental", "kept"]
+from wrong_edits import ROOT, Body, Piece, crate_folder, text_of, with_bodies
 
 
 class Crate:
@@ -146,24 +70,12 @@ class Crate:
         self.refused = self.unfit = self.failed = self.checks = 0
         self.bodies = [Body(name, it) for it in edits]
 
-    def edited(self, body: Body, texts: dict[str, str]) -> Optional[dict[str, str]]:
-        """The texts with this body put into them, if each text that it replaces is there once."""
-        texts = dict(texts)
-        for path, old, new in body.pairs:
-            if path not in texts:
-                texts[path] = text_of(f"{crate_folder(self.name)}/{path}")
-            if texts[path].count(old) != 1:
-                return None
-            texts[path] = texts[path].replace(old, new)
-        return texts
-
     def check(self, bodies: list[Body], functions: Iterable[str] = ()) -> tuple[int, str]:
         """Puts these bodies in place, checks the crate or these functions, and takes them back.
         Returns the status of the check and what it printed."""
-        texts: dict[str, str] = {}
-        for body in bodies:
-            texts = self.edited(body, texts) or {}
+        texts = with_bodies(self.name, bodies)
         for path, text in texts.items():
+            os.makedirs(os.path.dirname(f"{self.folder}/{path}"), exist_ok=True)
             with open(f"{self.folder}/{path}", "w", encoding="utf-8") as file:
                 file.write(text)
         self.checks += 1
@@ -180,19 +92,21 @@ class Crate:
             return ran.returncode, ran.stdout
         finally:
             for path in texts:
-                shutil.copyfile(f"{crate_folder(self.name)}/{path}", f"{self.folder}/{path}")
+                if os.path.isfile(f"{crate_folder(self.name)}/{path}"):
+                    shutil.copyfile(f"{crate_folder(self.name)}/{path}", f"{self.folder}/{path}")
+                else:
+                    shutil.rmtree(os.path.dirname(f"{self.folder}/{path}"), ignore_errors=True)
 
     def group(self, pending: list[Body]) -> list[Body]:
-        """As many of these bodies as are of different functions and leave each other's texts."""
+        """As many of these bodies as can be tried together: the first of a function in its place,
+        others beside it."""
         chosen: list[Body] = []
-        functions: set[str] = set()
-        texts: dict[str, str] = {}
+        edited: set[Piece] = set()
         for body in pending:
-            with_it = self.edited(body, texts)
-            if body.is_of_functions() and not body.functions & functions and with_it:
+            body.is_beside = body.is_over or not edited.isdisjoint(body.texts)
+            if body.is_of_functions() and (not body.is_beside or body.may_be_beside()):
                 chosen.append(body)
-                functions |= body.functions
-                texts = with_it
+                edited.update([] if body.is_beside else body.texts)
         return chosen
 
     def fail(self, body: Body, why: str) -> None:
@@ -200,7 +114,7 @@ class Crate:
         self.told.append(f"{body.name}: FAILED: {why}")
 
     def refuse(self, body: Body, goals: list[str], why: str) -> None:
-        """Counts the body as refused, for the first of these goals if there is one."""
+        """Counts the body as refused, for the first of these goals; without a goal as unfit."""
         self.refused += bool(goals)
         self.unfit += not goals
         by = f"refused: {shown(goals)}" if goals else "UNFIT: only a written proof does not fit"
@@ -209,7 +123,8 @@ class Crate:
     def alone(self, body: Body) -> None:
         """Tries one body, with which the crate has to be unproved. A limit of the prover is no
         proof either."""
-        status, told = self.check([body])
+        body.is_beside = body.is_over
+        status, told = self.check([body], body.named)
         said = next((it for it in told.split("\n") if FAULT.match(it)), told[-160:])
         why = f"alone: {said[:160]}"
         if status == 3 and LIMIT.search(told):
@@ -222,9 +137,9 @@ class Crate:
     def together(self, bodies: list[Body]) -> Optional[list[Body]]:
         """Tries these bodies together, and returns those of which nothing is known yet, or None
         if that tells nothing of any."""
-        status, told = self.check(bodies, {name for it in bodies for name in it.functions})
+        status, told = self.check(bodies, {name for it in bodies for name in it.functions()})
         answers, goals = dict(ANSWER.findall(told)), goals_of(told)
-        functions = {it: sorted({found_in(answers, one) for one in it.functions}) for it in bodies}
+        functions = {it: sorted(found_in(answers, one) for one in it.functions()) for it in bodies}
         edited = {name for names in functions.values() for name in names}
         others = [it for it, said in answers.items() if is_refused(said) and it not in edited]
         if not is_unproved(status, told) or others:
@@ -245,8 +160,10 @@ class Crate:
         return left
 
     def left_of(self, bodies: list[Body]) -> list[Body]:
-        """Tries these bodies, in halves if together they tell nothing, and returns those of which
-        nothing is known yet."""
+        """Tries these bodies together, or in halves if that shows nothing.
+
+        Returns those that are still open.
+        """
         left = self.together(bodies) if bodies[0].is_of_functions() else None
         if len(bodies) == 1 and left != []:
             self.alone(bodies[0])
@@ -257,8 +174,7 @@ class Crate:
         return left
 
     def run(self) -> None:
-        # Those beside a function leave its text as it is, for an edit of it.
-        pending = sorted(self.bodies, key=lambda it: not it.is_beside)
+        pending = self.bodies
         while pending:
             bodies = self.group(pending) or pending[:1]
             pending = self.left_of(bodies) + [it for it in pending if it not in bodies]
@@ -283,8 +199,10 @@ def edits_of(name: str, options: argparse.Namespace) -> list[str]:
 
 
 def take_kept(name: str, to: str) -> None:
-    """Lets the checks in a copy of the crate begin with what its own check kept, if it kept any.
-    A file of that is replaced and never written into, so that a link serves."""
+    """Gives the checks in a copy of the crate the results that its own check kept, if any.
+
+    Such a file is replaced and never written into, so a link is enough.
+    """
     kept = f"{crate_folder(name)}/out/incremental"
     try:
         shutil.copytree(kept, to, copy_function=os.link)
@@ -293,15 +211,21 @@ def take_kept(name: str, to: str) -> None:
         os.mkdir(to)
 
 
-def tried(name: str, edits: Iterable[str]) -> tuple[int, int, int]:
-    """Tries the wrong bodies of a crate in a copy of it, and returns how many were refused, how
-    many only by a proof that does not fit, and how many were not refused."""
+def tried(name: str, options: argparse.Namespace) -> tuple[int, int, int]:
+    """Tries the wrong bodies of a crate in a copy of it.
+
+    Returns how many were refused, how many were unfit, and how many failed.
+    """
+    if options.process:
+        wait_for(libraries_of(name)[1], options.process)
     with tempfile.TemporaryDirectory(prefix="wrong-bodies-") as room:
         for part in ("src", "specs", "proofs"):
             if os.path.isdir(f"{crate_folder(name)}/{part}"):
                 shutil.copytree(f"{crate_folder(name)}/{part}", f"{room}/{part}")
         take_kept(name, f"{room}/kept")
-        crate = Crate(room, name, edits)
+        crate = Crate(room, name, edits_of(name, options))
+        if not (options.all or options.edits):
+            crate.bodies = [it for it in crate.bodies if it.is_public()]
         crate.run()
     crate.told.append(f"{name}: {len(crate.bodies)} wrong bodies in {crate.checks} checks")
     print("\n".join(crate.told), flush=True)
@@ -324,7 +248,7 @@ def each_alone(names: list[str], options: argparse.Namespace) -> int:
 
 
 def size_of(name: str) -> int:
-    """The bytes of the crate's code, by which its check takes longer or shorter."""
+    """The bytes of the crate's code, which decide how long its check takes."""
     found = os.walk(f"{crate_folder(name)}/src")
     return sum(os.path.getsize(f"{at}/{it}") for at, _, files in found for it in files)
 
@@ -339,7 +263,8 @@ def options_of(words: list[str]) -> argparse.Namespace:
     parser.add_argument(
         "--all",
         action="store_true",
-        help="those in wrong-bodies/more too, second ones of a function, and those in must-fail",
+        help="also those of functions that no other crate can call, and those in wrong-bodies/more"
+        " and must-fail",
     )
     parser.add_argument(
         "--alone",
@@ -348,6 +273,14 @@ def options_of(words: list[str]) -> argparse.Namespace:
         " function, in half a minute to two minutes for each",
     )
     parser.add_argument("--edits", metavar="FOLDER", help="the edits in this folder, all of CRATE")
+    parser.add_argument(
+        "--while",
+        dest="process",
+        metavar="PROCESS",
+        type=int,
+        help="the number of a process that builds the libraries meanwhile, as 'rt ci' does: a crate"
+        " waits for those below it",
+    )
     options = parser.parse_args(words)
     if options.edits and len(options.crates) != 1:
         parser.error("--edits wants one CRATE")
@@ -361,14 +294,18 @@ def main(words: list[str]) -> int:
     if options.alone:
         return each_alone(options.crates, options)
     needed = {below for it in options.crates for below in libraries_of(it)[1]}
-    if not all(os.path.isdir(f"{rlibs(it)}/{it}.rlib") for it in needed):
-        # (a check of the program builds all libraries below it)
-        subprocess.run(["rt", "check"], cwd=crate_folder("flutejoin_cli"), check=True)
-    # The longest first.
-    crates = sorted(options.crates, key=size_of, reverse=True)
+    if options.process:
+        # Those that may begin first.
+        crates = [it for it in listed_libraries() if it in options.crates]
+    else:
+        if not are_built(needed):
+            # (a check of the program builds all libraries below it)
+            subprocess.run(["rt", "check"], cwd=crate_folder("flutejoin_cli"), check=True)
+        # The longest first.
+        crates = sorted(options.crates, key=size_of, reverse=True)
     try:
         with ThreadPoolExecutor(len(os.sched_getaffinity(0))) as pool:
-            found = [*pool.map(lambda it: tried(it, edits_of(it, options)), crates)]
+            found = [*pool.map(lambda it: tried(it, options), crates)]
     except ValueError as fault:
         print(f"wrong_bodies.py: {fault}", file=sys.stderr)
         return 2

@@ -1,19 +1,24 @@
-"""Wrong bodies as files have them, and the names that a check has for the functions they edit.
+"""Wrong bodies as files have them, and the functions of a crate that they edit.
 
-An edit has lines 'file: PATH', 'old: TEXT' or 'over: HEAD', and 'new: TEXT': see wrong_bodies.py.
+An edit has lines 'file: PATH', 'old: TEXT' or 'over: HEAD', 'new: TEXT', and 'of: FUNCTION': see
+wrong_bodies.py.
 """
 from __future__ import annotations
 
+import functools
 import os
 import re
-from typing import Optional
+from pathlib import Path
+from typing import Iterable, NamedTuple
 
 ROOT = os.path.dirname(os.path.dirname(os.path.abspath(__file__)))
 
 PUB = r"(?:pub(?:\([^)]*\))? )?"
-FUNCTION = re.compile(rf"^( *){PUB}(?:const |final |unsafe )*fn (\w+)", re.M)
+FUNCTION = re.compile(rf"^(?: *#\[.*\]\n)*( *){PUB}(?:const |final |unsafe )*fn (\w+)", re.M)
 ITEM = re.compile(rf"^{PUB}(?:impl|trait|struct|enum)\b[^{{;]*", re.M)
 OWNER = re.compile(rf"{PUB}(?:impl|trait)\b")
+# The files of a written proof.
+PROOFS = ("Answers.antt", "Invariants.antt", "Proof.antt")
 
 
 def text_of(path: str) -> str:
@@ -25,37 +30,78 @@ def crate_folder(name: str) -> str:
     return f"{ROOT}/crates/{name}"
 
 
+class Piece(NamedTuple):
+    """A function in a file of a crate, with the attributes above it, or a text between functions,
+    which has no name."""
+
+    path: str
+    start: int
+    text: str
+    name: str = ""  # as a check tells it, but for the module of a method's type
+    is_free: bool = False  # of no trait and in no cycle of calls
+    is_public: bool = True  # a text between functions, or one that other crates can call
+
+
 class Body:
-    """A wrong body: its name, its files with their pairs of texts, the functions it changes, and
-    whether these are others beside those of the crate."""
+    """A wrong body: its name, what it makes of each piece that it changes, whether that calls the
+    function that was there, and whether it is put beside that function or in its place."""
 
     def __init__(self, crate: str, file: str) -> None:
         what = os.path.basename(file)[: -len(".edit")]
-        self.name = f"{crate}/{what}"
-        self.is_beside = True
-        self.pairs: list[tuple[str, str, str]] = []
-        self.functions: set[str] = set()  # a text outside functions is of ""
-        texts: dict[str, str] = {}
-        for path, key, old, new in pairs_of(text_of(file)):
-            if path not in texts:
-                texts[path] = text_of(f"{crate_folder(crate)}/{path}")
-            text = texts[path]
-            times = text.count(old)
+        self.crate, self.name, self.suffix = crate, f"{crate}/{what}", re.sub(r"\W", "_", what)
+        self.texts: dict[Piece, str] = {}
+        edit = text_of(file)
+        self.named = re.findall(r"^of: (\S+)$", edit, re.M)
+        pairs = pairs_of(edit)
+        if len({key for _, key, _, _ in pairs}) != 1:
+            raise ValueError(f"{self.name}: no pair of texts, or pairs of both kinds")
+        self.is_over = self.is_beside = pairs[0][1] == "over"
+        for path, _, old, new in pairs:
+            made = {it: self.texts.get(it, it.text) for it in pieces_of(crate, path)}
+            times = sum(it.count(old) for it in made.values())
             if times != 1:
                 raise ValueError(f"{self.name}: its text is {times} times in {path}, and not once")
-            if key == "over":
-                old, behind = with_wrong_one(text, old, new, what)
-                new = f"{old}\n{behind}"
-            self.is_beside &= key == "over"
-            until = text[: text.index(old)] + (new if key == "over" else old)
-            self.functions.add(enclosing(crate, path, until) or "")
-            texts[path] = text.replace(old, new)
-            self.pairs.append((path, old, new))
-        if not self.pairs:
-            raise ValueError(f"{self.name}: no pair of texts")
+            piece, text = next(it for it in made.items() if old in it[1])
+            changed = with_body(text, old, new) if self.is_over else text.replace(old, new)
+            self.texts[piece] = changed
+
+    def functions(self) -> set[str]:
+        """The names of the functions that it edits or adds: "" if it edits a text outside them."""
+        return {self.renamed(it.name) if self.is_beside else it.name for it in self.texts}
+
+    def renamed(self, function: str) -> str:
+        """The name of the function that it puts beside this one, so that there may be several."""
+        return re.sub(r"(\w+)$", rf"wrong_\1_{self.suffix}", function)
 
     def is_of_functions(self) -> bool:
-        return "" not in self.functions
+        return all(it.name for it in self.texts)
+
+    def is_public(self) -> bool:
+        return any(it.is_public for it in self.texts)
+
+    def may_be_beside(self) -> bool:
+        """Whether copies of its functions are refused as these are. No copy has the clauses of a
+        trait, and a whole proof that is written names its function in more ways."""
+        is_free = all(it.is_free for it in self.texts)
+        return self.is_over or is_free and PROOFS[2] not in {it.name for it in self.proofs()}
+
+    def proofs(self) -> list[Path]:
+        """The files of its functions' written proofs: a method's are in the module of its type."""
+        found: list[Path] = []
+        for piece in self.texts:
+            names = piece.name.split("::")[1:]
+            at = "/".join(["proofs", *(["**"] if names[1:] else []), *names[-2:], "*.antt"])
+            found += Path(crate_folder(self.crate)).glob(at)
+        return [it for it in found if it.name in PROOFS]
+
+    def files_beside(self) -> dict[str, str]:
+        """The written proofs of its copies: those of its functions, under the copies' names."""
+        files: dict[str, str] = {}
+        for file in [] if self.is_over else self.proofs():
+            folder = str(file.parent.relative_to(crate_folder(self.crate)))
+            old, new = (f".{it.replace('/', '.')}." for it in (folder, self.renamed(folder)))
+            files[f"{self.renamed(folder)}/{file.name}"] = text_of(str(file)).replace(old, new)
+        return files
 
 
 def pairs_of(text: str) -> list[tuple[str, str, str, str]]:
@@ -72,33 +118,73 @@ def pairs_of(text: str) -> list[tuple[str, str, str, str]]:
     return pairs
 
 
-def with_wrong_one(text: str, head: str, body: str, what: str) -> tuple[str, str]:
-    """The function with this head, and another with its signature and clauses, and this body: its
-    name says what is wrong, so that a function may have several."""
-    at = text.index(head)
-    start = text.rfind("\n", 0, at) + 1
-    indent = " " * (len(text[start:]) - len(text[start:].lstrip(" ")))
-    opening = text.find(f"\n{indent}{{\n", at)
-    closing = f"\n{indent}}}\n"
-    end = text.find(closing, opening) + len(closing)
-    wrong = re.sub(r"\W", "_", what)
-    clauses = re.sub(r"\bfn (\w+)", rf"fn wrong_\1_{wrong}", text[start:opening], count=1)
-    return text[start:end], f"{clauses}\n{indent}{{\n{indent}    {body}{closing}"
+def with_body(text: str, head: str, body: str) -> str:
+    """The function with this head with another body, without the attributes above it."""
+    text = text[text.rfind("\n", 0, text.index(head)) + 1 :]
+    indent = " " * (len(text) - len(text.lstrip(" ")))
+    clauses = text[: text.index(f"\n{indent}{{\n")]
+    return f"{clauses}\n{indent}{{\n{indent}    {body}\n{indent}}}\n"
 
 
-def enclosing(crate: str, path: str, text: str) -> Optional[str]:
-    """The name, as a check tells it, of the function that this text ends in, if it is in one."""
-    functions = [*FUNCTION.finditer(text)]
-    items = [*ITEM.finditer(text)]
-    if not functions or items and functions[-1].end() < items[-1].start():
-        return None
+def with_bodies(crate: str, bodies: Iterable[Body]) -> dict[str, str]:
+    """The files of a crate that these bodies change or add, with them."""
+    made: dict[Piece, str] = {}
+    files: dict[str, str] = {}
+    for body in sorted(bodies, key=lambda it: it.is_beside):
+        for piece, text in body.texts.items():
+            head = "fn " + piece.name.rpartition("::")[2]
+            beside = text.replace(head, body.renamed(head), 1)
+            made[piece] = made.get(piece, piece.text) + beside if body.is_beside else text
+        files |= body.files_beside() if body.is_beside else {}
+    for path in {it.path for it in made}:
+        files[path] = "".join(made.get(it, it.text) for it in pieces_of(crate, path))
+    return files
+
+
+@functools.cache
+def pieces_of(crate: str, path: str) -> list[Piece]:
+    """The pieces of a file in their order."""
+    text = text_of(f"{crate_folder(crate)}/{path}")
     inside = path[len("src/") : -len(".rt")]
-    names = [crate, *([] if inside in ("lib", "main") else inside.split("/"))]
-    indent, function = functions[-1].groups()
-    if indent:
-        owners = [it[0] for it in items if OWNER.match(it[0])]
-        names.append(owner_name(re.sub(f"^{PUB}", "", " ".join(owners[-1].split()))))
-    return "::".join([*names, function])
+    module = [] if inside in ("lib", "main") else inside.split("/")
+    heads = [*FUNCTION.finditer(text)]
+    pieces, end = [], 0
+    for head, until in zip(heads, [*(it.start() for it in heads[1:]), len(text)]):
+        pieces.append(Piece(path, end, text[end : head.start()]))
+        indent, name = head.groups()
+        # A function ends with its brace, and one without a body with the trait that it is in.
+        last = re.compile(rf"^{indent}(?:\{{\}}|\}})\n|^(?!{indent}|$)", re.M)
+        closing = last.search(text, head.end(), until)
+        end = closing.end() if closing else until
+        owners = [it[0] for it in ITEM.finditer(text[: head.start()]) if OWNER.match(it[0])]
+        owner = re.sub(f"^{PUB}", "", " ".join(owners[-1].split())) if indent else ""
+        full_name = "::".join([crate, *module, *([owner_name(owner)] if owner else []), name])
+        code = text[head.start() : end]
+        is_of_trait = re.search(r"^trait\b| for ", owner) is not None
+        is_free = not is_of_trait and "#[cycle" not in code
+        is_pub = is_of_trait or re.search(r"^ *pub ", head[0], re.M) is not None
+        seen = {owned_by(owner) if owner else name, *module[:1]} & exported_by(crate)
+        is_public = is_pub and bool(seen)
+        pieces.append(Piece(path, head.start(), code, full_name, is_free, is_public))
+    return [*pieces, Piece(path, end, text[end:])]
+
+
+@functools.cache
+def exported_by(crate: str) -> set[str]:
+    """The types, functions and modules that a library's root exports."""
+    root = f"{crate_folder(crate)}/src/lib.rt"
+    text = text_of(root) if os.path.isfile(root) else ""
+    passed_on = re.findall(r"^pub (?:mod|use) (?:\w+::)*([^;]*);", text, re.M)
+    names = {name for it in passed_on for name in re.findall(r"\w+", it)}
+    return names | {*re.findall(r"^pub (?:struct|enum|trait|fn) (\w+)", text, re.M)}
+
+
+def owned_by(head: str) -> str:
+    """The type or trait whose methods an impl or trait with this head has."""
+    if head.startswith("trait"):
+        return bare(head[len("trait") :])
+    trait, _, of = without_parameters(head[len("impl") :].strip()).partition(" for ")
+    return bare(of or trait)
 
 
 def owner_name(head: str) -> str:
@@ -109,10 +195,12 @@ def owner_name(head: str) -> str:
     trait, _, of = head.partition(" for ")
     if not of:
         trait, of = "", trait
-    # The name of a conversion has the type that it is from.
+    # The name of a conversion contains the type that it converts from.
     conversion = re.fullmatch(r"From<(.*)>", trait.strip())
     trait = f"From{bare(conversion[1])}" if conversion else bare(trait)
-    of = bare(of)
+    # A reference to a type parameter, or to a slice of one, is named as such.
+    lent = re.match(r"&mut (\[?)", of)
+    of = f"RefMut{'Slice' if lent[1] else ''}" if lent else bare(of)
     return of[:1].upper() + of[1:] + trait
 
 
@@ -129,6 +217,6 @@ def without_parameters(head: str) -> str:
 
 
 def bare(name: str) -> str:
-    """A type or trait without its path, its lifetime and its parameters."""
+    """The name of a type or trait, without its path, its lifetime and its parameters."""
     name = re.sub(r"<.*", "", name.strip().lstrip("&")).strip()
     return name.rpartition("::")[2]

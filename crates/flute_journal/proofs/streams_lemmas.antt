@@ -1,5 +1,5 @@
 -- Lemmas on the kinds of streams, in the order in which they cite each other.
-pub mod Pairs
+pub mod Eithers
 pub mod Chaining
 pub mod Loans
 pub mod JournalReads

@@ -48,6 +48,6 @@ pub use streams::journal_stream::{JournalStream, LentStream};
 pub use streams::owned_journal_stream::OwnedJournalStream;
 pub use streams::stream::Stream;
 pub use streams::walk_stream::WalkStream;
-pub use streams::{One, Pair, Slice, Streams};
+pub use streams::{Slice, Streams};
 pub use writers::datagram_file::write_datagrams;
 pub use writers::journal_of_store::write_store;

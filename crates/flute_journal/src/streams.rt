@@ -13,7 +13,6 @@ pub(crate) mod stream;
 pub(crate) mod walk_stream;
 
 use crate::fault::LoadFault;
-use crate::streams::either::Either;
 use crate::streams::stream::Stream;
 use flute_parts::FactRef;
 use std::alloc::Global;
@@ -49,7 +48,61 @@ pub trait Streams {
         ensures names { names self.new ≡ names self.old };
 }
 
-/// The streams of a slice.
+/// One stream, which is lent. It has the number 0.
+impl<S: Stream> Streams for &mut S {
+    ghost use Rattle.std.specs.Prelude.{[], ◌∷◌};
+
+    type Stream = S;
+
+    ghost streams = { λ s. s.now ∷ [] };
+
+    ghost names = { λ s. s.ghost_name ∷ [] };
+
+    #[inline(always)]
+    fn count(&self) -> usize {
+        1
+    }
+
+    #[inline(always)]
+    fn head(&self, _number: usize) -> Option<FactRef<'_>> {
+        (**self).head()
+    }
+
+    #[inline(always)]
+    fn advance(&mut self, _number: usize, alloc: Global) -> Result<(), LoadFault> {
+        (**self).advance(alloc)
+    }
+}
+
+/// The streams of a slice, which is lent.
+impl<S: Stream> Streams for &mut [S] {
+    ghost use Rattle.std.specs.Prelude.{[], ◌∷◌};
+
+    type Stream = S;
+
+    ghost streams = { λ s. s.now };
+
+    ghost names = { λ s. s.ghost_name ∷ [] };
+
+    #[inline(always)]
+    fn count(&self) -> usize {
+        self.len()
+    }
+
+    #[inline(always)]
+    fn head(&self, number: usize) -> Option<FactRef<'_>> {
+        let streams = &**self;
+        streams[number].head()
+    }
+
+    #[inline(always)]
+    fn advance(&mut self, number: usize, alloc: Global) -> Result<(), LoadFault> {
+        self[number].advance(alloc)
+    }
+}
+
+/// The streams of a slice in a struct: of a slice that a variable lends, the prover does not know
+/// what its streams became.
 #[derive(Debug, Drop)]
 pub struct Slice<'a, S> {
     streams: &'a mut [S],
@@ -75,89 +128,16 @@ impl<'a, S: Stream> Streams for Slice<'a, S> {
 
     #[inline(always)]
     fn count(&self) -> usize {
-        self.streams.len()
+        self.streams.count()
     }
 
     #[inline(always)]
     fn head(&self, number: usize) -> Option<FactRef<'_>> {
-        let streams = &*self.streams;
-        streams[number].head()
+        self.streams.head(number)
     }
 
     #[inline(always)]
     fn advance(&mut self, number: usize, alloc: Global) -> Result<(), LoadFault> {
-        self.streams[number].advance(alloc)
-    }
-}
-
-/// One stream.
-#[derive(Debug, Drop)]
-pub struct One<'a, S> {
-    pub stream: &'a mut S,
-}
-
-impl<'a, S: Stream> Streams for One<'a, S> {
-    ghost use Rattle.std.specs.Prelude.{[], ◌∷◌};
-
-    type Stream = S;
-
-    ghost streams = { λ s. s.stream.now ∷ [] };
-
-    ghost names = { λ s. s.stream.ghost_name ∷ [] };
-
-    #[inline(always)]
-    fn count(&self) -> usize {
-        1
-    }
-
-    #[inline(always)]
-    fn head(&self, _number: usize) -> Option<FactRef<'_>> {
-        self.stream.head()
-    }
-
-    #[inline(always)]
-    fn advance(&mut self, _number: usize, alloc: Global) -> Result<(), LoadFault> {
-        self.stream.advance(alloc)
-    }
-}
-
-/// Two streams, of whatever kinds.
-#[derive(Debug, Drop)]
-pub struct Pair<'a, 'b, A, B> {
-    pub first: &'a mut A,
-    pub second: &'b mut B,
-}
-
-impl<'a, 'b, A: Stream, B: Stream> Streams for Pair<'a, 'b, A, B> {
-    ghost use Rattle.std.specs.Prelude.{[], ◌∷◌};
-    ghost use Rattle.flute_journal.specs.declared.streams.either.Either.TheVariants.{First, Second};
-
-    type Stream = Either<A, B>;
-
-    ghost streams = { λ p. First p.first.now ∷ Second p.second.now ∷ [] };
-
-    ghost names = { λ p. p.first.ghost_name ∷ p.second.ghost_name ∷ [] };
-
-    #[inline(always)]
-    fn count(&self) -> usize {
-        2
-    }
-
-    #[inline(always)]
-    fn head(&self, number: usize) -> Option<FactRef<'_>> {
-        if number == 0 {
-            self.first.head()
-        } else {
-            self.second.head()
-        }
-    }
-
-    #[inline(always)]
-    fn advance(&mut self, number: usize, alloc: Global) -> Result<(), LoadFault> {
-        if number == 0 {
-            self.first.advance(alloc)
-        } else {
-            self.second.advance(alloc)
-        }
+        self.streams.advance(number, alloc)
     }
 }

@@ -6,7 +6,6 @@ mod Mapped
 mod join_lemmas
 mod Firsts
 mod extract_lemmas
-mod command_line_lemmas
 mod Forgotten
 mod Lefts
 mod info_lemmas

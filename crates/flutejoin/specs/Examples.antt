@@ -1,11 +1,8 @@
--- Texts that name a sender, how it is named, and texts that are a size, computed from the
--- definitions.
+-- Texts that name a sender, and how it is named, computed from the definitions.
 use Rattle.std.specs.Prelude.{◌≡◌, ◌+◌, ◌*◌, ◌^◌, ℕ, refl, codes, [], Some, None}
 use Rattle.hex.specs.Hex.{decode_pairs, encode_with}
 use Rattle.flutejoin.specs.Sender.{sender_named}
 use Rattle.flutejoin.specs.Lines.{source_words}
-use Rattle.flutejoin.specs.Options.{number_in}
-use Rattle.flutejoin.specs.Sizes.{size_of}
 
 -- the sender with the IPv4 address 10.0.0.1, by 8 digits or by 32, in upper or lower case;
 -- other texts name none
@@ -24,12 +21,3 @@ pub told_of_sender : (source_words sender ≡ codes "source 00000000000000000000
     × (source_words 0 ≡ [])
 unfolding encode_with
 told_of_sender = (refl, refl)
-
--- how many bytes a size is; other texts are none
-pub sizes : (size_of (codes "1000") ≡ Some 1000) × (size_of (codes "1K") ≡ Some 1024)
-    × (size_of (codes "256M") ≡ Some 268435456) × (size_of (codes "02G") ≡ Some 2147483648)
-    × (size_of (codes "4294967296G") ≡ Some (2 ^ 62)) × (size_of (codes "4294967297G") ≡ None)
-    × (size_of (codes "0K") ≡ None) × (size_of (codes "1k") ≡ None)
-    × (size_of (codes "1MB") ≡ None) × (size_of (codes "K") ≡ None) × (size_of [] ≡ None)
-unfolding size_of number_in
-sizes = (refl, refl, refl, refl, refl, refl, refl, refl, refl, refl, refl)

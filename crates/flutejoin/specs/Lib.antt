@@ -41,9 +41,3 @@ pub mod Gaps
 pub mod ExtractAll
 pub mod FileNames
 pub mod ObjectFiles
-pub mod Parser
-pub mod Options
-pub mod Sizes
-pub mod Selecting
-pub mod Scoping
-pub mod CommandLine

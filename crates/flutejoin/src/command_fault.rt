@@ -77,7 +77,7 @@ pub enum CommandFault {
     #[error("list: line {0}: {1}")]
     ListInformation(u64, InfoFault),
     /// A journal, or all inputs together, have more sessions, objects or symbols than a store
-    /// holds.
+    /// holds, or a command would leave a file of more entries or datagrams than the commands read.
     #[error("full")]
     Full,
     /// Nothing of the object is held.

@@ -20,8 +20,9 @@ use flute_parts::{Fact, Info, Key, Sink, Source};
 use std::alloc::Global;
 
 /// Writes the journal of all that a journal contains, of at most 16,777,216 entries, and the
-/// information of an object with it, and returns the number of its entries. If the journal contains
-/// other information of that object, the two are in conflict from then on. One entry is held.
+/// information of an object with it, and returns the number of its entries, which may be one more.
+/// If the journal contains other information of that object, the two are in conflict from then on.
+/// One entry is held.
 ///
 /// # Errors
 ///

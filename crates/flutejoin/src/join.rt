@@ -57,7 +57,8 @@ use std::alloc::Global;
 ///
 /// First the datagram files are read, record by record, and their facts are held: up to
 /// about `memory` bytes in memory, and the rest aside, as journals. Then the journals are read, and
-/// the journal of all is written meanwhile: one entry of each is held.
+/// the journal of all is written meanwhile: one entry of each is held. It may have more entries
+/// than are read of an input.
 ///
 /// # Errors
 ///

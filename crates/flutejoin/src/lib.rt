@@ -1,4 +1,4 @@
-//! The commands of the program `flutejoin`, each over any source and sink, and its command line.
+//! The commands of the program `flutejoin`, each over any source and sink.
 //!
 //! [`join_to`] joins journals and datagram files, [`gaps_from`] lists what is missing, and
 //! [`extract_to`] writes an object exactly if it is whole. Replicas that take steps, and the
@@ -22,7 +22,6 @@
 mod aside;
 mod carousel;
 mod command_fault;
-mod command_line;
 mod extract;
 mod forget;
 mod gaps;
@@ -42,7 +41,6 @@ mod show;
 pub use aside::{Aside, Asides, MemoryAside};
 pub use carousel::send_to;
 pub use command_fault::{CommandFault, at_input, load_fault};
-pub use command_line::{Line, line_of};
 pub use extract::extract_all::extract_all_to;
 pub use extract::extract_to;
 pub use extract::file_names::{different_objects_have_different_names, file_name};
@@ -59,8 +57,8 @@ pub use join::join_to;
 pub use join::joined::{Joined, JoinedShelf};
 pub use join::peeked_source::PeekedSource;
 pub use limits::{
-    ANY_OBJECTS, ANY_SESSIONS, ANY_SYMBOLS, DEFAULT_MEMORY, MAX_ENTRIES, MAX_INPUTS, MAX_OBJECTS,
-    MAX_SESSIONS, MAX_SYMBOLS,
+    ANY_OBJECTS, ANY_SESSIONS, ANY_SYMBOLS, DEFAULT_MEMORY, MAX_ENTRIES, MAX_INPUTS, MAX_MEMORY,
+    MAX_OBJECTS, MAX_SESSIONS, MAX_SYMBOLS,
 };
 pub use lines::report_lines::{count_to, write_words};
 pub use lines::style::Style;
@@ -69,5 +67,5 @@ pub use merge::merge_to;
 pub use nothing::Nothing;
 pub use output_guard::Overwrites;
 pub use packet::packet_to;
-pub use sender::sender_of;
+pub use sender::{sender_in, sender_of};
 pub use show::show_to;

@@ -12,7 +12,7 @@ use flute_parts::{Sink, Source};
 use std::alloc::Global;
 
 /// Writes the journal of all that two journals contain, of at most 16,777,216 entries each, and
-/// returns the number of its entries. It holds one entry of each.
+/// returns the number of its entries, which may be more. It holds one entry of each.
 ///
 /// # Errors
 ///

@@ -1,8 +1,7 @@
 //! Senders on the command line, and in the lines that are printed.
 ghost use Rattle.std.specs.Prelude.{◌≡◌, ◌+◌, ◌≤◌, ◌++◌, ℕ, MatchOption, length};
-ghost use Rattle.flutejoin.specs.Options.{NamesSender};
 ghost use Rattle.flutejoin.specs.Lines.{source_words};
-ghost use Rattle.flutejoin.specs.Sender.{sender_named};
+ghost use Rattle.flutejoin.specs.Sender.{NamesSender, sender_named};
 
 use crate::lines::text::Text;
 use byteorder::{BigEndian, ByteOrder};

@@ -188,7 +188,8 @@ fn reads(file: &mut File, buffer: &mut [u8]) -> bool {
     file.read_exact(buffer).is_ok()
 }
 
-// A new file whose path begins so, and whose name is taken away at once.
+// A new file whose path begins so, and whose name is taken away at once. Names that were left
+// before it are taken away too.
 fn unnamed(rt: &HostRuntime, prefix: &str) -> io::Result<File> {
     let mut digits = Buffer::new();
     for number in 0..NAMES {
@@ -202,12 +203,33 @@ fn unnamed(rt: &HostRuntime, prefix: &str) -> io::Result<File> {
             .open(rt, &path);
         match made {
             Ok(file) => {
-                fs::remove_file(rt, &path)?;
+                remove(rt, &path)?;
                 return Ok(file);
             }
-            Err(error) if error.kind() == ErrorKind::AlreadyExists => {}
+            Err(error) if error.kind() == ErrorKind::AlreadyExists => {
+                if is_left(rt, &path) {
+                    let _ = remove(rt, &path);
+                }
+            }
             Err(error) => return Err(error),
         }
     }
     Err(ErrorKind::AlreadyExists.into())
+}
+
+// Takes a name away, if another command has not done so.
+fn remove(rt: &HostRuntime, path: &str) -> io::Result<()> {
+    match fs::remove_file(rt, path) {
+        Err(error) if error.kind() != ErrorKind::NotFound => Err(error),
+        _ => Ok(()),
+    }
+}
+
+// Whether a path is that of an empty file: a command that was killed left it, or another is about
+// to take its name away.
+fn is_left(rt: &HostRuntime, path: &str) -> bool {
+    match fs::symlink_metadata(rt, path) {
+        Ok(found) => found.is_file() && found.len() == 0,
+        Err(_) => false,
+    }
 }

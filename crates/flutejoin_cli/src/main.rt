@@ -16,7 +16,7 @@ use crate::streams::{standard_error, standard_output};
 use crate::system::System;
 use flute_output::take_standard_streams;
 use flutejoin::CommandFault;
-use flutejoin_commands::run;
+use flutejoin_run::run;
 use std::env;
 use std::io::{self, ErrorKind};
 use std::process::ExitCode;

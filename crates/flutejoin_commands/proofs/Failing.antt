@@ -13,18 +13,6 @@ pub if_told : {A E C : Type 0} (r : Result A E) (tells : Bool) (D : C → Type 0
 if_told (Ok a) tells D P N f n = tt
 if_told (Err e) tells D P N f n = (f, n)
 
--- a result's clause: what holds for each value that may be known, if it is
-pub if_done : {A E C : Type 0} (r : Result A E) (tells : Bool) (D : C → Type 0)
-    (P : C → A → Type 0) → (tells ≡ true → (x : C) → D x → IfOk r (P x))
-    → IfOk r (λ a. tells ≡ true → (x : C) → D x → P x a)
-if_done (Ok a) tells D P f = f
-if_done (Err e) tells D P f = tt
-
--- what holds of a fault for one thing, as one of two that may hold
-pub IfErr-of : {A E C : Type 0} (r : Result A E) (P : E → Type 0) (S : C → Type 0) (Q : C → E → Type 0) (x : C) → S x → IfErr r (Q x) → IfErr r (λ e. P e ⊎ ((y : C) × S y × Q y e))
-IfErr-of (Ok a) P S Q x s q = tt
-IfErr-of (Err e) P S Q x s q = inr (x, s, q)
-
 -- the fault of the work, or the reason why there is no output if it could be done
 pub first_fault : {A : Type 0} (writes : A → Option (List ℕ) → Option (List ℕ) → Type 0)
     (fails : CommandFault → Type 0) (old new : Option (List ℕ)) (done : Result A CommandFault)

@@ -1,7 +1,6 @@
 mod Closed
 pub mod Failing
 mod Checks
-mod FewInputs
 pub mod LeftFiles
 pub mod ObjectBytes
 pub mod OfNames

@@ -18,12 +18,6 @@ module _ (files : Option Files) (name : List ℕ) (known : Option (List ℕ))
   not_printed G B left (Err e) p =
       inr (told_of files name known h (λ k. (l : Option (List ℕ)) × G k l e) (left, p))
 
--- a fault that may be another one
-pub or_fails : (P Q : CommandFault → Type 0) (r : Result (Unit {0}) CommandFault) → IfErr r Q
-    → IfErr r (λ fault. P fault ⊎ Q fault)
-or_fails P Q (Ok u) q = tt
-or_fails P Q (Err e) q = inr q
-
 -- two facts of one fault
 pub both : (P Q : CommandFault → Type 0) (r : Result (Unit {0}) CommandFault) → IfErr r P
     → IfErr r Q → IfErr r (λ fault. P fault × Q fault)

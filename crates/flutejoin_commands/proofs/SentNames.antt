@@ -4,7 +4,7 @@ use Rattle.std.proofs.Common.{IfErr}
 use Rattle.std.proofs.Common.{inl, inr, sym, subst}
 use Rattle.std.specs.Prelude.{OnOk}
 use Rattle.flute_parts.specs.declared.key.Key.{Key}
-use Rattle.flutejoin.specs.Carousel.{SendsInput, SendFails}
+use Rattle.flutejoin_commands.specs.Works.{SendsRead, SendReadFails}
 use Rattle.flutejoin.specs.declared.command_fault.CommandFault.{CommandFault}
 use Rattle.flutejoin_commands.specs.Files.{Files, HasBytes}
 use Rattle.flutejoin_commands.specs.Named.{MeasureFails, SendsName, SendNameFails}
@@ -25,33 +25,33 @@ module _ (files : Option Files) (name : List ℕ) (known : Option (List ℕ))
   pub not_measured : (fault : CommandFault) → MeasureFails known fault
       → SendNameFails files name key symbol block fault
   not_measured fault m = inr (told_of files name known h
-      (λ k. MeasureFails k fault ⊎ SendFails k key symbol block fault) (inl m))
+      (λ k. MeasureFails k fault ⊎ SendReadFails k key symbol block fault) (inl m))
 
   module _ (out : List ℕ) (old new : Outside) (r : Result (Unit {0}) CommandFault) where
-    pub sent : OnOk r (Leaves (SendsInput known key symbol block)
-        (SendsInput known key symbol block) datagrams_line out old new)
+    pub sent : OnOk r (Leaves (SendsRead known key symbol block)
+        (SendsRead known key symbol block) datagrams_line out old new)
         → OnOk r (Leaves (SendsName files name key symbol block)
         (SendsName files name key symbol block) datagrams_line out old new)
-    sent = left_of (λ (k : Option (List ℕ)). SendsInput k key symbol block)
-        (λ (k : Option (List ℕ)). SendsInput k key symbol block)
-        (λ (k : Option (List ℕ)). SendFails k key symbol block) files name known h out old new
-        datagrams_line r
+    sent = left_of (λ (k : Option (List ℕ)). SendsRead k key symbol block)
+        (λ (k : Option (List ℕ)). SendsRead k key symbol block)
+        (λ (k : Option (List ℕ)). SendReadFails k key symbol block)
+        files name known h out old new datagrams_line r
 
-    pub not_sent : IfErr r (FailsToLeave (SendsInput known key symbol block)
-        (SendFails known key symbol block) out old new)
+    pub not_sent : IfErr r (FailsToLeave (SendsRead known key symbol block)
+        (SendReadFails known key symbol block) out old new)
         → IfErr r (FailsToLeave (SendsName files name key symbol block)
         (SendNameFails files name key symbol block) out old new)
-    not_sent = elim r as (λ r. IfErr r (FailsToLeave (SendsInput known key symbol block)
-        (SendFails known key symbol block) out old new)
+    not_sent = elim r as (λ r. IfErr r (FailsToLeave (SendsRead known key symbol block)
+        (SendReadFails known key symbol block) out old new)
         → IfErr r (FailsToLeave (SendsName files name key symbol block)
         (SendNameFails files name key symbol block) out old new)) [
           | Ok u ↦ λ l. tt
-          | Err e ↦ λ l. fails_told (SendsInput known key symbol block)
-              (SendsInput known key symbol block) (SendsName files name key symbol block)
+          | Err e ↦ λ l. fails_told (SendsRead known key symbol block)
+              (SendsRead known key symbol block) (SendsName files name key symbol block)
               (SendsName files name key symbol block)
-              (λ n o w. told_of files name known h (λ k. SendsInput k key symbol block n o w))
-              (λ n o w. told_of files name known h (λ k. SendsInput k key symbol block n o w))
-              out (SendFails known key symbol block) (SendNameFails files name key symbol block)
+              (λ n o w. told_of files name known h (λ k. SendsRead k key symbol block n o w))
+              (λ n o w. told_of files name known h (λ k. SendsRead k key symbol block n o w))
+              out (SendReadFails known key symbol block) (SendNameFails files name key symbol block)
               old new e (λ w. inr (told_of files name known h
-              (λ k. MeasureFails k e ⊎ SendFails k key symbol block e) (inr w))) l
+              (λ k. MeasureFails k e ⊎ SendReadFails k key symbol block e) (inr w))) l
         ]

@@ -6,7 +6,6 @@ pub mod Opened
 pub mod Outlets
 pub mod Printed
 pub mod Prints
-pub mod Runs
 pub mod Folders
 pub mod Works
 pub mod Worlds

@@ -2,23 +2,17 @@
 use Rattle.std.specs.Prelude.{◌≡◌, ◌⊎◌, ◌+◌, ◌<◌, ℕ, List, [], ◌∷◌, length, slice_get, Option}
 use Rattle.std.specs.Prelude.{Some, IfSome}
 use Rattle.std.specs.List.{AllZip}
-use Rattle.flute_journal.specs.Merges.{Merged}
 use Rattle.flute_journal.specs.declared.fault.ReadFault.TheVariants.{Read}
 use Rattle.flute_journal.specs.declared.choice.scope.Scope.{Scope}
 use Rattle.flute_journal.specs.declared.choice.selection.Selection.{Selection}
 use Rattle.flute_parts.specs.Information.{Information}
 use Rattle.flute_parts.specs.declared.key.Key.{Key}
-use Rattle.flutejoin.specs.InfoLists.{AddsList, AddListFails}
-use Rattle.flutejoin.specs.Carousel.{SendFails, SendsInput}
 use Rattle.flutejoin.specs.Forget.{ForgetFails}
 use Rattle.flutejoin.specs.Joined.{choice_of}
-use Rattle.flutejoin.specs.Joining.{JoinsTo}
-use Rattle.flutejoin.specs.JoinFaults.{JoinToFails, NamesOneOf}
-use Rattle.flutejoin.specs.Merge.{MergeFails}
+use Rattle.flutejoin.specs.JoinFaults.{NamesOneOf}
 use Rattle.flutejoin.specs.declared.forget.ForgetCounts.{ForgetCounts}
 use Rattle.flutejoin.specs.Limits.{Limits}
 use Rattle.flutejoin.specs.declared.join.join_counts.JoinCounts.{JoinCounts}
-use Rattle.flutejoin.specs.declared.limits.TheConstants.{MAX_ENTRIES}
 use Rattle.flutejoin.specs.declared.command_fault.CommandFault.{CommandFault}
 use Rattle.flutejoin.specs.declared.command_fault.CommandFault.TheVariants.{CannotOpen, CannotWrite}
 use Rattle.flutejoin.specs.declared.command_fault.CommandFault.TheVariants.{Input}
@@ -26,7 +20,9 @@ use Rattle.flutejoin.specs.declared.command_fault.CommandFault.TheVariants.{OutO
 use Rattle.flutejoin_commands.specs.Files.{Files, IfFiles, IsNoFile}
 use Rattle.flutejoin_commands.specs.Outlets.{Held, FailsHeld}
 use Rattle.flutejoin_commands.specs.Works.{AddsInformation, AddFails, WritesObject, ExtractFails}
-use Rattle.flutejoin_commands.specs.Works.{ForgetsIn}
+use Rattle.flutejoin_commands.specs.Works.{ForgetsIn, JoinReadFails, JoinsRead}
+use Rattle.flutejoin_commands.specs.Works.{AddListReadFails, AddsListRead}
+use Rattle.flutejoin_commands.specs.Works.{MergeReadFails, MergesRead, SendReadFails, SendsRead}
 use Rattle.flutejoin_commands.specs.Worlds.{IsNotOverwritten}
 
 abbrev pub IsAt : Files → List ℕ → List ℕ → Type 0
@@ -65,24 +61,25 @@ module _ (files : Option Files) where
   abbrev pub JoinsNames : Limits → ℕ → Scope → List (List ℕ) → JoinCounts
       → Option (List ℕ) → Option (List ℕ) → Type 0
   JoinsNames most sender scope names counts old new = IfFiles files (λ f. OfContents f names
-      (λ contents. JoinsTo (choice_of most sender scope) contents counts old new))
+      (λ contents. JoinsRead (choice_of most sender scope) contents counts old new))
 
   abbrev pub JoinNamesFails : Limits → ℕ → Scope → List (List ℕ) → CommandFault
       → Type 0
   JoinNamesFails most sender scope names fault =
       IsBefore files names fault
       ⊎ (IfFiles files (λ f. OfContents f names (λ contents.
-      JoinToFails (choice_of most sender scope) contents fault))
+      JoinReadFails (choice_of most sender scope) contents fault))
       × NamesOneOf (length names) fault)
 
   -- the journal of all that the files of two names contain
   abbrev pub MergesNames : List ℕ → List ℕ → ℕ → Option (List ℕ) → Option (List ℕ)
       → Type 0
-  MergesNames a b n old new = IfFiles files (λ f. Merged MAX_ENTRIES n (f a) (f b) old new)
+  MergesNames a b n old new = IfFiles files (λ f. MergesRead (f a) (f b) n old new)
 
   abbrev pub MergeNamesFails : List ℕ → List ℕ → CommandFault → Type 0
   MergeNamesFails a b fault =
-      IsBefore files (a ∷ b ∷ []) fault ⊎ IfFiles files (λ f. MergeFails (f a) (f b) fault)
+      IsBefore files (a ∷ b ∷ []) fault
+      ⊎ IfFiles files (λ f. MergeReadFails (f a) (f b) fault)
 
   -- the journal of all that the file of a name contains and of the information
   abbrev pub AddsToName : List ℕ → Key → Information → ℕ → Option (List ℕ)
@@ -108,12 +105,12 @@ module _ (files : Option Files) where
   -- the journal of all that the file of one name contains and of the list that another has
   abbrev pub AddsListOfNames : List ℕ → List ℕ → ℕ → Option (List ℕ)
       → Option (List ℕ) → Type 0
-  AddsListOfNames j list n old new = IfFiles files (λ f. AddsList (f j) (f list) n old new)
+  AddsListOfNames j list n old new = IfFiles files (λ f. AddsListRead (f j) (f list) n old new)
 
   abbrev pub AddListOfNamesFails : Limits → List ℕ → List ℕ → CommandFault → Type 0
   AddListOfNamesFails most j list fault =
       IsBefore files (j ∷ list ∷ []) fault
-      ⊎ IfFiles files (λ f. AddListFails most (f j) (f list) fault)
+      ⊎ IfFiles files (λ f. AddListReadFails most (f j) (f list) fault)
 
   -- the object that the file of a name makes whole
   abbrev pub WritesOfName : Limits → List ℕ → Key → ℕ → Option (List ℕ)
@@ -135,10 +132,10 @@ module _ (files : Option Files) where
   abbrev pub SendsName : List ℕ → Key → ℕ → ℕ → ℕ → Option (List ℕ)
       → Option (List ℕ) → Type 0
   SendsName name key symbol block n old new =
-      IfFiles files (λ f. SendsInput (f name) key symbol block n old new)
+      IfFiles files (λ f. SendsRead (f name) key symbol block n old new)
 
   abbrev pub SendNameFails : List ℕ → Key → ℕ → ℕ → CommandFault → Type 0
   SendNameFails name key symbol block fault =
       IsBefore files (name ∷ []) fault
       ⊎ IfFiles files (λ f. MeasureFails (f name) fault
-      ⊎ SendFails (f name) key symbol block fault)
+      ⊎ SendReadFails (f name) key symbol block fault)

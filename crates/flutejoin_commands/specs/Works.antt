@@ -1,27 +1,34 @@
 -- What the works of the commands write, why they fail, and what they report.
-use Rattle.std.specs.Prelude.{◌≡◌, ℕ, ◌++◌, ◌∷◌, List, [], if◌then◌else◌, length, Bool, true}
+use Rattle.std.specs.Prelude.{◌≡◌, ◌⊎◌, ℕ, ◌<◌, ◌≤◌, ◌++◌, ◌∷◌, List, [], if◌then◌else◌}
+use Rattle.std.specs.Prelude.{length, Bool, true}
 use Rattle.std.specs.Prelude.{Option, codes, Ok, Err}
 use Rattle.flute_parts.specs.Facts.{Same}
 use Rattle.flute_parts.specs.Information.{Information}
 use Rattle.flute_parts.specs.declared.fact.Fact.{Fact}
 use Rattle.flute_parts.specs.declared.fact.Fact.TheVariants.{Info}
 use Rattle.flute_parts.specs.declared.key.Key.{Key}
+use Rattle.flute_journal.specs.Merges.{Merged}
 use Rattle.flute_journal.specs.Scopes.{is_all}
 use Rattle.flute_journal.specs.declared.choice.scope.Scope.{Scope}
 use Rattle.flute_journal.specs.declared.choice.selection.Selection.{Selection}
+use Rattle.flutejoin.specs.Carousel.{SendFails, SendsInput}
 use Rattle.flutejoin.specs.Extract.{AnswersFrom, Extracts}
 use Rattle.flutejoin.specs.Forget.{Forgets}
 use Rattle.flutejoin.specs.Info.{AddsFacts, InfoFails}
+use Rattle.flutejoin.specs.InfoLists.{AddListFails, AddsList}
 use Rattle.flutejoin.specs.JoinInputs.{AreInputs}
-use Rattle.flutejoin.specs.Joined.{choice_of}
+use Rattle.flutejoin.specs.Joined.{Choice, choice_of}
 use Rattle.flutejoin.specs.Joining.{JoinsTo}
 use Rattle.flutejoin.specs.JoinFaults.{JoinToFails, NamesOneOf}
 use Rattle.flutejoin.specs.Limits.{Limits}
 use Rattle.flutejoin.specs.Lines.{count_line}
+use Rattle.flutejoin.specs.Merge.{MergeFails}
 use Rattle.flutejoin.specs.declared.forget.ForgetCounts.{ForgetCounts}
 use Rattle.flutejoin.specs.declared.join.join_counts.JoinCounts.{JoinCounts}
 use Rattle.flutejoin.specs.declared.join.join_input.JoinInput.{JoinInput}
 use Rattle.flutejoin.specs.declared.command_fault.CommandFault.{CommandFault}
+use Rattle.flutejoin.specs.declared.command_fault.CommandFault.TheVariants.{Full}
+use Rattle.flutejoin.specs.declared.limits.TheConstants.{MAX_ENTRIES}
 
 -- the one line of a command that reports how many bytes or datagrams it wrote
 abbrev pub bytes_line : ℕ → List ℕ
@@ -48,19 +55,52 @@ abbrev pub ForgetsIn : Option (List ℕ) → Selection → ForgetCounts → Opti
     → Option (List ℕ) → Type 0
 ForgetsIn input selection counts old new = Forgets selection counts input old new
 
+module _ {X : Type 0} (count : X → ℕ)
+    (writes : X → Option (List ℕ) → Option (List ℕ) → Type 0) where
+  -- it was written, of no more entries, or datagrams, than a file that the commands read
+  abbrev pub Readable : X → Option (List ℕ) → Option (List ℕ) → Type 0
+  Readable x old new = writes x old new × (count x ≤ MAX_ENTRIES)
+
+  -- `full`, since it has more of them
+  abbrev pub IsTooLong : CommandFault → Type 0
+  IsTooLong fault =
+      (fault ≡ Full) × ((x : X) × (old : Option (List ℕ)) × (new : Option (List ℕ))
+      × (writes x old new × (MAX_ENTRIES < count x)))
+
+-- inputs with these bytes, joined to a journal that the commands read
+abbrev pub JoinsRead : Choice → List (List ℕ) → JoinCounts → Option (List ℕ)
+    → Option (List ℕ) → Type 0
+JoinsRead choice contents =
+    Readable (λ (counts : JoinCounts). counts.entries) (JoinsTo choice contents)
+
+abbrev pub JoinReadFails : Choice → List (List ℕ) → CommandFault → Type 0
+JoinReadFails choice contents fault =
+    JoinToFails choice contents fault
+    ⊎ IsTooLong (λ (counts : JoinCounts). counts.entries) (JoinsTo choice contents) fault
+
+-- two journals, merged to one that the commands read
+abbrev pub MergesRead : Option (List ℕ) → Option (List ℕ) → ℕ → Option (List ℕ)
+    → Option (List ℕ) → Type 0
+MergesRead first second = Readable (λ n. n) (λ n. Merged MAX_ENTRIES n first second)
+
+abbrev pub MergeReadFails : Option (List ℕ) → Option (List ℕ) → CommandFault → Type 0
+MergeReadFails first second fault =
+    MergeFails first second fault
+    ⊎ IsTooLong (λ n. n) (λ n. Merged MAX_ENTRIES n first second) fault
+
 module _ {R : Type 0} (unread : R → Option (List ℕ)) where
   -- these inputs, joined, if the bytes that are put aside are known
   abbrev pub JoinsAll : Bool → Limits → ℕ → Scope → List (JoinInput R) → JoinCounts
       → Option (List ℕ) → Option (List ℕ) → Type 0
   JoinsAll tells most sender scope inputs counts old new =
       tells ≡ true → (contents : List (List ℕ)) → AreInputs unread inputs contents
-      → JoinsTo (choice_of most sender scope) contents counts old new
+      → JoinsRead (choice_of most sender scope) contents counts old new
 
   abbrev pub JoinAllFails : Bool → Limits → ℕ → Scope → List (JoinInput R)
       → CommandFault → Type 0
   JoinAllFails tells most sender scope inputs fault =
       (tells ≡ true → (contents : List (List ℕ)) → AreInputs unread inputs contents
-      → JoinToFails (choice_of most sender scope) contents fault)
+      → JoinReadFails (choice_of most sender scope) contents fault)
       × NamesOneOf (length inputs) fault
 
 -- the journal was read to its end, and the object that it makes whole was written: the same
@@ -80,11 +120,35 @@ ExtractFails most input key fault =
     → AnswersFrom most input left
     (λ F. Same F others → Extracts (λ x. x) others key old new (Err fault)) (Err fault))
 
--- the journal of all that a journal contains and of the information was written
+-- the journal of all that a journal contains and of the information was written, and the commands
+-- read it
 abbrev pub AddsInformation : Option (List ℕ) → Key → Information → ℕ → Option (List ℕ)
     → Option (List ℕ) → Type 0
-AddsInformation input key info n old new = AddsFacts input (Info key info ∷ []) old new n
+AddsInformation input key info =
+    Readable (λ n. n) (λ n old new. AddsFacts input (Info key info ∷ []) old new n)
 
 abbrev pub AddFails : Limits → Option (List ℕ) → Key → Information → CommandFault
     → Type 0
-AddFails most input key info fault = InfoFails most input (Info key info ∷ []) fault
+AddFails most input key info fault =
+    InfoFails most input (Info key info ∷ []) fault
+    ⊎ IsTooLong (λ n. n) (λ n old new. AddsFacts input (Info key info ∷ []) old new n) fault
+
+-- the same of the facts of a list
+abbrev pub AddsListRead : Option (List ℕ) → Option (List ℕ) → ℕ → Option (List ℕ)
+    → Option (List ℕ) → Type 0
+AddsListRead input list = Readable (λ n. n) (AddsList input list)
+
+abbrev pub AddListReadFails : Limits → Option (List ℕ) → Option (List ℕ) → CommandFault
+    → Type 0
+AddListReadFails most input list fault =
+    AddListFails most input list fault ⊎ IsTooLong (λ n. n) (AddsList input list) fault
+
+-- an object's datagrams, as a file that the commands read
+abbrev pub SendsRead : Option (List ℕ) → Key → ℕ → ℕ → ℕ → Option (List ℕ)
+    → Option (List ℕ) → Type 0
+SendsRead input key symbol block = Readable (λ n. n) (SendsInput input key symbol block)
+
+abbrev pub SendReadFails : Option (List ℕ) → Key → ℕ → ℕ → CommandFault → Type 0
+SendReadFails input key symbol block fault =
+    SendFails input key symbol block fault
+    ⊎ IsTooLong (λ n. n) (SendsInput input key symbol block) fault

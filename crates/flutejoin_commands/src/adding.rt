@@ -1,7 +1,10 @@
 //! The command `info`.
-ghost use Rattle.std.specs.Prelude.{OnOk, IfErr};
+ghost use Rattle.std.specs.Prelude.{◌≡◌, ◌+◌, ◌∷◌, [], OnOk, IfOk, IfErr};
+ghost use Rattle.flute_parts.specs.declared.fact.Fact.TheVariants.{Info as InfoFact};
+ghost use Rattle.flutejoin.specs.Info.{AddsFacts, InfoFails};
 ghost use Rattle.flutejoin.specs.Limits.{limits_of};
 ghost use Rattle.flutejoin.specs.Lines.{entries_line};
+ghost use Rattle.flutejoin.specs.declared.command_fault.CommandFault.TheVariants.{CannotWrite};
 ghost use Rattle.flutejoin_commands.specs.Commands.{Succeeds, Fails, CouldBeDone, IsWholeAlways, devices, with_beside};
 ghost use Rattle.flutejoin_commands.specs.Works.{AddsInformation, AddFails};
 
@@ -11,8 +14,8 @@ use crate::work::Work;
 use flute_output::Folder;
 use flute_parts::{Info, Key, Sink, Source};
 use flutejoin::{
-    ANY_OBJECTS, ANY_SESSIONS, ANY_SYMBOLS, CommandFault, MAX_OBJECTS, MAX_SESSIONS, MAX_SYMBOLS,
-    Text, info_to,
+    ANY_OBJECTS, ANY_SESSIONS, ANY_SYMBOLS, CommandFault, MAX_ENTRIES, MAX_OBJECTS, MAX_SESSIONS,
+    MAX_SYMBOLS, Text, info_to,
 };
 use std::alloc::Global;
 
@@ -27,6 +30,31 @@ pub struct InfoWork<R> {
     pub source: R,
 }
 
+impl<R: Source + Drop> InfoWork<R> {
+    // Adds it to a journal of any number of entries.
+    fn add<W: Sink>(&mut self, sink: &mut W) -> Result<u64, CommandFault>
+        ensures added { IfOk result (λ entries. AddsFacts (R.unread self.old.source)
+            (InfoFact self.old.key self.old.info ∷ []) (W.written sink.old) (W.written sink.new)
+            entries) }
+        ensures failed { IfErr result (InfoFails (limits_of self.old.any_size)
+            (R.unread self.old.source) (InfoFact self.old.key self.old.info ∷ [])) }
+        ensures quiet { OnOk result (W.failures sink.new ≡ W.failures sink.old) }
+        ensures cause { IfErr result (λ fault. fault ≡ CannotWrite
+            → W.failures sink.new ≡ W.failures sink.old + 1) }
+    {
+        let source = &mut self.source;
+        if self.any_size {
+            info_to::<ANY_SESSIONS, ANY_OBJECTS, ANY_SYMBOLS, _, _>(
+                self.alloc, source, self.key, self.info, sink,
+            )
+        } else {
+            info_to::<MAX_SESSIONS, MAX_OBJECTS, MAX_SYMBOLS, _, _>(
+                self.alloc, source, self.key, self.info, sink,
+            )
+        }
+    }
+}
+
 impl<R: Source + Drop> Work for InfoWork<R> {
     type Answer = u64;
 
@@ -39,16 +67,11 @@ impl<R: Source + Drop> Work for InfoWork<R> {
     ghost clears = { λ w. CouldBeDone (AddsInformation (R.unread w.source) w.key w.info) };
 
     fn write<W: Sink>(&mut self, sink: &mut W) -> Result<u64, CommandFault> {
-        let source = &mut self.source;
-        if self.any_size {
-            info_to::<ANY_SESSIONS, ANY_OBJECTS, ANY_SYMBOLS, _, _>(
-                self.alloc, source, self.key, self.info, sink,
-            )
-        } else {
-            info_to::<MAX_SESSIONS, MAX_OBJECTS, MAX_SYMBOLS, _, _>(
-                self.alloc, source, self.key, self.info, sink,
-            )
+        let entries = self.add(sink)?;
+        if entries > MAX_ENTRIES {
+            return Err(CommandFault::Full);
         }
+        Ok(entries)
     }
 
     fn without_output(&mut self, reason: CommandFault) -> CommandFault {
@@ -67,7 +90,8 @@ impl<R: Source + Drop> Work for InfoWork<R> {
 ///
 /// # Errors
 ///
-/// Those of [`info_to`], then `CannotCreate`, then `CannotWrite`, as [`write_into`] says.
+/// Those of [`info_to`], then `Full` if the journal has more entries than the commands read, then
+/// `CannotCreate`, then `CannotWrite`, as [`write_into`] says.
 pub fn info_into<F: Folder + Drop, R: Source + Drop, P: Sink>(
     folder: F,
     work: InfoWork<R>,

@@ -1,9 +1,11 @@
 //! The command `info --list`.
-ghost use Rattle.std.specs.Prelude.{OnOk, IfErr};
+ghost use Rattle.std.specs.Prelude.{◌≡◌, ◌+◌, OnOk, IfOk, IfErr};
 ghost use Rattle.flutejoin.specs.InfoLists.{AddsList, AddListFails};
 ghost use Rattle.flutejoin.specs.Limits.{limits_of};
 ghost use Rattle.flutejoin.specs.Lines.{entries_line};
+ghost use Rattle.flutejoin.specs.declared.command_fault.CommandFault.TheVariants.{CannotWrite};
 ghost use Rattle.flutejoin_commands.specs.Commands.{Succeeds, Fails, CouldBeDone, IsWholeAlways, devices, with_beside};
+ghost use Rattle.flutejoin_commands.specs.Works.{AddListReadFails, AddsListRead};
 
 use crate::nothing::{Nothing, fault_or};
 use crate::output_command::write_into;
@@ -11,8 +13,8 @@ use crate::work::Work;
 use flute_output::Folder;
 use flute_parts::{Sink, Source};
 use flutejoin::{
-    ANY_OBJECTS, ANY_SESSIONS, ANY_SYMBOLS, CommandFault, MAX_OBJECTS, MAX_SESSIONS, MAX_SYMBOLS,
-    Text, info_list_to,
+    ANY_OBJECTS, ANY_SESSIONS, ANY_SYMBOLS, CommandFault, MAX_ENTRIES, MAX_OBJECTS, MAX_SESSIONS,
+    MAX_SYMBOLS, Text, info_list_to,
 };
 use std::alloc::Global;
 
@@ -28,19 +30,17 @@ pub struct InfoListWork<R> {
     pub list: R,
 }
 
-impl<R: Source + Drop> Work for InfoListWork<R> {
-    type Answer = u64;
-
-    ghost writes = { λ w. AddsList (R.unread w.source) (R.unread w.list) };
-
-    ghost fails = { λ w. AddListFails (limits_of w.any_size) (R.unread w.source)
-        (R.unread w.list) };
-
-    ghost tells = { λ _. entries_line };
-
-    ghost clears = { λ w. CouldBeDone (AddsList (R.unread w.source) (R.unread w.list)) };
-
-    fn write<W: Sink>(&mut self, sink: &mut W) -> Result<u64, CommandFault> {
+impl<R: Source + Drop> InfoListWork<R> {
+    // Adds it to a journal of any number of entries.
+    fn add<W: Sink>(&mut self, sink: &mut W) -> Result<u64, CommandFault>
+        ensures added { IfOk result (λ entries. AddsList (R.unread self.old.source)
+            (R.unread self.old.list) entries (W.written sink.old) (W.written sink.new)) }
+        ensures failed { IfErr result (AddListFails (limits_of self.old.any_size)
+            (R.unread self.old.source) (R.unread self.old.list)) }
+        ensures quiet { OnOk result (W.failures sink.new ≡ W.failures sink.old) }
+        ensures cause { IfErr result (λ fault. fault ≡ CannotWrite
+            → W.failures sink.new ≡ W.failures sink.old + 1) }
+    {
         let source = &mut self.source;
         let list = &mut self.list;
         if self.any_size {
@@ -52,6 +52,27 @@ impl<R: Source + Drop> Work for InfoListWork<R> {
                 self.alloc, source, list, sink,
             )
         }
+    }
+}
+
+impl<R: Source + Drop> Work for InfoListWork<R> {
+    type Answer = u64;
+
+    ghost writes = { λ w. AddsListRead (R.unread w.source) (R.unread w.list) };
+
+    ghost fails = { λ w. AddListReadFails (limits_of w.any_size) (R.unread w.source)
+        (R.unread w.list) };
+
+    ghost tells = { λ _. entries_line };
+
+    ghost clears = { λ w. CouldBeDone (AddsListRead (R.unread w.source) (R.unread w.list)) };
+
+    fn write<W: Sink>(&mut self, sink: &mut W) -> Result<u64, CommandFault> {
+        let entries = self.add(sink)?;
+        if entries > MAX_ENTRIES {
+            return Err(CommandFault::Full);
+        }
+        Ok(entries)
     }
 
     fn without_output(&mut self, reason: CommandFault) -> CommandFault {
@@ -70,23 +91,24 @@ impl<R: Source + Drop> Work for InfoListWork<R> {
 ///
 /// # Errors
 ///
-/// Those of [`info_list_to`], then `CannotCreate`, then `CannotWrite`, as [`write_into`] says.
+/// Those of [`info_list_to`], then `Full` if the journal has more entries than the commands read,
+/// then `CannotCreate`, then `CannotWrite`, as [`write_into`] says.
 pub fn info_list_into<F: Folder + Drop, R: Source + Drop, P: Sink>(
     folder: F,
     work: InfoListWork<R>,
     report: &mut P,
 ) -> (Result<(), CommandFault>, F)
     ensures added { OnOk result.0 (Succeeds
-        (AddsList (R.unread work.source) (R.unread work.list)) entries_line
+        (AddsListRead (R.unread work.source) (R.unread work.list)) entries_line
         (with_beside (devices (F.entries folder) (F.failures folder)
         (P.written report.old) (P.failures report.old)))
         (devices (F.entries result.1) (F.failures result.1)
         (P.written report.new) (P.failures report.new))) }
     ensures failed { IfErr result.0 (Fails
-        (AddsList (R.unread work.source) (R.unread work.list))
-        (AddListFails (limits_of work.any_size) (R.unread work.source) (R.unread work.list))
+        (AddsListRead (R.unread work.source) (R.unread work.list))
+        (AddListReadFails (limits_of work.any_size) (R.unread work.source) (R.unread work.list))
         entries_line
-        (CouldBeDone (AddsList (R.unread work.source) (R.unread work.list)))
+        (CouldBeDone (AddsListRead (R.unread work.source) (R.unread work.list)))
         (devices (F.entries folder) (F.failures folder)
         (P.written report.old) (P.failures report.old))
         (devices (F.entries result.1) (F.failures result.1)

@@ -1,6 +1,11 @@
 //! The command `join`.
-ghost use Rattle.std.specs.Prelude.{◌≤◌, length, OnOk, IfErr};
+ghost use Rattle.std.specs.Prelude.{◌≡◌, ◌+◌, ◌≤◌, ℕ, List, length, true, OnOk, IfOk, IfErr};
+ghost use Rattle.flutejoin.specs.JoinFaults.{JoinToFails, NamesOneOf};
+ghost use Rattle.flutejoin.specs.JoinInputs.{AreInputs};
+ghost use Rattle.flutejoin.specs.Joined.{choice_of};
+ghost use Rattle.flutejoin.specs.Joining.{JoinsTo};
 ghost use Rattle.flutejoin.specs.Limits.{limits_of};
+ghost use Rattle.flutejoin.specs.declared.command_fault.CommandFault.TheVariants.{CannotWrite};
 ghost use Rattle.flutejoin_commands.specs.Commands.{Succeeds, Fails, CouldBeDone, IsWholeAlways, devices, with_beside};
 ghost use Rattle.flutejoin_commands.specs.Works.{JoinsAll, JoinAllFails, join_lines};
 
@@ -12,7 +17,7 @@ use flute_output::Folder;
 use flute_parts::{Sender, Sink, Source};
 use flutejoin::{
     ANY_OBJECTS, ANY_SESSIONS, ANY_SYMBOLS, Asides, CommandFault, JoinCounts, JoinInput,
-    MAX_OBJECTS, MAX_SESSIONS, MAX_SYMBOLS, Text, join_to,
+    MAX_ENTRIES, MAX_OBJECTS, MAX_SESSIONS, MAX_SYMBOLS, Text, join_to,
 };
 use std::alloc::Global;
 
@@ -32,21 +37,24 @@ pub struct JoinWork<R, A> {
     pub ghost few: { length inputs.items ≤ 64 },
 }
 
-impl<R: Source + Drop, A: Asides<Input = R>> Work for JoinWork<R, A> {
-    type Answer = JoinCounts;
-
-    ghost writes = { λ w. JoinsAll R.unread (A.tells w.asides) (limits_of w.any_size) w.sender
-        w.scope w.inputs.items };
-
-    ghost fails = { λ w. JoinAllFails R.unread (A.tells w.asides) (limits_of w.any_size) w.sender
-        w.scope w.inputs.items };
-
-    ghost tells = { λ w. join_lines w.scope };
-
-    ghost clears = { λ w. CouldBeDone (JoinsAll R.unread (A.tells w.asides)
-        (limits_of w.any_size) w.sender w.scope w.inputs.items) };
-
-    fn write<W: Sink>(&mut self, sink: &mut W) -> Result<JoinCounts, CommandFault> {
+impl<R: Source + Drop, A: Asides<Input = R>> JoinWork<R, A> {
+    // Joins them to a journal of any number of entries.
+    fn join<W: Sink>(&mut self, sink: &mut W) -> Result<JoinCounts, CommandFault>
+        ensures joined { A.tells self.old.asides ≡ true → (contents : List (List ℕ))
+            → AreInputs R.unread self.old.inputs.items contents
+            → IfOk result (λ counts. JoinsTo
+            (choice_of (limits_of self.old.any_size) self.old.sender self.old.scope)
+            contents counts (W.written sink.old) (W.written sink.new)) }
+        ensures failed { A.tells self.old.asides ≡ true → (contents : List (List ℕ))
+            → AreInputs R.unread self.old.inputs.items contents
+            → IfErr result (JoinToFails
+            (choice_of (limits_of self.old.any_size) self.old.sender self.old.scope) contents) }
+        ensures names { IfErr result (NamesOneOf (length self.old.inputs.items)) }
+        ensures scope { self.new.scope ≡ self.old.scope }
+        ensures quiet { OnOk result (W.failures sink.new ≡ W.failures sink.old) }
+        ensures cause { IfErr result (λ fault. fault ≡ CannotWrite
+            → W.failures sink.new ≡ W.failures sink.old + 1) }
+    {
         let inputs = &mut self.inputs;
         if self.any_size {
             join_to::<ANY_SESSIONS, ANY_OBJECTS, ANY_SYMBOLS, _, _, _>(
@@ -70,6 +78,29 @@ impl<R: Source + Drop, A: Asides<Input = R>> Work for JoinWork<R, A> {
             )
         }
     }
+}
+
+impl<R: Source + Drop, A: Asides<Input = R>> Work for JoinWork<R, A> {
+    type Answer = JoinCounts;
+
+    ghost writes = { λ w. JoinsAll R.unread (A.tells w.asides) (limits_of w.any_size) w.sender
+        w.scope w.inputs.items };
+
+    ghost fails = { λ w. JoinAllFails R.unread (A.tells w.asides) (limits_of w.any_size) w.sender
+        w.scope w.inputs.items };
+
+    ghost tells = { λ w. join_lines w.scope };
+
+    ghost clears = { λ w. CouldBeDone (JoinsAll R.unread (A.tells w.asides)
+        (limits_of w.any_size) w.sender w.scope w.inputs.items) };
+
+    fn write<W: Sink>(&mut self, sink: &mut W) -> Result<JoinCounts, CommandFault> {
+        let counts = self.join(sink)?;
+        if counts.entries > MAX_ENTRIES {
+            return Err(CommandFault::Full);
+        }
+        Ok(counts)
+    }
 
     fn without_output(&mut self, reason: CommandFault) -> CommandFault {
         fault_or(self.write(&mut Nothing), reason)
@@ -92,8 +123,8 @@ impl<R: Source + Drop, A: Asides<Input = R>> Work for JoinWork<R, A> {
 ///
 /// # Errors
 ///
-/// Those of [`join_to`], then `CannotCreate`, then `CannotWrite`, as
-/// [`write_into`] says.
+/// Those of [`join_to`], then `Full` if the journal has more entries than the commands read, then
+/// `CannotCreate`, then `CannotWrite`, as [`write_into`] says.
 pub fn join_into<F: Folder + Drop, R: Source + Drop, A: Asides<Input = R> + Drop, P: Sink>(
     folder: F,
     work: JoinWork<R, A>,

@@ -9,7 +9,7 @@
 //!
 //! Where an output is at a name, [`leave`] does one of these with what the name leads to, in a
 //! [`World`]; [`join`], [`merge`], [`info`], [`extract`], [`carousel`], [`show`], [`gaps`] and
-//! [`extract_all`] take names alone, and [`run`] the words of a command line.
+//! [`extract_all`] take names alone.
 //!
 //! Two journals, merged (from `commands.rt`):
 //!
@@ -44,7 +44,6 @@ mod output_command;
 mod printing;
 mod prints;
 mod report;
-mod running;
 mod sending;
 mod std_report;
 mod work;
@@ -67,7 +66,6 @@ pub use output_command::write_into;
 pub use printing::{gaps_on, hand_on, packet_on, show_on};
 pub use prints::{extract_all, gaps, packet, show};
 pub use report::Report;
-pub use running::run;
 pub use sending::{SendWork, carousel_into};
 pub use std_report::StdReport;
 pub use work::Work;

@@ -1,4 +1,4 @@
--- Chained: a stream with number 0 and those of a slice after it, and how one is advanced.
+-- Chained: a stream with number 0 and others after it, and how one is advanced.
 use Rattle.flute_journal.proofs.{
   Common.{
     ◌≡◌,
@@ -16,16 +16,18 @@ use Rattle.flute_journal.proofs.{
     length-take,
     take_all,
     get_or,
+    get_or_from_slice_get,
+    same_Some,
     Some,
     Option,
+    inl,
+    inr,
     Result,
     refl,
     sym,
     ap,
     ◌∙◌,
     arith,
-    OnOk,
-    IfErr,
     slice_get,
     slice_set,
     Fact,
@@ -34,15 +36,13 @@ use Rattle.flute_journal.proofs.{
     First,
     Second,
     Behaviour,
-    GoesOn,
-    StopsAt,
     Advances,
     either_behaviour,
   },
-  streams_lemmas.Pairs.{second_at},
+  streams_lemmas.Eithers.{second_at},
 }
 use Rattle.std.proofs.{
-  lemmas.Option.{slice_get-map, slice_get_read},
+  lemmas.Option.{slice_get-map, slice_get_read, slice_get_cases},
   lemmas.List.{length-map, get_or-take},
   Math.Seq.{take-set-lt},
 }
@@ -61,7 +61,7 @@ seconds_set A B (z ∷ ys) (suc k) y = ap (λ l. Second z ∷ l) (seconds_set A 
 seconds_many : (A B : Type 0) (ys : List B) → length (seconds A B ys) ≡ length ys
 seconds_many A B ys = length-map ys _
 
--- Of a slice so many are taken.
+-- Of the others so many are taken.
 
 taken_many : {B : Type 0} (ys : List B) → length (taken ys) ≡ min 65535 (length ys)
 unfolding taken
@@ -85,7 +85,7 @@ pub chained_many : (A B : Type 0) (x : A) (ys : List B)
     → length (chained {A = A} x (taken ys)) ≡ min (length ys) 65535 + 1
 chained_many A B x ys = omega (arith, seconds_many A B (taken ys), taken_many ys)
 
--- a stream of the slice, at its place among all
+-- another stream, at its place among all
 module _ {A B : Type 0} (a : Behaviour A) (b : Behaviour B) (x : A) (ys : List B) (n : ℕ)
     (within : n < length (chained x (taken ys))) (other : ¬ (n ≡ 0)) where
   later : n ≡ suc (n - 1)
@@ -100,30 +100,31 @@ module _ {A B : Type 0} (a : Behaviour A) (b : Behaviour B) (x : A) (ys : List B
   pub far : n - 1 < length ys
   far = omega (arith, near, taken_many ys)
 
-  module _ (y : B) (is : y ≡ get_or ys (n - 1) y) where
-    at_own : slice_get (taken ys) (n - 1) ≡ Some y
-    at_own =
-        slice_get_read (taken ys) (length (taken ys)) (n - 1) y refl near
-        (is ∙ sym (taken_at ys (n - 1) y below))
+  stands : (y : B) → slice_get ys (n - 1) ≡ Some y
+      → slice_get (chained x (taken ys)) n ≡ Some (Second y)
+  stands y is =
+      ap (slice_get (chained x (taken ys))) later ∙ slice_get-map Second (taken ys) (n - 1)
+      ∙ ap (option_map Second)
+      (slice_get_read (taken ys) (length (taken ys)) (n - 1) y refl near
+      (sym (taken_at ys (n - 1) y below ∙ get_or_from_slice_get ys (n - 1) y y is)))
 
-    stands : slice_get (chained x (taken ys)) n ≡ Some (Second y)
-    stands =
-        ap (slice_get (chained x (taken ys))) later ∙ slice_get-map Second (taken ys) (n - 1)
-        ∙ ap (option_map Second) at_own
+  pub other_held : (o : Option Fact)
+      → ((y : B) → slice_get ys (n - 1) ≡ Some y → o ≡ b.held y) → (s : Either A B)
+      → slice_get (chained x (taken ys)) n ≡ Some s → o ≡ held_either a b s
+  other_held o h s e = elim (slice_get_cases ys (n - 1)).1 [
+    | inl (y, _, is, _) ↦
+        let both : Some (Second y) ≡ Some s = sym (stands y is) ∙ e in
+        h y is ∙ ap (held_either a b) (same_Some _ _ both)
+    | inr (past, _) ↦ absurd (omega (arith, far, past))
+  ]
 
-    pub other_held : (o : Option Fact) → o ≡ b.held y → (s : Either A B)
-        → slice_get (chained x (taken ys)) n ≡ Some s → o ≡ held_either a b s
-    other_held o h s e =
-        let same : Second y ≡ s = (let both : Some (Second y) ≡ Some s = sym stands ∙ e in cc) in
-        h ∙ ap (held_either a b) same
-
-    pub other_advances : (z : B) (r : Result (Unit {0}) LoadFault) → OnOk r (GoesOn b y z)
-        → IfErr r (StopsAt b y z)
-        → Advances (either_behaviour a b) n (chained x (taken ys))
-        (chained x (taken (slice_set ys (n - 1) z))) r
-    other_advances z r g s =
-        second_at a b y z n (chained x (taken ys)) (chained x (taken (slice_set ys (n - 1) z))) r
-        stands
-        (ap (chained x) (taken_set ys (n - 1) z below)
-        ∙ ap (λ l. First x ∷ l) (seconds_set A B (taken ys) (n - 1) z)
-        ∙ sym (ap (λ m. slice_set (chained x (taken ys)) m (Second z)) later)) g s
+  pub other_advances : (zs : List B) (r : Result (Unit {0}) LoadFault)
+      → Advances b (n - 1) ys zs r
+      → Advances (either_behaviour a b) n (chained x (taken ys)) (chained x (taken zs)) r
+  other_advances zs r v =
+      second_at a b v.before v.after n (chained x (taken ys)) (chained x (taken zs)) r
+      (stands v.before v.was)
+      (ap (λ l. chained x (taken l)) v.now ∙ ap (chained x) (taken_set ys (n - 1) v.after below)
+      ∙ ap (λ l. First x ∷ l) (seconds_set A B (taken ys) (n - 1) v.after)
+      ∙ sym (ap (λ m. slice_set (chained x (taken ys)) m (Second v.after)) later))
+      v.goes_on v.stops

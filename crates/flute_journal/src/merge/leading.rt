@@ -97,8 +97,9 @@ impl Lead {
         }
         ranks.forget();
         let moved = advance_at(alloc, streams, Some(place))?;
-        // of two streams each is looked at as fast as a lead
-        if moved.count == 1 && streams.count() > 2 {
+        // of two or three streams each is looked at as fast as a lead (a join of two journals has
+        // three)
+        if moved.count == 1 && streams.count() > 3 {
             self.look(streams, moved.last);
         }
         Ok(())

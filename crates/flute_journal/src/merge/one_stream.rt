@@ -6,7 +6,6 @@ ghost use Rattle.flute_journal.specs.Streams.{IsNew};
 
 use crate::merge::all_streams::merge_all;
 use crate::merge::streams_fault::StreamsFault;
-use crate::streams::One;
 use crate::streams::stream::Stream;
 use flute_parts::Sink;
 use std::alloc::Global;
@@ -32,9 +31,7 @@ pub fn write_stream<S: Stream, W: Sink>(
     ensures failures { FailsAs S.behaviour stream.old stream.new result }
     ensures sink_failures { W.failures sink.new ≡ W.failures sink.old + streams_sink_failed result }
 {
-    let mut one = One {
-        stream: &mut *stream,
-    };
+    let mut one = &mut *stream;
     // `within` is not used, so the limits are 0, and nothing is counted
     match merge_all::<0, 0, 0, _, _>(alloc, &mut one, sink) {
         Ok(merged) => Ok(merged.entries),

@@ -15,7 +15,7 @@ use crate::fault::{LoadFault, ReadFault};
 use crate::merge::all_streams::{MergedJournal, merge_all};
 use crate::merge::streams_fault::{InputFault, StreamsFault};
 use crate::readers::journal_reader::JournalReader;
-use crate::streams::Pair;
+use crate::streams::chained::Chained;
 use crate::streams::journal_stream::LentStream;
 use crate::streams::stream::Stream;
 use flute_parts::{Sink, Source};
@@ -160,6 +160,7 @@ fn merge_new<A: Source, B: Source, W: Sink>(
 /// # Errors
 ///
 /// Those of `merge_all`, and what it says of them: the first stream has number 0, and the second 1.
+#[tactic(auto, unfolding(crate::specs::Chains::taken))]
 pub fn merge_two<
     const SESSIONS: u32,
     const OBJECTS: u32,
@@ -190,11 +191,11 @@ pub fn merge_two<
         (Left first.old ∷ Right second.old ∷ []) (Left first.new ∷ Right second.new ∷ []) }
     ensures sink_failures { W.failures sink.new ≡ W.failures sink.old + streams_sink_failed result }
 {
-    let mut pair = Pair {
+    let mut both = Chained {
         first: &mut *first,
-        second: &mut *second,
+        others: &mut *second,
     };
-    merge_all::<SESSIONS, OBJECTS, SYMBOLS, _, _>(alloc, &mut pair, sink)
+    merge_all::<SESSIONS, OBJECTS, SYMBOLS, _, _>(alloc, &mut both, sink)
 }
 
 // The fault of a merge of two journals.

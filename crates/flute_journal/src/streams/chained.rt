@@ -1,4 +1,4 @@
-//! A stream and those of a slice.
+//! A stream, and then others.
 ghost use Rattle.std.specs.Prelude.{◌≡◌};
 
 use crate::fault::LoadFault;
@@ -8,52 +8,50 @@ use crate::streams::stream::Stream;
 use flute_parts::FactRef;
 use std::alloc::Global;
 
-/// How many streams of a slice are taken.
+/// How many of the others are taken.
 const MOST: usize = 65_535;
 
-/// A stream, and then those of a slice. What a slice has beyond the first 65,535 is left out: for a
-/// slice of a type parameter the prover does not know that its length and one fit a `usize`.
+/// A stream, and then others. Of these the first 65,535 are taken: the prover does not know that
+/// the number of any streams and one fit a `usize`.
 #[derive(Debug, Drop)]
-pub struct Chained<'a, 'b, A, B> {
+pub struct Chained<'a, A, G> {
     /// It has the number 0.
     pub first: &'a mut A,
     /// Their numbers begin with 1.
-    pub others: &'b mut [B],
+    pub others: G,
 }
 
-impl<'a, 'b, A, B> Chained<'a, 'b, A, B> {
-    pub fn new(first: &'a mut A, others: &'b mut [B]) -> Chained<'a, 'b, A, B>
+impl<'a, A, G> Chained<'a, A, G> {
+    pub fn new(first: &'a mut A, others: G) -> Chained<'a, A, G>
         ensures same_first { result.first.ghost_name ≡ first.entry.ghost_name }
-        ensures same_others { result.others.ghost_name ≡ others.entry.ghost_name }
         ensures first { result.first.now ≡ first.old }
-        ensures others { result.others.now ≡ others.old }
+        ensures others { result.others ≡ others }
     {
         Chained { first, others }
     }
 }
 
-impl<'a, 'b, A: Stream, B: Stream> Streams for Chained<'a, 'b, A, B> {
+impl<'a, A: Stream, G: Streams> Streams for Chained<'a, A, G> {
     ghost use Rattle.std.specs.Prelude.{[], ◌∷◌};
     ghost use Rattle.flute_journal.specs.Chains.{chained, taken};
 
-    type Stream = Either<A, B>;
+    type Stream = Either<A, G::Stream>;
 
-    ghost streams = { λ s. chained s.first.now (taken s.others.now) };
+    ghost streams = { λ s. chained s.first.now (taken (G.streams s.others)) };
 
-    ghost names = { λ s. s.first.ghost_name ∷ s.others.ghost_name ∷ [] };
+    ghost names = { λ s. s.first.ghost_name ∷ G.names s.others };
 
     #[inline(always)]
     fn count(&self) -> usize {
-        self.others.len().min(MOST) + 1
+        self.others.count().min(MOST) + 1
     }
 
     #[inline(always)]
     fn head(&self, number: usize) -> Option<FactRef<'_>> {
         if number == 0 {
-            self.first.head()
+            (*self.first).head()
         } else {
-            let others = &*self.others;
-            others[number - 1].head()
+            self.others.head(number - 1)
         }
     }
 
@@ -62,7 +60,7 @@ impl<'a, 'b, A: Stream, B: Stream> Streams for Chained<'a, 'b, A, B> {
         if number == 0 {
             self.first.advance(alloc)
         } else {
-            self.others[number - 1].advance(alloc)
+            self.others.advance(number - 1, alloc)
         }
     }
 }

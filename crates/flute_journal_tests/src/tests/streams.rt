@@ -76,9 +76,7 @@ fn selected_facts_are_merged(rt: HostRuntime) -> Result<(), Fail> {
     let whole = bytes(rt.alloc(), WHOLE)?;
     let journal = OwnedJournalStream::new(MemorySource::new(&whole), MANY);
     let mut selected = Chosen::new(journal, Selection::all());
-    let mut one = One {
-        stream: &mut selected,
-    };
+    let mut one = &mut selected;
     let mut sink = MemorySink::new(rt.alloc());
     let joined = merge_all::<4, 4, 4, _, _>(rt.alloc(), &mut one, &mut sink)?;
     assert!(rt; joined.entries == 3);
@@ -92,7 +90,7 @@ fn a_fact_and_a_journal_are_chained(rt: HostRuntime) -> Result<(), Fail> {
     let whole = bytes(rt.alloc(), WHOLE)?;
     let mut journals = [OwnedJournalStream::new(MemorySource::new(&whole), MANY)];
     let mut fact = FactStream::new(Fact::InfoConflict { key });
-    let all = Chained::new(&mut fact, &mut journals);
+    let all = Chained::new(&mut fact, &mut journals[..]);
     assert!(rt; all.count() == 2);
     Ok(())
 }

@@ -20,7 +20,7 @@ ghost use Rattle.flutejoin.specs.declared.limits.TheConstants.{MAX_ENTRIES};
 
 use crate::command_fault::{CommandFault, load_fault};
 use flute_journal::{
-    InputFault, JournalReader, LentStream, MergedJournal, Pair, Stream, join_streams,
+    Chained, InputFault, JournalReader, LentStream, MergedJournal, Stream, join_streams,
 };
 use flute_parts::{Sink, Source};
 use std::alloc::Global;
@@ -116,6 +116,7 @@ fn add_to_stream<
 }
 
 // Joins two streams.
+#[tactic(auto, unfolding(flute_journal::specs::Chains::taken))]
 fn join_two<
     const SESSIONS: u32,
     const OBJECTS: u32,
@@ -143,9 +144,9 @@ fn join_two<
     ensures sink_failures { IfOk result (λ joined. joined.within ≡ true
         → W.failures sink.new ≡ W.failures sink.old + times_failed joined.cut) }
 {
-    let mut pair = Pair {
+    let mut both = Chained {
         first: &mut *first,
-        second: &mut *second,
+        others: &mut *second,
     };
-    join_streams::<SESSIONS, OBJECTS, SYMBOLS, _, _>(alloc, &mut pair, sink)
+    join_streams::<SESSIONS, OBJECTS, SYMBOLS, _, _>(alloc, &mut both, sink)
 }

@@ -1,7 +1,7 @@
 -- carousel: what was sent, stated of the name of the content.
 use Rattle.std.proofs.Common.{◌∙◌, IfErr, subst}
 use Rattle.std.specs.Prelude.{OnOk}
-use Rattle.flutejoin.specs.Carousel.{SendsInput, SendFails}
+use Rattle.flutejoin_commands.specs.Works.{SendsRead, SendReadFails}
 use Rattle.flutejoin_commands.specs.Works.{datagrams_line}
 use Rattle.flutejoin_commands.specs.Worlds.{IsAgain, Leaves, FailsToLeave, outside}
 use Rattle.flutejoin_commands.proofs.SentNames.{again_has, sent, not_sent}
@@ -24,8 +24,8 @@ returns-clause-sent g c =
     c.in_ok-source-2.ensures.same) in
     sent files a.file.now x h a.key.now a.symbol a.block a.out.now (outside files o e) new
     c.leave.result
-    (subst (λ f. OnOk c.leave.result (Leaves (SendsInput x a.key.now a.symbol a.block)
-    (SendsInput x a.key.now a.symbol a.block) datagrams_line a.out.now (outside f o e) new)) same
+    (subst (λ f. OnOk c.leave.result (Leaves (SendsRead x a.key.now a.symbol a.block)
+    (SendsRead x a.key.now a.symbol a.block) datagrams_line a.out.now (outside f o e) new)) same
     c.leave.ensures.left)
 
 pub returns-clause-failed : goal.returns-clause-failed
@@ -45,6 +45,6 @@ returns-clause-failed g c =
     c.in_ok-source-2.ensures.same) in
     not_sent files a.file.now x h a.key.now a.symbol a.block a.out.now (outside files o e) new
     c.leave.result
-    (subst (λ f. IfErr c.leave.result (FailsToLeave (SendsInput x a.key.now a.symbol a.block)
-    (SendFails x a.key.now a.symbol a.block) a.out.now (outside f o e) new)) same
+    (subst (λ f. IfErr c.leave.result (FailsToLeave (SendsRead x a.key.now a.symbol a.block)
+    (SendReadFails x a.key.now a.symbol a.block) a.out.now (outside f o e) new)) same
     c.leave.ensures.failed)

@@ -1,7 +1,7 @@
 -- info_list: what was added, stated of the names of the journal and the list.
-use Rattle.std.proofs.Common.{IfErr, ℕ, List, Option, subst}
+use Rattle.std.proofs.Common.{IfErr, subst}
 use Rattle.std.specs.Prelude.{OnOk}
-use Rattle.flutejoin.specs.InfoLists.{AddsList, AddListFails}
+use Rattle.flutejoin_commands.specs.Works.{AddsListRead, AddListReadFails}
 use Rattle.flutejoin.specs.Lines.{entries_line}
 use Rattle.flutejoin.specs.Limits.{limits_of}
 use Rattle.flutejoin_commands.specs.Worlds.{Leaves, FailsToLeave, outside}
@@ -17,14 +17,12 @@ returns-clause-added g c =
     let y = unread c.in_ok-source.list in
     let new = outside (g.W.Inputs.files c.leave.new.world) (g.O.Sink.written c.leave.new.output)
     (g.E.Sink.written c.leave.new.errors) in
-    left_of_two (λ (k l : Option (List ℕ)) (n : ℕ). AddsList k l n)
-    (λ (k l : Option (List ℕ)). AddListFails (limits_of a.any_size) k l) files a.j.now a.list.now x
-    y
+    left_of_two AddsListRead (AddListReadFails (limits_of a.any_size)) files a.j.now a.list.now x y
     c.in_ok-source.ensures.opened.0
     c.in_ok-source.ensures.opened.1
     a.out.now (outside files (g.O.Sink.written a.output.now) (g.E.Sink.written a.errors.now)) new
     entries_line c.leave.result
-    (subst (λ f. OnOk c.leave.result (Leaves (λ (n : ℕ). AddsList x y n) (λ (n : ℕ). AddsList x y n)
+    (subst (λ f. OnOk c.leave.result (Leaves (AddsListRead x y) (AddsListRead x y)
     entries_line a.out.now (outside f (g.O.Sink.written a.output.now)
     (g.E.Sink.written a.errors.now)) new))
     c.begin_with_two.ensures.same_files
@@ -39,15 +37,14 @@ returns-clause-failed g c =
     let y = unread c.in_ok-source.list in
     let new = outside (g.W.Inputs.files c.leave.new.world) (g.O.Sink.written c.leave.new.output)
     (g.E.Sink.written c.leave.new.errors) in
-    not_left_of_two (λ (k l : Option (List ℕ)) (n : ℕ). AddsList k l n)
-    (λ (k l : Option (List ℕ)). AddListFails (limits_of a.any_size) k l) files a.j.now a.list.now x
-    y
+    not_left_of_two AddsListRead (AddListReadFails (limits_of a.any_size)) files
+    a.j.now a.list.now x y
     c.in_ok-source.ensures.opened.0
     c.in_ok-source.ensures.opened.1
     a.out.now (outside files (g.O.Sink.written a.output.now) (g.E.Sink.written a.errors.now)) new
     c.leave.result
-    (subst (λ f. IfErr c.leave.result (FailsToLeave (λ (n : ℕ). AddsList x y n) (AddListFails
-    (limits_of a.any_size) x y)
+    (subst (λ f. IfErr c.leave.result (FailsToLeave (AddsListRead x y)
+    (AddListReadFails (limits_of a.any_size) x y)
     a.out.now (outside f (g.O.Sink.written a.output.now) (g.E.Sink.written a.errors.now)) new))
     c.begin_with_two.ensures.same_files
     c.leave.ensures.failed)

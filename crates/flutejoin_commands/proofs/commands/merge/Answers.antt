@@ -1,10 +1,8 @@
 -- merge: what was merged, stated of the two names.
-use Rattle.std.proofs.Common.{IfErr, ℕ, List, Option, subst}
+use Rattle.std.proofs.Common.{IfErr, subst}
 use Rattle.std.specs.Prelude.{OnOk}
-use Rattle.flute_journal.specs.Merges.{Merged}
 use Rattle.flutejoin.specs.Lines.{entries_line}
-use Rattle.flutejoin.specs.Merge.{MergeFails}
-use Rattle.flutejoin.specs.declared.limits.TheConstants.{MAX_ENTRIES}
+use Rattle.flutejoin_commands.specs.Works.{MergeReadFails, MergesRead}
 use Rattle.flutejoin_commands.specs.Worlds.{Leaves, FailsToLeave, outside}
 use Rattle.flutejoin_commands.proofs.OfNames.{left_of_two, not_left_of_two}
 use Rattle.flutejoin_commands.proofs.commands.merge.Goals as goal
@@ -18,15 +16,14 @@ returns-clause-merged g c =
     let y = unread c.in_ok-first.second in
     let new = outside (g.W.Inputs.files c.leave.new.world) (g.O.Sink.written c.leave.new.output)
     (g.E.Sink.written c.leave.new.errors) in
-    left_of_two (λ (k l : Option (List ℕ)) (n : ℕ). Merged MAX_ENTRIES n k l)
-    (λ (k l : Option (List ℕ)). MergeFails k l) files a.a.now a.b.now x y
+    left_of_two MergesRead MergeReadFails files a.a.now a.b.now x y
     c.in_ok-first.ensures.opened.0
     c.in_ok-first.ensures.opened.1
     a.out.now (outside files (g.O.Sink.written a.output.now) (g.E.Sink.written a.errors.now)) new
     entries_line c.leave.result
-    (subst (λ f. OnOk c.leave.result (Leaves (λ (n : ℕ). Merged MAX_ENTRIES n x y)
-    (λ (n : ℕ). Merged MAX_ENTRIES n x y) entries_line a.out.now
-    (outside f (g.O.Sink.written a.output.now) (g.E.Sink.written a.errors.now)) new))
+    (subst (λ f. OnOk c.leave.result (Leaves (MergesRead x y) (MergesRead x y)
+    entries_line a.out.now (outside f (g.O.Sink.written a.output.now)
+    (g.E.Sink.written a.errors.now)) new))
     c.begin_with_two.ensures.same_files
     c.leave.ensures.left)
 
@@ -39,14 +36,13 @@ returns-clause-failed g c =
     let y = unread c.in_ok-first.second in
     let new = outside (g.W.Inputs.files c.leave.new.world) (g.O.Sink.written c.leave.new.output)
     (g.E.Sink.written c.leave.new.errors) in
-    not_left_of_two (λ (k l : Option (List ℕ)) (n : ℕ). Merged MAX_ENTRIES n k l)
-    (λ (k l : Option (List ℕ)). MergeFails k l) files a.a.now a.b.now x y
+    not_left_of_two MergesRead MergeReadFails files a.a.now a.b.now x y
     c.in_ok-first.ensures.opened.0
     c.in_ok-first.ensures.opened.1
     a.out.now (outside files (g.O.Sink.written a.output.now) (g.E.Sink.written a.errors.now)) new
     c.leave.result
-    (subst (λ f. IfErr c.leave.result (FailsToLeave (λ (n : ℕ). Merged MAX_ENTRIES n x y)
-    (MergeFails x y) a.out.now (outside f (g.O.Sink.written a.output.now)
+    (subst (λ f. IfErr c.leave.result (FailsToLeave (MergesRead x y) (MergeReadFails x y)
+    a.out.now (outside f (g.O.Sink.written a.output.now)
     (g.E.Sink.written a.errors.now)) new))
     c.begin_with_two.ensures.same_files
     c.leave.ensures.failed)

@@ -1,7 +1,0 @@
--- Lemmas on the command line.
-pub mod CommandWords
-pub mod JoinLines
-pub mod Options
-pub mod Selecting
-pub mod Parsing
-pub mod SessionLists

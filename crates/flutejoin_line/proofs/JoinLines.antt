@@ -1,0 +1,72 @@
+-- join_of: the line of a join, and why there is none (specs/CommandLine).
+use Rattle.std.proofs.Common.{◌≡◌, ℕ, List, length, map, Bor, None, false, inl, inr, sym, ap, ◌∙◌}
+use Rattle.std.proofs.Common.{codes}
+use Rattle.std.specs.Prelude.{Some, is_some}
+use Rattle.std.proofs.lemmas.List.{length-map}
+use Rattle.clap.specs.Walk.{Row}
+use Rattle.flute_journal.specs.declared.choice.scope.Scope.{Scope}
+use Rattle.flutejoin_line.specs.CommandLine.{AreJoinNumbers, IsJoinFault, IsManyInputs}
+use Rattle.flutejoin_line.specs.Options.{HasSessions, HasSource, IsBadNumber, are_sessions, words}
+use Rattle.flutejoin_line.specs.Scoping.{AreScopeNumbers, IsScope}
+use Rattle.flutejoin_line.specs.Selecting.{AreNumbersOf, IsNumbersFault, object_of}
+use Rattle.flutejoin_line.specs.Sizes.{memory_in}
+use Rattle.flutejoin.specs.declared.command_fault.CommandFault.{CommandFault}
+use Rattle.flutejoin.specs.declared.command_fault.CommandFault.TheVariants.{BadNumber, BadSource}
+use Rattle.flutejoin.specs.declared.command_fault.CommandFault.TheVariants.{BadKey}
+use Rattle.flutejoin_line.specs.declared.object_numbers.ObjectNumbers.{ObjectNumbers}
+use Rattle.flutejoin_line.proofs.Selecting.{right_numbers}
+
+module _ (rows : List Row) where
+  pub wrong_sessions : (fault : CommandFault) → IsBadNumber (codes "tsi") fault
+      → are_sessions (words (codes "tsi") rows) ≡ false → IsJoinFault rows fault
+  wrong_sessions (BadNumber name) is wrong = inl (inl (is, wrong))
+  wrong_sessions _ is wrong = absurd is
+
+  module _ (sessions : (tsis : List ℕ) × HasSessions rows tsis) where
+    pub wrong_object : (fault : CommandFault) → IsNumbersFault rows fault → IsJoinFault rows fault
+    wrong_object (BadNumber name) wrong = inl (inr (sessions, wrong))
+    wrong_object _ wrong = absurd wrong
+
+    module _ {numbers : ObjectNumbers} (are : AreNumbersOf rows numbers) where
+      chosen : AreScopeNumbers rows
+      chosen = (sessions, right_numbers rows numbers are)
+
+      right : {memory : ℕ} → memory_in rows ≡ Some memory → AreJoinNumbers rows
+      right held = (chosen, ap is_some held)
+
+      pub wrong_memory : (fault : CommandFault) → IsBadNumber (codes "memory") fault
+          → memory_in rows ≡ None → IsJoinFault rows fault
+      wrong_memory (BadNumber name) is wrong = inr (chosen, is, wrong)
+      wrong_memory _ is wrong = absurd is
+
+      pub wrong_sender : {memory : ℕ} → memory_in rows ≡ Some memory
+          → ((sender : ℕ) → HasSource rows sender → ⊥) → IsJoinFault rows BadSource
+      wrong_sender held none = (right held, none)
+
+      pub wrong_key : {memory : ℕ} → memory_in rows ≡ Some memory
+          → ((sender : ℕ) × HasSource rows sender)
+          → object_of numbers.toi numbers.instance ≡ None → IsJoinFault rows BadKey
+      wrong_key held from none = (
+        right held,
+        from,
+        (numbers.toi, (numbers.instance, (are.toi, (are.instance, none)))),
+      )
+
+module _ (rows : List Row) (inputs : List (Bor (List ℕ))) (are : map (λ (w : Bor (List ℕ)). w.now)
+    inputs ≡ words (codes "INPUT") rows) where
+  pub not_joined : {scope : Scope} {memory : ℕ} (fault : CommandFault) → IsScope rows scope
+      → memory_in rows ≡ Some memory → ((sender : ℕ) × HasSource rows sender)
+      → IsManyInputs (length inputs) fault → IsJoinFault rows fault
+  not_joined fault taken held from many = go fault
+      (rw (sym (length-map inputs (λ (w : Bor (List ℕ)). w.now)) ∙ ap length are) at many)
+    where
+      go : (f : CommandFault) → IsManyInputs (length (words (codes "INPUT") rows)) f
+          → IsJoinFault rows f
+      go (BadNumber option) h = absurd h
+      go BadSource h = absurd h
+      go BadKey h = absurd h
+      go f h = ((_, taken), ap is_some held, from, h)
+
+  pub inputs_taken : (taken : List (Bor (List ℕ))) → taken ≡ inputs
+      → map (λ (w : Bor (List ℕ)). w.now) taken ≡ words (codes "INPUT") rows
+  inputs_taken taken is = ap (map (λ (w : Bor (List ℕ)). w.now)) is ∙ are

@@ -1,0 +1,6 @@
+mod CommandWords
+mod JoinLines
+mod Options
+mod Selecting
+mod Parsing
+mod SessionLists

@@ -1,0 +1,86 @@
+-- Adding commands and arguments to the parser, and that its clauses hold of what was added.
+use Rattle.std.proofs.Common.{◌≡◌, List, [], ◌∷◌, ◌++◌, true, ◌||◌, Result, Ok, Err, IfOk}
+use Rattle.std.proofs.Common.{MatchResult, inl, inr, refl, ap, ap₂, ◌∙◌}
+use Rattle.std.specs.Prelude.{IsErrAnd}
+use Rattle.clap.specs.Built.{AddsArg, AddsSubcommand}
+use Rattle.clap.specs.Faults.{fault_of, is_simple_and_free}
+use Rattle.clap.specs.Kinds.{FailsBy, HasKind}
+use Rattle.clap.specs.Simple.{App, HasMatchesOf, Shape, app_of, is_simple, subcommand_of}
+use Rattle.clap.specs.Simple.{subcommand_rows_of, with_subcommand}
+use Rattle.clap.specs.Walk.{Rule, Text}
+use Rattle.clap.specs.declared.builder.arg.Arg.{Arg}
+use Rattle.clap.specs.declared.builder.command.Command.{Command}
+use Rattle.clap.specs.declared.error.Error.{Error}
+use Rattle.clap.specs.declared.parser.matches.ArgMatches.{ArgMatches}
+use Rattle.flutejoin_line.specs.CommandLine.{IsParserFault, IsRefusal}
+use Rattle.flutejoin_line.specs.Parser.{IsArgument, IsCommand, command_in, command_with, program}
+use Rattle.flutejoin_line.specs.Parser.{refusals_of}
+use Rattle.flutejoin.specs.declared.command_fault.CommandFault.{CommandFault}
+use Rattle.flutejoin.specs.declared.command_fault.CommandFault.TheVariants.{CommandLine}
+use Rattle.flutejoin.specs.declared.command_fault.CommandFault.TheVariants.{OutOfMemory}
+
+-- one argument more
+pub argument_added : {name : Text} {rules : List Rule} {rule : Rule} {old new : Command}
+    {arg : Arg} → IsCommand name rules old → IsArgument rule arg → AddsArg old arg new → IsCommand
+    name (rules ++ rule ∷ []) new
+argument_added was is added = record {
+  shape_is =
+      ap (λ (a : App). a.top) (added.shape is.is_local)
+      ∙ ap₂ (λ (s : Shape) (r : Rule). record s { rules = s.rules ++ r ∷ [] }) was.shape_is
+      is.rule_is;
+  is_local = added.globals ∙ ap₂ (λ x y. x || y) was.is_local is.is_local;
+}
+
+-- one command more
+pub command_added : {name : Text} {rules : List Rule} {app : App} {old sub new : Command} → app_of
+    old ≡ app → IsCommand name rules sub → AddsSubcommand old sub new → app_of new ≡
+    with_subcommand app (command_with name rules)
+command_added was is added = added.shape is.is_local ∙ ap₂ with_subcommand was is.shape_is
+
+-- the parser's clauses are of such programs
+is_simple_program : is_simple program ≡ true
+unfolding program
+is_simple_program = refl
+
+is_free_program : is_simple_and_free program ≡ true
+unfolding program
+is_free_program = refl
+
+-- what it finds
+found : (app : App) (words : List Text) (m : ArgMatches) → app ≡ program → HasMatchesOf app words m
+    → subcommand_rows_of m ≡ command_in words
+unfolding command_in
+found app words m is has = (has (ap is_simple is ∙ is_simple_program)).1 ∙ ap
+    (λ a. subcommand_of a words) is
+
+-- and refuses
+refused : (app : App) (words : List Text) (read : Result ArgMatches Error) → app ≡ program →
+    (is_simple_and_free app ≡ true → FailsBy (fault_of app words) read) → FailsBy
+    (refusals_of words) read
+unfolding refusals_of
+refused app words read is has = rw (← is) (has (ap is_simple_and_free is ∙ is_free_program))
+
+-- the fault that is returned for an error of the parser
+told_of : (words : List Text) (error : Error) (fault : CommandFault) → HasKind (refusals_of words)
+    error → IsParserFault error fault → IsRefusal words fault
+told_of words error (CommandLine told) has is = rw is.0
+    (elim has [ inl short ↦ absurd (is.1 short) | inr among ↦ among ])
+told_of words error OutOfMemory has is = tt
+told_of words error _ has is = absurd is
+
+pub words_read : (app : App) (words : List Text) (read : Result ArgMatches Error)
+    (told : Result ArgMatches CommandFault) → app ≡ program
+    → IfOk read (HasMatchesOf app words) → (is_simple_and_free app ≡ true → FailsBy
+    (fault_of app words) read)
+    → MatchResult read (λ m. told ≡ Ok m) (λ e. IsErrAnd told (IsParserFault e))
+    → MatchResult told (λ m. (refusals_of words ≡ []) × (subcommand_rows_of m ≡ command_in words))
+    (IsRefusal words)
+words_read app words (Ok m) told is has kinds hands = rw hands
+    (refused app words (Ok m) is kinds, found app words m is has)
+words_read app words (Err e) told is has kinds hands = go told hands
+  where
+    go : (t : Result ArgMatches CommandFault) → IsErrAnd t (IsParserFault e) → MatchResult t
+        (λ m. (refusals_of words ≡ []) × (subcommand_rows_of m ≡ command_in words))
+        (IsRefusal words)
+    go (Ok m) h = absurd h
+    go (Err fault) h = told_of words e fault (refused app words (Err e) is kinds) h

@@ -1,0 +1,89 @@
+//! The line of `extract`, of one object or of all.
+ghost use Rattle.std.specs.Prelude.{◌≡◌, MatchResult, None, codes, false, true};
+ghost use Rattle.flutejoin_line.specs.CommandLine.{IsAllFault, IsExtractFault, IsKeyFault, IsLine};
+ghost use Rattle.flutejoin_line.specs.CommandLine.{IsOneFault};
+ghost use Rattle.flutejoin_line.specs.Options.{HasSource, IsFlag, IsFormFault, extract_form};
+ghost use Rattle.flutejoin_line.specs.Options.{first_unfit, found_rows, key_options};
+
+use crate::key_numbers::KeyNumbers;
+use crate::line::Line;
+use crate::numbers::{sessions, source, source_if};
+use crate::words::{flag, given, text};
+use clap::ArgMatches;
+use flutejoin::CommandFault;
+
+/// The line of `extract`.
+///
+/// # Errors
+///
+/// `BadOption` if an option is left out, or does not go with `--all` or the others; `BadNumber`,
+/// `BadSource` and `BadKey` as `line_of` has them.
+pub fn extract_of<'a>(matches: &ArgMatches<'a>) -> Result<Line<'a>, CommandFault>
+    ensures { let rows = found_rows matches.now in
+        MatchResult result (IsLine (codes "extract") rows) (IsExtractFault rows) }
+{
+    if flag(matches, "all") {
+        extract_all(matches)
+    } else {
+        extract_one(matches)
+    }
+}
+
+fn extract_all<'a>(matches: &ArgMatches<'a>) -> Result<Line<'a>, CommandFault>
+    requires { IsFlag (codes "all") (found_rows matches.now) true }
+    ensures { let rows = found_rows matches.now in
+        MatchResult result (IsLine (codes "extract") rows) (IsAllFault rows) }
+{
+    given(matches, "toi", 0)?;
+    given(matches, "fdt", 0)?;
+    if flag(matches, "force") {
+        return Err(CommandFault::BadOption("force"));
+    }
+    let sessions = sessions(matches)?;
+    let sender = source_if(matches)?;
+    Ok(Line::ExtractAll {
+        out: text(matches, "OUT"),
+        any_size: flag(matches, "any-size"),
+        sender,
+        sessions,
+        j: text(matches, "J"),
+    })
+}
+
+fn extract_one<'a>(matches: &ArgMatches<'a>) -> Result<Line<'a>, CommandFault>
+    requires { IsFlag (codes "all") (found_rows matches.now) false }
+    ensures { let rows = found_rows matches.now in
+        MatchResult result (IsLine (codes "extract") rows) (IsOneFault rows) }
+{
+    has_key(matches)?;
+    object_of(matches)
+}
+
+// Its session and TOI are given once.
+fn has_key(matches: &ArgMatches<'_>) -> Result<(), CommandFault>
+    ensures { let rows = found_rows matches.now in
+        MatchResult result (λ _. first_unfit extract_form rows ≡ None)
+        (IsFormFault extract_form (λ _. ⊥) rows) }
+{
+    given(matches, "tsi", 1)?;
+    given(matches, "toi", 1)
+}
+
+fn object_of<'a>(matches: &ArgMatches<'a>) -> Result<Line<'a>, CommandFault>
+    requires all { IsFlag (codes "all") (found_rows matches.now) false }
+    requires form { first_unfit extract_form (found_rows matches.now) ≡ None }
+    ensures { let rows = found_rows matches.now in
+        MatchResult result (IsLine (codes "extract") rows)
+        (IsKeyFault (key_options rows) (HasSource rows) rows) }
+{
+    let numbers = KeyNumbers::of(matches)?;
+    let sender = source(matches)?;
+    let key = numbers.key(sender)?;
+    Ok(Line::Extract {
+        out: text(matches, "OUT"),
+        force: flag(matches, "force"),
+        any_size: flag(matches, "any-size"),
+        key,
+        j: text(matches, "J"),
+    })
+}

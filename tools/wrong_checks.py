@@ -1,0 +1,122 @@
+"""Checks of a crate in which wrong bodies are tried: their command, and what they print."""
+from __future__ import annotations
+
+import os
+import re
+import shutil
+import time
+from typing import Iterable
+
+from wrong_edits import ROOT, crate_folder, text_of
+
+KIT = os.path.dirname(os.path.dirname(os.path.realpath(shutil.which("rt") or "rt")))
+
+# The line of a check about a function.
+ANSWER = re.compile(r"^fn (\S+): (.*)$", re.M)
+# A goal that the check leaves open: in a note before the function's result, and in that result.
+OPEN = re.compile(r"^note: \S+ it is not proved .*?\(`([^`]+)`\)", re.M)
+UNFOUND = re.compile(r"`search` did not prove ((?:`[^`]+`(?:, )?)+)")
+# The last line of a check that ran to its end and did not prove everything.
+UNPROVED = re.compile(r"^(logic=not-proved|only=\d+ proved=\d+)", re.M)
+# The place of a fault.
+FAULT = re.compile(r"(note: )?\S+:\d+:\d+: (error|it is not proved)")
+# A limit of the check itself, which it meets each time that it checks the same code.
+LIMIT = re.compile(
+    r"antt ran out of (stack|the (steps|memory) that the check of one declaration may (take|use))"
+    r"|(outgrew the memory limit|stopped at the step limit) \("
+)
+
+
+def last_names(name: str) -> str:
+    """The last parts of a function's name: for a method, a check names the type's module too."""
+    return "::".join(name.split("::")[-2:])
+
+
+def found_in(answers: dict[str, str], name: str) -> str:
+    """The name by which a check reports this function, or the name itself if that is not clear."""
+    alike = [it for it in answers if it.endswith(f"::{last_names(name)}")]
+    return name if name in answers or len(alike) != 1 else alike[0]
+
+
+def is_refused(said: str) -> bool:
+    """Whether a function is refused for its own body, and not only for a function that it calls."""
+    return said.startswith("not proved") or "` did not prove `" in said
+
+
+def goals_of(told: str) -> dict[str, list[str]]:
+    """The goals that a check leaves open, by function: notes come before their function."""
+    goals: dict[str, list[str]] = {}
+    open_goals: list[str] = []
+    for line in told.split("\n"):
+        note, answer = OPEN.match(line), ANSWER.match(line)
+        if note:
+            open_goals.append(note[1])
+        elif answer:
+            unfound = UNFOUND.search(answer[2])
+            named = re.findall("`([^`]+)`", unfound[1]) if unfound else []
+            goals[answer[1]] = [*dict.fromkeys([*open_goals, *named])]
+            open_goals = []
+    return goals
+
+
+def shown(goals: list[str]) -> str:
+    """The first of these goals that belongs to a clause, or else the first, and how many more."""
+    first = next((it for it in goals if it.startswith("returns")), goals[0])
+    more = f" and {len(goals) - 1} more" if len(goals) > 1 else ""
+    return f"{first}{more}"
+
+
+def is_unproved(status: int, told: str) -> bool:
+    return status == 1 and UNPROVED.search(told) is not None
+
+
+def listed_libraries() -> dict[str, list[str]]:
+    """The libraries that crates.txt lists for each crate."""
+    lines = text_of(f"{ROOT}/crates.txt").split("\n")
+    listed = [it.partition("#")[0].partition(":") for it in lines]
+    return {it[0].split()[0]: it[2].split() for it in listed if it[0].strip()}
+
+
+def libraries_of(name: str) -> tuple[list[str], list[str], list[str]]:
+    """The crate's libraries: those of the repository, with all below them, and the kit's."""
+    listed = listed_libraries()
+    own = [it for it in listed[name] if it in listed]
+    below = [*own]
+    for one in below:
+        below += [it for it in listed[one] if it in listed and it not in below]
+    return own, below, [it for it in listed[name] if it not in listed]
+
+
+def rlibs(name: str) -> str:
+    return f"{crate_folder(name)}/out/rlib"
+
+
+def checking(name: str) -> list[str]:
+    """The command that checks the crate in the current folder over its built libraries."""
+    own, below, of_kit = libraries_of(name)
+    root = "main" if os.path.isfile(f"{crate_folder(name)}/src/main.rt") else "lib"
+    words = [f"{KIT}/bin/rattle", "check", "--crate-name", name, f"src/{root}.rt"]
+    for it in ["std", *of_kit]:
+        words += ["--extern", f"{it}={KIT}/rlibs/{it}.rlib"]
+    words += ["-L", f"dependency={KIT}/rlibs"]
+    for it in own:
+        words += ["--extern", f"{it}={rlibs(it)}/{it}.rlib"]
+    for it in below:
+        words += ["-L", f"dependency={rlibs(it)}"]
+    words += ["--antt-project", f"{KIT}/rattle/logic/antt-project.json"]
+    words += ["--logic-built", f"{KIT}/logic_built"]
+    return [*words, "--links", f"{name}=", "--jobs", "1", "--incremental", "kept"]
+
+
+def wait_for(libraries: Iterable[str], process: int) -> None:
+    """Waits until these libraries are built, as long as this process, which builds them, runs."""
+    while not are_built(libraries):
+        try:
+            os.kill(process, 0)
+        except ProcessLookupError:
+            raise ValueError(f"not all of {', '.join(libraries)} are built") from None
+        time.sleep(1)
+
+
+def are_built(libraries: Iterable[str]) -> bool:
+    return all(os.path.isdir(f"{rlibs(it)}/{it}.rlib") for it in libraries)
