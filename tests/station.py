@@ -136,6 +136,8 @@ class Port:
 class Run:
     """A station that is running."""
 
+    groups: list[int] = []  # the process group of each run
+
     def __init__(
         self,
         folder: pathlib.Path,
@@ -155,6 +157,7 @@ class Run:
             stderr=self.told,
             start_new_session=True,
         )
+        self.groups.append(self.child.pid)
         if wait:
             self.until("listening")
 
@@ -188,11 +191,29 @@ def until(holds: Callable[[], object], run: Run | None = None) -> bool:
     return True
 
 
+def going_on(groups: list[int]) -> list[str]:
+    """The names of the processes of these groups that have not ended."""
+    names = []
+    for path in pathlib.Path("/proc").glob("[0-9]*/stat"):
+        with contextlib.suppress(FileNotFoundError, ProcessLookupError):
+            name, _, rest = path.read_text(errors="replace").rpartition(") ")
+            state, _, group = rest.split()[:3]
+            if state not in "ZX" and int(group) in groups:
+                names.append(name)
+    return names
+
+
 def of_once(folder: pathlib.Path, *words: object) -> Run:
     """A run that receives nothing, and joins the files that are there."""
     run = Run(folder, Port().number, "--seconds", 0.1, *words, wait=False)
     run.wait()
     return run
+
+
+def receivers(run: Run) -> list[int]:
+    """The processes that a run began."""
+    words = "ps", "-o", "pid=", "--ppid", str(run.child.pid)
+    return [*map(int, subprocess.run(words, capture_output=True, text=True).stdout.split())]
 
 
 def keeper(folder: pathlib.Path, has_outbox: bool, program: str = PROGRAM) -> Keeper:
@@ -433,10 +454,7 @@ def runs(work: pathlib.Path) -> None:
     check("a second run is told", "another run works in it" in second.text(), second.text())
     port.send(sent[:30], 0.01)
     until((folder / f"journals/{NAME}.journal").exists, run)
-    receivers = subprocess.run(
-        ["ps", "-o", "pid=", "--ppid", str(run.child.pid)], capture_output=True, text=True
-    )
-    os.kill(int(receivers.stdout.split()[0]), signal.SIGKILL)
+    os.kill(receivers(run)[0], signal.SIGKILL)
     until(lambda: run.text().count("listening") == 2, run)
     check("a receiver that ended is told", "ended with status -9" in run.text(), run.text())
     port.send(sent[30:], 0.01)
@@ -527,14 +545,22 @@ def lines_that_nobody_reads(work: pathlib.Path) -> None:
 
 
 def many_signals(work: pathlib.Path) -> None:
-    """They end a run at once, and it tells nothing of how."""
-    for _ in range(3 * SOAK):
+    """The second ends a run at once, and it tells nothing of how."""
+    by_signal = [128 + number for number in flutejoin_files.STOPPING]
+    for number in range(6 * SOAK):
         run = Run(work / "news", Port().number)
-        for number in flutejoin_files.STOPPING:
+        receiver = receivers(run)[0]
+        if number % 2:  # so that the run does not end before the second signal
+            os.kill(receiver, signal.SIGSTOP)
+        for one in flutejoin_files.STOPPING:
             with contextlib.suppress(ProcessLookupError):
-                run.child.send_signal(number)
+                run.child.send_signal(one)
             time.sleep(random.uniform(0, 0.0002))
-        check("many signals: status", run.wait() == 130, run.text())
+        status = run.wait()
+        with contextlib.suppress(ProcessLookupError):
+            os.kill(receiver, signal.SIGCONT)
+        is_right = status in by_signal or status in (0, 1) and number % 2 == 0
+        check("many signals: status", is_right, f"{status}: {run.text()}")
         check("many signals", "Traceback" not in run.text(), run.text())
 
 
@@ -948,6 +974,9 @@ def main() -> int:
     for name in named:
         with tempfile.TemporaryDirectory() as folder:
             TESTS[name](pathlib.Path(folder))
+            # A receiver whose run was ended at once may still write for a moment.
+            until(lambda: not going_on(Run.groups))
+            check(f"{name}: nothing goes on", not going_on(Run.groups), going_on(Run.groups))
     if not named:
         run_beside_one_another()
     print(f"station: {passed} passed, {failed} failed")

@@ -173,6 +173,17 @@ def keep_status() -> None:
         signal.signal(number, signal.SIG_IGN)
 
 
+def exit_status(work: Callable[[], None], report: Report) -> int:
+    """Does the work of a tool, and returns its exit status: 128 + N if signal N ended it."""
+    try:
+        work()
+        keep_status()
+    except KeyboardInterrupt as signalled:
+        keep_status()
+        return 128 + signalled.args[0]
+    return report.status
+
+
 def shown(text: str) -> str:
     """A text that is safe to print.
 

@@ -64,13 +64,14 @@ class Receiver:
         self.start_at = now + self.delay
         self.delay = min(2 * self.delay, LONGEST_DELAY)
 
-    def stop(self) -> None:
-        """Ends the child, and waits until it has written what it received."""
+    def stop(self, at_once: bool) -> None:
+        """Ends the child. Unless `at_once`, waits until it has written what it received."""
         self.is_stopped = True
         if self.child:
             self.child.terminate()
-            self.child.wait()
-            self.end(self.child, time.monotonic())
+            if not at_once:
+                self.child.wait()
+                self.end(self.child, time.monotonic())
 
     def told(self) -> Optional[dict]:
         """The last status that the child wrote; None if there is none."""
