@@ -173,7 +173,7 @@ class Run:
 
     def wait(self) -> int:
         try:
-            return self.child.wait(60)
+            return self.child.wait(120)
         except subprocess.TimeoutExpired:
             self.child.kill()
             check("a run ends", False, self.text())
@@ -181,8 +181,8 @@ class Run:
 
 
 def until(holds: Callable[[], object], run: Run | None = None) -> bool:
-    """Waits until a condition holds, at most 30 seconds."""
-    end = time.monotonic() + 30
+    """Waits until a condition holds, at most two minutes."""
+    end = time.monotonic() + 120
     while not holds():
         if time.monotonic() > end:
             check("a wait", False, run.text() if run else "it never holds")
@@ -495,10 +495,11 @@ def folders_at_fault(work: pathlib.Path) -> None:
     is_told = told in run.text() and "Traceback" not in run.text()
     check("a folder that cannot be made is told", is_told, run.text())
     run = Run(work / "removed", Port().number)
+    run.child.send_signal(signal.SIGSTOP)
+    shutil.rmtree(work / "removed")
     run.child.send_signal(signal.SIGTERM)
-    while run.child.poll() is None:
-        shutil.rmtree(work / "removed", ignore_errors=True)
-    check("a folder that is removed: status", run.child.returncode == 3, run.text())
+    run.child.send_signal(signal.SIGCONT)
+    check("a folder that is removed: status", run.wait() == 3, run.text())
     check("a folder that is removed", "Traceback" not in run.text(), run.text())
 
 
