@@ -43,7 +43,7 @@ SOURCES := crates.txt $(shell find crates -name out -prune -o -name README.md -o
 bin/flutejoin: $(SOURCES)
 	@tools/build.sh
 
-test test-program test-tools: export FLUTEJOIN = $(abspath $(BUILT))
+test test-program test-tools test-stations: export FLUTEJOIN = $(abspath $(BUILT))
 # `rt ci` proves one crate above another, so a processor is often free: it runs the trials, and tries
 # the wrong bodies of the crates whose libraries are built by then.
 test:
@@ -52,7 +52,8 @@ test:
 	rt ci & proofs=$$!; \
 	nice -n 19 tests/trials.sh && nice -n 19 tools/wrong_bodies.py --while $$proofs; others=$$?; \
 	wait $$proofs && exit $$others
-	$(MAKE) --no-print-directory --jobs=2 --output-sync=line test-program test-tools
+	$(MAKE) --no-print-directory --jobs=2 --output-sync=line \
+		test-program test-tools test-stations
 
 # The built program, and the pages that show it
 test-program:
@@ -78,14 +79,17 @@ test-tools:
 	tests/capture_cases.py
 	tests/test_values.py
 	tests/files.py "$(FLUTEJOIN)"
-	tests/test_receive.py
-	tests/receiving.py "$(FLUTEJOIN)"
 	tests/test_map.py
 	tests/map_cases.py
-	tests/test_tree.py
-	tests/test_examples.py
-	tests/station.py "$(FLUTEJOIN)"
 	tests/test_package.py
+
+# What receives, and stations; their tests mostly wait
+test-stations:
+	tests/test_receive.py
+	tests/receiving.py "$(FLUTEJOIN)"
+	tests/station.py "$(FLUTEJOIN)"
+	tests/test_examples.py
+	tests/test_tree.py
 
 wrong-bodies:
 	tools/wrong_bodies.py --all
@@ -132,5 +136,5 @@ deb: $(PROGRAM)
 clean:
 	rm -rf bin crates/*/out
 
-.PHONY: test test-program test-tools wrong-bodies soak scale try example install \
+.PHONY: test test-program test-tools test-stations wrong-bodies soak scale try example install \
 	uninstall deb clean
