@@ -1,5 +1,13 @@
 -- Names that most proofs on journals cite, re-exported from one place, and one of their own.
-pub use Rattle.std.proofs.Common.{Bool, Err, IfErr, IfSome, IsTrue, List, MatchBool, None, Ok, OnOk, Option, Result, Some, [], add-one, ap, append-nil, append_assoc, arith, bytes_eq, drop, drop-cons, drop-drop, drop-set-lt, drop_at, eqb, false, flat_map, get_or, if◌then◌else◌, inl, inr, is_eq, is_lt, is_some, le_refl, leb, length, length-append, length-drop, length-set, length-take, length-take-le, lit<, ltb, not, refl, rules, slice_get, slice_range, slice_set, subst, suc, sym, take, take-append-drop, take_all, take_at, true, zero, ℕ, ◌%◌, ◌&&◌, ◌*◌, ◌++◌, ◌+◌, ◌-◌, ◌/◌, ◌<◌, ◌^◌, ◌∙◌, ◌∷◌, ◌≡◌, ◌≢◌, ◌≤◌, ◌⊎◌}
+pub use Rattle.std.proofs.Common.{Bool, Err, IfErr, IfSome, IsTrue, List, MatchBool, None, Ok, OnOk}
+pub use Rattle.std.proofs.Common.{Option, Result, Some, [], add-one, ap, append-nil, append_assoc}
+pub use Rattle.std.proofs.Common.{arith, bytes_eq, drop, drop-cons, drop-drop, drop-set-lt, drop_at}
+pub use Rattle.std.proofs.Common.{eqb, false, flat_map, get_or, if◌then◌else◌, inl, inr, is_eq}
+pub use Rattle.std.proofs.Common.{is_lt, is_some, le_refl, leb, length, length-append, length-drop}
+pub use Rattle.std.proofs.Common.{length-set, length-take, length-take-le, lit<, ltb, not, refl}
+pub use Rattle.std.proofs.Common.{rules, slice_get, slice_range, slice_set, subst, suc, sym, take}
+pub use Rattle.std.proofs.Common.{take-append-drop, take_all, take_at, true, zero, ℕ, ◌%◌, ◌&&◌}
+pub use Rattle.std.proofs.Common.{◌*◌, ◌++◌, ◌+◌, ◌-◌, ◌/◌, ◌<◌, ◌^◌, ◌∙◌, ◌∷◌, ◌≡◌, ◌≢◌, ◌≤◌, ◌⊎◌}
 pub use Rattle.flute_journal.specs.Advances.{AreNew, GoOnAt, GoesOnAt, StopAt, StopsIn}
 pub use Rattle.flute_journal.specs.Eithers.{either_behaviour}
 pub use Rattle.flute_journal.specs.declared.{
@@ -25,10 +33,25 @@ pub use Rattle.flute_journal.specs.declared.{
   merge.streams_fault.StreamsFault.TheVariants.{Input, Write},
   merge.streams_fault.StreamsFault.{StreamsFault},
 }
-pub use Rattle.flute_journal.specs.Faults.{Check, bytes_checks, cut, end_checks, entry_checks, first_fault, header_fault, id_checks, id_in, in_order, info_checks, info_in, is_after, is_key, is_kind, is_name, is_object, is_version, key_in, key_size, named_in, next_fault, object_in, opening_fault, rest_checks, version_fault, version_in}
-pub use Rattle.flute_journal.specs.Format.{body, counted_bytes, end, entry, entry_in, fact_key, header, header_in, id_bytes, info_bytes, key_bytes, kind, magic, name_bytes, object_bytes, rest_bytes, sender_bytes, sender_size, spelling, spelling_in, version_bytes, version_number, without_end, without_end_in}
+pub use Rattle.flute_journal.specs.Faults.{Check, bytes_checks, cut, end_checks, entry_checks}
+pub use Rattle.flute_journal.specs.Faults.{first_fault, header_fault, id_checks, id_in, in_order}
+pub use Rattle.flute_journal.specs.Faults.{info_checks, info_in, is_after, is_key, is_kind, is_name}
+pub use Rattle.flute_journal.specs.Faults.{is_object, is_version, key_in, key_size, named_in}
+pub use Rattle.flute_journal.specs.Faults.{next_fault, object_in, opening_fault, rest_checks}
+pub use Rattle.flute_journal.specs.Faults.{version_fault, version_in}
+pub use Rattle.flute_journal.specs.Format.{body, counted_bytes, end, entry, entry_in, fact_key}
+pub use Rattle.flute_journal.specs.Format.{header, header_in, id_bytes, info_bytes, key_bytes, kind}
+pub use Rattle.flute_journal.specs.Format.{magic, name_bytes, object_bytes, rest_bytes}
+pub use Rattle.flute_journal.specs.Format.{sender_bytes, sender_size, spelling, spelling_in}
+pub use Rattle.flute_journal.specs.Format.{version_bytes, version_number, without_end}
+pub use Rattle.flute_journal.specs.Format.{without_end_in}
 pub use Rattle.flute_journal.specs.Input.{AsksMemory, Fails, FailsIf, IsFaultOf, IsFaultUpTo, IsSettled, IsWithin, Reads, ReadsUpTo, StaysWithin, left_by, or_failed}
-pub use Rattle.flute_journal.specs.Framing.{AsksForItem, Framing, Gives, GivesEnd, GivesFault, GivesItem, HasFault, IsAtFault, IsPart, MayRunOut, ReadsFrom, ReadsNext, Sofar, Stops, after_items, count_at, end_bytes, fault_from, in_header, in_item, in_opening, is_open, next_bytes, opening, or_else, place_at, read_of, state_after, state_at, told_at}
+pub use Rattle.flute_journal.specs.Framing.{AsksForItem, Framing, Gives, GivesEnd, GivesFault}
+pub use Rattle.flute_journal.specs.Framing.{GivesItem, HasFault, IsAtFault, IsPart, MayRunOut}
+pub use Rattle.flute_journal.specs.Framing.{ReadsFrom, ReadsNext, Sofar, Stops, after_items}
+pub use Rattle.flute_journal.specs.Framing.{count_at, end_bytes, fault_from, in_header, in_item}
+pub use Rattle.flute_journal.specs.Framing.{in_opening, is_open, next_bytes, opening, or_else}
+pub use Rattle.flute_journal.specs.Framing.{place_at, read_of, state_after, state_at, told_at}
 pub use Rattle.flute_journal.specs.Frame.{AreItems, IsWhole, up_to_end}
 pub use Rattle.flute_journal.specs.Journal.{Collects, HasRoom, IsFactIn, IsJournal, IsJournalWithin, IsKeyIn, Journal, JournalIn, OldJournal, journal_frame}
 pub use Rattle.flute_journal.specs.JournalFraming.{before, journal_framing, last_of}
@@ -47,7 +70,14 @@ pub use Rattle.flute_journal.specs.StreamMerges.{AppendsNoJournal, AppendsPartOf
 pub use Rattle.flute_journal.specs.Streams.{Advances, Behaviour, Continues, Gave, GoesOn, Stopped, StopsAt, fact_in, heads, most_of, option_list, place_of}
 pub use Rattle.flute_journal.specs.Whole.{ReadsPart, StopsAfter}
 pub use Rattle.flute_parts.specs.Ranges.{IsByte, IsFact, IsId, IsInfo, IsKey, IsSymbol}
-pub use Rattle.flute_parts.proofs.Public.{alone, alone-at, alone-elsewhere, AppendsPart-first, AppendsPart-second, Below-from_Same, fact_at-after, fact_at-append, fact_at-cons, fact_at-elsewhere, fact_at-here, fact_at-nil, joined, joined-apart, joined-assoc, joined-comm, joined-none, joined-same, Over-below, rising_unique, Same-append, Same-itself, Same-members, Same-sym, Same-trans, Same-twice, StandAfter-before, Writes-behind}
+pub use Rattle.flute_parts.proofs.Public.{alone, alone-at, alone-elsewhere, AppendsPart-first}
+pub use Rattle.flute_parts.proofs.Public.{AppendsPart-second, Below-from_Same, fact_at-after}
+pub use Rattle.flute_parts.proofs.Public.{fact_at-append, fact_at-cons, fact_at-elsewhere}
+pub use Rattle.flute_parts.proofs.Public.{fact_at-here, fact_at-nil, joined, joined-apart}
+pub use Rattle.flute_parts.proofs.Public.{joined-assoc, joined-comm, joined-none, joined-same}
+pub use Rattle.flute_parts.proofs.Public.{Over-below, rising_unique, Same-append, Same-itself}
+pub use Rattle.flute_parts.proofs.Public.{Same-members, Same-sym, Same-trans, Same-twice}
+pub use Rattle.flute_parts.proofs.Public.{StandAfter-before, Writes-behind}
 pub use Rattle.flute_parts.specs.Addresses.{address, fact_of, info_address, symbol_address}
 pub use Rattle.flute_parts.specs.BigEndian.{big_endian}
 pub use Rattle.flute_parts.specs.Devices.{AppendsPart, times_failed}

@@ -1,5 +1,12 @@
 -- Big-endian numbers and their bytes.
-use Rattle.flute_journal.proofs.Common.{big_from-whole, length-bytes_high_first, append-nil, big_from-whole, ◌≡◌, ℕ, zero, suc, ◌+◌, ◌*◌, ◌/◌, ◌%◌, ◌^◌, ◌<◌, ◌≤◌, List, [], ◌∷◌, ◌++◌, length, take, drop, get_or, refl, sym, ap, ◌∙◌, subst, arith, lit<, AllByRecursion, pow-succ', mul-add-div_right, mul-add-mod_self_right, add-mul, mul_assoc, div-eq_of_lt, mod-eq_of_lt, one-le-pow, div-one, mul-le-mul_right, take_at, drop_at, length-take, length-drop, take-append-drop, big_endian, in_bytes, IsByte}
+use Rattle.flute_journal.proofs.Common.{big_from-whole, length-bytes_high_first, append-nil}
+use Rattle.flute_journal.proofs.Common.{big_from-whole, ◌≡◌, ℕ, zero, suc, ◌+◌, ◌*◌, ◌/◌, ◌%◌, ◌^◌}
+use Rattle.flute_journal.proofs.Common.{◌<◌, ◌≤◌, List, [], ◌∷◌, ◌++◌, length, take, drop, get_or}
+use Rattle.flute_journal.proofs.Common.{refl, sym, ap, ◌∙◌, subst, arith, lit<, AllByRecursion}
+use Rattle.flute_journal.proofs.Common.{pow-succ', mul-add-div_right, mul-add-mod_self_right}
+use Rattle.flute_journal.proofs.Common.{add-mul, mul_assoc, div-eq_of_lt, mod-eq_of_lt, one-le-pow}
+use Rattle.flute_journal.proofs.Common.{div-one, mul-le-mul_right, take_at, drop_at, length-take}
+use Rattle.flute_journal.proofs.Common.{length-drop, take-append-drop, big_endian, in_bytes, IsByte}
 use Rattle.byteorder.specs.{Endian.{big_from}, Numbers.{big_number-reads_back}}
 use Rattle.std.specs.Int.{byte_at}
 use Rattle.std.proofs.lemmas.Nat.{pow-add}

@@ -1,5 +1,21 @@
 -- What the decoding functions return for plain bytes (src/format/decode.rt).
-use Rattle.flute_journal.proofs.Common.{Address, AllByRecursion, Bool, Err, EntryHead, HeadIn, HasRoom, Information, IsByte, IsId, IsKey, IsKeyIn, IsSplitAt, Key, Kind, List, None, Ok, One, Option, Parses, ReadFault, RestIs, Result, Some, StopsReading, SymbolId, Two, Version, [], ap, append-nil, append_assoc, arith, big_endian, body_fault, byte_of, bytes_checks, bytes_eq, bytes_eq-Decides, bytes_fault, cut, drop, err_from_is_err_and, false, head_bytes, head_size, header_fault, header_in, id_bytes, if◌then◌else◌, in_bytes, in_order, info_bytes, info_in, is_after, is_key, is_name, is_version, key_bytes, key_in, key_size, kind, length, length-append, length-drop, length-take-le, magic, named_in, nil_from_length, not, number_at, rest_checks, rest_fault, rest_size, subst, sym, symbol_address, take, take-append-drop, take_all, take_at, or_failed, true, version_bytes, version_fault, ℕ, ◌++◌, ◌-◌, ◌<◌, ◌^◌, ◌∙◌, ◌∷◌, ◌≡◌, ◌≤◌}
+use Rattle.flute_journal.proofs.Common.{Address, AllByRecursion, Bool, Err, EntryHead, HeadIn}
+use Rattle.flute_journal.proofs.Common.{HasRoom, Information, IsByte, IsId, IsKey, IsKeyIn}
+use Rattle.flute_journal.proofs.Common.{IsSplitAt, Key, Kind, List, None, Ok, One, Option, Parses}
+use Rattle.flute_journal.proofs.Common.{ReadFault, RestIs, Result, Some, StopsReading, SymbolId}
+use Rattle.flute_journal.proofs.Common.{Two, Version, [], ap, append-nil, append_assoc, arith}
+use Rattle.flute_journal.proofs.Common.{big_endian, body_fault, byte_of, bytes_checks, bytes_eq}
+use Rattle.flute_journal.proofs.Common.{bytes_eq-Decides, bytes_fault, cut, drop}
+use Rattle.flute_journal.proofs.Common.{err_from_is_err_and, false, head_bytes, head_size}
+use Rattle.flute_journal.proofs.Common.{header_fault, header_in, id_bytes, if◌then◌else◌, in_bytes}
+use Rattle.flute_journal.proofs.Common.{in_order, info_bytes, info_in, is_after, is_key, is_name}
+use Rattle.flute_journal.proofs.Common.{is_version, key_bytes, key_in, key_size, kind, length}
+use Rattle.flute_journal.proofs.Common.{length-append, length-drop, length-take-le, magic, named_in}
+use Rattle.flute_journal.proofs.Common.{nil_from_length, not, number_at, rest_checks, rest_fault}
+use Rattle.flute_journal.proofs.Common.{rest_size, subst, sym, symbol_address, take}
+use Rattle.flute_journal.proofs.Common.{take-append-drop, take_all, take_at, or_failed, true}
+use Rattle.flute_journal.proofs.Common.{version_bytes, version_fault, ℕ, ◌++◌, ◌-◌, ◌<◌, ◌^◌, ◌∙◌}
+use Rattle.flute_journal.proofs.Common.{◌∷◌, ◌≡◌, ◌≤◌}
 use Rattle.std.proofs.Math.Seq.{take-append_seam}
 use Rattle.std.proofs.Common.{◌&&◌, ◌==◌, is_eq, is_lt, refl}
 use Rattle.std.specs.Ordering.{ordering_then}
@@ -14,7 +30,12 @@ use Rattle.std.specs.Option.{ok_or}
 use Rattle.flute_journal.specs.Format.{sender_size}
 use Rattle.flute_journal.specs.declared.format.Kind.TheVariants as kinds
 use Rattle.flute_journal.specs.declared.fault.ReadFault.TheVariants as faults
-use Rattle.flute_journal.proofs.{Numbers.{number-below, octets-take, spelled, spelled_pair}, framing_lemmas.ReadsUpTo.{stops_here, stops_behind}, format_lemmas.Parts.{version_wrong, id_comes, key_comes, first-pass, first-stop, cut-passes, key_spelled, info_spelled, length_none, length-key_bytes, symbol_comes}}
+use Rattle.flute_journal.proofs.Numbers.{number-below, octets-take, spelled, spelled_pair}
+use Rattle.flute_journal.proofs.framing_lemmas.ReadsUpTo.{stops_here, stops_behind}
+use Rattle.flute_journal.proofs.format_lemmas.Parts.{version_wrong, id_comes, key_comes, first-pass}
+use Rattle.flute_journal.proofs.format_lemmas.Parts.{first-stop, cut-passes, key_spelled}
+use Rattle.flute_journal.proofs.format_lemmas.Parts.{info_spelled, length_none, length-key_bytes}
+use Rattle.flute_journal.proofs.format_lemmas.Parts.{symbol_comes}
 
 pub joined : (bs a b : List ℕ) (n : ℕ) → IsSplitAt bs n a b → bs ≡ a ++ b
 joined bs a b n s = sym (take-append-drop n bs) ∙ ap (λ (x : List ℕ). x ++ drop n bs) (sym s.1) ∙ ap (λ (x : List ℕ). a ++ x) (sym s.2)

@@ -1,5 +1,12 @@
 -- The bytes of entries determine the entries (specs/Format).
-use Rattle.flute_journal.proofs.Common.{none-some, ◌≡◌, ℕ, ◌^◌, ◌<◌, List, [], ◌∷◌, ◌++◌, length, take, drop, refl, sym, ap, ◌∙◌, append_assoc, arith, cases_lt, le-leb, take_at, drop_at, Information, session, ObjectName, Key, SymbolId, Fact, Info, InfoConflict, Symbol, SymbolConflict, Version, One, Two, in_bytes, sender_bytes, name_bytes, key_bytes, id_bytes, counted_bytes, header_in, entry_in, AllByRecursion, IsKey, HasRoom, IsId, IsInfo, IsFact, IsFactIn}
+use Rattle.flute_journal.proofs.Common.{none-some, ◌≡◌, ℕ, ◌^◌, ◌<◌, List, [], ◌∷◌, ◌++◌, length}
+use Rattle.flute_journal.proofs.Common.{take, drop, refl, sym, ap, ◌∙◌, append_assoc, arith}
+use Rattle.flute_journal.proofs.Common.{cases_lt, le-leb, take_at, drop_at, Information, session}
+use Rattle.flute_journal.proofs.Common.{ObjectName, Key, SymbolId, Fact, Info, InfoConflict, Symbol}
+use Rattle.flute_journal.proofs.Common.{SymbolConflict, Version, One, Two, in_bytes, sender_bytes}
+use Rattle.flute_journal.proofs.Common.{name_bytes, key_bytes, id_bytes, counted_bytes, header_in}
+use Rattle.flute_journal.proofs.Common.{entry_in, AllByRecursion, IsKey, HasRoom, IsId, IsInfo}
+use Rattle.flute_journal.proofs.Common.{IsFact, IsFactIn}
 use Rattle.flute_journal.specs.Format.{sender_size}
 use Rattle.flute_journal.proofs.Numbers.{in_bytes-injective}
 

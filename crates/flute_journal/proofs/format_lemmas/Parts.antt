@@ -1,5 +1,25 @@
 -- Spelled bytes pass the checks of specs/Faults, part by part.
-use Rattle.flute_journal.proofs.Common.{Address, AllByRecursion, Before, Bool, Check, Fact, File, HasRoom, Instance, IsBody, IsByte, IsFact, IsFactIn, IsId, IsKey, IsObjectName, IsTrue, IsWithin, Key, Kind, List, None, ObjectName, One, Option, Some, Symbol, SymbolId, Two, Version, [], ap, append_assoc, arith, at_place, big_endian, body, body_fault, byte_of, bytes_checks, bytes_eq, bytes_fault, cut, cut_fault, drop, drop-drop, drop_at, end_checks, entry_in, eq-eqb, eqb, false, first_fault, head_size, header_fault, header_in, id_bytes, id_checks, id_in, in_bytes, in_order, info_bytes, info_checks, info_fault, info_in, is_after, is_key, is_kind, is_name, is_object, is_version, key_bytes, key_in, fact_key, key_size, le-leb, le-ltb, length, length-append, length-bytes_high_first, length-drop, length-take, length-take-le, lt-leb, lt-ltb, ltb, magic, name_bytes, named_in, ne_eqb, next_fault, not, number_at, object_bytes, object_in, refl, rest_bytes, rest_checks, rest_fault, sender_bytes, sender_size, slice_get, spelling, suc, sym, symbol_address, take, take-append-drop, take_all, take_at, true, version_bytes, version_fault, version_in, zero, ℕ, ◌++◌, ◌<◌, ◌^◌, ◌∙◌, ◌∷◌, ◌≡◌, ◌≤◌}
+use Rattle.flute_journal.proofs.Common.{Address, AllByRecursion, Before, Bool, Check, Fact, File}
+use Rattle.flute_journal.proofs.Common.{HasRoom, Instance, IsBody, IsByte, IsFact, IsFactIn, IsId}
+use Rattle.flute_journal.proofs.Common.{IsKey, IsObjectName, IsTrue, IsWithin, Key, Kind, List}
+use Rattle.flute_journal.proofs.Common.{None, ObjectName, One, Option, Some, Symbol, SymbolId, Two}
+use Rattle.flute_journal.proofs.Common.{Version, [], ap, append_assoc, arith, at_place, big_endian}
+use Rattle.flute_journal.proofs.Common.{body, body_fault, byte_of, bytes_checks, bytes_eq}
+use Rattle.flute_journal.proofs.Common.{bytes_fault, cut, cut_fault, drop, drop-drop, drop_at}
+use Rattle.flute_journal.proofs.Common.{end_checks, entry_in, eq-eqb, eqb, false, first_fault}
+use Rattle.flute_journal.proofs.Common.{head_size, header_fault, header_in, id_bytes, id_checks}
+use Rattle.flute_journal.proofs.Common.{id_in, in_bytes, in_order, info_bytes, info_checks}
+use Rattle.flute_journal.proofs.Common.{info_fault, info_in, is_after, is_key, is_kind, is_name}
+use Rattle.flute_journal.proofs.Common.{is_object, is_version, key_bytes, key_in, fact_key}
+use Rattle.flute_journal.proofs.Common.{key_size, le-leb, le-ltb, length, length-append}
+use Rattle.flute_journal.proofs.Common.{length-bytes_high_first, length-drop, length-take}
+use Rattle.flute_journal.proofs.Common.{length-take-le, lt-leb, lt-ltb, ltb, magic, name_bytes}
+use Rattle.flute_journal.proofs.Common.{named_in, ne_eqb, next_fault, not, number_at, object_bytes}
+use Rattle.flute_journal.proofs.Common.{object_in, refl, rest_bytes, rest_checks, rest_fault}
+use Rattle.flute_journal.proofs.Common.{sender_bytes, sender_size, slice_get, spelling, suc, sym}
+use Rattle.flute_journal.proofs.Common.{symbol_address, take, take-append-drop, take_all, take_at}
+use Rattle.flute_journal.proofs.Common.{true, version_bytes, version_fault, version_in, zero, ℕ}
+use Rattle.flute_journal.proofs.Common.{◌++◌, ◌<◌, ◌^◌, ◌∙◌, ◌∷◌, ◌≡◌, ◌≤◌}
 use Rattle.flute_journal.proofs.{Numbers.{number-in_bytes, in_bytes-injective, spelled, octets-take, octets-drop, spelled_pair}, format_lemmas.Entries.{key-injective, id-injective, make_id, make_key}}
 use Rattle.flute_journal.specs.declared.format.Kind.TheVariants as kinds
 use Rattle.flute_journal.specs.declared.fault.ReadFault.TheVariants as faults

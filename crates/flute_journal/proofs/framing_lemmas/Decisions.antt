@@ -1,5 +1,13 @@
 -- Bytes are a framed file, or they stop at a fault: this is decided (specs/Framing).
-use Rattle.flute_journal.proofs.{Common.{◌≡◌, ℕ, zero, suc, ◌<◌, ◌≤◌, List, [], ◌∷◌, ◌++◌, length, drop, Option, Some, None, IsTrue, inl, inr, ◌⊎◌, refl, sym, ap, ◌∙◌, subst, arith, append_assoc, append-nil, length-append, flat_map_more, AllByRecursion, IsByte, ReadFault, Framing, AreItems, IsWhole, Stops, in_header, after_items, up_to_end}, Each.{all_more, all_split}, Numbers.{octets-drop}, framing_lemmas.Framed.{IsSound}}
+use Rattle.flute_journal.proofs.Common.{◌≡◌, ℕ, zero, suc, ◌<◌, ◌≤◌, List, [], ◌∷◌, ◌++◌, length}
+use Rattle.flute_journal.proofs.Common.{drop, Option, Some, None, IsTrue, inl, inr, ◌⊎◌, refl, sym}
+use Rattle.flute_journal.proofs.Common.{ap, ◌∙◌, subst, arith, append_assoc, append-nil}
+use Rattle.flute_journal.proofs.Common.{length-append, flat_map_more, AllByRecursion, IsByte}
+use Rattle.flute_journal.proofs.Common.{ReadFault, Framing, AreItems, IsWhole, Stops, in_header}
+use Rattle.flute_journal.proofs.Common.{after_items, up_to_end}
+use Rattle.flute_journal.proofs.Each.{all_more, all_split}
+use Rattle.flute_journal.proofs.Numbers.{octets-drop}
+use Rattle.flute_journal.proofs.framing_lemmas.Framed.{IsSound}
 
 -- bytes without a fault at a place: they are the end, or begin with an item
 pub data Next {V P T : Type 0} (framing : Framing V P T) (limit : ℕ) (place : P) (rest : List ℕ) :

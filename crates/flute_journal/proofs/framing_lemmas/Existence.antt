@@ -1,5 +1,29 @@
 -- Bytes without a fault are those of a journal; others stop at exactly one fault (specs/Framing).
-use Rattle.flute_journal.proofs.{Common.{Address, AllByRecursion, Bool, Fact, HasRoom, Info, InfoConflict, InfoFault, IsByte, IsFact, IsId, IsKey, IsKeyIn, IsRising, IsSymbol, IsTrue, Key, Kind, List, None, One, Option, ReadFault, Some, journal_framing, Symbol, SymbolConflict, Two, Version, [], address, ap, append_assoc, arith, at_place, big_endian, body, body_fault, byte_of, bytes_eq, bytes_eq-Decides, cases_Bool, drop, drop-drop, end_checks, entry_checks, eqb, eqb-false, eqb-true, false, first_fault, header_fault, header_in, id_bytes, id_in, if◌then◌else◌, in_bytes, info_bytes, info_checks, info_fault, info_in, inl, inr, is_after, is_key, is_kind, is_name, is_version, key_bytes, key_in, fact_key, key_size, kind, last_of, leb, leb-false, leb-true, length, length-drop, length-take, length-take-le, ltb, ltb-false, ltb-true, magic, named_in, next_fault, none-some, not, number_at, opening_fault, pow-le-pow_right, refl, rest_bytes, rest_fault, subst, suc, sym, counted_bytes, take, take-append-drop, take_all, true, version_bytes, version_fault, version_in, zero, ℕ, ◌&&◌, ◌++◌, ◌<◌, ◌^◌, ◌∙◌, ◌∷◌, ◌≡◌, ◌≤◌}, Numbers.{octets-drop, number-below, octets-take, spelled, spelled_pair}, merge_lemmas.MergeRising.{Rises, rising-rises, rises-rising}, framing_lemmas.Decisions.{Next, at_end, at_item}, format_lemmas.Parts.{body_comes, key_spelled, info_spelled}}
+use Rattle.flute_journal.proofs.Common.{Address, AllByRecursion, Bool, Fact, HasRoom, Info}
+use Rattle.flute_journal.proofs.Common.{InfoConflict, InfoFault, IsByte, IsFact, IsId, IsKey}
+use Rattle.flute_journal.proofs.Common.{IsKeyIn, IsRising, IsSymbol, IsTrue, Key, Kind, List, None}
+use Rattle.flute_journal.proofs.Common.{One, Option, ReadFault, Some, journal_framing, Symbol}
+use Rattle.flute_journal.proofs.Common.{SymbolConflict, Two, Version, [], address, ap, append_assoc}
+use Rattle.flute_journal.proofs.Common.{arith, at_place, big_endian, body, body_fault, byte_of}
+use Rattle.flute_journal.proofs.Common.{bytes_eq, bytes_eq-Decides, cases_Bool, drop, drop-drop}
+use Rattle.flute_journal.proofs.Common.{end_checks, entry_checks, eqb, eqb-false, eqb-true, false}
+use Rattle.flute_journal.proofs.Common.{first_fault, header_fault, header_in, id_bytes, id_in}
+use Rattle.flute_journal.proofs.Common.{if◌then◌else◌, in_bytes, info_bytes, info_checks}
+use Rattle.flute_journal.proofs.Common.{info_fault, info_in, inl, inr, is_after, is_key, is_kind}
+use Rattle.flute_journal.proofs.Common.{is_name, is_version, key_bytes, key_in, fact_key, key_size}
+use Rattle.flute_journal.proofs.Common.{kind, last_of, leb, leb-false, leb-true, length}
+use Rattle.flute_journal.proofs.Common.{length-drop, length-take, length-take-le, ltb, ltb-false}
+use Rattle.flute_journal.proofs.Common.{ltb-true, magic, named_in, next_fault, none-some, not}
+use Rattle.flute_journal.proofs.Common.{number_at, opening_fault, pow-le-pow_right, refl}
+use Rattle.flute_journal.proofs.Common.{rest_bytes, rest_fault, subst, suc, sym, counted_bytes}
+use Rattle.flute_journal.proofs.Common.{take, take-append-drop, take_all, true, version_bytes}
+use Rattle.flute_journal.proofs.Common.{version_fault, version_in, zero, ℕ, ◌&&◌, ◌++◌, ◌<◌, ◌^◌}
+use Rattle.flute_journal.proofs.Common.{◌∙◌, ◌∷◌, ◌≡◌, ◌≤◌}
+use Rattle.flute_journal.proofs.Numbers.{octets-drop, number-below, octets-take, spelled}
+use Rattle.flute_journal.proofs.Numbers.{spelled_pair}
+use Rattle.flute_journal.proofs.merge_lemmas.MergeRising.{Rises, rising-rises, rises-rising}
+use Rattle.flute_journal.proofs.framing_lemmas.Decisions.{Next, at_end, at_item}
+use Rattle.flute_journal.proofs.format_lemmas.Parts.{body_comes, key_spelled, info_spelled}
 use Rattle.std.proofs.Common.{◌||◌}
 use Rattle.flute_journal.specs.Format.{sender_size}
 use Rattle.flute_journal.specs.declared.format.Kind.TheVariants as kinds

@@ -1,5 +1,22 @@
 -- Bytes are the datagram file of one list of datagrams, or they stop at one fault.
-use Rattle.flute_journal.proofs.{Common.{length-bytes_high_first, none-some, same_Some, ◌≡◌, ℕ, ◌^◌, ◌<◌, ◌≤◌, List, [], ◌∷◌, ◌++◌, length, take, drop, Some, None, refl, sym, ap, ◌∙◌, subst, append_assoc, arith, flat_map, AllByRecursion, bytes_eq, leb-false, ltb-false, length-append, length-take-le, drop_at, take-append-drop, append-nil, big_endian, ReadFault, in_bytes, opening_fault, IsByte, file_header, record_of, IsDatagram, AreItems, file_framing, IsFileOf, IsFileWithin, Stops, record_fault, file_frame}, framing_lemmas.Sequences.{begins, one_stop, stop_at_bound}, Each.{all_split}, format_lemmas.Entries.{counted-injective}, Numbers.{number-in_bytes, number-below, octets-take, octets-drop, spelled}, format_lemmas.Parts.{opening_comes, first-pass, cut-passes}, framing_lemmas.Existence.{first-none}, framing_lemmas.Decisions.{Next, at_end, at_item}, framing_lemmas.Records.{record_comes, too_many_records}}
+use Rattle.flute_journal.proofs.Common.{length-bytes_high_first, none-some, same_Some, ◌≡◌, ℕ, ◌^◌}
+use Rattle.flute_journal.proofs.Common.{◌<◌, ◌≤◌, List, [], ◌∷◌, ◌++◌, length, take, drop, Some}
+use Rattle.flute_journal.proofs.Common.{None, refl, sym, ap, ◌∙◌, subst, append_assoc, arith}
+use Rattle.flute_journal.proofs.Common.{flat_map, AllByRecursion, bytes_eq, leb-false, ltb-false}
+use Rattle.flute_journal.proofs.Common.{length-append, length-take-le, drop_at, take-append-drop}
+use Rattle.flute_journal.proofs.Common.{append-nil, big_endian, ReadFault, in_bytes, opening_fault}
+use Rattle.flute_journal.proofs.Common.{IsByte, file_header, record_of, IsDatagram, AreItems}
+use Rattle.flute_journal.proofs.Common.{file_framing, IsFileOf, IsFileWithin, Stops, record_fault}
+use Rattle.flute_journal.proofs.Common.{file_frame}
+use Rattle.flute_journal.proofs.framing_lemmas.Sequences.{begins, one_stop, stop_at_bound}
+use Rattle.flute_journal.proofs.Each.{all_split}
+use Rattle.flute_journal.proofs.format_lemmas.Entries.{counted-injective}
+use Rattle.flute_journal.proofs.Numbers.{number-in_bytes, number-below, octets-take, octets-drop}
+use Rattle.flute_journal.proofs.Numbers.{spelled}
+use Rattle.flute_journal.proofs.format_lemmas.Parts.{opening_comes, first-pass, cut-passes}
+use Rattle.flute_journal.proofs.framing_lemmas.Existence.{first-none}
+use Rattle.flute_journal.proofs.framing_lemmas.Decisions.{Next, at_end, at_item}
+use Rattle.flute_journal.proofs.framing_lemmas.Records.{record_comes, too_many_records}
 use Rattle.flute_journal.specs.declared.fault.ReadFault.TheVariants as faults
 use Rattle.flute_journal.specs.Framing.{in_header, after_items}
 

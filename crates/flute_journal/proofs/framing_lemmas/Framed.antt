@@ -1,7 +1,18 @@
 -- Lemmas on framed files, and what the calls of a reader give (specs/Framing).
-use Rattle.flute_journal.proofs.{Common.{◌≡◌, ℕ, ◌+◌, ◌<◌, List, [], ◌∷◌, ◌++◌, length, drop, drop_at, Option, Some, None, Result, Ok, Err, IsTrue, true, refl, ap, ◌∙◌, subst, arith, inr, IfSome, IfErr, Consumes, Consumes-nil, Consumes-trans, ReadFault, IsFaultOf, StaysWithin}, framing_lemmas.ReadsUpTo.{asked, fault_up_to, fault_up_to-behind}}
+use Rattle.flute_journal.proofs.Common.{◌≡◌, ℕ, ◌+◌, ◌<◌, List, [], ◌∷◌, ◌++◌, length, drop}
+use Rattle.flute_journal.proofs.Common.{drop_at, Option, Some, None, Result, Ok, Err, IsTrue, true}
+use Rattle.flute_journal.proofs.Common.{refl, ap, ◌∙◌, subst, arith, inr, IfSome, IfErr, Consumes}
+use Rattle.flute_journal.proofs.Common.{Consumes-nil, Consumes-trans, ReadFault, IsFaultOf}
+use Rattle.flute_journal.proofs.Common.{StaysWithin}
+use Rattle.flute_journal.proofs.framing_lemmas.ReadsUpTo.{asked, fault_up_to, fault_up_to-behind}
 use Rattle.flute_journal.specs.declared.fault.ReadFault.TheVariants as faults
-use Rattle.flute_journal.specs.{declared.readers.reader_state.ReaderState.{ReaderState}, declared.readers.reader_state.ReaderState.TheVariants.{Header, Items, Ended, Failed}, Input.{Advances}, Framing.{Framing, or_else, is_open, ReadsNext, ReadsFrom, count_at, place_at, end_bytes, fault_from, state_after, Gives, GivesItem, in_opening, in_item}}
+use Rattle.flute_journal.specs.declared.readers.reader_state.ReaderState.{ReaderState}
+use Rattle.flute_journal.specs.declared.readers.reader_state.ReaderState.TheVariants.{Header, Items}
+use Rattle.flute_journal.specs.declared.readers.reader_state.ReaderState.TheVariants.{Ended, Failed}
+use Rattle.flute_journal.specs.Input.{Advances}
+use Rattle.flute_journal.specs.Framing.{Framing, or_else, is_open, ReadsNext, ReadsFrom, count_at}
+use Rattle.flute_journal.specs.Framing.{place_at, end_bytes, fault_from, state_after, Gives}
+use Rattle.flute_journal.specs.Framing.{GivesItem, in_opening, in_item}
 
 -- a header is read back, and a place counts the items before it
 pub record IsSound {V P T : Type 0} (framing : Framing V P T) : Type 0 where

@@ -1,5 +1,11 @@
 -- Journals and datagram files are framed files: IsSound of both framings (framing_lemmas/Framed).
-use Rattle.flute_journal.proofs.{Common.{◌≡◌, List, [], ◌∷◌, ◌++◌, Option, Some, None, refl, sym, length-append, Address, address, Fact, Version, at_place, before, last_of, journal_framing, file_framing, file_header}, framing_lemmas.Framed.{IsSound}, format_lemmas.Parts.{header_passes, version-told}, framing_lemmas.Existence.{header_is, opening_is, rising_more}, framing_lemmas.Files.{file_header_passes}}
+use Rattle.flute_journal.proofs.Common.{◌≡◌, List, [], ◌∷◌, ◌++◌, Option, Some, None, refl, sym}
+use Rattle.flute_journal.proofs.Common.{length-append, Address, address, Fact, Version, at_place}
+use Rattle.flute_journal.proofs.Common.{before, last_of, journal_framing, file_framing, file_header}
+use Rattle.flute_journal.proofs.framing_lemmas.Framed.{IsSound}
+use Rattle.flute_journal.proofs.format_lemmas.Parts.{header_passes, version-told}
+use Rattle.flute_journal.proofs.framing_lemmas.Existence.{header_is, opening_is, rising_more}
+use Rattle.flute_journal.proofs.framing_lemmas.Files.{file_header_passes}
 use Rattle.flute_journal.specs.JournalFraming.{after}
 
 last_more : (b : Option Address) (es : List Fact) (f : Fact)

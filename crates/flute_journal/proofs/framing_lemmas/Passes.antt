@@ -1,5 +1,28 @@
 -- Spelled bytes have no fault, and where bytes stop that begin like a journal (specs/Faults).
-use Rattle.flute_journal.proofs.{Common.{Address, AllByRecursion, Before, Below, Fact, Info, InfoConflict, Information, IsFact, IsFactIn, IsInfo, IsRising, IsSymbol, JournalIn, Kind, List, None, Option, ReadFault, Same, Same-append, Same-itself, Same-twice, Some, Stops, journal_framing, Symbol, SymbolConflict, Version, [], address, ap, append_assoc, arith, at_place, before, after_items, byte_of, bytes_fault, end, entry_in, flat_map, without_end_in, header_fault, header_in, id_bytes, in_bytes, in_header, info_address, info_bytes, info_in, is_after, key_bytes, fact_key, last_of, length, length-append, next_fault, none-some, refl, rest_bytes, rest_fault, same_Some, spelling_in, subst, sym, symbol_address, counted_bytes, true, ℕ, ◌++◌, ◌<◌, ◌^◌, ◌∙◌, ◌∷◌, ◌≡◌, ◌≤◌}, framing_lemmas.Sequences.{one_stop, stop_at_bound}, merge_lemmas.MergeBytes.{without_end-both, journal_parts}, Each.{all_split}, Numbers.{number-in_bytes}, merge_lemmas.MergeRising.{Rises, rising-rises}, format_lemmas.Entries.{length_fits, entry_injective, not_end, header-injective}, format_lemmas.Parts.{id_comes, order_passes, symbol_comes, entry_comes, too_many, end_counts, header_passes, key_valid, first-pass, cut-passes, info_passes, length_passes}}
+use Rattle.flute_journal.proofs.Common.{Address, AllByRecursion, Before, Below, Fact, Info}
+use Rattle.flute_journal.proofs.Common.{InfoConflict, Information, IsFact, IsFactIn, IsInfo}
+use Rattle.flute_journal.proofs.Common.{IsRising, IsSymbol, JournalIn, Kind, List, None, Option}
+use Rattle.flute_journal.proofs.Common.{ReadFault, Same, Same-append, Same-itself, Same-twice, Some}
+use Rattle.flute_journal.proofs.Common.{Stops, journal_framing, Symbol, SymbolConflict, Version, []}
+use Rattle.flute_journal.proofs.Common.{address, ap, append_assoc, arith, at_place, before}
+use Rattle.flute_journal.proofs.Common.{after_items, byte_of, bytes_fault, end, entry_in, flat_map}
+use Rattle.flute_journal.proofs.Common.{without_end_in, header_fault, header_in, id_bytes, in_bytes}
+use Rattle.flute_journal.proofs.Common.{in_header, info_address, info_bytes, info_in, is_after}
+use Rattle.flute_journal.proofs.Common.{key_bytes, fact_key, last_of, length, length-append}
+use Rattle.flute_journal.proofs.Common.{next_fault, none-some, refl, rest_bytes, rest_fault}
+use Rattle.flute_journal.proofs.Common.{same_Some, spelling_in, subst, sym, symbol_address}
+use Rattle.flute_journal.proofs.Common.{counted_bytes, true, ℕ, ◌++◌, ◌<◌, ◌^◌, ◌∙◌, ◌∷◌, ◌≡◌, ◌≤◌}
+use Rattle.flute_journal.proofs.framing_lemmas.Sequences.{one_stop, stop_at_bound}
+use Rattle.flute_journal.proofs.merge_lemmas.MergeBytes.{without_end-both, journal_parts}
+use Rattle.flute_journal.proofs.Each.{all_split}
+use Rattle.flute_journal.proofs.Numbers.{number-in_bytes}
+use Rattle.flute_journal.proofs.merge_lemmas.MergeRising.{Rises, rising-rises}
+use Rattle.flute_journal.proofs.format_lemmas.Entries.{length_fits, entry_injective, not_end}
+use Rattle.flute_journal.proofs.format_lemmas.Entries.{header-injective}
+use Rattle.flute_journal.proofs.format_lemmas.Parts.{id_comes, order_passes, symbol_comes}
+use Rattle.flute_journal.proofs.format_lemmas.Parts.{entry_comes, too_many, end_counts}
+use Rattle.flute_journal.proofs.format_lemmas.Parts.{header_passes, key_valid, first-pass}
+use Rattle.flute_journal.proofs.format_lemmas.Parts.{cut-passes, info_passes, length_passes}
 use Rattle.flute_journal.specs.declared.format.Kind.TheVariants as kinds
 use Rattle.flute_journal.specs.declared.fault.ReadFault.TheVariants as faults
 

@@ -1,5 +1,12 @@
 -- The fault of bytes of which a front was read (specs/Input: IsFaultUpTo).
-use Rattle.flute_journal.proofs.Common.{◌≡◌, ℕ, ◌+◌, ◌≤◌, Bool, true, false, List, [], ◌++◌, length, Option, Some, None, Result, Ok, Err, inl, inr, refl, sym, ap, ◌∙◌, subst, append_assoc, arith, length-append, append-nil, IfSome, IfErr, Consumes, Consumes-trans, ReadFault, Fails, ReadsUpTo, IsFaultOf, IsFaultUpTo, Reads, times_failed, left_by, or_failed, IsOfBytes, StopsReading, Parses, AsksMemory, IsSettled, Consumes-nil, cut, cut_fault, first_fault, ◌∷◌}
+use Rattle.flute_journal.proofs.Common.{◌≡◌, ℕ, ◌+◌, ◌≤◌, Bool, true, false, List, [], ◌++◌, length}
+use Rattle.flute_journal.proofs.Common.{Option, Some, None, Result, Ok, Err, inl, inr, refl, sym}
+use Rattle.flute_journal.proofs.Common.{ap, ◌∙◌, subst, append_assoc, arith, length-append}
+use Rattle.flute_journal.proofs.Common.{append-nil, IfSome, IfErr, Consumes, Consumes-trans}
+use Rattle.flute_journal.proofs.Common.{ReadFault, Fails, ReadsUpTo, IsFaultOf, IsFaultUpTo, Reads}
+use Rattle.flute_journal.proofs.Common.{times_failed, left_by, or_failed, IsOfBytes, StopsReading}
+use Rattle.flute_journal.proofs.Common.{Parses, AsksMemory, IsSettled, Consumes-nil, cut, cut_fault}
+use Rattle.flute_journal.proofs.Common.{first_fault, ◌∷◌}
 use Rattle.flute_journal.specs.declared.fault.ReadFault.TheVariants as faults
 
 -- the whole has the fault of the part after the bytes that were read

@@ -1,5 +1,18 @@
 -- The records of a datagram file (specs/Records, specs/FileFraming).
-use Rattle.flute_journal.proofs.{Common.{◌≡◌, ℕ, ◌^◌, ◌<◌, ◌≤◌, Bool, true, false, IsTrue, leb, List, [], ◌∷◌, ◌++◌, length, take, drop, Option, Some, None, Result, Ok, Err, sym, ap, ◌∙◌, append_assoc, arith, le-leb, lt-leb, nil_from_length, take_at, drop_at, length-append, refl, subst, IfSome, IsSettled, AllByRecursion, Consumes, Consumes-trans, big_endian, ReadFault, in_bytes, first_fault, cut, ReadsUpTo, IsFaultOf, IsFaultUpTo, IsWithin, StaysWithin, or_failed, IsByte, cut_fault, record_of, IsDatagram, file_framing, ReadsNext, record_checks, record_fault, length-bytes_high_first}, format_lemmas.Parts.{first-pass, first-stop, cut-passes, nothing_left, within-short}, Numbers.{in_bytes-injective}, framing_lemmas.ReadsUpTo.{asks_first, fault-behind, fault_up_to}}
+use Rattle.flute_journal.proofs.Common.{◌≡◌, ℕ, ◌^◌, ◌<◌, ◌≤◌, Bool, true, false, IsTrue, leb, List}
+use Rattle.flute_journal.proofs.Common.{[], ◌∷◌, ◌++◌, length, take, drop, Option, Some, None}
+use Rattle.flute_journal.proofs.Common.{Result, Ok, Err, sym, ap, ◌∙◌, append_assoc, arith, le-leb}
+use Rattle.flute_journal.proofs.Common.{lt-leb, nil_from_length, take_at, drop_at, length-append}
+use Rattle.flute_journal.proofs.Common.{refl, subst, IfSome, IsSettled, AllByRecursion, Consumes}
+use Rattle.flute_journal.proofs.Common.{Consumes-trans, big_endian, ReadFault, in_bytes}
+use Rattle.flute_journal.proofs.Common.{first_fault, cut, ReadsUpTo, IsFaultOf, IsFaultUpTo}
+use Rattle.flute_journal.proofs.Common.{IsWithin, StaysWithin, or_failed, IsByte, cut_fault}
+use Rattle.flute_journal.proofs.Common.{record_of, IsDatagram, file_framing, ReadsNext}
+use Rattle.flute_journal.proofs.Common.{record_checks, record_fault, length-bytes_high_first}
+use Rattle.flute_journal.proofs.format_lemmas.Parts.{first-pass, first-stop, cut-passes}
+use Rattle.flute_journal.proofs.format_lemmas.Parts.{nothing_left, within-short}
+use Rattle.flute_journal.proofs.Numbers.{in_bytes-injective}
+use Rattle.flute_journal.proofs.framing_lemmas.ReadsUpTo.{asks_first, fault-behind, fault_up_to}
 use Rattle.flute_journal.specs.declared.fault.ReadFault.TheVariants as faults
 use Rattle.flute_journal.specs.{Input.{Advances}, FileFraming.{file_framing}, Lent.{TakesRecord}}
 

@@ -1,7 +1,21 @@
 -- A framed file that is read item by item: Sofar and GivesFault (specs/Framing).
-use Rattle.flute_journal.proofs.{Common.{◌≡◌, ℕ, ◌<◌, List, [], ◌∷◌, ◌++◌, length, drop, Option, Some, None, Ok, IsTrue, true, inl, inr, refl, sym, ap, ◌∙◌, subst, arith, append_assoc, append-nil, length-append, flat_map_more, IfSome, Consumes, Consumes-nil, Consumes-trans, Consumes-whole, IsAtEnd, IsSettled, ReadFault}, Each.{all_more}, framing_lemmas.Framed.{IsSound}}
+use Rattle.flute_journal.proofs.Common.{◌≡◌, ℕ, ◌<◌, List, [], ◌∷◌, ◌++◌, length, drop, Option}
+use Rattle.flute_journal.proofs.Common.{Some, None, Ok, IsTrue, true, inl, inr, refl, sym, ap, ◌∙◌}
+use Rattle.flute_journal.proofs.Common.{subst, arith, append_assoc, append-nil, length-append}
+use Rattle.flute_journal.proofs.Common.{flat_map_more, IfSome, Consumes, Consumes-nil}
+use Rattle.flute_journal.proofs.Common.{Consumes-trans, Consumes-whole, IsAtEnd, IsSettled}
+use Rattle.flute_journal.proofs.Common.{ReadFault}
+use Rattle.flute_journal.proofs.Each.{all_more}
+use Rattle.flute_journal.proofs.framing_lemmas.Framed.{IsSound}
 use Rattle.flute_journal.specs.declared.fault.ReadFault.TheVariants as faults
-use Rattle.flute_journal.specs.{declared.readers.reader_state.ReaderState.{ReaderState}, declared.readers.reader_state.ReaderState.TheVariants.{Header, Items, Ended, Failed}, Framing.{Framing, or_else, is_open, Stops, in_header, after_items, HasFault, MayRunOut, AsksForItem, place_at, opening, fault_from, GivesItem, GivesFault, Gives, IsPart, in_opening, in_item, IsAtFault, state_at, read_of, Sofar}, Frame.{up_to_end, AreItems, IsWhole}}
+use Rattle.flute_journal.specs.declared.readers.reader_state.ReaderState.{ReaderState}
+use Rattle.flute_journal.specs.declared.readers.reader_state.ReaderState.TheVariants.{Header, Items}
+use Rattle.flute_journal.specs.declared.readers.reader_state.ReaderState.TheVariants.{Ended, Failed}
+use Rattle.flute_journal.specs.Framing.{Framing, or_else, is_open, Stops, in_header, after_items}
+use Rattle.flute_journal.specs.Framing.{HasFault, MayRunOut, AsksForItem, place_at, opening}
+use Rattle.flute_journal.specs.Framing.{fault_from, GivesItem, GivesFault, Gives, IsPart}
+use Rattle.flute_journal.specs.Framing.{in_opening, in_item, IsAtFault, state_at, read_of, Sofar}
+use Rattle.flute_journal.specs.Frame.{up_to_end, AreItems, IsWhole}
 
 -- an input that was read to the end of its file
 pub record AtEnd {V P T : Type 0} (framing : Framing V P T) (limit : ℕ)

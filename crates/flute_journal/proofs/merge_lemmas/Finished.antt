@@ -1,5 +1,12 @@
 -- Once a merge has stopped, the streams before are read to their ends (specs/FirstFaults).
-use Rattle.flute_journal.proofs.Common.{Advances, AppendsNoJournal, AppendsPart, Behaviour, Bool, CanGoOn, Err, Fact, FactRef, FailAs, Gave, GaveBefore, Input, InputFault, MergedJournal, List, LoadFault, NamesInput, None, Ok, OneFails, Option, PutsJournal, Some, StreamsFault, Written, [], ap, arith, err_from_is_err_and, fact_in, false, is_some, length, length-set, option_list, refl, same_Some, set, slice_get, subst, suc, sym, true, zero, ℕ, ◌+◌, ◌<◌, ◌∙◌, ◌∷◌, ◌≡◌, ◌≢◌, ◌≤◌}
+use Rattle.flute_journal.proofs.Common.{Advances, AppendsNoJournal, AppendsPart, Behaviour, Bool}
+use Rattle.flute_journal.proofs.Common.{CanGoOn, Err, Fact, FactRef, FailAs, Gave, GaveBefore}
+use Rattle.flute_journal.proofs.Common.{Input, InputFault, MergedJournal, List, LoadFault}
+use Rattle.flute_journal.proofs.Common.{NamesInput, None, Ok, OneFails, Option, PutsJournal, Some}
+use Rattle.flute_journal.proofs.Common.{StreamsFault, Written, [], ap, arith, err_from_is_err_and}
+use Rattle.flute_journal.proofs.Common.{fact_in, false, is_some, length, length-set, option_list}
+use Rattle.flute_journal.proofs.Common.{refl, same_Some, set, slice_get, subst, suc, sym, true}
+use Rattle.flute_journal.proofs.Common.{zero, ℕ, ◌+◌, ◌<◌, ◌∙◌, ◌∷◌, ◌≡◌, ◌≢◌, ◌≤◌}
 use Rattle.flute_journal.proofs.{merge_lemmas.MergeBytes.{no_whole_end}, merge_lemmas.LeadFacts.{set_here, set_elsewhere}}
 use Rattle.flute_journal.specs.FirstFaults.{IsStopOf, HasStopped, TellBefore}
 

@@ -1,5 +1,15 @@
 -- Lemmas on Leads (specs/Leads): the stream that holds a fact below those of all others.
-use Rattle.flute_journal.proofs.Common.{◌≡◌, ℕ, zero, suc, ◌+◌, ◌<◌, ◌≤◌, true, eqb, List, [], ◌∷◌, ◌++◌, length, Option, Some, None, Ok, Err, refl, sym, ap, ◌∙◌, subst, inl, inr, arith, set, cases_Bool, eqb-true, eqb-false, slice_get_within, same_Some, ◌≢◌, IfSome, slice_get, if◌then◌else◌, is_lt, AllByRecursion, Ordering, Less, Greater, address_cmp, address, StandAfter, address_total, Address, Fact, joined, fact_at-append, alone-at, fact_at-cons, fact_at-after, LoadFault, Behaviour, Advances, GoesOn, StopsAt, option_list, place_of, heads, GoOnAt, StopAt, IsBelowNext, NoneBefore, Leads, StandsAt, lower_of, lower_next, IsNotBefore, Lowest, IsLowest}
+use Rattle.flute_journal.proofs.Common.{◌≡◌, ℕ, zero, suc, ◌+◌, ◌<◌, ◌≤◌, true, eqb, List, [], ◌∷◌}
+use Rattle.flute_journal.proofs.Common.{◌++◌, length, Option, Some, None, Ok, Err, refl, sym, ap}
+use Rattle.flute_journal.proofs.Common.{◌∙◌, subst, inl, inr, arith, set, cases_Bool, eqb-true}
+use Rattle.flute_journal.proofs.Common.{eqb-false, slice_get_within, same_Some, ◌≢◌, IfSome}
+use Rattle.flute_journal.proofs.Common.{slice_get, if◌then◌else◌, is_lt, AllByRecursion, Ordering}
+use Rattle.flute_journal.proofs.Common.{Less, Greater, address_cmp, address, StandAfter}
+use Rattle.flute_journal.proofs.Common.{address_total, Address, Fact, joined, fact_at-append}
+use Rattle.flute_journal.proofs.Common.{alone-at, fact_at-cons, fact_at-after, LoadFault, Behaviour}
+use Rattle.flute_journal.proofs.Common.{Advances, GoesOn, StopsAt, option_list, place_of, heads}
+use Rattle.flute_journal.proofs.Common.{GoOnAt, StopAt, IsBelowNext, NoneBefore, Leads, StandsAt}
+use Rattle.flute_journal.proofs.Common.{lower_of, lower_next, IsNotBefore, Lowest, IsLowest}
 use Rattle.flute_journal.proofs.{Each.{all_append}, merge_lemmas.GoingOn.{item_at}, merge_lemmas.LowestFacts.{up_to_itself, up_to_turned, up_to_less, up_to-trans, less_up_to}}
 
 -- The next address: the lowest of the other streams.

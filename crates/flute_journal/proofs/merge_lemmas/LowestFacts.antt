@@ -1,5 +1,16 @@
 -- Lemmas on Lowest (specs/Lowest): the lowest address of facts and its value, fact by fact.
-use Rattle.flute_journal.proofs.Common.{Bool, Info, InfoConflict, Symbol, SymbolConflict, SymbolId, bytes_eq, ◌&&◌, Address, AllByRecursion, Behaviour, Equal, Fact, Greater, IsNotBefore, Key, Less, List, Lowest, Option, Ordering, Part, Some, StandAfter, [], address, address_cmp, address_itself, address_same, address_total, alone-at, alone-elsewhere, ap, append-nil, append_assoc, arith, conflict_at, conflict_in, fact_at, fact_at-after, fact_at-append, fact_same, false, get_or, get_or_from_slice_get, heads, is_eq, is_lt, joined, joined-apart, joined-none, joined-same, length, option_list, refl, rules, same_fact, slice_get, subst, sym, take, take_more, true, ℕ, ◌++◌, ◌+◌, ◌<◌, ◌∙◌, ◌∷◌, ◌≡◌, ◌≢◌}
+use Rattle.flute_journal.proofs.Common.{Bool, Info, InfoConflict, Symbol, SymbolConflict, SymbolId}
+use Rattle.flute_journal.proofs.Common.{bytes_eq, ◌&&◌, Address, AllByRecursion, Behaviour, Equal}
+use Rattle.flute_journal.proofs.Common.{Fact, Greater, IsNotBefore, Key, Less, List, Lowest, Option}
+use Rattle.flute_journal.proofs.Common.{Ordering, Part, Some, StandAfter, [], address, address_cmp}
+use Rattle.flute_journal.proofs.Common.{address_itself, address_same, address_total, alone-at}
+use Rattle.flute_journal.proofs.Common.{alone-elsewhere, ap, append-nil, append_assoc, arith}
+use Rattle.flute_journal.proofs.Common.{conflict_at, conflict_in, fact_at, fact_at-after}
+use Rattle.flute_journal.proofs.Common.{fact_at-append, fact_same, false, get_or}
+use Rattle.flute_journal.proofs.Common.{get_or_from_slice_get, heads, is_eq, is_lt, joined}
+use Rattle.flute_journal.proofs.Common.{joined-apart, joined-none, joined-same, length, option_list}
+use Rattle.flute_journal.proofs.Common.{refl, rules, same_fact, slice_get, subst, sym, take}
+use Rattle.flute_journal.proofs.Common.{take_more, true, ℕ, ◌++◌, ◌+◌, ◌<◌, ◌∙◌, ◌∷◌, ◌≡◌, ◌≢◌}
 use Rattle.flute_journal.proofs.{Each.{all_append, all_map}, merge_lemmas.GoingOn.{item_at}}
 use Rattle.flute_parts.specs.{
   Equality.{key_itself, symbol_id_itself},

@@ -1,5 +1,12 @@
 -- Merged journals as bytes: whole entries at the front of a journal (specs/Merges).
-use Rattle.flute_journal.proofs.{Common.{AllByRecursion, Collects, Fact, IsFact, IsFactIn, IsWithin, IsJournal, Journal, JournalIn, List, One, Same, Two, Version, [], ap, append-nil, append_assoc, end, entry, entry_in, fact_at, flat_map, flat_map_more, without_end, without_end_in, header, header_in, in_bytes, length, refl, spelling, spelling_in, subst, sym, written_up_to, ℕ, ◌++◌, ◌<◌, ◌^◌, ◌∙◌, ◌∷◌, ◌≡◌}, framing_lemmas.Sequences.{GoesOn, begins}}
+use Rattle.flute_journal.proofs.Common.{AllByRecursion, Collects, Fact, IsFact, IsFactIn, IsWithin}
+use Rattle.flute_journal.proofs.Common.{IsJournal, Journal, JournalIn, List, One, Same, Two}
+use Rattle.flute_journal.proofs.Common.{Version, [], ap, append-nil, append_assoc, end, entry}
+use Rattle.flute_journal.proofs.Common.{entry_in, fact_at, flat_map, flat_map_more, without_end}
+use Rattle.flute_journal.proofs.Common.{without_end_in, header, header_in, in_bytes, length, refl}
+use Rattle.flute_journal.proofs.Common.{spelling, spelling_in, subst, sym, written_up_to, ℕ, ◌++◌}
+use Rattle.flute_journal.proofs.Common.{◌<◌, ◌^◌, ◌∙◌, ◌∷◌, ◌≡◌}
+use Rattle.flute_journal.proofs.framing_lemmas.Sequences.{GoesOn, begins}
 use Rattle.std.proofs.{lemmas.List.{append_cancel_left}, lemmas.List.Concat.{flat_map-append}}
 use Rattle.flute_journal.proofs.format_lemmas.Entries.{entry_injective, not_end, header-injective, facts_two}
 

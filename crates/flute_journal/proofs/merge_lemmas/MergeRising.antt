@@ -1,5 +1,12 @@
 -- Merged journals as facts: rising lists, and one that begins with another (specs/Merges).
-use Rattle.flute_journal.proofs.Common.{none-some, same_Some, ◌≡◌, false, true, List, [], ◌∷◌, ◌++◌, Option, Some, None, IsTrue, refl, sym, ap, ◌∙◌, subst, inl, inr, false≢true, cases_Bool, Ordering, Less, Equal, Greater, is_lt, is_eq, address_cmp, same_address, address, fact_at, address_same, address_total, Address, Fact, fact_at-nil, fact_at-here, fact_at-elsewhere, is_after, last_of, Same, joined, joined-comm, joined-assoc, joined-none, fact_at-append, StandAfter, IsRising, StandAfter-before}
+use Rattle.flute_journal.proofs.Common.{none-some, same_Some, ◌≡◌, false, true, List, [], ◌∷◌, ◌++◌}
+use Rattle.flute_journal.proofs.Common.{Option, Some, None, IsTrue, refl, sym, ap, ◌∙◌, subst, inl}
+use Rattle.flute_journal.proofs.Common.{inr, false≢true, cases_Bool, Ordering, Less, Equal, Greater}
+use Rattle.flute_journal.proofs.Common.{is_lt, is_eq, address_cmp, same_address, address, fact_at}
+use Rattle.flute_journal.proofs.Common.{address_same, address_total, Address, Fact, fact_at-nil}
+use Rattle.flute_journal.proofs.Common.{fact_at-here, fact_at-elsewhere, is_after, last_of, Same}
+use Rattle.flute_journal.proofs.Common.{joined, joined-comm, joined-assoc, joined-none}
+use Rattle.flute_journal.proofs.Common.{fact_at-append, StandAfter, IsRising, StandAfter-before}
 use Rattle.std.proofs.lemmas.Cmp.{tied_itself}
 use Rattle.std.specs.Ordering.{ordering_reverse}
 

@@ -1,6 +1,28 @@
 -- The state of a merge of streams between two turns, and how the merge ends (merge_into).
-use Rattle.flute_journal.proofs.Common.{Address, AllByRecursion, Appends, Appends-nil, Appends-trans, AppendsPart, AppendsPartOf, AreNew, Behaviour, Below-from_Same, Bool, CanGoOn, Collects, Counts, EachSince, EndsMerged, Fact, GoOnAt, Input, InputFault, IsCounted, IsCutAfter, IsFact, IsRising, IsSized, IsTrue, IsWithinLimits, Journal, List, Lowest, NamesInput, None, NoneFails, OneFails, Option, Over, Over-below, PutsBytes, ReadsAhead, Same, Same-append, Same-itself, Same-sym, Same-trans, Some, StopsIn, StreamsFault, Tally, Write, Written, [], address, address_same, all_of, ap, append_assoc, arith, cases_Bool, cut_end, cut_entry, cut_header, end, entry, fact_at, fact_at-elsewhere, fact_at-nil, false, without_end, header, heads, inl, inr, is_after, last_of, length, length-append, most_of, none-some, refl, rising_unique, rules, same_address, spelling, subst, sym, true, written_up_to, ℕ, ◌++◌, ◌+◌, ◌<◌, ◌^◌, ◌∙◌, ◌∷◌, ◌≡◌, ◌≤◌}
-use Rattle.flute_journal.proofs.{framing_lemmas.Passes.{Below-more}, framing_lemmas.Existence.{rises_more}, Each.{all_append, all_more}, merge_lemmas.MergeBytes.{without_end-snoc, written-snoc}, merge_lemmas.MergeRising.{last_of-snoc, rising-rises, rises-rising}, writers_lemmas.WrittenSoFar.{put_first, written-more, written-whole, written-part}}
+use Rattle.flute_journal.proofs.Common.{Address, AllByRecursion, Appends, Appends-nil}
+use Rattle.flute_journal.proofs.Common.{Appends-trans, AppendsPart, AppendsPartOf, AreNew}
+use Rattle.flute_journal.proofs.Common.{Behaviour, Below-from_Same, Bool, CanGoOn, Collects, Counts}
+use Rattle.flute_journal.proofs.Common.{EachSince, EndsMerged, Fact, GoOnAt, Input, InputFault}
+use Rattle.flute_journal.proofs.Common.{IsCounted, IsCutAfter, IsFact, IsRising, IsSized, IsTrue}
+use Rattle.flute_journal.proofs.Common.{IsWithinLimits, Journal, List, Lowest, NamesInput, None}
+use Rattle.flute_journal.proofs.Common.{NoneFails, OneFails, Option, Over, Over-below, PutsBytes}
+use Rattle.flute_journal.proofs.Common.{ReadsAhead, Same, Same-append, Same-itself, Same-sym}
+use Rattle.flute_journal.proofs.Common.{Same-trans, Some, StopsIn, StreamsFault, Tally, Write}
+use Rattle.flute_journal.proofs.Common.{Written, [], address, address_same, all_of, ap}
+use Rattle.flute_journal.proofs.Common.{append_assoc, arith, cases_Bool, cut_end, cut_entry}
+use Rattle.flute_journal.proofs.Common.{cut_header, end, entry, fact_at, fact_at-elsewhere}
+use Rattle.flute_journal.proofs.Common.{fact_at-nil, false, without_end, header, heads, inl, inr}
+use Rattle.flute_journal.proofs.Common.{is_after, last_of, length, length-append, most_of}
+use Rattle.flute_journal.proofs.Common.{none-some, refl, rising_unique, rules, same_address}
+use Rattle.flute_journal.proofs.Common.{spelling, subst, sym, true, written_up_to, ℕ, ◌++◌, ◌+◌}
+use Rattle.flute_journal.proofs.Common.{◌<◌, ◌^◌, ◌∙◌, ◌∷◌, ◌≡◌, ◌≤◌}
+use Rattle.flute_journal.proofs.framing_lemmas.Passes.{Below-more}
+use Rattle.flute_journal.proofs.framing_lemmas.Existence.{rises_more}
+use Rattle.flute_journal.proofs.Each.{all_append, all_more}
+use Rattle.flute_journal.proofs.merge_lemmas.MergeBytes.{without_end-snoc, written-snoc}
+use Rattle.flute_journal.proofs.merge_lemmas.MergeRising.{last_of-snoc, rising-rises, rises-rising}
+use Rattle.flute_journal.proofs.writers_lemmas.WrittenSoFar.{put_first, written-more, written-whole}
+use Rattle.flute_journal.proofs.writers_lemmas.WrittenSoFar.{written-part}
 use Rattle.flute_journal.proofs.merge_lemmas.StreamTurns.{Run, starts, nows, givens, givens_at, Went, Stays, Turned, turn, new_runs, new_starts, new_nows, new_givens, new_stays, went_stays, given_same, given_length, fewer_all, taken_at, taken_same, taken_some, lowest-sized}
 use Rattle.flute_journal.proofs.merge_lemmas.StreamStops.{reads_now, none_fails, ended_whole, StoppedAll, stopped_all, short_header, short_entry, short_end, told_whole}
 

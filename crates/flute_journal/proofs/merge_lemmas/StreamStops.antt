@@ -1,5 +1,15 @@
 -- A merge that stops: what was read of each stream, and what was appended.
-use Rattle.flute_journal.proofs.Common.{Address, AllByRecursion, Appends, AppendsPartOf, Behaviour, Collects, Continues, Each, EachSince, Fact, GaveBefore, GoesOnAt, IsFact, IsNotBefore, List, LoadFault, None, NoneFails, OneFails, Option, Same, Same-sym, Same-trans, Some, StopAt, [], address, address_itself, address_same, all_of, ap, append-nil, append_assoc, arith, cases_Bool, end, entry, fact_at, fact_at-append, false, flat_map, without_end, header, heads, inl, inr, is_after, joined, length, length-append, option_list, place_of, refl, rising_unique, same_Some, same_address, slice_get, spelling, subst, suc, sym, zero, ℕ, ◌++◌, ◌∙◌, ◌∷◌, ◌≡◌, ◌≢◌}
+use Rattle.flute_journal.proofs.Common.{Address, AllByRecursion, Appends, AppendsPartOf, Behaviour}
+use Rattle.flute_journal.proofs.Common.{Collects, Continues, Each, EachSince, Fact, GaveBefore}
+use Rattle.flute_journal.proofs.Common.{GoesOnAt, IsFact, IsNotBefore, List, LoadFault, None}
+use Rattle.flute_journal.proofs.Common.{NoneFails, OneFails, Option, Same, Same-sym, Same-trans}
+use Rattle.flute_journal.proofs.Common.{Some, StopAt, [], address, address_itself, address_same}
+use Rattle.flute_journal.proofs.Common.{all_of, ap, append-nil, append_assoc, arith, cases_Bool}
+use Rattle.flute_journal.proofs.Common.{end, entry, fact_at, fact_at-append, false, flat_map}
+use Rattle.flute_journal.proofs.Common.{without_end, header, heads, inl, inr, is_after, joined}
+use Rattle.flute_journal.proofs.Common.{length, length-append, option_list, place_of, refl}
+use Rattle.flute_journal.proofs.Common.{rising_unique, same_Some, same_address, slice_get, spelling}
+use Rattle.flute_journal.proofs.Common.{subst, suc, sym, zero, ℕ, ◌++◌, ◌∙◌, ◌∷◌, ◌≡◌, ◌≢◌}
 use Rattle.flute_journal.proofs.{Each.{all_split}, merge_lemmas.MergeBytes.{without_end-append, no_end, no_whole_end}, merge_lemmas.MergeRising.{rising-none, rising-prefix, last_of-snoc, Rises-second, fact_at-second_none, Rises, rising-rises}}
 use Rattle.flute_journal.proofs.merge_lemmas.StreamTurns.{Run, starts, nows, givens, given_at, taken_by, given_here, givens_at, IsAbove, above_other, Ready, Went, Stays, went_on}
 

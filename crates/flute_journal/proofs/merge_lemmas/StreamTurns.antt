@@ -1,5 +1,17 @@
 -- A turn of a merge: each stream that holds the lowest address is advanced.
-use Rattle.flute_journal.proofs.Common.{Address, AllByRecursion, AreNew, Behaviour, Bool, Equal, Fact, Gave, GoOnAt, GoesOnAt, Greater, IfSome, IsNotBefore, IsRising, IsSized, IsTrue, Key, Less, List, Lowest, None, Option, Ordering, Part, Same, Same-append, Same-itself, Same-trans, Some, [], address, address_cmp, address_itself, address_same, all_of, alone, alone-at, alone-elsewhere, ap, append-nil, arith, cases_Bool, conflict_in, fact_at, fact_at-cons, fact_at-elsewhere, fact_at-nil, fact_same, false, heads, inl, inr, is_after, is_eq, joined, joined-apart, joined-same, length, length-append, most_of, none-some, option_list, place_of, refl, same_address, same_fact, subst, sym, true, ◌++◌, ◌+◌, ◌∙◌, ◌∷◌, ◌≡◌, ◌≢◌, ◌≤◌}
+use Rattle.flute_journal.proofs.Common.{Address, AllByRecursion, AreNew, Behaviour, Bool, Equal}
+use Rattle.flute_journal.proofs.Common.{Fact, Gave, GoOnAt, GoesOnAt, Greater, IfSome, IsNotBefore}
+use Rattle.flute_journal.proofs.Common.{IsRising, IsSized, IsTrue, Key, Less, List, Lowest, None}
+use Rattle.flute_journal.proofs.Common.{Option, Ordering, Part, Same, Same-append, Same-itself}
+use Rattle.flute_journal.proofs.Common.{Same-trans, Some, [], address, address_cmp, address_itself}
+use Rattle.flute_journal.proofs.Common.{address_same, all_of, alone, alone-at, alone-elsewhere, ap}
+use Rattle.flute_journal.proofs.Common.{append-nil, arith, cases_Bool, conflict_in, fact_at}
+use Rattle.flute_journal.proofs.Common.{fact_at-cons, fact_at-elsewhere, fact_at-nil, fact_same}
+use Rattle.flute_journal.proofs.Common.{false, heads, inl, inr, is_after, is_eq, joined}
+use Rattle.flute_journal.proofs.Common.{joined-apart, joined-same, length, length-append, most_of}
+use Rattle.flute_journal.proofs.Common.{none-some, option_list, place_of, refl, same_address}
+use Rattle.flute_journal.proofs.Common.{same_fact, subst, sym, true, ◌++◌, ◌+◌, ◌∙◌, ◌∷◌, ◌≡◌, ◌≢◌}
+use Rattle.flute_journal.proofs.Common.{◌≤◌}
 use Rattle.flute_journal.proofs.{Each.{all_split}, merge_lemmas.MergeRising.{after, last_of-snoc, Rises-second, Same-crossed, rising-rises}}
 
 -- the value of sized facts is sized

@@ -1,5 +1,16 @@
 -- What a merge of two streams of journals gives, stated of the two journals (specs/Merges).
-use Rattle.flute_journal.proofs.Common.{AppendsPartOf, BeginWith, Behaviour, Collects, Each, EachSince, Either, Err, Fact, FailAs, First, FirstFails, Input, MergedJournal, Journal, KeepsUp, LentStream, List, LoadFault, MergeGives, Merged, MergedAll, NamesFault, NamesInput, None, OneFails, Option, PutsJournal, Read, ReadFault, ReadsAhead, Same, Same-append, Same-sym, Same-trans, Second, SecondFails, Some, StopsShort, StreamsFault, Write, WritesJournal, [], all_of, ap, append-nil, arith, either_behaviour, false, joined, lent, lent_behaviour, limit_of, rules, slice_get, source_of, subst, suc, sym, or_failed, unread_of, written_up_to, zero, ℕ, ◌++◌, ◌∙◌, ◌∷◌, ◌≡◌}
+use Rattle.flute_journal.proofs.Common.{AppendsPartOf, BeginWith, Behaviour, Collects, Each}
+use Rattle.flute_journal.proofs.Common.{EachSince, Either, Err, Fact, FailAs, First, FirstFails}
+use Rattle.flute_journal.proofs.Common.{Input, MergedJournal, Journal, KeepsUp, LentStream, List}
+use Rattle.flute_journal.proofs.Common.{LoadFault, MergeGives, Merged, MergedAll, NamesFault}
+use Rattle.flute_journal.proofs.Common.{NamesInput, None, OneFails, Option, PutsJournal, Read}
+use Rattle.flute_journal.proofs.Common.{ReadFault, ReadsAhead, Same, Same-append, Same-sym}
+use Rattle.flute_journal.proofs.Common.{Same-trans, Second, SecondFails, Some, StopsShort}
+use Rattle.flute_journal.proofs.Common.{StreamsFault, Write, WritesJournal, [], all_of, ap}
+use Rattle.flute_journal.proofs.Common.{append-nil, arith, either_behaviour, false, joined, lent}
+use Rattle.flute_journal.proofs.Common.{lent_behaviour, limit_of, rules, slice_get, source_of}
+use Rattle.flute_journal.proofs.Common.{subst, suc, sym, or_failed, unread_of, written_up_to, zero}
+use Rattle.flute_journal.proofs.Common.{ℕ, ◌++◌, ◌∙◌, ◌∷◌, ◌≡◌}
 use Rattle.flute_journal.specs.{declared.merge.two_streams.MergeFault.{MergeFault}, Merges.{AppendedUpTo}, Pairs.{fault_at, IsFaultAt, IsFaultOfTwo, IsOfReading}}
 use Rattle.flute_journal.proofs.merge_lemmas.MergeBytes.{journal_parts}
 

@@ -1,5 +1,15 @@
 -- What is read after the first byte of an entry (src/readers/entry_fields.rt).
-use Rattle.flute_journal.proofs.Common.{Address, BodyIn, Bool, Consumes, Consumes-trans, Err, Fact, EntryHead, HeadIn, ReadsUpTo, HasRoom, IsBody, IsFact, IsFactIn, IsFaultOf, IsFaultUpTo, IsSized, IsWithin, Key, Kind, List, Ok, Option, Parses, ReadFault, Reads, ReadsEnd, Result, StaysWithin, SymbolId, SymbolIs, Version, [], ap, arith, at_place, body, body_fault, byte_of, cut_fault, end, end_fault, entry_in, err_from_is_err_and, false, head_bytes, head_size, header_fault, header_in, in_bytes, inr, length, length-append, length-bytes_high_first, next_fault, opening_fault, refl, subst, sym, or_failed, true, ℕ, ◌++◌, ◌<◌, ◌∙◌, ◌∷◌, ◌≡◌, ◌≤◌}
+use Rattle.flute_journal.proofs.Common.{Address, BodyIn, Bool, Consumes, Consumes-trans, Err, Fact}
+use Rattle.flute_journal.proofs.Common.{EntryHead, HeadIn, ReadsUpTo, HasRoom, IsBody, IsFact}
+use Rattle.flute_journal.proofs.Common.{IsFactIn, IsFaultOf, IsFaultUpTo, IsSized, IsWithin, Key}
+use Rattle.flute_journal.proofs.Common.{Kind, List, Ok, Option, Parses, ReadFault, Reads, ReadsEnd}
+use Rattle.flute_journal.proofs.Common.{Result, StaysWithin, SymbolId, SymbolIs, Version, [], ap}
+use Rattle.flute_journal.proofs.Common.{arith, at_place, body, body_fault, byte_of, cut_fault, end}
+use Rattle.flute_journal.proofs.Common.{end_fault, entry_in, err_from_is_err_and, false, head_bytes}
+use Rattle.flute_journal.proofs.Common.{head_size, header_fault, header_in, in_bytes, inr, length}
+use Rattle.flute_journal.proofs.Common.{length-append, length-bytes_high_first, next_fault}
+use Rattle.flute_journal.proofs.Common.{opening_fault, refl, subst, sym, or_failed, true, ℕ, ◌++◌}
+use Rattle.flute_journal.proofs.Common.{◌<◌, ◌∙◌, ◌∷◌, ◌≡◌, ◌≤◌}
 use Rattle.flute_journal.specs.{declared.format.EntryHead.TheVariants.{Symbol}, Input.{Advances}}
 use Rattle.flute_journal.proofs.{framing_lemmas.ReadsUpTo.{fault-behind, fault_up_to, fault_up_to-behind, fault_found, parsed_reads}, format_lemmas.Parts.{symbol_cut, symbol_within, body_comes, body_least, entry_within, entry_within-short, length-key_bytes}}
 

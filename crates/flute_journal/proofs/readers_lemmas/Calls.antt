@@ -1,5 +1,14 @@
 -- What the calls of a JournalReader return.
-use Rattle.flute_journal.proofs.{Common.{AsksMemory, Before, Consumes, Consumes-nil, Fact, Failed, Gives, IfErr, IsFactIn, Items, List, Ok, Err, Option, ReadFault, ReaderState, ReadsFrom, ReadsNext, Result, StaysWithin, Version, entry_in, is_open, journal_framing, place_at, state_after, next_fault, refl, subst, sym, true, [], ℕ, ◌<◌, ◌≡◌}, framing_lemmas.Framed.{gives, reads_on}, merge_lemmas.MergeBytes.{within_nil}, framing_lemmas.Passes.{entry-passes}, framing_lemmas.ReadsUpTo.{asks_seen}}
+use Rattle.flute_journal.proofs.Common.{AsksMemory, Before, Consumes, Consumes-nil, Fact, Failed}
+use Rattle.flute_journal.proofs.Common.{Gives, IfErr, IsFactIn, Items, List, Ok, Err, Option}
+use Rattle.flute_journal.proofs.Common.{ReadFault, ReaderState, ReadsFrom, ReadsNext, Result}
+use Rattle.flute_journal.proofs.Common.{StaysWithin, Version, entry_in, is_open, journal_framing}
+use Rattle.flute_journal.proofs.Common.{place_at, state_after, next_fault, refl, subst, sym, true}
+use Rattle.flute_journal.proofs.Common.{[], ℕ, ◌<◌, ◌≡◌}
+use Rattle.flute_journal.proofs.framing_lemmas.Framed.{gives, reads_on}
+use Rattle.flute_journal.proofs.merge_lemmas.MergeBytes.{within_nil}
+use Rattle.flute_journal.proofs.framing_lemmas.Passes.{entry-passes}
+use Rattle.flute_journal.proofs.framing_lemmas.ReadsUpTo.{asks_seen}
 use Rattle.std.specs.Prelude.{⊤}
 use Rattle.flute_journal.specs.Lent.{HasEntry}
 use Rattle.flute_journal.specs.declared.fault.ReadFault.TheVariants as faults

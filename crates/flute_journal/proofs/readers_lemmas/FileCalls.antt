@@ -1,5 +1,14 @@
 -- What the calls of a DatagramReader return.
-use Rattle.flute_journal.proofs.{Common.{Bool, Consumes, Err, Gives, Header, IfErr, IsDatagram, IsFileFault, Items, List, Ok, Option, Parses, ReadFault, ReaderState, ReadsFrom, ReadsNext, Result, Some, StaysWithin, StopsReading, [], arith, bytes_eq, cut, drop, false, file_framing, file_header, first_fault, is_open, left_by, not, opening_fault, place_at, record_of, refl, state_after, subst, take, or_failed, true, ℕ, ◌++◌, ◌∷◌, ◌≡◌}, framing_lemmas.Framed.{reads_on, reads_first, gives}, framing_lemmas.Framings.{file_sound}}
+use Rattle.flute_journal.proofs.Common.{Bool, Consumes, Err, Gives, Header, IfErr, IsDatagram}
+use Rattle.flute_journal.proofs.Common.{IsFileFault, Items, List, Ok, Option, Parses, ReadFault}
+use Rattle.flute_journal.proofs.Common.{ReaderState, ReadsFrom, ReadsNext, Result, Some}
+use Rattle.flute_journal.proofs.Common.{StaysWithin, StopsReading, [], arith, bytes_eq, cut, drop}
+use Rattle.flute_journal.proofs.Common.{false, file_framing, file_header, first_fault, is_open}
+use Rattle.flute_journal.proofs.Common.{left_by, not, opening_fault, place_at, record_of, refl}
+use Rattle.flute_journal.proofs.Common.{state_after, subst, take, or_failed, true, ℕ, ◌++◌, ◌∷◌}
+use Rattle.flute_journal.proofs.Common.{◌≡◌}
+use Rattle.flute_journal.proofs.framing_lemmas.Framed.{reads_on, reads_first, gives}
+use Rattle.flute_journal.proofs.framing_lemmas.Framings.{file_sound}
 use Rattle.flute_journal.specs.declared.fault.ReadFault.TheVariants as faults
 
 -- a header has no other faults

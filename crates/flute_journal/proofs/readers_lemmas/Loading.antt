@@ -1,5 +1,20 @@
 -- read_store: a store that is read entry by entry (specs/Stores).
-use Rattle.flute_journal.proofs.{Common.{AreItems, journal_framing, BeginsOver, Below-from_Same, Bool, Consumes, Consumes-whole, Err, Fact, FailsIf, FailsToLoad, Gives, GivesItem, GivesFault, Header, IfSome, IsAtEnd, IsJournalOf, IsLoadFault, List, MatchBool, None, Ok, Option, Over, Over-below, Read, ReadFault, ReadsNoMore, Same, Same-append, Same-itself, Same-sym, Same-trans, Sofar, Some, Two, ReaderState, Before, [], append-nil, arith, count_at, end, err_from_is_err_and, without_end_in, is_open, more_objects, more_sessions, more_symbols, refl, refused, session, spelling_in, subst, sym, ℕ, ◌++◌, ◌∙◌, ◌∷◌, ◌≡◌, journal_frame}, merge_lemmas.MergeBytes.{within_nil}, framing_lemmas.SoFar.{AtEnd, read_some, side-from, open_after, sofar-none, sofar-next}, framing_lemmas.Framings.{journal_sound}, readers_lemmas.Whole.{sofar-stops}}
+use Rattle.flute_journal.proofs.Common.{AreItems, journal_framing, BeginsOver, Below-from_Same}
+use Rattle.flute_journal.proofs.Common.{Bool, Consumes, Consumes-whole, Err, Fact, FailsIf}
+use Rattle.flute_journal.proofs.Common.{FailsToLoad, Gives, GivesItem, GivesFault, Header, IfSome}
+use Rattle.flute_journal.proofs.Common.{IsAtEnd, IsJournalOf, IsLoadFault, List, MatchBool, None}
+use Rattle.flute_journal.proofs.Common.{Ok, Option, Over, Over-below, Read, ReadFault, ReadsNoMore}
+use Rattle.flute_journal.proofs.Common.{Same, Same-append, Same-itself, Same-sym, Same-trans, Sofar}
+use Rattle.flute_journal.proofs.Common.{Some, Two, ReaderState, Before, [], append-nil, arith}
+use Rattle.flute_journal.proofs.Common.{count_at, end, err_from_is_err_and, without_end_in, is_open}
+use Rattle.flute_journal.proofs.Common.{more_objects, more_sessions, more_symbols, refl, refused}
+use Rattle.flute_journal.proofs.Common.{session, spelling_in, subst, sym, ℕ, ◌++◌, ◌∙◌, ◌∷◌, ◌≡◌}
+use Rattle.flute_journal.proofs.Common.{journal_frame}
+use Rattle.flute_journal.proofs.merge_lemmas.MergeBytes.{within_nil}
+use Rattle.flute_journal.proofs.framing_lemmas.SoFar.{AtEnd, read_some, side-from, open_after}
+use Rattle.flute_journal.proofs.framing_lemmas.SoFar.{sofar-none, sofar-next}
+use Rattle.flute_journal.proofs.framing_lemmas.Framings.{journal_sound}
+use Rattle.flute_journal.proofs.readers_lemmas.Whole.{sofar-stops}
 use Rattle.flute_join.specs.declared.refusal.JoinRefusal.{JoinRefusal}
 use Rattle.flute_join.specs.declared.refusal.JoinRefusal.TheVariants as join
 use Rattle.flute_journal.specs.Whole.{after_entries}

@@ -1,5 +1,23 @@
 -- A journal that is read entry by entry: Sofar of journals, and what was read (specs/Whole).
-use Rattle.flute_journal.proofs.{Common.{Address, AllByRecursion, AreItems, Consumes, Consumes-trans, EndsAfter, Fact, GivesFault, IsFactIn, IsFaultUpTo, IsPart, IsRising, List, None, Option, ReadFault, ReaderState, Before, ReadsEntries, ReadsPart, Some, Sofar, StopsAfter, Version, [], ap, append-nil, append_assoc, arith, end, end_bytes, entry_in, fault_from, header_in, in_item, in_opening, inl, inr, journal_framing, last_of, length, nil_from_length, none-some, read_of, refl, same_Some, spelling_in, state_at, subst, sym, without_end_in, ℕ, ◌++◌, ◌∙◌, ◌∷◌, ◌≡◌, journal_frame}, framing_lemmas.SoFar.{FaultAfter, Side, found_now, read_some, stops_at, stops_by}, framing_lemmas.Framings.{journal_sound}, format_lemmas.Parts.{entry_within-short}, Each.{all_split}, merge_lemmas.MergeBytes.{without_end_in-snoc, within_entry, within_end, within_nil, without_end-of_spelling}, merge_lemmas.MergeRising.{Rises-second, Rises, rising-rises}}
+use Rattle.flute_journal.proofs.Common.{Address, AllByRecursion, AreItems, Consumes, Consumes-trans}
+use Rattle.flute_journal.proofs.Common.{EndsAfter, Fact, GivesFault, IsFactIn, IsFaultUpTo, IsPart}
+use Rattle.flute_journal.proofs.Common.{IsRising, List, None, Option, ReadFault, ReaderState}
+use Rattle.flute_journal.proofs.Common.{Before, ReadsEntries, ReadsPart, Some, Sofar, StopsAfter}
+use Rattle.flute_journal.proofs.Common.{Version, [], ap, append-nil, append_assoc, arith, end}
+use Rattle.flute_journal.proofs.Common.{end_bytes, entry_in, fault_from, header_in, in_item}
+use Rattle.flute_journal.proofs.Common.{in_opening, inl, inr, journal_framing, last_of, length}
+use Rattle.flute_journal.proofs.Common.{nil_from_length, none-some, read_of, refl, same_Some}
+use Rattle.flute_journal.proofs.Common.{spelling_in, state_at, subst, sym, without_end_in, ℕ, ◌++◌}
+use Rattle.flute_journal.proofs.Common.{◌∙◌, ◌∷◌, ◌≡◌, journal_frame}
+use Rattle.flute_journal.proofs.framing_lemmas.SoFar.{FaultAfter, Side, found_now, read_some}
+use Rattle.flute_journal.proofs.framing_lemmas.SoFar.{stops_at, stops_by}
+use Rattle.flute_journal.proofs.framing_lemmas.Framings.{journal_sound}
+use Rattle.flute_journal.proofs.format_lemmas.Parts.{entry_within-short}
+use Rattle.flute_journal.proofs.Each.{all_split}
+use Rattle.flute_journal.proofs.merge_lemmas.MergeBytes.{without_end_in-snoc, within_entry}
+use Rattle.flute_journal.proofs.merge_lemmas.MergeBytes.{within_end, within_nil}
+use Rattle.flute_journal.proofs.merge_lemmas.MergeBytes.{without_end-of_spelling}
+use Rattle.flute_journal.proofs.merge_lemmas.MergeRising.{Rises-second, Rises, rising-rises}
 use Rattle.flute_journal.specs.{Whole.{in_header as part_in_header, after_entries as part_after}, Merges.{in_header, after_entries}}
 use Rattle.flute_journal.specs.declared.fault.ReadFault.TheVariants as faults
 

@@ -1,5 +1,10 @@
 -- write_store: a store that is written entry by entry.
-use Rattle.flute_journal.proofs.Common.{◌≡◌, ℕ, ◌+◌, Bool, true, List, [], ◌∷◌, ◌++◌, length, Option, sym, ap, ◌∙◌, subst, append_assoc, append-nil, arith, flat_map, AllByRecursion, flat_map-append, length-append, flat_map_more, Fact, IsRising, AppendsPart, rising_unique, AppendsPart-first, header, entry, end, spelling, IsFact, Journal, Written, PutsBytes}
+use Rattle.flute_journal.proofs.Common.{◌≡◌, ℕ, ◌+◌, Bool, true, List, [], ◌∷◌, ◌++◌, length}
+use Rattle.flute_journal.proofs.Common.{Option, sym, ap, ◌∙◌, subst, append_assoc, append-nil}
+use Rattle.flute_journal.proofs.Common.{arith, flat_map, AllByRecursion, flat_map-append}
+use Rattle.flute_journal.proofs.Common.{length-append, flat_map_more, Fact, IsRising, AppendsPart}
+use Rattle.flute_journal.proofs.Common.{rising_unique, AppendsPart-first, header, entry, end}
+use Rattle.flute_journal.proofs.Common.{spelling, IsFact, Journal, Written, PutsBytes}
 use Rattle.flute_journal.proofs.{Each.{all_more}, writers_lemmas.WrittenSoFar.{written-more}}
 
 -- some of these facts are left; the others, so many, were written after the header, as far as the

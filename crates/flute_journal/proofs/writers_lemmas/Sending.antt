@@ -1,5 +1,12 @@
 -- write_datagrams: datagrams that are written record by record.
-use Rattle.flute_journal.proofs.Common.{◌≡◌, ℕ, zero, suc, ◌+◌, ◌≤◌, List, [], ◌∷◌, ◌++◌, length, drop, Option, Some, None, refl, sym, ap, ◌∙◌, subst, append_assoc, append-nil, arith, slice_get, flat_map, AllByRecursion, Appends, Appends-trans, flat_map-append, nil_from_length, length-append, length-drop, flat_map_more, slice_get_within, get_or_from_slice_get, AppendsPart, AppendsPart-first, AppendsPart-second, file_header, record_of, IsDatagram, IsFileOf, drop-cons}
+use Rattle.flute_journal.proofs.Common.{◌≡◌, ℕ, zero, suc, ◌+◌, ◌≤◌, List, [], ◌∷◌, ◌++◌, length}
+use Rattle.flute_journal.proofs.Common.{drop, Option, Some, None, refl, sym, ap, ◌∙◌, subst}
+use Rattle.flute_journal.proofs.Common.{append_assoc, append-nil, arith, slice_get, flat_map}
+use Rattle.flute_journal.proofs.Common.{AllByRecursion, Appends, Appends-trans, flat_map-append}
+use Rattle.flute_journal.proofs.Common.{nil_from_length, length-append, length-drop, flat_map_more}
+use Rattle.flute_journal.proofs.Common.{slice_get_within, get_or_from_slice_get, AppendsPart}
+use Rattle.flute_journal.proofs.Common.{AppendsPart-first, AppendsPart-second, file_header}
+use Rattle.flute_journal.proofs.Common.{record_of, IsDatagram, IsFileOf, drop-cons}
 use Rattle.flute_journal.proofs.Each.{all_more}
 
 -- the records before a place were written, and nothing else

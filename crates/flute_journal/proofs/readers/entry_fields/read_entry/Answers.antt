@@ -1,5 +1,10 @@
 -- read_entry: what was read of the end, of a wrong kind, over the bound, or of a faulty entry.
-use Rattle.flute_journal.proofs.{Common.{Err, IsFactIn, ReadsNext, journal_framing, Some, StaysWithin, [], ap, entry_in, err_from_is_err_and, next_fault, subst, sym, ◌∙◌, ◌∷◌, ◌≡◌}, framing_lemmas.ReadsUpTo.{fault_here}, format_lemmas.Parts.{one_byte, kind_wrong, too_many}, readers_lemmas.Bodies.{end_ends, end_stops, body_stops, body_ends}}
+use Rattle.flute_journal.proofs.Common.{Err, IsFactIn, ReadsNext, journal_framing, Some}
+use Rattle.flute_journal.proofs.Common.{StaysWithin, [], ap, entry_in, err_from_is_err_and}
+use Rattle.flute_journal.proofs.Common.{next_fault, subst, sym, ◌∙◌, ◌∷◌, ◌≡◌}
+use Rattle.flute_journal.proofs.framing_lemmas.ReadsUpTo.{fault_here}
+use Rattle.flute_journal.proofs.format_lemmas.Parts.{one_byte, kind_wrong, too_many}
+use Rattle.flute_journal.proofs.readers_lemmas.Bodies.{end_ends, end_stops, body_stops, body_ends}
 use Rattle.flute_journal.specs.declared.fault.ReadFault.TheVariants as faults
 use Rattle.flute_journal.proofs.readers.entry_fields.read_entry.Goals as goal
 
