@@ -41,6 +41,7 @@ import subprocess
 import sys
 import tempfile
 from concurrent.futures import ThreadPoolExecutor
+from pathlib import Path
 from typing import Iterable, Optional
 
 sys.dont_write_bytecode = True
@@ -70,38 +71,41 @@ RUN, OF_RUN = "flutejoin_run", ("flutejoin_line", "flutejoin_commands")
 class Crate:
     """A crate in a folder of its own, in which its wrong bodies are tried."""
 
-    def __init__(self, folder: str, name: str, edits: Iterable[str]) -> None:
-        self.name, self.folder = name, folder
+    def __init__(self, folder: str, name: str, edits: Iterable[str], by_contract: bool) -> None:
+        self.name, self.folder, self.by_contract = name, folder, by_contract
         self.told: list[str] = []
         self.refused = self.unfit = self.failed = self.checks = 0
         self.bodies = [Body(name, it) for it in edits]
 
-    def check(self, bodies: list[Body], functions: Iterable[str] = ()) -> tuple[int, str]:
-        """Puts these bodies in place, checks the crate or these functions, and takes them back.
-        Returns the status of the check and what it printed."""
-        texts = with_bodies(self.name, bodies)
-        for path, text in texts.items():
-            os.makedirs(os.path.dirname(f"{self.folder}/{path}"), exist_ok=True)
-            with open(f"{self.folder}/{path}", "w", encoding="utf-8") as file:
-                file.write(text)
+    def check(
+        self, bodies: list[Body], functions: Iterable[str] = (), by_contract: bool = False
+    ) -> tuple[int, str]:
+        """Checks a copy of the crate that has these bodies, or these functions of it. If
+        `by_contract`, what they call is not proved. Returns the status of the check and what it
+        printed."""
+        for part in "src", "specs", "proofs":
+            shutil.rmtree(f"{self.folder}/{part}", ignore_errors=True)
+            if os.path.isdir(f"{crate_folder(self.name)}/{part}"):
+                shutil.copytree(f"{crate_folder(self.name)}/{part}", f"{self.folder}/{part}")
+        for path, text in with_bodies(self.name, bodies, by_contract).items():
+            file = Path(self.folder, path)
+            if text is None:
+                file.unlink(missing_ok=True)
+            else:
+                file.parent.mkdir(parents=True, exist_ok=True)
+                file.write_text(text, encoding="utf-8")
         self.checks += 1
-        only = [word for it in sorted(functions) for word in ("--only", last_names(it))]
-        try:
-            ran = subprocess.run(
-                [*checking(self.name), *only],
-                cwd=self.folder,
-                stdin=subprocess.DEVNULL,
-                stdout=subprocess.PIPE,
-                stderr=subprocess.STDOUT,
-                errors="replace",
-            )
-            return ran.returncode, ran.stdout
-        finally:
-            for path in texts:
-                if os.path.isfile(f"{crate_folder(self.name)}/{path}"):
-                    shutil.copyfile(f"{crate_folder(self.name)}/{path}", f"{self.folder}/{path}")
-                else:
-                    shutil.rmtree(os.path.dirname(f"{self.folder}/{path}"), ignore_errors=True)
+        words = ["--allow-holes"] * by_contract
+        words += [word for it in sorted(functions) for word in ("--only", last_names(it))]
+        ran = subprocess.run(
+            [*checking(self.name), *words],
+            cwd=self.folder,
+            stdin=subprocess.DEVNULL,
+            stdout=subprocess.PIPE,
+            stderr=subprocess.STDOUT,
+            errors="replace",
+        )
+        return ran.returncode, ran.stdout
 
     def group(self, pending: list[Body]) -> list[Body]:
         """As many of these bodies as can be tried together: the first of a function in its place,
@@ -143,7 +147,8 @@ class Crate:
     def together(self, bodies: list[Body]) -> Optional[list[Body]]:
         """Tries these bodies together, and returns those of which nothing is known yet, or None
         if that tells nothing of any."""
-        status, told = self.check(bodies, {name for it in bodies for name in it.functions()})
+        named = {name for it in bodies for name in it.functions()}
+        status, told = self.check(bodies, named, self.by_contract)
         answers, goals = dict(ANSWER.findall(told)), goals_of(told)
         functions = {it: sorted(found_in(answers, one) for one in it.functions()) for it in bodies}
         edited = {name for names in functions.values() for name in names}
@@ -225,11 +230,8 @@ def tried(name: str, options: argparse.Namespace) -> tuple[int, int, int]:
     if options.process:
         wait_for(libraries_of(name)[1], options.process)
     with tempfile.TemporaryDirectory(prefix="wrong-bodies-") as room:
-        for part in ("src", "specs", "proofs"):
-            if os.path.isdir(f"{crate_folder(name)}/{part}"):
-                shutil.copytree(f"{crate_folder(name)}/{part}", f"{room}/{part}")
         take_kept(name, f"{room}/kept")
-        crate = Crate(room, name, edits_of(name, options))
+        crate = Crate(room, name, edits_of(name, options), options.by_contract)
         if not (options.all or options.edits or name == RUN):
             crate.bodies = [it for it in crate.bodies if it.is_public()]
         crate.run()
@@ -277,6 +279,12 @@ def options_of(words: list[str]) -> argparse.Namespace:
         action="store_true",
         help="let 'rt must-fail' try each by itself, those in must-fail too, but for those over a"
         " function, in half a minute to two minutes for each",
+    )
+    parser.add_argument(
+        "--by-contract",
+        action="store_true",
+        help="do not prove what the edited functions call, where its body can be left out; a body"
+        " that is not refused is then tried alone, with all that it calls",
     )
     parser.add_argument("--edits", metavar="FOLDER", help="the edits in this folder, all of CRATE")
     parser.add_argument(

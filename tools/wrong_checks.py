@@ -17,7 +17,7 @@ ANSWER = re.compile(r"^fn (\S+): (.*)$", re.M)
 OPEN = re.compile(r"^note: \S+ it is not proved .*?\(`([^`]+)`\)", re.M)
 UNFOUND = re.compile(r"`search` did not prove ((?:`[^`]+`(?:, )?)+)")
 # The last line of a check that ran to its end and did not prove everything.
-UNPROVED = re.compile(r"^(logic=not-proved|only=\d+ proved=\d+)", re.M)
+UNPROVED = re.compile(r"^(logic=not-proved|only=\d+ (proved|holes)=\d+)", re.M)
 # The place of a fault.
 FAULT = re.compile(r"(note: )?\S+:\d+:\d+: (error|it is not proved)")
 # A limit of the check itself, which it meets each time that it checks the same code.

@@ -9,7 +9,7 @@ import functools
 import os
 import re
 from pathlib import Path
-from typing import Iterable, NamedTuple
+from typing import Iterable, NamedTuple, Optional
 
 ROOT = os.path.dirname(os.path.dirname(os.path.abspath(__file__)))
 
@@ -126,19 +126,56 @@ def with_body(text: str, head: str, body: str) -> str:
     return f"{clauses}\n{indent}{{\n{indent}    {body}\n{indent}}}\n"
 
 
-def with_bodies(crate: str, bodies: Iterable[Body]) -> dict[str, str]:
-    """The files of a crate that these bodies change or add, with them."""
+def with_bodies(
+    crate: str, bodies: Iterable[Body], by_contract: bool = False
+) -> dict[str, Optional[str]]:
+    """The files of a crate that these bodies change or add, with them; None for one that goes.
+
+    If `by_contract`, no other function has to be proved: each that can has an empty body, and a
+    hole for its proof.
+    """
     made: dict[Piece, str] = {}
-    files: dict[str, str] = {}
+    files: dict[str, Optional[str]] = {}
+    stubs = stubs_of(crate) if by_contract else {}
     for body in sorted(bodies, key=lambda it: it.is_beside):
         for piece, text in body.texts.items():
             head = "fn " + piece.name.rpartition("::")[2]
             beside = text.replace(head, body.renamed(head), 1)
-            made[piece] = made.get(piece, piece.text) + beside if body.is_beside else text
+            there = made.get(piece, stubs.get(piece, piece.text))
+            made[piece] = there + beside if body.is_beside else text
+            if not body.is_beside:
+                stubs.pop(piece, None)
         files |= body.files_beside() if body.is_beside else {}
+    for piece, text in stubs.items():
+        made.setdefault(piece, text)
+        files |= hole_of(piece)
     for path in {it.path for it in made}:
         files[path] = "".join(made.get(it, it.text) for it in pieces_of(crate, path))
     return files
+
+
+def stubs_of(crate: str) -> dict[Piece, str]:
+    """The functions of a crate that can have an empty body, with it."""
+    stubs = {}
+    for file in sorted(Path(f"{crate_folder(crate)}/src").rglob("*.rt")):
+        for piece in pieces_of(crate, str(file.relative_to(crate_folder(crate)))):
+            head = FUNCTION.search(piece.text) if piece.is_free and piece.name else None
+            # The brace has a line of its own behind clauses.
+            brace = head and re.compile(rf"^{head[1]}\{{\n", re.M).search(piece.text, head.end())
+            if head and brace:
+                body = f"{head[1]}    unreachable!()\n{head[1]}}}\n"
+                stubs[piece] = piece.text[: brace.end()] + body
+    return stubs
+
+
+def hole_of(piece: Piece) -> dict[str, Optional[str]]:
+    """The files that make the proof of a function a hole."""
+    crate, *names = piece.name.split("::")
+    folder, spec = "/".join(["proofs", *names]), f"{names[-1]}_spec"
+    module = ".".join([f"Rattle.{crate}.proofs", *names, "Statement"])
+    files: dict[str, Optional[str]] = {f"{folder}/{it}": None for it in PROOFS}
+    hole = f"use {module}.{{statement}}\n\npub {spec} : {{M : Type 1}} → statement M\n{spec} = ?\n"
+    return {**files, f"{folder}/{PROOFS[2]}": hole}
 
 
 @functools.cache
