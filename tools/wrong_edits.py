@@ -37,7 +37,7 @@ class Piece(NamedTuple):
     path: str
     start: int
     text: str
-    name: str = ""  # as a check tells it, but for the module of a method's type
+    name: str = ""  # as a check tells it, but for the module of a trait's method
     is_free: bool = False  # of no trait and in no cycle of calls
     is_public: bool = True  # a text between functions, or one that other crates can call
 
@@ -181,9 +181,7 @@ def hole_of(piece: Piece) -> dict[str, Optional[str]]:
 @functools.cache
 def pieces_of(crate: str, path: str) -> list[Piece]:
     """The pieces of a file in their order."""
-    text = text_of(f"{crate_folder(crate)}/{path}")
-    inside = path[len("src/") : -len(".rt")]
-    module = [] if inside in ("lib", "main") else inside.split("/")
+    text, module = text_of(f"{crate_folder(crate)}/{path}"), module_of(path)
     heads = [*FUNCTION.finditer(text)]
     pieces, end = [], 0
     for head, until in zip(heads, [*(it.start() for it in heads[1:]), len(text)]):
@@ -195,15 +193,34 @@ def pieces_of(crate: str, path: str) -> list[Piece]:
         end = closing.end() if closing else until
         owners = [it[0] for it in ITEM.finditer(text[: head.start()]) if OWNER.match(it[0])]
         owner = re.sub(f"^{PUB}", "", " ".join(owners[-1].split())) if indent else ""
-        full_name = "::".join([crate, *module, *([owner_name(owner)] if owner else []), name])
         code = text[head.start() : end]
         is_of_trait = re.search(r"^trait\b| for ", owner) is not None
+        of_type = {} if is_of_trait else modules_of_types(crate)
+        at = [*of_type.get(owned_by(owner), module), owner_name(owner)] if owner else module
+        full_name = "::".join([crate, *at, name])
         is_free = not is_of_trait and "#[cycle" not in code
         is_pub = is_of_trait or re.search(r"^ *pub ", head[0], re.M) is not None
         seen = {owned_by(owner) if owner else name, *module[:1]} & exported_by(crate)
         is_public = is_pub and bool(seen)
         pieces.append(Piece(path, head.start(), code, full_name, is_free, is_public))
     return [*pieces, Piece(path, end, text[end:])]
+
+
+def module_of(path: str) -> list[str]:
+    """The module that a file is."""
+    inside = path[len("src/") : -len(".rt")]
+    return [] if inside in ("lib", "main") else inside.split("/")
+
+
+@functools.cache
+def modules_of_types(crate: str) -> dict[str, list[str]]:
+    """The modules of a crate's types, whose methods may be in other files."""
+    files = sorted(Path(f"{crate_folder(crate)}/src").rglob("*.rt"))
+    return {
+        name: module_of(str(file.relative_to(crate_folder(crate))))
+        for file in files
+        for name in re.findall(rf"^{PUB}(?:struct|enum) (\w+)", text_of(str(file)), re.M)
+    }
 
 
 @functools.cache

@@ -1,8 +1,10 @@
 -- Adding commands and arguments to the parser, and that its clauses hold of what was added.
 use Rattle.std.proofs.Common.{◌≡◌, List, [], ◌∷◌, ◌++◌, true, ◌||◌, Result, Ok, Err, IfOk}
 use Rattle.std.proofs.Common.{MatchResult, inl, inr, refl, ap, ap₂, ◌∙◌}
+use Rattle.std.proofs.lemmas.List.{append-nil, append_assoc}
+use Rattle.std.specs.List.{AllZip}
 use Rattle.std.specs.Prelude.{IsErrAnd}
-use Rattle.clap.specs.Built.{AddsArg, AddsSubcommand}
+use Rattle.clap.specs.Built.{AddsArg, AddsInTurn, AddsSubcommand}
 use Rattle.clap.specs.Faults.{fault_of, is_simple_and_free}
 use Rattle.clap.specs.Kinds.{FailsBy, HasKind}
 use Rattle.clap.specs.Simple.{App, HasMatchesOf, Shape, app_of, is_simple, subcommand_of}
@@ -20,7 +22,7 @@ use Rattle.flutejoin.specs.declared.command_fault.CommandFault.TheVariants.{Comm
 use Rattle.flutejoin.specs.declared.command_fault.CommandFault.TheVariants.{OutOfMemory}
 
 -- one argument more
-pub argument_added : {name : Text} {rules : List Rule} {rule : Rule} {old new : Command}
+argument_added : {name : Text} {rules : List Rule} {rule : Rule} {old new : Command}
     {arg : Arg} → IsCommand name rules old → IsArgument rule arg → AddsArg old arg new → IsCommand
     name (rules ++ rule ∷ []) new
 argument_added was is added = record {
@@ -30,6 +32,23 @@ argument_added was is added = record {
       is.rule_is;
   is_local = added.globals ∙ ap₂ (λ x y. x || y) was.is_local is.is_local;
 }
+
+-- a command without an argument gets these
+pub arguments_added : {name : Text} {rules : List Rule} {args items : List Arg}
+    {old new : Command} → items ≡ args → AllZip IsArgument rules args → IsCommand name [] old
+    → AddsInTurn AddsArg old items new → IsCommand name rules new
+arguments_added {name = name} {rules = rules} {args = args} same are was added =
+    go [] rules args was are (rw (← same) added)
+  where
+    go : (before rules : List Rule) (args : List Arg) {old new : Command}
+        → IsCommand name before old → AllZip IsArgument rules args → AddsInTurn AddsArg old args new
+        → IsCommand name (before ++ rules) new
+    go before [] [] was are added = rw (append-nil before) (rw (← added) was)
+    go before (r ∷ rs) (a ∷ rest) was are added =
+        rw (← append_assoc before (r ∷ []) rs)
+        (go (before ++ r ∷ []) rs rest (argument_added was are.0 added.1) are.1 added.2)
+    go before [] (_ ∷ _) was are added = absurd are
+    go before (_ ∷ _) [] was are added = absurd are
 
 -- one command more
 pub command_added : {name : Text} {rules : List Rule} {app : App} {old sub new : Command} → app_of

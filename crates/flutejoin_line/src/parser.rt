@@ -195,163 +195,187 @@ fn packet_command<'a>(alloc: Global) -> Result<Command<'a>, AllocError>
 fn show_command<'a>(alloc: Global) -> Result<Command<'a>, AllocError>
     ensures { IfOk result (IsCommand (codes "show") show_rules) }
 {
+    let arguments = vec![in alloc;
+        conflicts(alloc),
+        source(alloc),
+        sessions(alloc),
+        object(alloc),
+        instance(alloc),
+        journal(alloc),
+    ]?;
     let command = named(
         alloc,
         "show",
         "Prints the entries of a journal, a line each",
         SHOW_HELP,
     )
-    .arg(conflicts(alloc))?
-    .arg(source(alloc))?
-    .arg(sessions(alloc))?
-    .arg(object(alloc))?
-    .arg(instance(alloc))?
-    .arg(journal(alloc))?;
+    .args(arguments)?;
     Ok(command)
 }
 
 fn gaps_command<'a>(alloc: Global) -> Result<Command<'a>, AllocError>
     ensures { IfOk result (IsCommand (codes "gaps") gaps_rules) }
 {
+    let arguments = vec![in alloc;
+        any_size(alloc),
+        check(alloc),
+        summary(alloc),
+        conflicting_objects(alloc),
+        source(alloc),
+        sessions(alloc),
+        object(alloc),
+        instance(alloc),
+        journal(alloc),
+    ]?;
     let command = named(
         alloc,
         "gaps",
         "Prints how much of each object a journal has, and which symbols are missing",
         GAPS_HELP,
     )
-    .arg(any_size(alloc))?
-    .arg(check(alloc))?
-    .arg(summary(alloc))?
-    .arg(conflicting_objects(alloc))?
-    .arg(source(alloc))?
-    .arg(sessions(alloc))?
-    .arg(object(alloc))?
-    .arg(instance(alloc))?
-    .arg(journal(alloc))?;
+    .args(arguments)?;
     Ok(command)
 }
 
 fn extract_command<'a>(alloc: Global) -> Result<Command<'a>, AllocError>
     ensures { IfOk result (IsCommand (codes "extract") extract_rules) }
 {
+    let arguments = vec![in alloc;
+        output(alloc),
+        force_all(alloc),
+        any_size(alloc),
+        all(alloc),
+        source(alloc),
+        sessions(alloc),
+        object(alloc),
+        instance(alloc),
+        journal(alloc),
+    ]?;
     let command = named(
         alloc,
         "extract",
         "Writes an object that a journal has whole to a file",
         EXTRACT_HELP,
     )
-    .arg(output(alloc))?
-    .arg(force_all(alloc))?
-    .arg(any_size(alloc))?
-    .arg(all(alloc))?
-    .arg(source(alloc))?
-    .arg(sessions(alloc))?
-    .arg(object(alloc))?
-    .arg(instance(alloc))?
-    .arg(journal(alloc))?;
+    .args(arguments)?;
     Ok(command)
 }
 
 fn info_command<'a>(alloc: Global) -> Result<Command<'a>, AllocError>
     ensures { IfOk result (IsCommand (codes "info") info_rules) }
 {
+    let arguments = vec![in alloc;
+        output(alloc),
+        force(alloc),
+        any_size(alloc),
+        list(alloc),
+        source(alloc),
+        session(alloc),
+        object(alloc),
+        instance(alloc),
+        length(alloc),
+        symbol(alloc),
+        block(alloc),
+        journal(alloc),
+    ]?;
     let command = named(
         alloc,
         "info",
         "Writes a journal with an object's transmission information added",
         INFO_HELP,
     )
-    .arg(output(alloc))?
-    .arg(force(alloc))?
-    .arg(any_size(alloc))?
-    .arg(list(alloc))?
-    .arg(source(alloc))?
-    .arg(session(alloc))?
-    .arg(object(alloc))?
-    .arg(instance(alloc))?
-    .arg(length(alloc))?
-    .arg(symbol(alloc))?
-    .arg(block(alloc))?
-    .arg(journal(alloc))?;
+    .args(arguments)?;
     Ok(command)
 }
 
 fn join_command<'a>(alloc: Global) -> Result<Command<'a>, AllocError>
     ensures { IfOk result (IsCommand (codes "join") join_rules) }
 {
+    let arguments = vec![in alloc;
+        output(alloc),
+        force(alloc),
+        any_size(alloc),
+        memory(alloc),
+        source(alloc),
+        sessions(alloc),
+        object(alloc),
+        instance(alloc),
+        no_fdt(alloc),
+        inputs(alloc),
+    ]?;
     let command = named(
         alloc,
         "join",
         "Joins what several journals and datagram files have into one journal",
         JOIN_HELP,
     )
-    .arg(output(alloc))?
-    .arg(force(alloc))?
-    .arg(any_size(alloc))?
-    .arg(memory(alloc))?
-    .arg(source(alloc))?
-    .arg(sessions(alloc))?
-    .arg(object(alloc))?
-    .arg(instance(alloc))?
-    .arg(no_fdt(alloc))?
-    .arg(inputs(alloc))?;
+    .args(arguments)?;
     Ok(command)
 }
 
 fn merge_command<'a>(alloc: Global) -> Result<Command<'a>, AllocError>
     ensures { IfOk result (IsCommand (codes "merge") merge_rules) }
 {
+    let arguments = vec![in alloc;
+        output(alloc),
+        force(alloc),
+        input(alloc, "A", "A journal"),
+        input(alloc, "B", "Another journal"),
+    ]?;
     let command = named(
         alloc,
         "merge",
         "Merges two journals into one, entry by entry",
         MERGE_HELP,
     )
-    .arg(output(alloc))?
-    .arg(force(alloc))?
-    .arg(input(alloc, "A", "A journal"))?
-    .arg(input(alloc, "B", "Another journal"))?;
+    .args(arguments)?;
     Ok(command)
 }
 
 fn forget_command<'a>(alloc: Global) -> Result<Command<'a>, AllocError>
     ensures { IfOk result (IsCommand (codes "forget") forget_rules) }
 {
+    let arguments = vec![in alloc;
+        output(alloc),
+        force(alloc),
+        conflicts(alloc),
+        source(alloc),
+        sessions(alloc),
+        object(alloc),
+        instance(alloc),
+        symbol_id(alloc),
+        information(alloc),
+        journal(alloc),
+    ]?;
     let command = named(
         alloc,
         "forget",
         "Writes a journal without the entries that are chosen",
         FORGET_HELP,
     )
-    .arg(output(alloc))?
-    .arg(force(alloc))?
-    .arg(conflicts(alloc))?
-    .arg(source(alloc))?
-    .arg(sessions(alloc))?
-    .arg(object(alloc))?
-    .arg(instance(alloc))?
-    .arg(symbol_id(alloc))?
-    .arg(information(alloc))?
-    .arg(journal(alloc))?;
+    .args(arguments)?;
     Ok(command)
 }
 
 fn carousel_command<'a>(alloc: Global) -> Result<Command<'a>, AllocError>
     ensures { IfOk result (IsCommand (codes "carousel") carousel_rules) }
 {
+    let arguments = vec![in alloc;
+        output(alloc),
+        force_all(alloc),
+        required(session(alloc)),
+        required(object(alloc)),
+        instance(alloc),
+        required(symbol(alloc)),
+        required(block(alloc)),
+        input(alloc, "FILE", "The content of the object"),
+    ]?;
     let command = named(
         alloc,
         "carousel",
         "Writes the datagrams that send an object to a datagram file",
         CAROUSEL_HELP,
     )
-    .arg(output(alloc))?
-    .arg(force_all(alloc))?
-    .arg(required(session(alloc)))?
-    .arg(required(object(alloc)))?
-    .arg(instance(alloc))?
-    .arg(required(symbol(alloc)))?
-    .arg(required(block(alloc)))?
-    .arg(input(alloc, "FILE", "The content of the object"))?;
+    .args(arguments)?;
     Ok(command)
 }

@@ -1,14 +1,9 @@
-use Rattle.flutejoin_line.proofs.Parsing.{argument_added}
+use Rattle.flutejoin_line.proofs.Parsing.{arguments_added}
 use Rattle.flutejoin_line.proofs.parser.extract_command.Goals as goal
 
 pub returns : goal.returns
-returns c =
-    let with_output = argument_added c.named.ensures c.output.ensures c.in_ok-arg.ensures in
-    let with_force_all = argument_added with_output c.force_all.ensures c.in_ok-arg-2.ensures in
-    let with_size = argument_added with_force_all c.any_size.ensures c.in_ok-arg-3.ensures in
-    let with_all = argument_added with_size c.all.ensures c.in_ok-arg-4.ensures in
-    let with_source = argument_added with_all c.source.ensures c.in_ok-arg-5.ensures in
-    let with_sessions = argument_added with_source c.sessions.ensures c.in_ok-arg-6.ensures in
-    let with_object = argument_added with_sessions c.object.ensures c.in_ok-arg-7.ensures in
-    let with_instance = argument_added with_object c.instance.ensures c.in_ok-arg-8.ensures in
-    argument_added with_instance c.journal.ensures c.in_ok-command.ensures
+returns c = arguments_added c.in_ok-arguments.ensures.items
+    (c.output.ensures , (c.force_all.ensures , (c.any_size.ensures , (c.all.ensures
+    , (c.source.ensures , (c.sessions.ensures , (c.object.ensures , (c.instance.ensures
+    , (c.journal.ensures , tt)))))))))
+    c.named.ensures c.in_ok-command.ensures
