@@ -52,8 +52,6 @@ edit wrong/not_inserted src/map.rt 'self.insert(key, value)' 'Ok(())'
 edit wrong/never_full src/map.rt 'self.entries.len() as u32' '0'
 try wrong 0
 told 'three are refused' '^wrong bodies: 3 refused, 0 unfit, 0 failed$'
-tools/wrong_bodies.py --by-contract --edits "$room/wrong" flute_join > "$room/told" 2>&1
-told 'three are refused by contract' '^wrong bodies: 3 refused, 0 unfit, 0 failed$'
 
 # A body that means the same, one that does not compile, and a wrong one with them.
 edit mixed/means_the_same src/cell.rt 'Cell::Conflict => return,' '_ => return,'

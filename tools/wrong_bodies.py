@@ -9,14 +9,15 @@ it is proved by its clauses alone, so a goal that is left open is left by what t
 has the edit's name in its own, so that a function may have several at a time.
 
 A function is proved from the contracts of those that it calls, and from nothing else of them. So
-the edits of a crate are tried together, in a copy of the crate: the first of a function in its
-place, and each other in a copy of the function that is put behind it, with its clauses and its
-written proof. A trait's method has no copy: another edit of it waits for a further check. Each
-function that was edited or put there has to be refused for a goal of its own, and no other function
-may be. One that only waits for an edited function that it calls is tried again without that one.
-What is in doubt is tried alone, and so is an edit outside functions: with the whole crate, or with
-the functions that its lines 'of: FUNCTION' name. As many crates are tried side by side as there are
-processors.
+the edits of a crate are tried together, in a copy of the crate in which no other function has to be
+proved: these have an empty body where they can. The first edit of a function is in its place, and
+each other in a copy of the function that is put behind it, with its clauses and its written proof.
+A trait's method has no copy: another edit of it waits for a further check. Each function that was
+edited or put there has to be refused for a goal of its own, and no other function may be. One that
+only waits for an edited function that it calls is tried again without that one. What is in doubt is
+tried alone, in the crate as it is, and so is an edit outside functions: with the whole crate, or
+with the functions that its lines 'of: FUNCTION' name. As many crates are tried side by side as
+there are processors.
 
 If the contract of a function that no other crate can call lets a wrong body through, no promise of
 the crate does: those of its public functions are proved from it. In the same way, what `run`
@@ -53,8 +54,10 @@ from wrong_checks import (
     checking,
     found_in,
     goals_of,
+    is_proved,
     is_refused,
     is_unproved,
+    lacks_invariant,
     last_names,
     libraries_of,
     listed_libraries,
@@ -71,8 +74,8 @@ RUN, OF_RUN = "flutejoin_run", ("flutejoin_line", "flutejoin_commands")
 class Crate:
     """A crate in a folder of its own, in which its wrong bodies are tried."""
 
-    def __init__(self, folder: str, name: str, edits: Iterable[str], by_contract: bool) -> None:
-        self.name, self.folder, self.by_contract = name, folder, by_contract
+    def __init__(self, folder: str, name: str, edits: Iterable[str]) -> None:
+        self.name, self.folder = name, folder
         self.told: list[str] = []
         self.refused = self.unfit = self.failed = self.checks = 0
         self.bodies = [Body(name, it) for it in edits]
@@ -148,7 +151,7 @@ class Crate:
         """Tries these bodies together, and returns those of which nothing is known yet, or None
         if that tells nothing of any."""
         named = {name for it in bodies for name in it.functions()}
-        status, told = self.check(bodies, named, self.by_contract)
+        status, told = self.check(bodies, named, by_contract=True)
         answers, goals = dict(ANSWER.findall(told)), goals_of(told)
         functions = {it: sorted(found_in(answers, one) for one in it.functions()) for it in bodies}
         edited = {name for names in functions.values() for name in names}
@@ -161,10 +164,12 @@ class Crate:
         for body in bodies:
             said = [answers.get(it, "no answer") for it in functions[body]]
             names = ", ".join(functions[body])
-            if any(is_refused(it) for it in said):
+            if any(lacks_invariant(it) for it in said):
+                self.alone(body)
+            elif any(is_refused(it) for it in said):
                 of_body = [goal for it in functions[body] for goal in goals.get(it, [])]
                 self.refuse(body, of_body, f"not proved: {names}")
-            elif all(it.startswith("proved") for it in said):
+            elif all(is_proved(it) for it in said):
                 self.fail(body, f"still proved: {names}")
             else:
                 left.append(body)
@@ -231,7 +236,7 @@ def tried(name: str, options: argparse.Namespace) -> tuple[int, int, int]:
         wait_for(libraries_of(name)[1], options.process)
     with tempfile.TemporaryDirectory(prefix="wrong-bodies-") as room:
         take_kept(name, f"{room}/kept")
-        crate = Crate(room, name, edits_of(name, options), options.by_contract)
+        crate = Crate(room, name, edits_of(name, options))
         if not (options.all or options.edits or name == RUN):
             crate.bodies = [it for it in crate.bodies if it.is_public()]
         crate.run()
@@ -279,12 +284,6 @@ def options_of(words: list[str]) -> argparse.Namespace:
         action="store_true",
         help="let 'rt must-fail' try each by itself, those in must-fail too, but for those over a"
         " function, in half a minute to two minutes for each",
-    )
-    parser.add_argument(
-        "--by-contract",
-        action="store_true",
-        help="do not prove what the edited functions call, where its body can be left out; a body"
-        " that is not refused is then tried alone, with all that it calls",
     )
     parser.add_argument("--edits", metavar="FOLDER", help="the edits in this folder, all of CRATE")
     parser.add_argument(

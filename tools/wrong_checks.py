@@ -43,6 +43,17 @@ def is_refused(said: str) -> bool:
     return said.startswith("not proved") or "` did not prove `" in said
 
 
+def is_proved(said: str) -> bool:
+    """Whether a function is proved from the contracts of those that it calls, which may be holes."""
+    return said.startswith(("proved", "no holes", "depends on a hole"))
+
+
+def lacks_invariant(said: str) -> bool:
+    """Whether a function is refused with an invariant of its written proof that does not fit: what
+    else the check leaves open, it may leave open for that alone."""
+    return re.search(r"it stands on [^;]*\.Invariants\.", said) is not None
+
+
 def goals_of(told: str) -> dict[str, list[str]]:
     """The goals that a check leaves open, by function: notes come before their function."""
     goals: dict[str, list[str]] = {}
