@@ -3,8 +3,8 @@
 #                    trials, the program, the tools, the sessions of README, of docs/OPERATING.md,
 #                    the man pages and the tutorial, the completion, the longest journal, and memory
 #                    refused in turn
-# make wrong-bodies  all wrong bodies: also those of functions that no other crate can call, of the
-#                    crates that serve `run` alone, and second ones of a function
+# make wrong-bodies  all wrong bodies: also those of functions that no other crate can call, and
+#                    second ones of a function
 # make try           runs a first session, from the datagrams of two stations to the file, with the
 #                    program as it stands and nothing proved, in a minute or two
 # make example       runs a small session: a file sent, received at three stations, joined and

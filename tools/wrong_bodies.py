@@ -20,11 +20,9 @@ with the functions that its lines 'of: FUNCTION' name. As many crates are tried 
 there are processors.
 
 If the contract of a function that no other crate can call lets a wrong body through, no promise of
-the crate does: those of its public functions are proved from it. In the same way, what `run`
-promises of a whole command is proved from the contracts of the crates that serve it alone. So these
-are left out unless they are named. Edits of functions that are not public, but for those of `run`'s
-crate, those of wrong-bodies/more/ and those of must-fail/, which `rt ci` tries, are tried with
---all, --alone or --edits only.
+the crate does: those of its public functions are proved from it. So edits of functions that are not
+public, but for those of `run`'s crate, those of wrong-bodies/more/ and those of must-fail/, which
+`rt ci` tries, are tried with --all, --alone or --edits only.
 
 A goal that the check leaves open is what refuses a body: the check names it. Where it names none,
 only an answer of the written proof no longer fits. That alone shows nothing of the contract, so
@@ -67,8 +65,8 @@ from wrong_checks import (
 from wrong_edits import ROOT, Body, Piece, crate_folder, text_of, with_bodies
 
 
-# The crate of `run`, and those that serve it alone
-RUN, OF_RUN = "flutejoin_run", ("flutejoin_line", "flutejoin_commands")
+# The crate of `run`
+RUN = "flutejoin_run"
 
 
 class Crate:
@@ -276,8 +274,8 @@ def options_of(words: list[str]) -> argparse.Namespace:
     parser.add_argument(
         "--all",
         action="store_true",
-        help="also those of functions that no other crate can call and of crates that serve run"
-        " alone, and those in wrong-bodies/more and must-fail",
+        help="also those of functions that no other crate can call, and those in wrong-bodies/more"
+        " and must-fail",
     )
     parser.add_argument(
         "--alone",
@@ -297,8 +295,7 @@ def options_of(words: list[str]) -> argparse.Namespace:
     options = parser.parse_args(words)
     if options.edits and len(options.crates) != 1:
         parser.error("--edits wants one CRATE")
-    left_out = () if options.all or options.alone else OF_RUN
-    crates = [it for it in sorted(os.listdir(f"{ROOT}/crates")) if it not in left_out]
+    crates = sorted(os.listdir(f"{ROOT}/crates"))
     options.crates = options.crates or [it for it in crates if edits_of(it, options)]
     return options
 

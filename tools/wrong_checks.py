@@ -44,7 +44,7 @@ def is_refused(said: str) -> bool:
 
 
 def is_proved(said: str) -> bool:
-    """Whether a function is proved from the contracts of those that it calls, which may be holes."""
+    """Whether a function is proved by the contracts of those that it calls, which may be holes."""
     return said.startswith(("proved", "no holes", "depends on a hole"))
 
 
