@@ -1,6 +1,6 @@
 -- The command line: what each field of a `Line` is, and when there is no line.
 use Rattle.std.specs.Prelude.{◌≡◌, ◌<◌, ◌≤◌, ◌^◌, ◌&&◌, ◌||◌, ◌⊎◌, ⊤, ℕ, Bool, true}
-use Rattle.std.specs.Prelude.{false, not, List, [], ◌∷◌, length, map, codes}
+use Rattle.std.specs.Prelude.{false, not, List, [], length, map, codes}
 use Rattle.std.specs.Prelude.{Option, Some, None, is_some}
 use Rattle.std.specs.List.{list_any}
 use Rattle.std.specs.Str.{bytes_eq}
@@ -20,7 +20,7 @@ use Rattle.flutejoin_line.specs.Options.{IsNumber, IsSourceIf, IsZero, all_form,
 use Rattle.flutejoin_line.specs.Options.{carousel_options, extract_form, first_unfit, first_wrong}
 use Rattle.flutejoin_line.specs.Options.{info_form, info_options, key_options, list_form, word}
 use Rattle.flutejoin_line.specs.Options.{words}
-use Rattle.flutejoin_line.specs.Parser.{command_in, refusals_of}
+use Rattle.flutejoin_line.specs.Parser.{command_in, program, refusals_of}
 use Rattle.flutejoin_line.specs.Scoping.{AreScopeNumbers, IsScope, IsWrongOfScope}
 use Rattle.flutejoin_line.specs.Selecting.{IsChoiceFault, IsSelection, IsSelectionFault}
 use Rattle.flutejoin_line.specs.Selecting.{NamesObject}
@@ -191,11 +191,9 @@ abbrev pub IsMergeFault : List Row → CommandFault → Type 0
 IsMergeFault rows OutputIsInput = is_out_an_input rows ≡ true
 IsMergeFault rows _ = ⊥
 
--- the commands; the parser knows no other
+-- the parser knows a command of this name
 abbrev pub is_command : List ℕ → Bool
-is_command name = list_any (bytes_eq name) (codes "packet" ∷ codes "show" ∷ codes "gaps"
-    ∷ codes "extract" ∷ codes "info" ∷ codes "join" ∷ codes "merge" ∷ codes "forget"
-    ∷ codes "carousel" ∷ [])
+is_command name = list_any (λ shape. bytes_eq name shape.name) program.subs
 
 -- why these rows of the command with this name are no line
 abbrev pub IsFault : List ℕ → List Row → CommandFault → Type 0

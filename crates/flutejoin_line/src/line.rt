@@ -169,6 +169,7 @@ fn line_in<'a>(alloc: Global, matches: &ArgMatches<'a>) -> Result<Line<'a>, Comm
 }
 
 // The line of the command with this name.
+#[tactic(auto, unfolding(crate::specs::Parser::program))]
 fn line_by_name<'a>(
     alloc: Global,
     name: &str,

@@ -3,5 +3,5 @@ use Rattle.flutejoin_line.proofs.parser.merge_command.Goals as goal
 
 pub returns : goal.returns
 returns c = arguments_added c.in_ok-arguments.ensures.items
-    (c.output.ensures , (c.force.ensures , (c.input.ensures , (c.input-2.ensures , tt))))
+    (c.output.ensures, (c.force.ensures, (c.input.ensures, (c.input-2.ensures, tt))))
     c.named.ensures c.in_ok-command.ensures
