@@ -42,10 +42,15 @@ use Rattle.flutejoin_replicas.proofs.KnownSteps.{known_after-next, known_after-n
 -- replicas that hold more hold more after a step
 pub held_after-below : (A B : List (List Fact)) (step : Step) (origin : List Fact) → EachBelow A B
     → EachBelow (held_after_step A step origin) (held_after_step B step origin)
-held_after-below A B (Take replica sender datagram) origin h = given_to-each_below A B replica (facts sender datagram) (facts sender datagram) h (Below-itself (facts sender datagram))
-held_after-below A B (Load replica journal) origin h = given_to-each_below A B replica origin origin h (Below-itself origin)
-held_after-below A B (Add replica fact) origin h = given_to-each_below A B replica (fact ∷ []) (fact ∷ []) h (Below-itself (fact ∷ []))
-held_after-below A B (Merge into from) origin h = given_to-each_below A B into (held_by A from) (held_by B from) h (h.each from)
+held_after-below A B (Take replica sender datagram) origin h =
+    given_to-each_below A B replica (facts sender datagram) (facts sender datagram) h
+    (Below-itself (facts sender datagram))
+held_after-below A B (Load replica journal) origin h =
+    given_to-each_below A B replica origin origin h (Below-itself origin)
+held_after-below A B (Add replica fact) origin h =
+    given_to-each_below A B replica (fact ∷ []) (fact ∷ []) h (Below-itself (fact ∷ []))
+held_after-below A B (Merge into from) origin h =
+    given_to-each_below A B into (held_by A from) (held_by B from) h (h.each from)
 held_after-below A B (Reopen replica) origin h = h
 
 -- a refused datagram has no facts
@@ -68,18 +73,44 @@ refused_needs_nothing r held (Add replica fact) within h = cc
 refused_needs_nothing r held (Merge into from) within h = cc
 refused_needs_nothing r held (Reopen replica) within h = cc
 
+-- the marked ones of the first k steps name replicas and load journals
+abbrev AreNamed : Held → List Step → List Bool → ℕ → Type 0
+AreNamed before steps done k = (j : ℕ) (step : Step) → j < k → slice_get steps j ≡ Some step
+    → slice_get done j ≡ Some true
+    → NamesReplicas (length before.contents) step × LoadsJournal MAX_ENTRIES step
+
+-- those of the first k steps of which P holds are marked
+abbrev AreMarked : (ℕ → Step → Type 0) → List Step → List Bool → ℕ → Type 0
+AreMarked P steps done k = (j : ℕ) (step : Step) → j < k → slice_get steps j ≡ Some step
+    → P j step → slice_get done j ≡ Some true
+
+-- a step needs nothing by what the done ones gave before it
+abbrev NeedsNothingSince : Held → List Step → List Bool → (ℕ → List Fact) → ℕ → Step → Type 0
+NeedsNothingSince before steps done origins j step =
+    NeedsNothing (known_after before.contents (done_among steps done) origins j) step
+
 -- the first k steps, refused or not
-pub record DriveSoFar (before : Held) (steps : List Step) (done : List Bool) (k : ℕ) (now : Held) : Type 0 where
+pub record DriveSoFar (before : Held) (steps : List Step) (done : List Bool) (k : ℕ) (now : Held)
+    : Type 0 where
   pub as_many : length now.contents ≡ length before.contents
-  pub named : (j : ℕ) (step : Step) → j < k → slice_get steps j ≡ Some step → slice_get done j ≡ Some true → NamesReplicas (length before.contents) step × LoadsJournal MAX_ENTRIES step
-  pub sure : (j : ℕ) (step : Step) → j < k → slice_get steps j ≡ Some step → NeedsNothing before.contents step → slice_get done j ≡ Some true
-  pub sure_since : (origins : ℕ → List Fact) → Fits steps origins → (j : ℕ) (step : Step) → j < k → slice_get steps j ≡ Some step
-      → NeedsNothing (known_after before.contents (done_among steps done) origins j) step → slice_get done j ≡ Some true
+  pub named : AreNamed before steps done k
+  pub sure : AreMarked (λ j step. NeedsNothing before.contents step) steps done k
+  pub sure_since : (origins : ℕ → List Fact) → Fits steps origins
+      → AreMarked (NeedsNothingSince before steps done origins) steps done k
   pub kept : EachBelow before.contents now.contents
-  pub least : (origins : ℕ → List Fact) → Fits steps origins → EachBelow (known_after before.contents (done_among steps done) origins k) now.contents
-  pub most : (origins : ℕ → List Fact) → Fits steps origins → EachBelow now.contents (known_after before.contents (slice_get steps) origins k)
+  pub least : (origins : ℕ → List Fact) → Fits steps origins
+      → EachBelow (known_after before.contents (done_among steps done) origins k) now.contents
+  pub most : (origins : ℕ → List Fact) → Fits steps origins
+      → EachBelow now.contents (known_after before.contents (slice_get steps) origins k)
   pub refused : (r : ℕ) → r < length before.contents → slice_index before.refused r < 2 ^ 64
-      → slice_index now.refused r ≡ min (slice_index before.refused r + count_by (is_refused_take r) (take k steps)) (2 ^ 64 - 1)
+      → slice_index now.refused r
+      ≡ min (slice_index before.refused r + count_by (is_refused_take r) (take k steps))
+      (2 ^ 64 - 1)
+
+-- the step is the k-th, and has a mark
+pub record IsNext (steps : List Step) (done : List Bool) (k : ℕ) (step : Step) : Type 0 where
+  pub is : slice_get steps k ≡ Some step
+  pub within : k < length done
 
 pub drive_start : (before : Held) (steps : List Step) (done : List Bool)
     → DriveSoFar before steps done 0 before
@@ -90,8 +121,10 @@ drive_start before steps done =
       sure = λ j step below. absurd (omega arith);
       sure_since = λ origins fits j step below. absurd (omega arith);
       kept = EachBelow-itself before.contents;
-      least = λ origins fits. rw (known_after-none before.contents (done_among steps done) origins) (EachBelow-itself before.contents);
-      most = λ origins fits. rw (known_after-none before.contents (slice_get steps) origins) (EachBelow-itself before.contents);
+      least = λ origins fits. rw (known_after-none before.contents (done_among steps done) origins)
+          (EachBelow-itself before.contents);
+      most = λ origins fits. rw (known_after-none before.contents (slice_get steps) origins)
+          (EachBelow-itself before.contents);
       refused = λ r within small. omega (arith, small);
     }
 
@@ -99,7 +132,8 @@ drive_start before steps done =
 some_origin : (limit : Capacity) (before : Held) (step : Step) (now : Held)
     → IsDone limit before step now → (origin : List Fact) × FitsStep step origin
 some_origin limit before (Take replica sender datagram) now done = ([], tt)
-some_origin limit before (Load replica journal) now done = (done.journal.0, inl (IsJournal-from_within journal done.journal.0 done.journal.1))
+some_origin limit before (Load replica journal) now done =
+    (done.journal.0, inl (IsJournal-from_within journal done.journal.0 done.journal.1))
 some_origin limit before (Add replica fact) now done = ([], tt)
 some_origin limit before (Merge into from) now done = ([], tt)
 some_origin limit before (Reopen replica) now done = ([], tt)
@@ -110,131 +144,173 @@ done_above : (limit : Capacity) (before : Held) (step : Step) (now : Held)
 done_above limit before step now done =
     let o = some_origin limit before step now done in
     EachBelow-trans before.contents (held_after_step before.contents step o.0) now.contents
-    (held_after-above before.contents step o.0) (EachBelow-from_same (held_after_step before.contents step o.0) now.contents (done.content o.0 o.1))
+    (held_after-above before.contents step o.0)
+    (EachBelow-from_same (held_after_step before.contents step o.0) now.contents
+    (done.content o.0 o.1))
 
 -- the marks of earlier steps stay, and one more is set
-named_more : (before mid : Held) (steps : List Step) (done : List Bool) (k : ℕ) (step : Step)
-    (b : Bool) → DriveSoFar before steps done k mid → slice_get steps k ≡ Some step
-    → k < length done
+named_more : {before mid : Held} {steps : List Step} {done : List Bool} {k : ℕ} {step : Step}
+    (b : Bool) → DriveSoFar before steps done k mid → IsNext steps done k step
     → (b ≡ true → NamesReplicas (length before.contents) step × LoadsJournal MAX_ENTRIES step)
-    → (j : ℕ) (s : Step) → j < k + 1 → slice_get steps j ≡ Some s → slice_get (set done k b) j ≡ Some true → NamesReplicas (length before.contents) s × LoadsJournal MAX_ENTRIES s
-named_more before mid steps done k step b so_far is within here j s below e marked =
+    → AreNamed before steps (set done k b) (k + 1)
+named_more {before = before} {steps = steps} {done = done} {k = k} {step = step} b so_far next here
+    j s below e marked =
     elim (cases_lt j k) [
-      | inl low ↦ so_far.named j s low e (sym (slice_get-set_other done k j b (λ d. absurd (omega arith))) ∙ marked)
+      | inl low ↦
+          so_far.named j s low e
+          (sym (slice_get-set_other done k j b (λ d. absurd (omega arith))) ∙ marked)
       | inr high ↦
           let same : j ≡ k = omega arith in
           let Q : ℕ → Type 0 = λ i. slice_get steps i ≡ Some s in
           let R : ℕ → Type 0 = λ i. slice_get (set done k b) i ≡ Some true in
-          let P : Step → Type 0 = λ t. NamesReplicas (length before.contents) t × LoadsJournal MAX_ENTRIES t in
-          let on : Some b ≡ Some true = sym (slice_get-set_same done k b within) ∙ subst R same marked in
-          subst P (some_same (slice_get steps k) step s is (subst Q same e)) (here (cc))
+          let P : Step → Type 0 = λ t.
+          NamesReplicas (length before.contents) t × LoadsJournal MAX_ENTRIES t in
+          let on : Some b ≡ Some true =
+          sym (slice_get-set_same done k b next.within) ∙ subst R same marked in
+          subst P (some_same (slice_get steps k) step s next.is (subst Q same e)) (here (cc))
     ]
 
 -- what is marked wherever P holds so far is so one step further
-marked_more : (P : ℕ → Step → Type 0) (steps : List Step) (done : List Bool) (k : ℕ) (step : Step)
-    (b : Bool) → slice_get steps k ≡ Some step → k < length done
-    → (P k step → b ≡ true) → ((j : ℕ) (s : Step) → j < k → slice_get steps j ≡ Some s → P j s → slice_get done j ≡ Some true)
-    → (j : ℕ) (s : Step) → j < k + 1 → slice_get steps j ≡ Some s → P j s → slice_get (set done k b) j ≡ Some true
-marked_more P steps done k step b is within here so_far j s below e holds =
+marked_more : (P : ℕ → Step → Type 0) {steps : List Step} {done : List Bool} {k : ℕ} {step : Step}
+    (b : Bool) → IsNext steps done k step → (P k step → b ≡ true) → AreMarked P steps done k
+    → AreMarked P steps (set done k b) (k + 1)
+marked_more P {steps = steps} {done = done} {k = k} {step = step} b next here so_far j s below e
+    holds =
     elim (cases_lt j k) [
-      | inl low ↦ slice_get-set_other done k j b (λ d. absurd (omega arith)) ∙ so_far j s low e holds
+      | inl low ↦
+          slice_get-set_other done k j b (λ d. absurd (omega arith)) ∙ so_far j s low e holds
       | inr high ↦
           let same : j ≡ k = omega arith in
           let Q : ℕ → Type 0 = λ i. slice_get steps i ≡ Some s in
           let R : ℕ → Type 0 = λ i. slice_get (set done k b) i ≡ Some true in
           let S : ℕ → Type 0 = λ i. P i s in
-          let on : b ≡ true = here (subst (P k) (sym (some_same (slice_get steps k) step s is (subst Q same e))) (subst S same holds)) in
-          subst R (sym same) (slice_get-set_same done k b within ∙ ap Some on)
+          let is : step ≡ s = some_same (slice_get steps k) step s next.is (subst Q same e) in
+          let on : b ≡ true = here (subst (P k) (sym is) (subst S same holds)) in
+          subst R (sym same) (slice_get-set_same done k b next.within ∙ ap Some on)
     ]
 
 -- a mark that is set changes nothing of what was given before its step
 known_after-before : (held : List (List Fact)) (steps : List Step) (done : List Bool)
     (origins : ℕ → List Fact) (k j : ℕ) (b : Bool) → j ≤ k
-    → known_after held (done_among steps (set done k b)) origins j ≡ known_after held (done_among steps done) origins j
+    → known_after held (done_among steps (set done k b)) origins j
+    ≡ known_after held (done_among steps done) origins j
 known_after-before held steps done origins k j b low =
     known_after-agree held (done_among steps (set done k b)) (done_among steps done) origins j
-    (λ i below. ap (λ o. if_done o (slice_get steps i)) (slice_get-set_other done k i b (λ e. absurd (omega arith))))
+    (λ i below. ap (λ o. if_done o (slice_get steps i))
+    (slice_get-set_other done k i b (λ e. absurd (omega arith))))
 
 -- what needs nothing, by what is held at first or was given since, is done, one step further
-sure_more : (before mid : Held) (steps : List Step) (done : List Bool) (k : ℕ) (step : Step)
-    (b : Bool) → DriveSoFar before steps done k mid → slice_get steps k ≡ Some step
-    → k < length done
+sure_more : {before mid : Held} {steps : List Step} {done : List Bool} {k : ℕ} {step : Step}
+    (b : Bool) → DriveSoFar before steps done k mid → IsNext steps done k step
     → (NeedsNothing mid.contents step → b ≡ true)
-    → (j : ℕ) (s : Step) → j < k + 1 → slice_get steps j ≡ Some s → NeedsNothing before.contents s → slice_get (set done k b) j ≡ Some true
-sure_more before mid steps done k step b so_far is within here =
-    marked_more (λ j s. NeedsNothing before.contents s) steps done k step b is within
-    (λ needs. here (NeedsNothing-below before.contents mid.contents step so_far.kept needs)) so_far.sure
+    → AreMarked (λ j s. NeedsNothing before.contents s) steps (set done k b) (k + 1)
+sure_more {before = before} {mid = mid} {step = step} b so_far next here =
+    marked_more (λ j s. NeedsNothing before.contents s) b next
+    (λ needs. here (NeedsNothing-below before.contents mid.contents step so_far.kept needs))
+    so_far.sure
 
-sure_since_more : (before mid : Held) (steps : List Step) (done : List Bool) (k : ℕ) (step : Step)
-    (b : Bool) → DriveSoFar before steps done k mid → slice_get steps k ≡ Some step
-    → k < length done
-    → (NeedsNothing mid.contents step → b ≡ true) → (origins : ℕ → List Fact) → Fits steps origins
-    → (j : ℕ) (s : Step) → j < k + 1 → slice_get steps j ≡ Some s → NeedsNothing (known_after before.contents (done_among steps (set done k b)) origins j) s → slice_get (set done k b) j ≡ Some true
-sure_since_more before mid steps done k step b so_far is within here origins fits =
-    marked_more (λ j s. NeedsNothing (known_after before.contents (done_among steps (set done k b)) origins j) s) steps done k step b is within
+sure_since_more : {before mid : Held} {steps : List Step} {done : List Bool} {k : ℕ} {step : Step}
+    (b : Bool) → DriveSoFar before steps done k mid → IsNext steps done k step
+    → (NeedsNothing mid.contents step → b ≡ true)
+    → (origins : ℕ → List Fact) → Fits steps origins
+    → AreMarked (NeedsNothingSince before steps (set done k b) origins) steps (set done k b)
+    (k + 1)
+sure_since_more {before = before} {mid = mid} {steps = steps} {done = done} {k = k} {step = step} b
+    so_far next here origins fits =
+    marked_more (NeedsNothingSince before steps (set done k b) origins) b next
     (λ needs.
     let P : List (List Fact) → Type 0 = λ A. NeedsNothing A step in
-    here (NeedsNothing-below _ mid.contents step (so_far.least origins fits) (subst P (known_after-before before.contents steps done origins k k b (omega arith)) needs)))
+    let same = known_after-before before.contents steps done origins k k b (omega arith) in
+    here (NeedsNothing-below _ mid.contents step (so_far.least origins fits) (subst P same needs)))
     (λ j s below e needs.
     let P : List (List Fact) → Type 0 = λ A. NeedsNothing A s in
-    so_far.sure_since origins fits j s below e (subst P (known_after-before before.contents steps done origins k j b (omega arith)) needs))
+    let same = known_after-before before.contents steps done origins k j b (omega arith) in
+    so_far.sure_since origins fits j s below e (subst P same needs))
 
 -- the count of refused datagrams, one step further
-counted_more : (old mid now : ℕ) (r : ℕ) (steps : List Step) (k : ℕ) (step : Step)
+counted_more : (old : ℕ) {mid now : ℕ} (r : ℕ) (steps : List Step) (k : ℕ) {step : Step}
     → slice_get steps k ≡ Some step
-    → mid ≡ min (old + count_by (is_refused_take r) (take k steps)) (2 ^ 64 - 1) → now ≡ cond (is_refused_take r step) (one_more mid) mid
+    → mid ≡ min (old + count_by (is_refused_take r) (take k steps)) (2 ^ 64 - 1)
+    → now ≡ cond (is_refused_take r step) (one_more mid) mid
     → now ≡ min (old + count_by (is_refused_take r) (take (k + 1) steps)) (2 ^ 64 - 1)
-counted_more old mid now r steps k step is before e =
-    e ∙ ap (λ n. cond (is_refused_take r step) (one_more n) n) before
-    ∙ one_more-min (old + count_by (is_refused_take r) (take k steps)) (is_refused_take r step)
-    ∙ ap (λ n. min n (2 ^ 64 - 1)) (append_one old (count_by (is_refused_take r) (take k steps)) (cond (is_refused_take r step) 1 0))
-    ∙ ap (λ n. min (old + n) (2 ^ 64 - 1)) (sym (count_by-more (is_refused_take r) steps k step (is_refused_take r step) is refl))
+counted_more old r steps k {step = step} is before e =
+    let counts = is_refused_take r in
+    e ∙ ap (λ n. cond (counts step) (one_more n) n) before
+    ∙ one_more-min (old + count_by counts (take k steps)) (counts step)
+    ∙ ap (λ n. min n (2 ^ 64 - 1))
+    (append_one old (count_by counts (take k steps)) (cond (counts step) 1 0))
+    ∙ ap (λ n. min (old + n) (2 ^ 64 - 1))
+    (sym (count_by-more counts steps k step (counts step) is refl))
   where
     append_one : (a b c : ℕ) → a + b + c ≡ a + (b + c)
     append_one a b c = omega arith
 
-pub drive_more : (limit : Capacity) (before : Held) (steps : List Step) (done : List Bool) (k : ℕ)
-    (step : Step) (mid now : Held) (r : Result (Unit {0}) StepFault)
-    → DriveSoFar before steps done k mid → slice_get steps k ≡ Some step → k < length done
-    → OnOk r (IsDone limit mid step now) → IfErr r (λ f. IsRefused limit mid step now f) → (NeedsNothing mid.contents step → IsOk r) → DriveSoFar before steps (set done k (is_ok r)) (k + 1) now
-drive_more limit before steps done k step mid now (Ok x) so_far is within done_now refused needs =
+pub drive_more : (limit : Capacity) {before : Held} {steps : List Step} {done : List Bool} {k : ℕ}
+    {step : Step} {mid : Held} (now : Held) (r : Result (Unit {0}) StepFault)
+    → DriveSoFar before steps done k mid → IsNext steps done k step
+    → OnOk r (IsDone limit mid step now) → IfErr r (λ f. IsRefused limit mid step now f)
+    → (NeedsNothing mid.contents step → IsOk r)
+    → DriveSoFar before steps (set done k (is_ok r)) (k + 1) now
+drive_more limit {before = before} {steps = steps} {done = done} {k = k} {step = step} {mid = mid}
+    now (Ok x) so_far next done_now refused needs =
     record {
       as_many = done_now.as_many ∙ so_far.as_many;
       named =
           let Q : ℕ → Type 0 = λ n. NamesReplicas n step in
-          named_more before mid steps done k step true so_far is within (λ _. (subst Q so_far.as_many done_now.named, done_now.journal));
-      sure = sure_more before mid steps done k step true so_far is within (λ _. refl);
-      sure_since = sure_since_more before mid steps done k step true so_far is within (λ _. refl);
-      kept = EachBelow-trans before.contents mid.contents now.contents so_far.kept (done_above limit mid step now done_now);
+          named_more true so_far next
+          (λ _. (subst Q so_far.as_many done_now.named, done_now.journal));
+      sure = sure_more true so_far next (λ _. refl);
+      sure_since = sure_since_more true so_far next (λ _. refl);
+      kept =
+          EachBelow-trans before.contents mid.contents now.contents so_far.kept
+          (done_above limit mid step now done_now);
       least = λ origins fits.
-          rw (known_after-marked before.contents steps done origins k step true is within)
-          (EachBelow-trans _ _ _ (held_after-below _ _ step (origins k) (so_far.least origins fits)) (EachBelow-from_same _ _ (done_now.content (origins k) (fits k step is))));
+          rw (known_after-marked before.contents steps done origins k step true next.is next.within)
+          (EachBelow-trans _ _ _
+          (held_after-below _ _ step (origins k) (so_far.least origins fits))
+          (EachBelow-from_same _ _ (done_now.content (origins k) (fits k step next.is))));
       most = λ origins fits.
-          rw (known_after-next before.contents (slice_get steps) origins k (Some step) is)
-          (EachBelow-trans _ _ _ (EachBelow-from_same _ _ (EachSame-sym _ _ (done_now.content (origins k) (fits k step is)))) (held_after-below _ _ step (origins k) (so_far.most origins fits)));
-      refused = λ r there small. counted_more (slice_index before.refused r) (slice_index mid.refused r) (slice_index now.refused r) r steps k step is (so_far.refused r there small) (done_now.refused r);
+          rw (known_after-next before.contents (slice_get steps) origins k (Some step) next.is)
+          (EachBelow-trans _ _ _
+          (EachBelow-from_same _ _
+          (EachSame-sym _ _ (done_now.content (origins k) (fits k step next.is))))
+          (held_after-below _ _ step (origins k) (so_far.most origins fits)));
+      refused = λ r there small.
+          counted_more (slice_index before.refused r) r steps k next.is
+          (so_far.refused r there small) (done_now.refused r);
     }
-drive_more limit before steps done k step mid now (Err f) so_far is within done_now refused needs =
+drive_more limit {before = before} {steps = steps} {done = done} {k = k} {step = step} {mid = mid}
+    now (Err f) so_far next done_now refused needs =
     record {
       as_many = sym refused.kept.count ∙ so_far.as_many;
-      named = named_more before mid steps done k step false so_far is within (λ off. absurd (false≢true off));
-      sure = sure_more before mid steps done k step false so_far is within needs;
-      sure_since = sure_since_more before mid steps done k step false so_far is within needs;
-      kept = EachBelow-trans before.contents mid.contents now.contents so_far.kept refused.kept;
+      named = named_more false so_far next (λ off. absurd (false≢true off));
+      sure = sure_more false so_far next needs;
+      sure_since = sure_since_more false so_far next needs;
+      kept =
+          EachBelow-trans before.contents mid.contents now.contents so_far.kept refused.kept;
       least = λ origins fits.
-          rw (known_after-marked before.contents steps done origins k step false is within)
+          rw (known_after-marked before.contents steps done origins k step false next.is
+          next.within)
           (EachBelow-trans _ _ _ (so_far.least origins fits) refused.kept);
       most = λ origins fits.
-          rw (known_after-next before.contents (slice_get steps) origins k (Some step) is)
-          (EachBelow-trans _ _ _ (refused.no_more (origins k) (fits k step is)) (held_after-below _ _ step (origins k) (so_far.most origins fits)));
-      refused = λ r there small. counted_more (slice_index before.refused r) (slice_index mid.refused r) (slice_index now.refused r) r steps k step is (so_far.refused r there small)
-          (ap (λ counts. slice_index counts r) refused.refused ∙ sym (ap (λ b. cond b (one_more (slice_index mid.refused r)) (slice_index mid.refused r)) (not_counted r there)));
+          rw (known_after-next before.contents (slice_get steps) origins k (Some step) next.is)
+          (EachBelow-trans _ _ _ (refused.no_more (origins k) (fits k step next.is))
+          (held_after-below _ _ step (origins k) (so_far.most origins fits)));
+      refused = λ r there small.
+          counted_more (slice_index before.refused r) r steps k next.is
+          (so_far.refused r there small)
+          (ap (λ counts. slice_index counts r) refused.refused ∙ sym (not_counted r there));
     }
   where
-    not_counted : (r : ℕ) → r < length before.contents → is_refused_take r step ≡ false
+    not_counted : (r : ℕ) → r < length before.contents
+        → cond (is_refused_take r step) (one_more (slice_index mid.refused r))
+        (slice_index mid.refused r) ≡ slice_index mid.refused r
     not_counted r there = elim (cases_Bool (is_refused_take r step)) [
-      | inl counts ↦ absurd (false≢true (needs (refused_needs_nothing r mid.contents step (omega (arith, there, so_far.as_many)) counts)))
-      | inr misses ↦ misses
+      | inl counts ↦
+          let within : r < length mid.contents = omega (arith, there, so_far.as_many) in
+          let none = refused_needs_nothing r mid.contents step within counts in
+          absurd (false≢true (needs none))
+      | inr misses ↦ rw misses refl
     ]
 
 -- the same is given twice
@@ -243,11 +319,19 @@ given_to-twice : (A : List (List Fact)) (i : ℕ) (F G : List Fact) → Same F G
 given_to-twice A i F G same =
     elim (cases_lt i (length A)) [
       | inl within ↦
-          rw (set-set A i (held_by A i ++ F) (held_by (set A i (held_by A i ++ F)) i ++ G), get_or-set_same A i (held_by A i ++ F) [])
-          (EachSame-set A A i ((held_by A i ++ F) ++ G) (held_by A i ++ G) within (EachSame-itself A)
+          rw (
+            set-set A i (held_by A i ++ F) (held_by (set A i (held_by A i ++ F)) i
+                ++ G),
+            get_or-set_same A i (held_by A i ++ F) [],
+          )
+          (EachSame-set A A i ((held_by A i ++ F) ++ G) (held_by A i ++ G) within
+          (EachSame-itself A)
           (Same-trans ((held_by A i ++ F) ++ G) ((held_by A i ++ G) ++ G) (held_by A i ++ G)
-          (Same-append (held_by A i ++ F) (held_by A i ++ G) G G (Same-append (held_by A i) (held_by A i) F G (Same-itself (held_by A i)) same) (Same-itself G))
-          (rw append_assoc (Same-append (held_by A i) (held_by A i) (G ++ G) G (Same-itself (held_by A i)) (Same-twice G)))))
+          (Same-append (held_by A i ++ F) (held_by A i ++ G) G G
+          (Same-append (held_by A i) (held_by A i) F G (Same-itself (held_by A i)) same)
+          (Same-itself G))
+          (rw append_assoc (Same-append (held_by A i) (held_by A i) (G ++ G) G
+          (Same-itself (held_by A i)) (Same-twice G)))))
       | inr past ↦
           let e : given_to A i F ≡ A = set_past A i (held_by A i ++ F) past in
           rw e (EachSame-itself (given_to A i G))
@@ -260,7 +344,8 @@ given_itself A i =
       | inl within ↦
           let P : List (List Fact) → Type 0 = λ B. EachSame (given_to A i (held_by A i)) B in
           subst P (set-get_or A i [])
-          (EachSame-set A A i (held_by A i ++ held_by A i) (held_by A i) within (EachSame-itself A) (Same-twice (held_by A i)))
+          (EachSame-set A A i (held_by A i ++ held_by A i) (held_by A i) within (EachSame-itself A)
+          (Same-twice (held_by A i)))
       | inr past ↦
           let e : given_to A i (held_by A i) ≡ A = set_past A i (held_by A i ++ held_by A i) past in
           rw e (EachSame-itself A)
@@ -278,13 +363,19 @@ pub held_after-twice : (A : List (List Fact)) (step : Step) (origin again : List
     → FitsStep step origin → FitsStep step again
     → EachSame (held_after_step (held_after_step A step origin) step again)
     (held_after_step A step again)
-held_after-twice A (Take replica sender datagram) origin again f g = given_to-twice A replica (facts sender datagram) (facts sender datagram) (Same-itself (facts sender datagram))
-held_after-twice A (Load replica journal) origin again f g = given_to-twice A replica origin again (origins_same journal replica origin again f g)
-held_after-twice A (Add replica fact) origin again f g = given_to-twice A replica (fact ∷ []) (fact ∷ []) (Same-itself (fact ∷ []))
+held_after-twice A (Take replica sender datagram) origin again f g =
+    given_to-twice A replica (facts sender datagram) (facts sender datagram)
+    (Same-itself (facts sender datagram))
+held_after-twice A (Load replica journal) origin again f g =
+    given_to-twice A replica origin again (origins_same journal replica origin again f g)
+held_after-twice A (Add replica fact) origin again f g =
+    given_to-twice A replica (fact ∷ []) (fact ∷ []) (Same-itself (fact ∷ []))
 held_after-twice A (Merge into from) origin again f g =
     elim (cases_eq from into) [
       | inl e ↦
-          let P : ℕ → Type 0 = λ j. EachSame (given_to (given_to A into (held_by A j)) into (held_by (given_to A into (held_by A j)) j)) (given_to A into (held_by A j)) in
+          let P : ℕ → Type 0 =
+          λ j. EachSame (given_to (given_to A into (held_by A j)) into
+          (held_by (given_to A into (held_by A j)) j)) (given_to A into (held_by A j)) in
           subst P (sym e) (given_itself (given_to A into (held_by A into)) into)
       | inr ne ↦
           rw (get_or-set_other A into from (held_by A into ++ held_by A from) [] ne)
@@ -317,64 +408,92 @@ step_there (step ∷ steps) (suc k) within = step_there steps k (omega arith)
 abbrev Settled : List (List Fact) → List Step → List Bool → (ℕ → List Fact) → ℕ → Type 0
 Settled held steps done origins zero = Unit {0}
 Settled held steps done origins (suc m) =
-    (slice_get done m ≡ Some true → EachSame (known_after held (done_among steps done) origins (suc m)) (known_after held (slice_get steps) origins (suc m)))
-    × (slice_get done m ≡ Some false → (step : Step) → slice_get steps m ≡ Some step → EachSame (held_after_step (known_after held (done_among steps done) origins (suc m)) step (origins m)) (known_after held (slice_get steps) origins (suc m)))
+    (slice_get done m ≡ Some true → EachSame (known_after held (done_among steps done) origins
+    (suc m)) (known_after held (slice_get steps) origins (suc m)))
+    × (slice_get done m ≡ Some false → (step : Step) → slice_get steps m ≡ Some step → EachSame
+    (held_after_step (known_after held (done_among steps done) origins (suc m)) step
+    (origins m)) (known_after held (slice_get steps) origins (suc m)))
 
-one_further : (held : List (List Fact)) (steps : List Step) (done : List Bool)
-    (origins : ℕ → List Fact) (n : ℕ) (step : Step) → length steps ≡ length done
-    → IsRetried steps done → Fits steps origins → Settled held steps done origins n
-    → slice_get steps n ≡ Some step
-    → EachSame (held_after_step (known_after held (done_among steps done) origins n) step (origins n)) (held_after_step (known_after held (slice_get steps) origins n) step (origins n))
-one_further held steps done origins zero step same retried fits settled is =
-    rw (known_after-none held (done_among steps done) origins, known_after-none held (slice_get steps) origins) (EachSame-itself (held_after_step held step (origins 0)))
-one_further held steps done origins (suc m) step same retried fits settled is =
-    elim (mark_cases done m (omega (arith, slice_get_within steps (suc m) step is))) [
+-- each refused step is made again, and the steps have origins
+record IsRetriedFrom (steps : List Step) (done : List Bool) (origins : ℕ → List Fact)
+    : Type 0 where
+  same : length steps ≡ length done
+  retried : IsRetried steps done
+  fits : Fits steps origins
+
+one_further : (held : List (List Fact)) {steps : List Step} {done : List Bool}
+    {origins : ℕ → List Fact} (n : ℕ) (step : Step) → IsRetriedFrom steps done origins
+    → Settled held steps done origins n → slice_get steps n ≡ Some step
+    → EachSame
+    (held_after_step (known_after held (done_among steps done) origins n) step (origins n))
+    (held_after_step (known_after held (slice_get steps) origins n) step (origins n))
+one_further held {steps = steps} {done = done} {origins = origins} zero step run settled is =
+    rw (
+      known_after-none held (done_among steps done) origins,
+      known_after-none held (slice_get steps) origins,
+    )
+    (EachSame-itself (held_after_step held step (origins 0)))
+one_further held {steps = steps} {done = done} {origins = origins} (suc m) step run settled is =
+    elim (mark_cases done m (omega (arith, run.same, slice_get_within steps (suc m) step is))) [
       | inl on ↦ held_after-same _ _ step (origins (suc m)) (settled.0 on)
       | inr off ↦
           let Q : ℕ → Type 0 = λ i. slice_get steps i ≡ slice_get steps m in
-          let before : slice_get steps m ≡ Some step = sym (subst Q (add-one m) (retried m off).1) ∙ is in
+          let before : slice_get steps m ≡ Some step =
+          sym (subst Q (add-one m) (run.retried m off).1) ∙ is in
           EachSame-trans _ _ _
-          (EachSame-sym _ _ (held_after-twice (known_after held (done_among steps done) origins (suc m)) step (origins m) (origins (suc m)) (fits m step before) (fits (suc m) step is)))
+          (EachSame-sym _ _
+          (held_after-twice (known_after held (done_among steps done) origins (suc m)) step
+          (origins m) (origins (suc m)) (run.fits m step before) (run.fits (suc m) step is)))
           (held_after-same _ _ step (origins (suc m)) (settled.1 off step before))
     ]
 
-settled : (held : List (List Fact)) (steps : List Step) (done : List Bool) (origins : ℕ → List Fact)
-    (n : ℕ) → length steps ≡ length done → IsRetried steps done → Fits steps origins
-    → n ≤ length steps → Settled held steps done origins n
-settled held steps done origins zero same retried fits within = tt
-settled held steps done origins (suc m) same retried fits within =
+settled : (held : List (List Fact)) {steps : List Step} {done : List Bool}
+    {origins : ℕ → List Fact} (n : ℕ) → IsRetriedFrom steps done origins → n ≤ length steps
+    → Settled held steps done origins n
+settled held zero run within = tt
+settled held {steps = steps} {done = done} {origins = origins} (suc m) run within =
     let there = step_there steps m (omega arith) in
-    let all : known_after held (slice_get steps) origins (suc m) ≡ held_after_step (known_after held (slice_get steps) origins m) there.0 (origins m) =
+    let some = known_after held (done_among steps done) origins in
+    let every = known_after held (slice_get steps) origins in
+    let all : every (suc m) ≡ held_after_step (every m) there.0 (origins m) =
     known_after-suc held (slice_get steps) origins m (Some there.0) there.1 in
-    let further = one_further held steps done origins m there.0 same retried fits (settled held steps done origins m same retried fits (omega arith)) there.1 in (
-      (λ on.
-          let e : known_after held (done_among steps done) origins (suc m) ≡ held_after_step (known_after held (done_among steps done) origins m) there.0 (origins m) =
-          known_after-suc held (done_among steps done) origins m (Some there.0) (rw (on, there.1) refl) in
-          rw (e, all) further),
-      (λ off step is.
-          let e : known_after held (done_among steps done) origins (suc m) ≡ known_after held (done_among steps done) origins m =
+    let so_far = settled held m run (omega arith) in
+    let further = one_further held m there.0 run so_far there.1 in (
+      λ on.
+          let e : some (suc m) ≡ held_after_step (some m) there.0 (origins m) =
+          known_after-suc held (done_among steps done) origins m (Some there.0)
+          (rw (on, there.1) refl) in
+          rw (e, all) further,
+      λ off step is.
+          let e : some (suc m) ≡ some m =
           known_after-suc held (done_among steps done) origins m None (rw off refl) in
-          let P : Step → Type 0 = λ t. EachSame (held_after_step (known_after held (done_among steps done) origins m) t (origins m)) (held_after_step (known_after held (slice_get steps) origins m) there.0 (origins m)) in
-          rw (e, all) (subst P (some_same (slice_get steps m) there.0 step there.1 is) further)),
+          let P : Step → Type 0 = λ t.
+          EachSame (held_after_step (some m) t (origins m))
+          (held_after_step (every m) there.0 (origins m)) in
+          rw (e, all) (subst P (some_same (slice_get steps m) there.0 step there.1 is) further),
     )
 
 -- where each refused step is made again, the steps done gave all
-pub retried_gives_all : (held : List (List Fact)) (steps : List Step) (done : List Bool)
-    (origins : ℕ → List Fact) (n : ℕ) → n ≡ length steps → length steps ≡ length done
-    → IsRetried steps done → Fits steps origins
-    → EachSame (known_after held (done_among steps done) origins n) (known_after held (slice_get steps) origins n)
-retried_gives_all held steps done origins zero e same retried fits =
-    rw (known_after-none held (done_among steps done) origins, known_after-none held (slice_get steps) origins) (EachSame-itself held)
-retried_gives_all held steps done origins (suc m) e same retried fits =
-    elim (mark_cases done m (omega arith)) [
-      | inl on ↦ (settled held steps done origins (suc m) same retried fits (omega arith)).0 on
-      | inr off ↦ absurd (omega (arith, (retried m off).0))
+retried_gives_all : (held : List (List Fact)) {steps : List Step} {done : List Bool}
+    {origins : ℕ → List Fact} (n : ℕ) → n ≡ length steps → IsRetriedFrom steps done origins
+    → EachSame (known_after held (done_among steps done) origins n)
+    (known_after held (slice_get steps) origins n)
+retried_gives_all held {steps = steps} {done = done} {origins = origins} zero e run =
+    rw (
+      known_after-none held (done_among steps done) origins,
+      known_after-none held (slice_get steps) origins,
+    ) (EachSame-itself held)
+retried_gives_all held {done = done} (suc m) e run =
+    elim (mark_cases done m (omega (arith, run.same))) [
+      | inl on ↦ (settled held (suc m) run (omega arith)).0 on
+      | inr off ↦ absurd (omega (arith, (run.retried m off).0))
     ]
 
-pub drive_done : (before : Held) (steps : List Step) (done : List Bool) (k : ℕ) (now : Held)
+pub drive_done : {before : Held} {steps : List Step} {done : List Bool} {k : ℕ} {now : Held}
     → DriveSoFar before steps done k now → length steps ≡ length done → length steps ≤ k
     → k ≤ length steps → IsDriven before steps done now
-drive_done before steps done k now so_far same past within =
+drive_done {before = before} {steps = steps} {done = done} {k = k} {now = now} so_far same past
+    within =
     let e : k ≡ length steps = omega arith in
     let P : ℕ → Type 0 = λ n. DriveSoFar before steps done n now in
     let all = subst P e so_far in
@@ -383,13 +502,22 @@ drive_done before steps done k now so_far same past within =
       named = λ j s is on. (all.named j s (slice_get_within steps j s is) is on).0;
       journals = λ j s is on. (all.named j s (slice_get_within steps j s is) is on).1;
       sure = λ j s is needs. all.sure j s (slice_get_within steps j s is) is needs;
-      sure_since = λ origins fits j s is needs. all.sure_since origins fits j s (slice_get_within steps j s is) is needs;
+      sure_since = λ origins fits j s is needs.
+          all.sure_since origins fits j s (slice_get_within steps j s is) is needs;
       least = all.least;
       most = all.most;
       whole = λ retried origins fits.
-          let given = retried_gives_all before.contents steps done origins (length steps) refl same retried fits in
-          let low = EachBelow-trans _ _ _ (EachBelow-from_same _ _ (EachSame-sym _ _ given)) (all.least origins fits) in
+          let run : IsRetriedFrom steps done origins =
+          record { same = same; retried = retried; fits = fits } in
+          let given = retried_gives_all before.contents (length steps) refl run in
+          let low =
+          EachBelow-trans _ _ _ (EachBelow-from_same _ _ (EachSame-sym _ _ given))
+          (all.least origins fits) in
           let high = all.most origins fits in
           record { count = low.count; each = λ r. Same-from_Below _ _ (low.each r) (high.each r) };
-      refused = λ r there small. all.refused r there small ∙ ap (λ ss. min (slice_index before.refused r + count_by (is_refused_take r) ss) (2 ^ 64 - 1)) (take_all (length steps) steps (omega arith));
+      refused = λ r there small.
+          let counted : List Step → ℕ = λ ss.
+          slice_index before.refused r + count_by (is_refused_take r) ss in
+          all.refused r there small
+          ∙ ap (λ ss. min (counted ss) (2 ^ 64 - 1)) (take_all (length steps) steps (omega arith));
     }

@@ -14,7 +14,7 @@ use Rattle.flute_journal.specs.declared.fault.ReadFault.TheVariants as read
 use Rattle.flute_journal.specs.declared.fault.LoadFault.{LoadFault}
 use Rattle.flute_journal.specs.declared.fault.LoadFault.TheVariants as load
 use Rattle.flute_journal.proofs.Public.{written_journal}
-use Rattle.flute_journal.specs.Journal.{Journal, IsJournal, IsJournalWithin}
+use Rattle.flute_journal.specs.Journal.{Journal, IsJournal}
 use Rattle.flute_journal.specs.JournalFraming.{journal_framing}
 use Rattle.flute_journal.specs.Framing.{Stops}
 use Rattle.flute_journal.specs.Whole.{StopsAfter}
@@ -40,62 +40,71 @@ origin_same : (bs : List ℕ) (replica : ℕ) (F origin : List Fact) → IsJourn
 origin_same bs replica F origin journal (inl fits) = Same-from_journals bs F origin journal fits
 origin_same bs replica F origin journal (inr none) = absurd (none.0 F journal)
 
+-- what was loaded is what its journal was written of
+given_same : (i : ℕ) (old loaded : List Fact) (bs : List ℕ) → IsJournalOf MAX_ENTRIES bs loaded
+    → (origin : List Fact) → FitsStep (Load i bs) origin → Same (old ++ loaded) (old ++ origin)
+given_same i old loaded bs read origin fits =
+    let F = read.0 in
+    Same-append old old loaded origin (Same-itself old)
+    (Same-trans loaded F origin read.2
+    (origin_same bs i F origin (IsJournal-from_within bs F read.1) fits))
+
 -- a `Load` that was done
-pub loaded_done : (limit : Capacity) (before now : Held) (i : ℕ) (old content loaded : List Fact)
-    (bs : List ℕ) (F : List Fact) → IsChangedAt before now i old content
-    → IsJournalWithin MAX_ENTRIES bs F → Same loaded F
-    → Same content (old ++ loaded) → (IsOver content limit → ⊥)
+pub loaded_done : (limit : Capacity) {before now : Held} {i : ℕ} {old content : List Fact}
+    (loaded : List Fact) {bs : List ℕ} → IsChangedAt before now i old content
+    → IsJournalOf MAX_ENTRIES bs loaded → Same content (old ++ loaded) → ¬ IsOver content limit
     → IsDone limit before (Load i bs) now
-loaded_done limit before now i old content loaded bs F h journal same joined inside =
-    given_done limit before (Load i bs) now old content h (λ k. k) (F, journal) tt (λ r. refl)
+loaded_done limit {i = i} {old = old} {content = content} loaded {bs = bs} h read joined inside =
+    given_done limit (Load i bs) h
+    (record {
+      named = λ k. k;
+      journal = (read.0, read.1);
+      readable = tt;
+      accepted = λ r. refl;
+    })
     (λ origin fits. (
       origin,
       refl,
       Same-trans content (old ++ loaded) (old ++ origin) joined
-          (Same-append old old loaded origin (Same-itself old)
-          (Same-trans loaded F origin same
-          (origin_same bs i F origin (IsJournal-from_within bs F journal) fits))),
+          (given_same i old loaded bs read origin fits),
     ))
     inside
 
 -- a `Load` whose store was not taken in whole
-pub loaded_refused : (limit : Capacity) (before now : Held) (i : ℕ) (old content loaded : List Fact)
-    (bs : List ℕ) (F : List Fact) (fault : StepFault) → IsChangedAt before now i old content
-    → IsJournalWithin MAX_ENTRIES bs F → Same loaded F
+pub loaded_refused : (limit : Capacity) {before now : Held} {i : ℕ} {old content : List Fact}
+    (loaded : List Fact) {bs : List ℕ} (fault : StepFault)
+    → IsChangedAt before now i old content → IsJournalOf MAX_ENTRIES bs loaded
     → Below old content → Below content (old ++ loaded)
     → ((fault ≡ Full) × IsOver (old ++ loaded) limit) ⊎ (fault ≡ OutOfMemory)
     → IsRefused limit before (Load i bs) now fault
-loaded_refused limit before now i old content loaded bs F fault h journal same below above cause =
+loaded_refused limit {before = before} {now = now} {i = i} {old = old} {content = content} loaded
+    {bs = bs} fault h read below above cause =
     let whole : (origin : List Fact) → FitsStep (Load i bs) origin
     → Below (old ++ loaded) (old ++ origin) = λ origin fits.
     Below-from_Same (old ++ loaded) (old ++ origin)
-    (Same-append old old loaded origin (Same-itself old)
-    (Same-trans loaded F origin same
-    (origin_same bs i F origin (IsJournal-from_within bs F journal) fits))) in
+    (given_same i old loaded bs read origin fits) in
+    let P : StepFault → Type 0 = λ f. IsRefused limit before (Load i bs) now f in
     elim cause [
       | inl full ↦
-          let P : StepFault → Type 0 = λ f. IsRefused limit before (Load i bs) now f in
           subst P (sym full.0)
-          (between_refused limit before (Load i bs) now old content Full h (λ e. e)
-          (λ origin fits. inl (over_given limit before.contents i old origin h.within h.held
-          (IsOver-below (old ++ loaded) (old ++ origin) limit (whole origin fits) full.1)))
+          (between_refused limit (Load i bs) Full h (λ e. e)
+          (λ origin fits.
+          let F = old ++ origin in
+          let over = IsOver-below (old ++ loaded) F limit (whole origin fits) full.1 in
+          inl (over_given limit before.contents i old origin h.within h.held over))
           below
           (λ origin fits. (
             origin,
             refl,
-            Below-trans content (old ++ loaded) (old ++ origin) above
-                (whole origin fits),
+            Below-trans content (old ++ loaded) (old ++ origin) above (whole origin fits),
           )))
       | inr memory ↦
-          let P : StepFault → Type 0 = λ f. IsRefused limit before (Load i bs) now f in
           subst P (sym memory)
-          (between_refused limit before (Load i bs) now old content OutOfMemory h (λ e. e)
-          (λ origin _. tt) below
+          (between_refused limit (Load i bs) OutOfMemory h (λ e. e) (λ origin _. tt) below
           (λ origin fits. (
             origin,
             refl,
-            Below-trans content (old ++ loaded) (old ++ origin) above
-                (whole origin fits),
+            Below-trans content (old ++ loaded) (old ++ origin) above (whole origin fits),
           )))
     ]
 
@@ -123,19 +132,25 @@ tells_fault limit bs left es read.Cut inside h other = inr (refl, (es, h, inside
 tells_fault limit bs left es read.TooMany inside h other = inr (refl, (es, h, inside))
 tells_fault limit bs left es read.Trailing inside h other = inr (refl, (es, h, inside))
 
+-- a reader of known bytes has this fault, and did not fail
+pub record HasFault (limit : Capacity) (bs : List ℕ) (left : Option (List ℕ)) (fault : LoadFault)
+    : Type 0 where
+  pub cause : IsLoadFault limit.sessions limit.objects limit.symbols MAX_ENTRIES (Some bs) left
+      fault
+  pub other : fault ≢ load.Read read.Read
+
 -- a `Load` whose journal was not read
-pub not_loaded : (limit : Capacity) (before : Held) (i : ℕ) (bs : List ℕ) (left : Option (List ℕ))
-    (fault : LoadFault)
-    → IsLoadFault limit.sessions limit.objects limit.symbols MAX_ENTRIES (Some bs) left fault
-    → fault ≢ load.Read read.Read
+pub not_loaded : (limit : Capacity) (before : Held) (i : ℕ) {bs : List ℕ} {left : Option (List ℕ)}
+    (fault : LoadFault) → HasFault limit bs left fault
     → IsRefused limit before (Load i bs) before (fault_of_load fault)
-not_loaded limit before i bs left load.Full cause other =
-    unchanged_refused limit before (Load i bs) before Full refl (λ origin _. inr cause)
-not_loaded limit before i bs left load.OutOfMemory cause other =
+not_loaded limit before i {bs = bs} load.Full has =
+    unchanged_refused limit before (Load i bs) before Full refl (λ origin _. inr has.cause)
+not_loaded limit before i {bs = bs} load.OutOfMemory has =
     unchanged_refused limit before (Load i bs) before OutOfMemory refl (λ origin _. tt)
-not_loaded limit before i bs left (load.Read f) cause other =
+not_loaded limit before i {bs = bs} {left = left} (load.Read f) has =
     let P : StepFault → Type 0 = λ g. IsRefused limit before (Load i bs) before g in
-    elim (tells_fault limit bs left cause.0 f cause.1 cause.2 (λ e. other (ap load.Read e))) [
+    let cause = has.cause in
+    elim (tells_fault limit bs left cause.0 f cause.1 cause.2 (λ e. has.other (ap load.Read e))) [
       | inl memory ↦ subst P (sym memory)
           (unchanged_refused limit before (Load i bs) before OutOfMemory refl (λ origin _. tt))
       | inr at ↦ subst P (sym at.0)
@@ -144,11 +159,12 @@ not_loaded limit before i bs left (load.Read f) cause other =
     ]
 
 -- a `Reopen` that was done
-pub reopened_done : (limit : Capacity) (before now : Held) (i : ℕ) (old content : List Fact)
+pub reopened_done : (limit : Capacity) {before now : Held} {i : ℕ} {old content : List Fact}
     (bs : List ℕ) → IsChangedAt before now i old content → IsJournal bs old
     → IsJournalOf MAX_ENTRIES bs content
     → ¬ IsOver content limit → IsDone limit before (Reopen i) now
-reopened_done limit before now i old content bs h written read inside =
+reopened_done limit {before = before} {now = now} {i = i} {old = old} {content = content} bs h
+    written read inside =
     let F = read.0 in
     let whole : Same old F =
     Same-from_journals bs old F written (IsJournal-from_within bs F read.1) in
@@ -174,21 +190,21 @@ reopened_done limit before now i old content bs h written read inside =
     }
 
 -- a `Reopen` whose journal was not read back
-pub not_reopened : (limit : Capacity) (before : Held) (i : ℕ) (old : List Fact) (bs : List ℕ)
-    (left : Option (List ℕ)) (fault : LoadFault) → held_by before.contents i ≡ old
-    → IsJournal bs old
-    → IsLoadFault limit.sessions limit.objects limit.symbols MAX_ENTRIES (Some bs) left fault
-    → fault ≢ load.Read read.Read
+pub not_reopened : (limit : Capacity) (before : Held) (i : ℕ) {old : List Fact} {bs : List ℕ}
+    {left : Option (List ℕ)} (fault : LoadFault) → held_by before.contents i ≡ old
+    → IsJournal bs old → HasFault limit bs left fault
     → IsRefused limit before (Reopen i) before (fault_of_load fault)
-not_reopened limit before i old bs left load.Full held written cause other =
+not_reopened limit before i {old = old} {bs = bs} load.Full held written has =
+    let cause = has.cause in
     unchanged_refused limit before (Reopen i) before Full refl
     (λ origin _. inl (rw held
     (IsOver-below cause.0 old limit (begins_below bs old cause.0 written cause.1) cause.2)))
-not_reopened limit before i old bs left load.OutOfMemory held written cause other =
+not_reopened limit before i load.OutOfMemory held written has =
     unchanged_refused limit before (Reopen i) before OutOfMemory refl (λ origin _. tt)
-not_reopened limit before i old bs left (load.Read f) held written cause other =
+not_reopened limit before i {old = old} {bs = bs} {left = left} (load.Read f) held written has =
     let P : StepFault → Type 0 = λ g. IsRefused limit before (Reopen i) before g in
-    elim (tells_fault limit bs left cause.0 f cause.1 cause.2 (λ e. other (ap load.Read e))) [
+    let cause = has.cause in
+    elim (tells_fault limit bs left cause.0 f cause.1 cause.2 (λ e. has.other (ap load.Read e))) [
       | inl memory ↦ subst P (sym memory)
           (unchanged_refused limit before (Reopen i) before OutOfMemory refl (λ origin _. tt))
       | inr at ↦ subst P (sym at.0)
@@ -197,7 +213,6 @@ not_reopened limit before i old bs left (load.Read f) held written cause other =
     ]
 
 -- the bytes that a source is known to have
-
 pub journal_known : (old : Option (List ℕ)) (bs cs : List ℕ) (F : List Fact) → old ≡ Some bs
     → bs ≡ cs → IfSome old (λ bytes. IsJournalOf MAX_ENTRIES bytes F) → IsJournalOf MAX_ENTRIES cs F
 journal_known old bs cs F known is h =
@@ -205,14 +220,14 @@ journal_known old bs cs F known is h =
     let Q : Option (List ℕ) → Type 0 = λ o. IfSome o P in
     subst P is (subst Q known h)
 
-pub fault_known : (limit : Capacity) (old left : Option (List ℕ)) (bs cs : List ℕ) (f : LoadFault)
-    → old ≡ Some bs → bs ≡ cs
+pub fault_known : (limit : Capacity) {old : Option (List ℕ)} (left : Option (List ℕ))
+    {bs cs : List ℕ} (f : LoadFault) → old ≡ Some bs → bs ≡ cs
     → IsLoadFault limit.sessions limit.objects limit.symbols MAX_ENTRIES old left f
-    → IsLoadFault limit.sessions limit.objects limit.symbols MAX_ENTRIES (Some cs) left f
-fault_known limit old left bs cs f known is h =
+    → f ≢ load.Read read.Read → HasFault limit cs left f
+fault_known limit left f known is h other =
     let Q : Option (List ℕ) → Type 0 =
     λ o. IsLoadFault limit.sessions limit.objects limit.symbols MAX_ENTRIES o left f in
-    subst Q (known ∙ ap Some is) h
+    record { cause = subst Q (known ∙ ap Some is) h; other = other }
 
 -- a source that counts no failure did not fail
 pub did_not_fail : (T : Type 0) (f : LoadFault) (n : ℕ) → FailsToLoad {T = T} n n (Err f)

@@ -12,46 +12,57 @@ use Rattle.flute_parts.specs.Devices.{AppendsPart, Writes}
 use Rattle.flute_parts.proofs.Public.{AppendsPart-first, AppendsPart-second}
 
 -- the items before the rest were written
-pub record Listed {X : Type 0} (f : X → List ℕ) (all rest : List X) (old new : Option (List ℕ)) : Type 0 where
+pub record Listed {X : Type 0} (f : X → List ℕ) (all rest : List X)
+    (old new : Option (List ℕ)) : Type 0 where
   pub done : List X
   pub split : all ≡ done ++ rest
   pub written : Appends old new (flat_map f done)
 
 -- the rest begins with this item
-pub listed-at : {X : Type 0} (f : X → List ℕ) (all rest more : List X) (x : X)
-    (s t : Option (List ℕ)) → Listed f all rest s t → rest ≡ x ∷ more → Listed f all (x ∷ more) s t
-listed-at f all rest more x s t h e = subst (λ l. Listed f all l s t) e h
+pub listed-at : {X : Type 0} {f : X → List ℕ} {all rest more : List X} {x : X}
+    {s t : Option (List ℕ)} → Listed f all rest s t → rest ≡ x ∷ more
+    → Listed f all (x ∷ more) s t
+listed-at {f = f} {all = all} {s = s} {t = t} h e = subst (λ l. Listed f all l s t) e h
 
-pub listed-next : {X : Type 0} (f : X → List ℕ) (all rest : List X) (x : X)
-    (s t t' : Option (List ℕ)) → Listed f all (x ∷ rest) s t → Appends t t' (f x)
+pub listed-next : {X : Type 0} {f : X → List ℕ} {all rest : List X} {x : X}
+    {s t t' : Option (List ℕ)} → Listed f all (x ∷ rest) s t → Appends t t' (f x)
     → Listed f all rest s t'
-listed-next f all rest x s t t' h one = record {
+listed-next {f = f} {rest = rest} {x = x} {s = s} {t = t} {t' = t'} h one = record {
   done = h.done ++ x ∷ [];
   split = h.split ∙ sym (append_assoc h.done (x ∷ []) rest);
-  written = subst (λ (l : List ℕ). Appends s t' l) (flat_map_more f [] h.done x) (Appends-trans s t t' (flat_map f h.done) (f x) h.written one);
+  written =
+      subst (λ (l : List ℕ). Appends s t' l) (flat_map_more f [] h.done x)
+      (Appends-trans s t t' (flat_map f h.done) (f x) h.written one);
 }
 
 -- an item was written in part
-pub listed-part : {X : Type 0} (f : X → List ℕ) (all rest : List X) (x : X)
-    (s t t' : Option (List ℕ)) → Listed f all (x ∷ rest) s t → AppendsPart t t' (f x)
-    → AppendsPart s t' (flat_map f all)
-listed-part f all rest x s t t' h part =
-    let whole : flat_map f h.done ++ (f x ++ flat_map f rest) ≡ flat_map f all = sym (flat_map-append f h.done (x ∷ rest)) ∙ ap (flat_map f) (sym h.split) in
-    subst (λ (l : List ℕ). AppendsPart s t' l) whole (AppendsPart-second s t t' (flat_map f h.done) (f x ++ flat_map f rest) h.written (AppendsPart-first t t' (f x) (flat_map f rest) part))
+pub listed-part : {X : Type 0} {f : X → List ℕ} {all rest : List X} {x : X}
+    {s t : Option (List ℕ)} (t' : Option (List ℕ)) → Listed f all (x ∷ rest) s t
+    → AppendsPart t t' (f x) → AppendsPart s t' (flat_map f all)
+listed-part {f = f} {all = all} {rest = rest} {x = x} {s = s} {t = t} t' h part =
+    let front = flat_map f h.done in
+    let last = f x ++ flat_map f rest in
+    let whole : front ++ last ≡ flat_map f all =
+    sym (flat_map-append f h.done (x ∷ rest)) ∙ ap (flat_map f) (sym h.split) in
+    subst (λ (l : List ℕ). AppendsPart s t' l) whole
+    (AppendsPart-second s t t' front last h.written
+    (AppendsPart-first t t' (f x) (flat_map f rest) part))
 
-pub listed-all : {X : Type 0} (f : X → List ℕ) (all rest : List X) (s t : Option (List ℕ))
+pub listed-all : {X : Type 0} {f : X → List ℕ} {all rest : List X} {s t : Option (List ℕ)}
     → Listed f all rest s t → rest ≡ [] → Appends s t (flat_map f all)
-listed-all f all rest s t h e =
-    subst (λ l. Appends s t (flat_map f l)) (sym (h.split ∙ ap (λ l. h.done ++ l) e ∙ append-nil h.done)) h.written
+listed-all {f = f} {s = s} {t = t} h e =
+    let whole = h.split ∙ ap (λ l. h.done ++ l) e ∙ append-nil h.done in
+    subst (λ l. Appends s t (flat_map f l)) (sym whole) h.written
 
 contains_at : {X : Type 0} (done rest : List X) (x : X) → Contains (done ++ x ∷ rest) x
 contains_at [] rest x = (0, omega arith, refl)
 contains_at (d ∷ ds) rest x = let c = contains_at ds rest x in (suc c.0, omega (arith, c.1), c.2)
 
 -- the next item is one of them
-pub listed-contains : {X : Type 0} (f : X → List ℕ) (all rest : List X) (x : X)
-    (s t : Option (List ℕ)) → Listed f all (x ∷ rest) s t → Contains all x
-listed-contains f all rest x s t h = subst (λ l. Contains l x) (sym h.split) (contains_at h.done rest x)
+pub listed-contains : {X : Type 0} {f : X → List ℕ} {all rest : List X} {x : X}
+    {s t : Option (List ℕ)} → Listed f all (x ∷ rest) s t → Contains all x
+listed-contains {rest = rest} {x = x} h =
+    subst (λ l. Contains l x) (sym h.split) (contains_at h.done rest x)
 
 -- what a write has left, by its result
 

@@ -37,16 +37,19 @@ pub object_part : (F : List Fact) (key : Key) (status : Status) (s t : Option (L
     → AppendsPart s t (object_lines F key)
 unfolding object_lines
 object_part F key status s t h part =
-    AppendsPart-first s t (status_line key (status_at F key (fact_at F (info_address key)))) (flat_map gap_line (gaps_at F key (fact_at F (info_address key))))
+    AppendsPart-first s t (status_line key (status_at F key (fact_at F (info_address key))))
+    (flat_map gap_line (gaps_at F key (fact_at F (info_address key))))
     (subst (λ x. AppendsPart s t (status_line key x)) (status_is F key status h) part)
 
 -- the line of the object was written, and then those of its gaps
 pub object_written : {T E : Type 0} (F : List Fact) (key : Key) (status : Status) (left : GapsLeft)
     (s t t' : Option (List ℕ)) (r : Result T E) → TellsStatus F key status → GivesGaps F key left
-    → Appends s t (status_line key status) → Writes t t' (flat_map gap_line left.gaps) r → Writes s t' (object_lines F key) r
+    → Appends s t (status_line key status) → Writes t t' (flat_map gap_line left.gaps) r
+    → Writes s t' (object_lines F key) r
 unfolding object_lines
 object_written F key status left s t t' r h g line more =
-    Writes-behind s t t' (status_line key (status_at F key (fact_at F (info_address key)))) (flat_map gap_line (gaps_at F key (fact_at F (info_address key)))) r
+    Writes-behind s t t' (status_line key (status_at F key (fact_at F (info_address key))))
+    (flat_map gap_line (gaps_at F key (fact_at F (info_address key)))) r
     (subst (λ x. Appends s t (status_line key x)) (status_is F key status h) line)
     (subst (λ l. Writes t t' (flat_map gap_line l) r) (gaps_are F key left g) more)
 
@@ -59,4 +62,5 @@ object_alone F key status fault s t h g line =
     let front = status_line key (status_at F key (fact_at F (info_address key))) in
     let all : front ≡ front ++ flat_map gap_line (gaps_at F key (fact_at F (info_address key))) =
     sym (append-nil front) ∙ ap (λ l. front ++ flat_map gap_line l) (sym (no_gaps F key fault g)) in
-    subst (λ (l : List ℕ). Appends s t l) all (subst (λ x. Appends s t (status_line key x)) (status_is F key status h) line)
+    subst (λ (l : List ℕ). Appends s t l) all (subst (λ x. Appends s t (status_line key x))
+    (status_is F key status h) line)

@@ -15,21 +15,31 @@ pub EachSame-itself : (A : List (List Fact)) → EachSame A A
 EachSame-itself A = record { count = refl; each = λ r. Same-itself (held_by A r) }
 
 pub EachSame-sym : (A B : List (List Fact)) → EachSame A B → EachSame B A
-EachSame-sym A B h = record { count = sym h.count; each = λ r. Same-sym (held_by A r) (held_by B r) (h.each r) }
+EachSame-sym A B h =
+    record { count = sym h.count; each = λ r. Same-sym (held_by A r) (held_by B r) (h.each r) }
 
 pub EachSame-trans : (A B C : List (List Fact)) → EachSame A B → EachSame B C → EachSame A C
 EachSame-trans A B C h k =
-    record { count = h.count ∙ k.count; each = λ r. Same-trans (held_by A r) (held_by B r) (held_by C r) (h.each r) (k.each r) }
+    record {
+      count = h.count ∙ k.count;
+      each =
+          λ r. Same-trans (held_by A r) (held_by B r) (held_by C r) (h.each r) (k.each r);
+    }
 
 pub EachBelow-itself : (A : List (List Fact)) → EachBelow A A
 EachBelow-itself A = record { count = refl; each = λ r. Below-itself (held_by A r) }
 
 pub EachBelow-from_same : (A B : List (List Fact)) → EachSame A B → EachBelow A B
-EachBelow-from_same A B h = record { count = h.count; each = λ r. Below-from_Same (held_by A r) (held_by B r) (h.each r) }
+EachBelow-from_same A B h =
+    record { count = h.count; each = λ r. Below-from_Same (held_by A r) (held_by B r) (h.each r) }
 
 pub EachBelow-trans : (A B C : List (List Fact)) → EachBelow A B → EachBelow B C → EachBelow A C
 EachBelow-trans A B C h k =
-    record { count = h.count ∙ k.count; each = λ r. Below-trans (held_by A r) (held_by B r) (held_by C r) (h.each r) (k.each r) }
+    record {
+      count = h.count ∙ k.count;
+      each =
+          λ r. Below-trans (held_by A r) (held_by B r) (held_by C r) (h.each r) (k.each r);
+    }
 
 -- a relation of two lists holds at each replica, if it does where one was set and everywhere before
 pub each_set : (R : List Fact → List Fact → Type 0) (A B : List (List Fact)) (i : ℕ)
@@ -68,14 +78,17 @@ set_same xs i x e = ap (set xs i) e ∙ set-get_or xs i x
 pub given_to-same : (A : List (List Fact)) (i : ℕ) (more content : List Fact) → i < length A
     → Same content (held_by A i ++ more) → EachSame (given_to A i more) (set A i content)
 given_to-same A i more content within h =
-    EachSame-set A A i (held_by A i ++ more) content within (EachSame-itself A) (Same-sym content (held_by A i ++ more) h)
+    EachSame-set A A i (held_by A i ++ more) content within (EachSame-itself A)
+    (Same-sym content (held_by A i ++ more) h)
 
 -- the same is given to replicas that hold the same
 pub given_to-each_same : (A B : List (List Fact)) (i : ℕ) (more less : List Fact) → EachSame A B
     → Same more less → EachSame (given_to A i more) (given_to B i less)
 given_to-each_same A B i more less h same =
     elim (cases_lt i (length A)) [
-      | inl within ↦ EachSame-set A B i (held_by A i ++ more) (held_by B i ++ less) within h (Same-append (held_by A i) (held_by B i) more less (h.each i) same)
+      | inl within ↦
+          EachSame-set A B i (held_by A i ++ more) (held_by B i ++ less) within h
+          (Same-append (held_by A i) (held_by B i) more less (h.each i) same)
       | inr past ↦
           let e : set A i (held_by A i ++ more) ≡ A = set_past A i (held_by A i ++ more) past in
           let past_B : length B ≤ i = omega (arith, h.count) in
@@ -87,7 +100,9 @@ pub given_to-each_below : (A B : List (List Fact)) (i : ℕ) (more less : List F
     → Below more less → EachBelow (given_to A i more) (given_to B i less)
 given_to-each_below A B i more less h below =
     elim (cases_lt i (length A)) [
-      | inl within ↦ EachBelow-set A B i (held_by A i ++ more) (held_by B i ++ less) within h (Below-append (held_by A i) (held_by B i) more less (h.each i) below)
+      | inl within ↦
+          EachBelow-set A B i (held_by A i ++ more) (held_by B i ++ less) within h
+          (Below-append (held_by A i) (held_by B i) more less (h.each i) below)
       | inr past ↦
           let e : set A i (held_by A i ++ more) ≡ A = set_past A i (held_by A i ++ more) past in
           let past_B : length B ≤ i = omega (arith, h.count) in
@@ -106,10 +121,14 @@ given_to-above A i more =
             | inl e ↦
                 elim (cases_lt i (length A)) [
                   | inl within ↦
-                      let P : ℕ → Type 0 = λ q. Below (held_by A q) (held_by (given_to A i more) q) in
-                      subst P (sym e) (rw (get_or-set_same A i (held_by A i ++ more) []) (Below-left (held_by A i) more))
-                  | inr past ↦ rw (set_past A i (held_by A i ++ more) past) (Below-itself (held_by A r))
+                      let P : ℕ → Type 0 =
+                      λ q. Below (held_by A q) (held_by (given_to A i more) q) in
+                      subst P (sym e) (rw (get_or-set_same A i (held_by A i ++ more) [])
+                      (Below-left (held_by A i) more))
+                  | inr past ↦
+                      rw (set_past A i (held_by A i ++ more) past) (Below-itself (held_by A r))
                 ]
-            | inr ne ↦ rw (get_or-set_other A i r (held_by A i ++ more) [] ne) (Below-itself (held_by A r))
+            | inr ne ↦
+                rw (get_or-set_other A i r (held_by A i ++ more) [] ne) (Below-itself (held_by A r))
           ];
     }

@@ -25,18 +25,23 @@ pub memory_is_packet : (d : List ℕ) (result : Result Taken TakeFault) → HasO
 memory_is_packet d result one tells is = is_packet d one (λ r refuses. let e = (tells r).1 refuses in cc)
 
 -- a store that took the datagram is within its limits
-pub ok_within : (sender : ℕ) (s o y : ℕ) (old new : List Fact) (d : List ℕ)
-    (result : Result Taken TakeFault) (t : Taken) → result ≡ Ok t → Same new (old ++ facts sender d)
+pub ok_within : (sender : ℕ) {s o y : ℕ} (old : List Fact) {new : List Fact} (d : List ℕ)
+    {result : Result Taken TakeFault} {t : Taken} → result ≡ Ok t
+    → Same new (old ++ facts sender d)
     → (result ≡ Err Full) ↔ Over (old ++ facts sender d) s o y → ¬ Over new s o y
-ok_within sender s o y old new d result t is same full over =
-    let e = full.1 (Over-below new (old ++ facts sender d) s o y (Below-from_Same new (old ++ facts sender d) same) over) in cc
+ok_within sender {s = s} {o = o} {y = y} old {new = new} d is same full over =
+    let all = old ++ facts sender d in
+    let e = full.1 (Over-below new all s o y (Below-from_Same new all same) over) in cc
 
-pub refused_within : (sender : ℕ) (s o y : ℕ) (old new : List Fact) (d : List ℕ)
-    (result : Result Taken TakeFault) (r : Refusal) → Applies r d → new ≡ old
+pub refused_within : (sender : ℕ) {s o y : ℕ} {old new : List Fact} (d : List ℕ)
+    {result : Result Taken TakeFault} {r : Refusal} → Applies r d → new ≡ old
     → result ≡ Err (Datagram r)
     → (result ≡ Err Full) ↔ Over (old ++ facts sender d) s o y → ¬ Over new s o y
-refused_within sender s o y old new d result r applies same is full over =
-    let e = full.1 (Over-below new (old ++ facts sender d) s o y (Below-from_Same new (old ++ facts sender d) (refused_same sender old new d r applies same)) over) in cc
+refused_within sender {s = s} {o = o} {y = y} {old = old} {new = new} d {r = r} applies same is
+    full over =
+    let all = old ++ facts sender d in
+    let also = refused_same sender old new d r applies same in
+    let e = full.1 (Over-below new all s o y (Below-from_Same new all also) over) in cc
 
 -- a packet whose facts are all at held addresses is taken
 abbrev pub TakesHeld : ℕ → List Fact → List ℕ → Result Taken TakeFault → Type 0

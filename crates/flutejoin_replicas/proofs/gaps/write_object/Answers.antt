@@ -13,20 +13,30 @@ returns-in_err-write_status-clause-lines g c =
     let F = c.args.shelf.now in
     let key = c.args.key.now in
     let e = err_from_is_err_and c.from_residual.result c.from_residual.ensures.1 in
-    let told = subst (λ (o : Option Status). MatchOption o (IsUnheard F key) (λ x. TellsStatus F key x)) c.unwrap-status.ensures c.status.ensures in
-    rw e.1 (object_part F key c.unwrap-status.result (g.W.Sink.written c.args.sink.now) (g.W.Sink.written c.write_status.new.sink) told c.in_err-write_status.ensures.line)
+    let told =
+    subst (λ (o : Option Status). MatchOption o (IsUnheard F key)
+    (λ x. TellsStatus F key x)) c.unwrap-status.ensures c.status.ensures in
+    rw e.1 (object_part F key c.unwrap-status.result (g.W.Sink.written c.args.sink.now)
+    (g.W.Sink.written c.write_status.new.sink) told c.in_err-write_status.ensures.line)
 
 pub returns-in-Ok-clause-lines : goal.returns-in-Ok-clause-lines
 returns-in-Ok-clause-lines g c =
     let F = c.args.shelf.now in
     let key = c.args.key.now in
-    let told = subst (λ (o : Option Status). MatchOption o (IsUnheard F key) (λ x. TellsStatus F key x)) c.unwrap-status.ensures c.status.ensures in
-    object_written F key c.unwrap-status.result c.in-Ok.gaps (g.W.Sink.written c.args.sink.now) (g.W.Sink.written c.write_status.new.sink) (g.W.Sink.written c.write_gaps.new.sink) c.write_gaps.result told c.in-Ok.ensures
+    let told =
+    subst (λ (o : Option Status). MatchOption o (IsUnheard F key)
+    (λ x. TellsStatus F key x)) c.unwrap-status.ensures c.status.ensures in
+    object_written F key c.unwrap-status.result c.in-Ok.gaps (g.W.Sink.written c.args.sink.now)
+    (g.W.Sink.written c.write_status.new.sink)
+    (g.W.Sink.written c.write_gaps.new.sink) c.write_gaps.result told c.in-Ok.ensures
     c.in_ok-write_status.ensures.line c.write_gaps.ensures.lines
 
 pub returns-in-Err-clause-lines : goal.returns-in-Err-clause-lines
 returns-in-Err-clause-lines g c =
     let F = c.args.shelf.now in
     let key = c.args.key.now in
-    let told = subst (λ (o : Option Status). MatchOption o (IsUnheard F key) (λ x. TellsStatus F key x)) c.unwrap-status.ensures c.status.ensures in
-    object_alone F key c.unwrap-status.result c.in-Err.field-0 (g.W.Sink.written c.args.sink.now) (g.W.Sink.written c.write_status.new.sink) told c.in-Err.ensures c.in_ok-write_status.ensures.line
+    let told =
+    subst (λ (o : Option Status). MatchOption o (IsUnheard F key)
+    (λ x. TellsStatus F key x)) c.unwrap-status.ensures c.status.ensures in
+    object_alone F key c.unwrap-status.result c.in-Err.field-0 (g.W.Sink.written c.args.sink.now)
+    (g.W.Sink.written c.write_status.new.sink) told c.in-Err.ensures c.in_ok-write_status.ensures.line
