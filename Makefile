@@ -45,15 +45,17 @@ bin/flutejoin: $(SOURCES)
 
 test test-program test-tools test-stations: export FLUTEJOIN = $(abspath $(BUILT))
 # `rt ci` proves one crate above another, so a processor is often free: it runs the trials, and tries
-# the wrong bodies of the crates whose libraries are built by then.
+# the wrong bodies of the crates whose libraries are built by then; also while the tests run, which
+# often wait.
 test:
 	rm -rf crates/*/out/rlib
 	trap 'trap - TERM; kill 0' INT TERM; \
 	rt ci & proofs=$$!; \
-	nice -n 19 tests/trials.sh && nice -n 19 tools/wrong_bodies.py --while $$proofs; others=$$?; \
-	wait $$proofs && exit $$others
-	$(MAKE) --no-print-directory --jobs=2 --output-sync=line \
-		test-program test-tools test-stations
+	{ nice -n 19 tests/trials.sh && nice -n 19 tools/wrong_bodies.py --while $$proofs; } & \
+	others=$$!; \
+	wait $$proofs && $(MAKE) --no-print-directory --jobs=2 --output-sync=line \
+		test-program test-tools test-stations; tests=$$?; \
+	wait $$others && exit $$tests
 
 # The built program, and the pages that show it
 test-program:
