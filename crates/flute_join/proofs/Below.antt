@@ -10,7 +10,8 @@ module _ {M : Type 0} {join : M → M → M} (laws : IsJoin join) where
   below_join x y = sym (laws.associative x x y) ∙ ap (λ z. join z y) (laws.idempotent x)
 
   pub below_trans : (x y z : M) → IsBelow join x y → IsBelow join y z → IsBelow join x z
-  below_trans x y z p q = ap (join x) (sym q) ∙ sym (laws.associative x y z) ∙ ap (λ u. join u z) p ∙ q
+  below_trans x y z p q =
+      ap (join x) (sym q) ∙ sym (laws.associative x y z) ∙ ap (λ u. join u z) p ∙ q
 
   pub below_antisymmetric : (x y : M) → IsBelow join x y → IsBelow join y x → x ≡ y
   below_antisymmetric x y p q = sym q ∙ laws.commutative y x ∙ p
@@ -22,12 +23,15 @@ module _ {M : Type 0} {join : M → M → M} (laws : IsJoin join) where
   least x y z p q = laws.associative x y z ∙ ap (join x) q ∙ p
 
   -- a value between the first and the join, joined again
-  pub joined_again : (old other between : M) → IsBelow join old between → IsBelow join between (join old other) → join between other ≡ join old other
+  pub joined_again : (old other between : M) → IsBelow join old between
+      → IsBelow join between (join old other) → join between other ≡ join old other
   joined_again old other between p q =
-      ap (λ u. join u other) (sym p ∙ laws.commutative old between) ∙ laws.associative between old other ∙ q
+      ap (λ u. join u other) (sym p ∙ laws.commutative old between)
+      ∙ laws.associative between old other ∙ q
 
 -- what holds of the value at `Ok` and of the one at `Err`
-pub by_outcome : {T E M : Type 0} (P : M → Type 0) (old new joined : M) (r : Result T E) → OnOk r (new ≡ joined) → OnErr r (new ≡ old) → P joined → P old → P new
+pub by_outcome : {T E M : Type 0} (P : M → Type 0) (old new joined : M) (r : Result T E)
+    → OnOk r (new ≡ joined) → OnErr r (new ≡ old) → P joined → P old → P new
 by_outcome P old new joined (Ok x) ok err a b = subst P (sym ok) a
 by_outcome P old new joined (Err x) ok err a b = subst P (sym err) b
 
@@ -41,5 +45,6 @@ error_or d (Err e) = e
 pub same_error : {T E : Type 0} (r : Result T E) (d e : E) → r ≡ Err d → r ≡ Err e → d ≡ e
 same_error r d e p q = ap (error_or d) (sym p ∙ q)
 
-pub error_iff : {T E : Type 0} (r : Result T E) (d e : E) (P : Type 0) → r ≡ Err d → (r ≡ Err e) ↔ P → (d ≡ e) ↔ P
+pub error_iff : {T E : Type 0} (r : Result T E) (d e : E) (P : Type 0) → r ≡ Err d
+    → (r ≡ Err e) ↔ P → (d ≡ e) ↔ P
 error_iff r d e P was known = (λ p. known.0 (was ∙ ap Err p), λ q. same_error r d e was (known.1 q))

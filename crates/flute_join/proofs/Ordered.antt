@@ -10,66 +10,122 @@ use Rattle.std.specs.List.{AllByRecursion}
 use Rattle.std.specs.List.Sorted.{IsStrictlySortedBy}
 use Rattle.std.proofs.lemmas.Map.Keys.{sorted_tail}
 use Rattle.flute_join.specs.JoinMap.{map_join, IsOrdered, EachValue}
-use Rattle.flute_join.specs.MapLaws.{first_less, first_equal, first_greater, join_nothing, nothing_join}
+use Rattle.flute_join.specs.MapLaws.{first_less, first_equal, first_greater, join_nothing}
+use Rattle.flute_join.specs.MapLaws.{nothing_join}
 
 module _ {K X : Type 0} (cmp : K → K → Ordering) (join : X → X → X) where
   -- ---- what holds of the keys and of the values of both holds of those of the join
   module _ (P : K → Type 0) where
-    keys_first : (e f : K × X) (es fs : List (K × X)) (r : Ordering) → cmp e.0 f.0 ≡ r → P e.0 → P f.0
-        → AllByRecursion P (keys_of (map_join cmp join es (f ∷ fs))) → AllByRecursion P (keys_of (map_join cmp join es fs)) → AllByRecursion P (keys_of (map_join cmp join (e ∷ es) fs)) → AllByRecursion P (keys_of (map_join cmp join (e ∷ es) (f ∷ fs)))
-    keys_first e f es fs Less l p q a b c = subst (λ l. AllByRecursion P (keys_of l)) (sym (first_less cmp join e f es fs l)) (p, a)
-    keys_first e f es fs Equal l p q a b c = subst (λ l. AllByRecursion P (keys_of l)) (sym (first_equal cmp join e f es fs l)) (p, b)
-    keys_first e f es fs Greater l p q a b c = subst (λ l. AllByRecursion P (keys_of l)) (sym (first_greater cmp join e f es fs l)) (q, c)
+    keys_first : (e f : K × X) (es fs : List (K × X)) (r : Ordering) → cmp e.0 f.0 ≡ r
+        → P e.0 → P f.0
+        → AllByRecursion P (keys_of (map_join cmp join es (f ∷ fs)))
+        → AllByRecursion P (keys_of (map_join cmp join es fs))
+        → AllByRecursion P (keys_of (map_join cmp join (e ∷ es) fs))
+        → AllByRecursion P (keys_of (map_join cmp join (e ∷ es) (f ∷ fs)))
+    keys_first e f es fs Less l p q a b c =
+        subst (λ l. AllByRecursion P (keys_of l)) (sym (first_less cmp join e f es fs l)) (p, a)
+    keys_first e f es fs Equal l p q a b c =
+        subst (λ l. AllByRecursion P (keys_of l)) (sym (first_equal cmp join e f es fs l)) (p, b)
+    keys_first e f es fs Greater l p q a b c =
+        subst (λ l. AllByRecursion P (keys_of l)) (sym (first_greater cmp join e f es fs l)) (q, c)
 
-    keys_past : (e : K × X) (es : List (K × X)) → P e.0 → AllByRecursion P (keys_of es) → ((fs : List (K × X)) → AllByRecursion P (keys_of fs) → AllByRecursion P (keys_of (map_join cmp join es fs))) → (fs : List (K × X)) → AllByRecursion P (keys_of fs) → AllByRecursion P (keys_of (map_join cmp join (e ∷ es) fs))
-    keys_past e es p s ih [] t = subst (λ l. AllByRecursion P (keys_of l)) (sym (join_nothing cmp join (e ∷ es))) (p, s)
-    keys_past e es p s ih (f ∷ fs) t = keys_first e f es fs (cmp e.0 f.0) refl p t.0 (ih (f ∷ fs) t) (ih fs t.1) (keys_past e es p s ih fs t.1)
+    keys_past : (e : K × X) (es : List (K × X)) → P e.0 → AllByRecursion P (keys_of es)
+        → ((fs : List (K × X)) → AllByRecursion P (keys_of fs)
+        → AllByRecursion P (keys_of (map_join cmp join es fs))) → (fs : List (K × X))
+        → AllByRecursion P (keys_of fs)
+        → AllByRecursion P (keys_of (map_join cmp join (e ∷ es) fs))
+    keys_past e es p s ih [] t =
+        subst (λ l. AllByRecursion P (keys_of l)) (sym (join_nothing cmp join (e ∷ es))) (p, s)
+    keys_past e es p s ih (f ∷ fs) t =
+        keys_first e f es fs (cmp e.0 f.0) refl p t.0 (ih (f ∷ fs) t) (ih fs t.1)
+        (keys_past e es p s ih fs t.1)
 
-    all_keys : (es fs : List (K × X)) → AllByRecursion P (keys_of es) → AllByRecursion P (keys_of fs) → AllByRecursion P (keys_of (map_join cmp join es fs))
-    all_keys [] fs s t = subst (λ l. AllByRecursion P (keys_of l)) (sym (nothing_join cmp join fs)) t
+    all_keys : (es fs : List (K × X)) → AllByRecursion P (keys_of es)
+        → AllByRecursion P (keys_of fs) → AllByRecursion P (keys_of (map_join cmp join es fs))
+    all_keys [] fs s t =
+        subst (λ l. AllByRecursion P (keys_of l)) (sym (nothing_join cmp join fs)) t
     all_keys (e ∷ es) fs s t = keys_past e es s.0 s.1 (λ gs u. all_keys es gs s.1 u) fs t
 
   module _ (P : X → Type 0) (kept : (v w : X) → P v → P w → P (join v w)) where
-    values_first : (e f : K × X) (es fs : List (K × X)) (r : Ordering) → cmp e.0 f.0 ≡ r → P e.1 → P f.1
-        → EachValue P (map_join cmp join es (f ∷ fs)) → EachValue P (map_join cmp join es fs) → EachValue P (map_join cmp join (e ∷ es) fs) → EachValue P (map_join cmp join (e ∷ es) (f ∷ fs))
-    values_first e f es fs Less l p q a b c = subst (EachValue P) (sym (first_less cmp join e f es fs l)) (p, a)
-    values_first e f es fs Equal l p q a b c = subst (EachValue P) (sym (first_equal cmp join e f es fs l)) (kept e.1 f.1 p q, b)
-    values_first e f es fs Greater l p q a b c = subst (EachValue P) (sym (first_greater cmp join e f es fs l)) (q, c)
+    values_first : (e f : K × X) (es fs : List (K × X)) (r : Ordering) → cmp e.0 f.0 ≡ r
+        → P e.1 → P f.1
+        → EachValue P (map_join cmp join es (f ∷ fs)) → EachValue P (map_join cmp join es fs)
+        → EachValue P (map_join cmp join (e ∷ es) fs)
+        → EachValue P (map_join cmp join (e ∷ es) (f ∷ fs))
+    values_first e f es fs Less l p q a b c =
+        subst (EachValue P) (sym (first_less cmp join e f es fs l)) (p, a)
+    values_first e f es fs Equal l p q a b c =
+        subst (EachValue P) (sym (first_equal cmp join e f es fs l)) (kept e.1 f.1 p q, b)
+    values_first e f es fs Greater l p q a b c =
+        subst (EachValue P) (sym (first_greater cmp join e f es fs l)) (q, c)
 
-    values_past : (e : K × X) (es : List (K × X)) → P e.1 → EachValue P es → ((fs : List (K × X)) → EachValue P fs → EachValue P (map_join cmp join es fs)) → (fs : List (K × X)) → EachValue P fs → EachValue P (map_join cmp join (e ∷ es) fs)
+    values_past : (e : K × X) (es : List (K × X)) → P e.1 → EachValue P es
+        → ((fs : List (K × X)) → EachValue P fs → EachValue P (map_join cmp join es fs))
+        → (fs : List (K × X)) → EachValue P fs
+        → EachValue P (map_join cmp join (e ∷ es) fs)
     values_past e es p s ih [] t = subst (EachValue P) (sym (join_nothing cmp join (e ∷ es))) (p, s)
-    values_past e es p s ih (f ∷ fs) t = values_first e f es fs (cmp e.0 f.0) refl p t.0 (ih (f ∷ fs) t) (ih fs t.1) (values_past e es p s ih fs t.1)
+    values_past e es p s ih (f ∷ fs) t =
+        values_first e f es fs (cmp e.0 f.0) refl p t.0 (ih (f ∷ fs) t) (ih fs t.1)
+        (values_past e es p s ih fs t.1)
 
-    pub EachValue-map_join : (es fs : List (K × X)) → EachValue P es → EachValue P fs → EachValue P (map_join cmp join es fs)
+    pub EachValue-map_join : (es fs : List (K × X)) → EachValue P es → EachValue P fs
+        → EachValue P (map_join cmp join es fs)
     EachValue-map_join [] fs s t = subst (EachValue P) (sym (nothing_join cmp join fs)) t
-    EachValue-map_join (e ∷ es) fs s t = values_past e es s.0 s.1 (λ gs u. EachValue-map_join es gs s.1 u) fs t
+    EachValue-map_join (e ∷ es) fs s t =
+        values_past e es s.0 s.1 (λ gs u. EachValue-map_join es gs s.1 u) fs t
 
 module _ {K X : Type 0} {cmp : K → K → Ordering} (order : IsTotalOrder cmp) (join : X → X → X) where
   -- ---- the keys of a join ascend
-  all_above : (k h : K) → cmp k h ≡ Less → (ks : List K) → AllByRecursion (λ y. cmp h y ≡ Less) ks → AllByRecursion (λ y. cmp k y ≡ Less) ks
+  all_above : (k h : K) → cmp k h ≡ Less → (ks : List K)
+      → AllByRecursion (λ y. cmp h y ≡ Less) ks → AllByRecursion (λ y. cmp k y ≡ Less) ks
   all_above k h l [] a = tt
   all_above k h l (x ∷ xs) a = (order.trans k h x l a.0, all_above k h l xs a.1)
 
-  all_tied : (k h : K) → cmp k h ≡ Equal → (ks : List K) → AllByRecursion (λ y. cmp h y ≡ Less) ks → AllByRecursion (λ y. cmp k y ≡ Less) ks
+  all_tied : (k h : K) → cmp k h ≡ Equal → (ks : List K)
+      → AllByRecursion (λ y. cmp h y ≡ Less) ks → AllByRecursion (λ y. cmp k y ≡ Less) ks
   all_tied k h l [] a = tt
   all_tied k h l (x ∷ xs) a = (order.congr k h x l ∙ a.0, all_tied k h l xs a.1)
 
-  ordered_first : (e f : K × X) (es fs : List (K × X)) (r : Ordering) → cmp e.0 f.0 ≡ r → IsOrdered cmp (e ∷ es) → IsOrdered cmp (f ∷ fs)
-      → IsOrdered cmp (map_join cmp join es (f ∷ fs)) → IsOrdered cmp (map_join cmp join es fs) → IsOrdered cmp (map_join cmp join (e ∷ es) fs) → IsOrdered cmp (map_join cmp join (e ∷ es) (f ∷ fs))
+  ordered_first : (e f : K × X) (es fs : List (K × X)) (r : Ordering) → cmp e.0 f.0 ≡ r
+      → IsOrdered cmp (e ∷ es) → IsOrdered cmp (f ∷ fs)
+      → IsOrdered cmp (map_join cmp join es (f ∷ fs))
+      → IsOrdered cmp (map_join cmp join es fs)
+      → IsOrdered cmp (map_join cmp join (e ∷ es) fs)
+      → IsOrdered cmp (map_join cmp join (e ∷ es) (f ∷ fs))
   unfolding IsStrictlySortedBy
   ordered_first e f es fs Less l s t a b c =
-      rw (first_less cmp join e f es fs l) (all_keys cmp join (λ y. cmp e.0 y ≡ Less) es (f ∷ fs) s.0 (l, all_above e.0 f.0 l (keys_of fs) t.0), a)
+      rw (first_less cmp join e f es fs l) (
+        all_keys cmp join (λ y. cmp e.0 y ≡ Less) es (f ∷ fs) s.0
+            (l, all_above e.0 f.0 l (keys_of fs) t.0),
+        a,
+      )
   ordered_first e f es fs Equal l s t a b c =
-      rw (first_equal cmp join e f es fs l) (all_keys cmp join (λ y. cmp e.0 y ≡ Less) es fs s.0 (all_tied e.0 f.0 l (keys_of fs) t.0), b)
+      rw (first_equal cmp join e f es fs l) (
+        all_keys cmp join (λ y. cmp e.0 y ≡ Less) es fs s.0
+            (all_tied e.0 f.0 l (keys_of fs) t.0),
+        b,
+      )
   ordered_first e f es fs Greater l s t a b c =
       let u : cmp f.0 e.0 ≡ Less = order.antisymm f.0 e.0 ∙ ap ordering_reverse l in
-      rw (first_greater cmp join e f es fs l) (all_keys cmp join (λ y. cmp f.0 y ≡ Less) (e ∷ es) fs (u, all_above f.0 e.0 u (keys_of es) s.0) t.0, c)
+      rw (first_greater cmp join e f es fs l) (
+        all_keys cmp join (λ y. cmp f.0 y ≡ Less) (e ∷ es) fs
+            (u, all_above f.0 e.0 u (keys_of es) s.0) t.0,
+        c,
+      )
 
-  ordered_past : (e : K × X) (es : List (K × X)) → IsOrdered cmp (e ∷ es) → ((fs : List (K × X)) → IsOrdered cmp fs → IsOrdered cmp (map_join cmp join es fs)) → (fs : List (K × X)) → IsOrdered cmp fs → IsOrdered cmp (map_join cmp join (e ∷ es) fs)
+  ordered_past : (e : K × X) (es : List (K × X)) → IsOrdered cmp (e ∷ es)
+      → ((fs : List (K × X)) → IsOrdered cmp fs → IsOrdered cmp (map_join cmp join es fs))
+      → (fs : List (K × X)) → IsOrdered cmp fs
+      → IsOrdered cmp (map_join cmp join (e ∷ es) fs)
   ordered_past e es s ih [] t = subst (IsOrdered cmp) (sym (join_nothing cmp join (e ∷ es))) s
   ordered_past e es s ih (f ∷ fs) t =
-      let u = sorted_tail cmp f.0 (keys_of fs) t in ordered_first e f es fs (cmp e.0 f.0) refl s t (ih (f ∷ fs) t) (ih fs u) (ordered_past e es s ih fs u)
+      let u = sorted_tail cmp f.0 (keys_of fs) t in
+      ordered_first e f es fs (cmp e.0 f.0) refl s t (ih (f ∷ fs) t) (ih fs u)
+      (ordered_past e es s ih fs u)
 
-  pub ordered-map_join : (es fs : List (K × X)) → IsOrdered cmp es → IsOrdered cmp fs → IsOrdered cmp (map_join cmp join es fs)
+  pub ordered-map_join : (es fs : List (K × X)) → IsOrdered cmp es → IsOrdered cmp fs
+      → IsOrdered cmp (map_join cmp join es fs)
   ordered-map_join [] fs s t = subst (IsOrdered cmp) (sym (nothing_join cmp join fs)) t
-  ordered-map_join (e ∷ es) fs s t = ordered_past e es s (λ gs u. ordered-map_join es gs (sorted_tail cmp e.0 (keys_of es) s) u) fs t
+  ordered-map_join (e ∷ es) fs s t =
+      ordered_past e es s (λ gs u. ordered-map_join es gs (sorted_tail cmp e.0 (keys_of es) s) u)
+      fs t

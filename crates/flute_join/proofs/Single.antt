@@ -1,5 +1,7 @@
 -- A map joined with a map of one pair, and a map joined with itself after a change at one key.
-use Rattle.std.proofs.Common.{◌≡◌, Option, IsNone, ℕ, ◌+◌, ◌<◌, ◌≤◌, List, [], ◌∷◌, length, Bool, true, false, cond, Some, None, unwrap_or, Result, OnOk, refl, sym, ap, ◌∙◌, subst, arith, inl, inr}
+use Rattle.std.proofs.Common.{◌≡◌, Option, IsNone, ℕ, ◌+◌, ◌<◌, ◌≤◌, List, []}
+use Rattle.std.proofs.Common.{◌∷◌, length, Bool, true, false, cond, Some, None, unwrap_or}
+use Rattle.std.proofs.Common.{Result, OnOk, refl, sym, ap, ◌∙◌, subst, arith, inl, inr}
 use Rattle.std.specs.declared.cmp.Ordering.{Ordering}
 use Rattle.std.specs.declared.cmp.Ordering.TheVariants.{Less, Equal, Greater}
 use Rattle.std.specs.Ordering.{ordering_reverse}
@@ -21,10 +23,13 @@ pub none_from_IsNone : {X : Type 0} (o : Option X) → IsNone o → o ≡ None
 none_from_IsNone None n = refl
 none_from_IsNone (Some x) n = cc
 
-module _ {K X : Type 0} {cmp : K → K → Ordering} (order : IsTotalOrder cmp) {join : X → X → X} (laws : IsJoin join) where
+module _ {K X : Type 0} {cmp : K → K → Ordering} (order : IsTotalOrder cmp)
+    {join : X → X → X} (laws : IsJoin join) where
   -- at a key that es has
-  single_held_at : (e : K × X) (es : List (K × X)) (k : K) (v w : X) (r : Ordering) → cmp e.0 k ≡ r → IsOrdered cmp (e ∷ es) → value_at cmp (e ∷ es) k ≡ Some v
-      → (value_at cmp es k ≡ Some v → map_join cmp join es ((k, w) ∷ []) ≡ set_value (is_at (cmp k)) es (join v w))
+  single_held_at : (e : K × X) (es : List (K × X)) (k : K) (v w : X) (r : Ordering)
+      → cmp e.0 k ≡ r → IsOrdered cmp (e ∷ es) → value_at cmp (e ∷ es) k ≡ Some v
+      → (value_at cmp es k ≡ Some v
+      → map_join cmp join es ((k, w) ∷ []) ≡ set_value (is_at (cmp k)) es (join v w))
       → map_join cmp join (e ∷ es) ((k, w) ∷ []) ≡ set_value (is_at (cmp k)) (e ∷ es) (join v w)
   unfolding map_join join_entry
   single_held_at e es k v w Less p s f ih =
@@ -33,19 +38,26 @@ module _ {K X : Type 0} {cmp : K → K → Ordering} (order : IsTotalOrder cmp) 
   single_held_at e es k v w Equal p s f ih =
       let t : cmp k e.0 ≡ Equal = order.antisymm k e.0 ∙ ap ordering_reverse p in
       let held : e.1 ≡ v = ap (λ o. unwrap_or o v) (rw t at f) in
-      rw (p, t) (ap (λ x. (e.0, join x w) ∷ map_join cmp join es []) held ∙ ap (λ l. (e.0, join v w) ∷ l) (join_nothing cmp join es))
+      rw (p, t) (ap (λ x. (e.0, join x w) ∷ map_join cmp join es []) held
+      ∙ ap (λ l. (e.0, join v w) ∷ l) (join_nothing cmp join es))
   single_held_at e es k v w Greater p s f ih =
       let t : cmp k e.0 ≡ Less = order.antisymm k e.0 ∙ ap ordering_reverse p in
-      let n : value_at cmp (e ∷ es) k ≡ None = lookup-none (is_at (cmp k)) (e ∷ es) (none_below_head order k e es s t) in
+      let n : value_at cmp (e ∷ es) k ≡ None =
+      lookup-none (is_at (cmp k)) (e ∷ es) (none_below_head order k e es s t) in
       absurd (none-some v (sym n ∙ f))
 
-  pub single_held : (es : List (K × X)) (k : K) (v w : X) → IsOrdered cmp es → value_at cmp es k ≡ Some v → map_join cmp join es ((k, w) ∷ []) ≡ set_value (is_at (cmp k)) es (join v w)
+  pub single_held : (es : List (K × X)) (k : K) (v w : X) → IsOrdered cmp es
+      → value_at cmp es k ≡ Some v → map_join cmp join es ((k, w) ∷ [])
+      ≡ set_value (is_at (cmp k)) es (join v w)
   unfolding map_join join_entry
   single_held [] k v w s f = absurd (none-some v f)
-  single_held (e ∷ es) k v w s f = single_held_at e es k v w (cmp e.0 k) refl s f (single_held es k v w (sorted_tail cmp e.0 (keys_of es) s))
+  single_held (e ∷ es) k v w s f =
+      single_held_at e es k v w (cmp e.0 k) refl s f
+      (single_held es k v w (sorted_tail cmp e.0 (keys_of es) s))
 
   -- at a key that es lacks
-  single_new_at : (e : K × X) (es : List (K × X)) (k : K) (w : X) (r : Ordering) → cmp k e.0 ≡ r → value_at cmp (e ∷ es) k ≡ None
+  single_new_at : (e : K × X) (es : List (K × X)) (k : K) (w : X) (r : Ordering)
+      → cmp k e.0 ≡ r → value_at cmp (e ∷ es) k ≡ None
       → (value_at cmp es k ≡ None → map_join cmp join es ((k, w) ∷ []) ≡ insert_entry cmp es k w)
       → map_join cmp join (e ∷ es) ((k, w) ∷ []) ≡ insert_entry cmp (e ∷ es) k w
   unfolding map_join join_entry
@@ -57,56 +69,82 @@ module _ {K X : Type 0} {cmp : K → K → Ordering} (order : IsTotalOrder cmp) 
       let t : cmp e.0 k ≡ Less = order.antisymm e.0 k ∙ ap ordering_reverse p in
       rw (p, t) (ap (λ l. e ∷ l) (ih (rw p at f)))
 
-  pub single_new : (es : List (K × X)) (k : K) (w : X) → value_at cmp es k ≡ None → map_join cmp join es ((k, w) ∷ []) ≡ insert_entry cmp es k w
+  pub single_new : (es : List (K × X)) (k : K) (w : X) → value_at cmp es k ≡ None
+      → map_join cmp join es ((k, w) ∷ []) ≡ insert_entry cmp es k w
   unfolding map_join join_entry
   single_new [] k w f = refl
   single_new (e ∷ es) k w f = single_new_at e es k w (cmp k e.0) refl f (single_new es k w)
 
   -- two changes at one place
-  same_key : (e f : K × X) (es fs : List (K × X)) → e.0 ≡ f.0 → map_join cmp join (e ∷ es) (f ∷ fs) ≡ (e.0, join e.1 f.1) ∷ map_join cmp join es fs
+  same_key : (e f : K × X) (es fs : List (K × X)) → e.0 ≡ f.0
+      → map_join cmp join (e ∷ es) (f ∷ fs)
+      ≡ (e.0, join e.1 f.1) ∷ map_join cmp join es fs
   unfolding map_join join_entry
-  same_key e f es fs p = let t : cmp e.0 f.0 ≡ Equal = ap (cmp e.0) (sym p) ∙ tied_itself order e.0 in rw t refl
+  same_key e f es fs p = let t : cmp e.0 f.0 ≡ Equal =
+      ap (cmp e.0) (sym p) ∙ tied_itself order e.0 in rw t refl
 
   repeated : (es : List (K × X)) → map_join cmp join es es ≡ es
   unfolding map_join join_entry
   repeated [] = refl
-  repeated (e ∷ es) = same_key e e es es refl ∙ ap (λ v. (e.0, v) ∷ map_join cmp join es es) (laws.idempotent e.1) ∙ ap (λ l. e ∷ l) (repeated es)
+  repeated (e ∷ es) =
+      same_key e e es es refl ∙ ap (λ v. (e.0, v) ∷ map_join cmp join es es)
+      (laws.idempotent e.1) ∙ ap (λ l. e ∷ l) (repeated es)
 
-  join_set_at : (test : K → Bool) (e : K × X) (es : List (K × X)) (v w : X) (b : Bool) → map_join cmp join (set_value test es v) (set_value test es w) ≡ set_value test es (join v w)
-      → map_join cmp join (cond b ((e.0, v) ∷ es) (e ∷ set_value test es v)) (cond b ((e.0, w) ∷ es) (e ∷ set_value test es w)) ≡ cond b ((e.0, join v w) ∷ es) (e ∷ set_value test es (join v w))
-  join_set_at test e es v w true ih = same_key (e.0, v) (e.0, w) es es refl ∙ ap (λ l. (e.0, join v w) ∷ l) (repeated es)
-  join_set_at test e es v w false ih = same_key e e (set_value test es v) (set_value test es w) refl ∙ ap (λ x. (e.0, x) ∷ map_join cmp join (set_value test es v) (set_value test es w)) (laws.idempotent e.1) ∙ ap (λ l. e ∷ l) ih
+  join_set_at : (test : K → Bool) (e : K × X) (es : List (K × X)) (v w : X) (b : Bool)
+      → map_join cmp join (set_value test es v) (set_value test es w)
+      ≡ set_value test es (join v w)
+      → map_join cmp join (cond b ((e.0, v) ∷ es) (e ∷ set_value test es v))
+      (cond b ((e.0, w) ∷ es) (e ∷ set_value test es w))
+      ≡ cond b ((e.0, join v w) ∷ es) (e ∷ set_value test es (join v w))
+  join_set_at test e es v w true ih =
+      same_key (e.0, v) (e.0, w) es es refl ∙ ap (λ l. (e.0, join v w) ∷ l) (repeated es)
+  join_set_at test e es v w false ih =
+      same_key e e (set_value test es v) (set_value test es w) refl
+      ∙ ap (λ x. (e.0, x) ∷ map_join cmp join (set_value test es v) (set_value test es w))
+      (laws.idempotent e.1) ∙ ap (λ l. e ∷ l) ih
 
-  pub join_set : (test : K → Bool) (es : List (K × X)) (v w : X) → map_join cmp join (set_value test es v) (set_value test es w) ≡ set_value test es (join v w)
+  pub join_set : (test : K → Bool) (es : List (K × X)) (v w : X)
+      → map_join cmp join (set_value test es v) (set_value test es w)
+      ≡ set_value test es (join v w)
   unfolding map_join join_entry
   join_set test [] v w = refl
   join_set test (e ∷ es) v w = join_set_at test e es v w (test e.0) (join_set test es v w)
 
   -- ---- what a change of the value at a held key leaves
-  pub held_above : (es : List (K × X)) (k : K) (v u : X) → value_at cmp es k ≡ Some v → IsBelow join v u → IsBelow (map_join cmp join) es (set_value (is_at (cmp k)) es u)
+  pub held_above : (es : List (K × X)) (k : K) (v u : X) → value_at cmp es k ≡ Some v
+      → IsBelow join v u → IsBelow (map_join cmp join) es (set_value (is_at (cmp k)) es u)
   held_above es k v u f b =
       let test = is_at (cmp k) in
-      ap (λ l. map_join cmp join l (set_value test es u)) (sym (set_value_same test es v f)) ∙ join_set test es v u ∙ ap (set_value test es) b
+      ap (λ l. map_join cmp join l (set_value test es u)) (sym (set_value_same test es v f))
+      ∙ join_set test es v u ∙ ap (set_value test es) b
 
-  pub held_below : (es : List (K × X)) (k : K) (v u w : X) → IsOrdered cmp es → value_at cmp es k ≡ Some v → IsBelow join u (join v w)
-      → IsBelow (map_join cmp join) (set_value (is_at (cmp k)) es u) (map_join cmp join es ((k, w) ∷ []))
+  pub held_below : (es : List (K × X)) (k : K) (v u w : X) → IsOrdered cmp es
+      → value_at cmp es k ≡ Some v → IsBelow join u (join v w)
+      → IsBelow (map_join cmp join) (set_value (is_at (cmp k)) es u)
+      (map_join cmp join es ((k, w) ∷ []))
   held_below es k v u w s f b =
       let test = is_at (cmp k) in
       let joined = single_held es k v w s f in
-      ap (map_join cmp join (set_value test es u)) joined ∙ join_set test es u (join v w) ∙ ap (set_value test es) b ∙ sym joined
+      ap (map_join cmp join (set_value test es u)) joined ∙ join_set test es u (join v w)
+      ∙ ap (set_value test es) b ∙ sym joined
 
   -- ---- what `add_new` leaves
-  module _ {T E : Type 0} (es ds : List (K × X)) (k : K) (w : X) (absent : value_at cmp es k ≡ None) (r : Result T E) (added : OnOk r (ds ≡ insert_entry cmp es k w)) where
+  module _ {T E : Type 0} (es ds : List (K × X)) (k : K) (w : X)
+      (absent : value_at cmp es k ≡ None) (r : Result T E)
+      (added : OnOk r (ds ≡ insert_entry cmp es k w)) where
     pub added_joins : OnOk r (ds ≡ map_join cmp join es ((k, w) ∷ []))
     added_joins = on_ok_weaker r (λ p. p ∙ sym (single_new es k w absent)) added
 
   -- ---- the limits, for one pair
   module _ (same : (x y : K) → cmp x y ≡ Equal → x ≡ y) (limit : ℕ) (over : X → X → Type 0) where
-    single_value : (k q : K) (w u : X) (b : Bool) → is_at (cmp q) k ≡ b → cond b (Some w) None ≡ Some u → (q ≡ k) × (w ≡ u)
+    single_value : (k q : K) (w u : X) (b : Bool) → is_at (cmp q) k ≡ b
+        → cond b (Some w) None ≡ Some u → (q ≡ k) × (w ≡ u)
     single_value k q w u true p f = (same q k ((Equal-is (cmp q k)).0 p), ap (λ o. unwrap_or o u) f)
     single_value k q w u false p f = absurd (none-some u f)
 
-    pub not_over_held : (es : List (K × X)) (k : K) (v w : X) → IsOrdered cmp es → length es ≤ limit → value_at cmp es k ≡ Some v → ¬ over v w → ¬ MapOver cmp join limit over es ((k, w) ∷ [])
+    pub not_over_held : (es : List (K × X)) (k : K) (v w : X) → IsOrdered cmp es
+        → length es ≤ limit → value_at cmp es k ≡ Some v → ¬ over v w
+        → ¬ MapOver cmp join limit over es ((k, w) ∷ [])
     not_over_held es k v w s within f free (inl long) =
         let e = length-set_value (is_at (cmp k)) es (join v w) in
         let p = ap length (single_held es k v w s f) in
@@ -116,21 +154,28 @@ module _ {K X : Type 0} {cmp : K → K → Ordering} (order : IsTotalOrder cmp) 
         let held : a ≡ v = ap (λ o. unwrap_or o v) (sym left ∙ ap (value_at cmp es) found.0 ∙ f) in
         free (subst (λ x. over x w) held (subst (λ y. over a y) (sym found.1) o))
 
-    length_new_at : (e : K × X) (es : List (K × X)) (k : K) (w : X) (r : Ordering) → cmp k e.0 ≡ r → value_at cmp (e ∷ es) k ≡ None → (value_at cmp es k ≡ None → length (insert_entry cmp es k w) ≡ length es + 1)
+    length_new_at : (e : K × X) (es : List (K × X)) (k : K) (w : X) (r : Ordering)
+        → cmp k e.0 ≡ r → value_at cmp (e ∷ es) k ≡ None
+        → (value_at cmp es k ≡ None → length (insert_entry cmp es k w) ≡ length es + 1)
         → length (insert_entry cmp (e ∷ es) k w) ≡ length (e ∷ es) + 1
     length_new_at e es k w Less p f ih = rw p (omega arith)
     length_new_at e es k w Equal p f ih = absurd (none-some e.1 (sym (rw p at f)))
     length_new_at e es k w Greater p f ih = rw p (omega (arith, ih (rw p at f)))
 
-    pub length_new : (es : List (K × X)) (k : K) (w : X) → value_at cmp es k ≡ None → length (insert_entry cmp es k w) ≡ length es + 1
+    pub length_new : (es : List (K × X)) (k : K) (w : X) → value_at cmp es k ≡ None
+        → length (insert_entry cmp es k w) ≡ length es + 1
     length_new [] k w f = refl
     length_new (e ∷ es) k w f = length_new_at e es k w (cmp k e.0) refl f (length_new es k w)
 
-    pub over_new : (es : List (K × X)) (k : K) (w : X) → length es ≡ limit → value_at cmp es k ≡ None → MapOver cmp join limit over es ((k, w) ∷ [])
-    over_new es k w full f = let e = ap length (single_new es k w f) ∙ length_new es k w f in inl (omega (arith, e))
+    pub over_new : (es : List (K × X)) (k : K) (w : X) → length es ≡ limit
+        → value_at cmp es k ≡ None → MapOver cmp join limit over es ((k, w) ∷ [])
+    over_new es k w full f = let e =
+        ap length (single_new es k w f) ∙ length_new es k w f in inl (omega (arith, e))
 
-    pub not_over_new : (es : List (K × X)) (k : K) (w : X) → length es < limit → value_at cmp es k ≡ None → ¬ MapOver cmp join limit over es ((k, w) ∷ [])
-    not_over_new es k w room f (inl long) = let e = ap length (single_new es k w f) ∙ length_new es k w f in omega (arith, e)
+    pub not_over_new : (es : List (K × X)) (k : K) (w : X) → length es < limit
+        → value_at cmp es k ≡ None → ¬ MapOver cmp join limit over es ((k, w) ∷ [])
+    not_over_new es k w room f (inl long) = let e =
+        ap length (single_new es k w f) ∙ length_new es k w f in omega (arith, e)
     not_over_new es k w room f (inr (q, a, b, left, right, o)) =
         let found = single_value k q w b (is_at (cmp q) k) refl right in
         none-some a (sym f ∙ ap (value_at cmp es) (sym found.0) ∙ left)

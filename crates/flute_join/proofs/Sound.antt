@@ -1,5 +1,6 @@
 -- What holds of each value of a map, and of a map that has keys.
-use Rattle.std.proofs.Common.{◌≡◌, ◌≢◌, List, [], ◌∷◌, Bool, true, false, cond, Option, Some, unwrap_or, sym, ap, ◌∙◌, subst}
+use Rattle.std.proofs.Common.{◌≡◌, ◌≢◌, List, [], ◌∷◌, Bool, true, false, cond}
+use Rattle.std.proofs.Common.{Option, Some, unwrap_or, sym, ap, ◌∙◌, subst}
 use Rattle.std.specs.declared.cmp.Ordering.{Ordering}
 use Rattle.std.specs.declared.cmp.Ordering.TheVariants.{Less, Equal, Greater}
 use Rattle.std.specs.Ordering.{match_ordering}
@@ -14,35 +15,51 @@ use Rattle.flute_join.proofs.Ordered.{ordered-map_join}
 use Rattle.flute_join.proofs.Under.{ordered_under}
 
 module _ {K X : Type 0} (cmp : K → K → Ordering) (P : X → Type 0) where
-  found_first : (b : Bool) (v w : X) (o : Option X) → cond b (Some v) o ≡ Some w → P v → (o ≡ Some w → P w) → P w
+  found_first : (b : Bool) (v w : X) (o : Option X) → cond b (Some v) o ≡ Some w → P v
+      → (o ≡ Some w → P w) → P w
   found_first true v w o e p h = subst P (ap (λ x. unwrap_or x v) e) p
   found_first false v w o e p h = h e
 
-  pub each-value_at : (es : List (K × X)) (k : K) (w : X) → EachValue P es → value_at cmp es k ≡ Some w → P w
+  pub each-value_at : (es : List (K × X)) (k : K) (w : X) → EachValue P es
+      → value_at cmp es k ≡ Some w → P w
   each-value_at [] k w a e = absurd (none-some w e)
-  each-value_at (e ∷ es) k w a f = found_first (is_at (cmp k) e.0) e.1 w (value_at cmp es k) f a.0 (each-value_at es k w a.1)
+  each-value_at (e ∷ es) k w a f =
+      found_first (is_at (cmp k) e.0) e.1 w (value_at cmp es k) f a.0 (each-value_at es k w a.1)
 
-  each_set : (b : Bool) (e : K × X) (es fs : List (K × X)) (w : X) → P w → P e.1 → EachValue P es → EachValue P fs → EachValue P (cond b ((e.0, w) ∷ es) (e ∷ fs))
+  each_set : (b : Bool) (e : K × X) (es fs : List (K × X)) (w : X) → P w → P e.1
+      → EachValue P es → EachValue P fs → EachValue P (cond b ((e.0, w) ∷ es) (e ∷ fs))
   each_set true e es fs w p q a c = (p, a)
   each_set false e es fs w p q a c = (q, c)
 
-  pub each-set_value : (test : K → Bool) (es : List (K × X)) (w : X) → EachValue P es → P w → EachValue P (set_value test es w)
+  pub each-set_value : (test : K → Bool) (es : List (K × X)) (w : X) → EachValue P es → P w
+      → EachValue P (set_value test es w)
   each-set_value test [] w a p = tt
-  each-set_value test (e ∷ es) w a p = each_set (test e.0) e es (set_value test es w) w p a.0 a.1 (each-set_value test es w a.1 p)
+  each-set_value test (e ∷ es) w a p =
+      each_set (test e.0) e es (set_value test es w) w p a.0 a.1 (each-set_value test es w a.1 p)
 
-  each_put : (r : Ordering) (k : K) (e : K × X) (es fs : List (K × X)) (w : X) → P w → P e.1 → EachValue P es → EachValue P fs → EachValue P (match_ordering r ((k, w) ∷ e ∷ es) ((e.0, w) ∷ es) (e ∷ fs))
+  each_put : (r : Ordering) (k : K) (e : K × X) (es fs : List (K × X)) (w : X) → P w → P e.1
+      → EachValue P es → EachValue P fs
+      → EachValue P (match_ordering r ((k, w) ∷ e ∷ es) ((e.0, w) ∷ es) (e ∷ fs))
   each_put Less k e es fs w p q a c = (p, (q, a))
   each_put Equal k e es fs w p q a c = (p, a)
   each_put Greater k e es fs w p q a c = (q, c)
 
-  pub each-insert_entry : (es : List (K × X)) (k : K) (w : X) → EachValue P es → P w → EachValue P (insert_entry cmp es k w)
+  pub each-insert_entry : (es : List (K × X)) (k : K) (w : X) → EachValue P es → P w
+      → EachValue P (insert_entry cmp es k w)
   each-insert_entry [] k w a p = (p, tt)
-  each-insert_entry (e ∷ es) k w a p = each_put (cmp k e.0) k e es (insert_entry cmp es k w) w p a.0 a.1 (each-insert_entry es k w a.1 p)
+  each-insert_entry (e ∷ es) k w a p =
+      each_put (cmp k e.0) k e es (insert_entry cmp es k w) w p a.0 a.1
+      (each-insert_entry es k w a.1 p)
 
 module _ {K X : Type 0} {cmp : K → K → Ordering} (order : IsTotalOrder cmp) (join : X → X → X) where
   pub some_above : (es fs : List (K × X)) → IsBelow (map_join cmp join) es fs → es ≢ [] → fs ≢ []
-  some_above es fs b n e = n (sym (join_nothing cmp join es) ∙ ap (map_join cmp join es) (sym e) ∙ b ∙ e)
+  some_above es fs b n e =
+      n (sym (join_nothing cmp join es) ∙ ap (map_join cmp join es) (sym e) ∙ b ∙ e)
 
   -- the keys of what lies below a join ascend
-  pub ordered_between : (es fs ds : List (K × X)) → IsBelow (map_join cmp join) ds (map_join cmp join es fs) → IsOrdered cmp es → IsOrdered cmp fs → IsOrdered cmp ds
-  ordered_between es fs ds b s t = ordered_under order join ds (map_join cmp join es fs) b (ordered-map_join order join es fs s t)
+  pub ordered_between : (es fs ds : List (K × X))
+      → IsBelow (map_join cmp join) ds (map_join cmp join es fs) → IsOrdered cmp es
+      → IsOrdered cmp fs → IsOrdered cmp ds
+  ordered_between es fs ds b s t =
+      ordered_under order join ds (map_join cmp join es fs) b
+      (ordered-map_join order join es fs s t)

@@ -1,5 +1,6 @@
 -- The value at a key of a join of maps, and how many keys it has.
-use Rattle.std.proofs.Common.{◌≡◌, ◌≤◌, List, [], ◌∷◌, length, Bool, true, false, Option, Some, None, refl, sym, ap, ◌∙◌, arith}
+use Rattle.std.proofs.Common.{◌≡◌, ◌≤◌, List, [], ◌∷◌, length, Bool, true, false}
+use Rattle.std.proofs.Common.{Option, Some, None, refl, sym, ap, ◌∙◌, arith}
 use Rattle.std.specs.declared.cmp.Ordering.{Ordering}
 use Rattle.std.specs.declared.cmp.Ordering.TheVariants.{Less, Equal, Greater}
 use Rattle.std.specs.Ordering.{ordering_reverse, is_eq}
@@ -10,32 +11,47 @@ use Rattle.std.specs.BTreeMap.{is_at}
 use Rattle.std.proofs.lemmas.Map.{lookup-none}
 use Rattle.std.proofs.lemmas.Map.Entries.{none_below_head, none_past_head}
 use Rattle.std.proofs.lemmas.Map.Keys.{sorted_tail, IsDistinct-from_sorted}
-use Rattle.flute_join.specs.MapLaws.{first_less, first_equal, first_greater, join_nothing, nothing_join}
+use Rattle.flute_join.specs.MapLaws.{first_less, first_equal, first_greater, join_nothing}
+use Rattle.flute_join.specs.MapLaws.{nothing_join}
 use Rattle.flute_join.specs.JoinMap.{map_join, join_values, value_at, IsOrdered}
 
 module _ {K X : Type 0} {cmp : K → K → Ordering} (order : IsTotalOrder cmp) where
   -- the entries after the first have no value at its key
-  pub absent_past : (p : K × X) (rest : List (K × X)) (q : K) → IsOrdered cmp (p ∷ rest) → is_at (cmp q) p.0 ≡ true → value_at cmp rest q ≡ None
-  absent_past p rest q s t = lookup-none (is_at (cmp q)) rest (none_past_head (eq_by_cmp_equiv order) q p rest (IsDistinct-from_sorted cmp (keys_of (p ∷ rest)) s) t)
+  pub absent_past : (p : K × X) (rest : List (K × X)) (q : K) → IsOrdered cmp (p ∷ rest)
+      → is_at (cmp q) p.0 ≡ true → value_at cmp rest q ≡ None
+  absent_past p rest q s t =
+      lookup-none (is_at (cmp q)) rest (none_past_head (eq_by_cmp_equiv order) q p rest
+      (IsDistinct-from_sorted cmp (keys_of (p ∷ rest)) s) t)
 
 module _ {K X : Type 0} {cmp : K → K → Ordering} (order : IsTotalOrder cmp) (join : X → X → X) where
-  absent_below : (q : K) (e f : K × X) (fs : List (K × X)) → cmp q e.0 ≡ Equal → cmp e.0 f.0 ≡ Less → IsOrdered cmp (f ∷ fs) → value_at cmp (f ∷ fs) q ≡ None
-  absent_below q e f fs p l s = lookup-none (is_at (cmp q)) (f ∷ fs) (none_below_head order q f fs s (order.congr q e.0 f.0 p ∙ l))
+  absent_below : (q : K) (e f : K × X) (fs : List (K × X)) → cmp q e.0 ≡ Equal
+      → cmp e.0 f.0 ≡ Less → IsOrdered cmp (f ∷ fs) → value_at cmp (f ∷ fs) q ≡ None
+  absent_below q e f fs p l s =
+      lookup-none (is_at (cmp q)) (f ∷ fs)
+      (none_below_head order q f fs s (order.congr q e.0 f.0 p ∙ l))
 
   pub join_values_none : (o : Option X) → join_values join o None ≡ o
   join_values_none None = refl
   join_values_none (Some v) = refl
 
   -- by the test of the first keys
-  at_less : (q : K) (e f : K × X) (es fs : List (K × X)) (b : Bool) → is_at (cmp q) e.0 ≡ b → cmp e.0 f.0 ≡ Less → IsOrdered cmp (f ∷ fs)
-      → value_at cmp (map_join cmp join es (f ∷ fs)) q ≡ join_values join (value_at cmp es q) (value_at cmp (f ∷ fs) q)
-      → value_at cmp (e ∷ map_join cmp join es (f ∷ fs)) q ≡ join_values join (value_at cmp (e ∷ es) q) (value_at cmp (f ∷ fs) q)
-  at_less q e f es fs true t l s ih = rw t (sym (ap (join_values join (Some e.1)) (absent_below q e f fs ((Equal-is (cmp q e.0)).0 t) l s)))
+  at_less : (q : K) (e f : K × X) (es fs : List (K × X)) (b : Bool) → is_at (cmp q) e.0 ≡ b
+      → cmp e.0 f.0 ≡ Less → IsOrdered cmp (f ∷ fs)
+      → value_at cmp (map_join cmp join es (f ∷ fs)) q
+      ≡ join_values join (value_at cmp es q) (value_at cmp (f ∷ fs) q)
+      → value_at cmp (e ∷ map_join cmp join es (f ∷ fs)) q
+      ≡ join_values join (value_at cmp (e ∷ es) q) (value_at cmp (f ∷ fs) q)
+  at_less q e f es fs true t l s ih =
+      rw t (sym (ap (join_values join (Some e.1))
+      (absent_below q e f fs ((Equal-is (cmp q e.0)).0 t) l s)))
   at_less q e f es fs false t l s ih = rw t ih
 
-  at_equal : (q : K) (e f : K × X) (es fs : List (K × X)) (b : Bool) → is_at (cmp q) e.0 ≡ b → cmp e.0 f.0 ≡ Equal
-      → value_at cmp (map_join cmp join es fs) q ≡ join_values join (value_at cmp es q) (value_at cmp fs q)
-      → value_at cmp ((e.0, join e.1 f.1) ∷ map_join cmp join es fs) q ≡ join_values join (value_at cmp (e ∷ es) q) (value_at cmp (f ∷ fs) q)
+  at_equal : (q : K) (e f : K × X) (es fs : List (K × X)) (b : Bool) → is_at (cmp q) e.0 ≡ b
+      → cmp e.0 f.0 ≡ Equal
+      → value_at cmp (map_join cmp join es fs) q
+      ≡ join_values join (value_at cmp es q) (value_at cmp fs q)
+      → value_at cmp ((e.0, join e.1 f.1) ∷ map_join cmp join es fs) q
+      ≡ join_values join (value_at cmp (e ∷ es) q) (value_at cmp (f ∷ fs) q)
   at_equal q e f es fs true t l ih =
       let u : is_at (cmp q) f.0 ≡ true = ap is_eq (sym (alike_right order e.0 f.0 q l)) ∙ t in
       rw (t, u) refl
@@ -43,48 +59,80 @@ module _ {K X : Type 0} {cmp : K → K → Ordering} (order : IsTotalOrder cmp) 
       let u : is_at (cmp q) f.0 ≡ false = ap is_eq (sym (alike_right order e.0 f.0 q l)) ∙ t in
       rw (t, u) ih
 
-  at_greater : (q : K) (e f : K × X) (es fs : List (K × X)) (b : Bool) → is_at (cmp q) f.0 ≡ b → cmp f.0 e.0 ≡ Less → IsOrdered cmp (e ∷ es)
-      → value_at cmp (map_join cmp join (e ∷ es) fs) q ≡ join_values join (value_at cmp (e ∷ es) q) (value_at cmp fs q)
-      → value_at cmp (f ∷ map_join cmp join (e ∷ es) fs) q ≡ join_values join (value_at cmp (e ∷ es) q) (value_at cmp (f ∷ fs) q)
+  at_greater : (q : K) (e f : K × X) (es fs : List (K × X)) (b : Bool) → is_at (cmp q) f.0 ≡ b
+      → cmp f.0 e.0 ≡ Less → IsOrdered cmp (e ∷ es)
+      → value_at cmp (map_join cmp join (e ∷ es) fs) q
+      ≡ join_values join (value_at cmp (e ∷ es) q) (value_at cmp fs q)
+      → value_at cmp (f ∷ map_join cmp join (e ∷ es) fs) q
+      ≡ join_values join (value_at cmp (e ∷ es) q) (value_at cmp (f ∷ fs) q)
   at_greater q e f es fs true t l s ih =
-      rw t (sym (ap (λ o. join_values join o (Some f.1)) (absent_below q f e es ((Equal-is (cmp q f.0)).0 t) l s)))
+      rw t (sym (ap (λ o. join_values join o (Some f.1))
+      (absent_below q f e es ((Equal-is (cmp q f.0)).0 t) l s)))
   at_greater q e f es fs false t l s ih = rw t ih
 
   -- by which key is first
-  at_first : (q : K) (e f : K × X) (es fs : List (K × X)) (r : Ordering) → cmp e.0 f.0 ≡ r → IsOrdered cmp (e ∷ es) → IsOrdered cmp (f ∷ fs)
-      → value_at cmp (map_join cmp join es (f ∷ fs)) q ≡ join_values join (value_at cmp es q) (value_at cmp (f ∷ fs) q)
-      → value_at cmp (map_join cmp join es fs) q ≡ join_values join (value_at cmp es q) (value_at cmp fs q)
-      → value_at cmp (map_join cmp join (e ∷ es) fs) q ≡ join_values join (value_at cmp (e ∷ es) q) (value_at cmp fs q)
-      → value_at cmp (map_join cmp join (e ∷ es) (f ∷ fs)) q ≡ join_values join (value_at cmp (e ∷ es) q) (value_at cmp (f ∷ fs) q)
-  at_first q e f es fs Less l s t a b c = ap (λ m. value_at cmp m q) (first_less cmp join e f es fs l) ∙ at_less q e f es fs (is_at (cmp q) e.0) refl l t a
-  at_first q e f es fs Equal l s t a b c = ap (λ m. value_at cmp m q) (first_equal cmp join e f es fs l) ∙ at_equal q e f es fs (is_at (cmp q) e.0) refl l b
+  at_first : (q : K) (e f : K × X) (es fs : List (K × X)) (r : Ordering) → cmp e.0 f.0 ≡ r
+      → IsOrdered cmp (e ∷ es) → IsOrdered cmp (f ∷ fs)
+      → value_at cmp (map_join cmp join es (f ∷ fs)) q
+      ≡ join_values join (value_at cmp es q) (value_at cmp (f ∷ fs) q)
+      → value_at cmp (map_join cmp join es fs) q
+      ≡ join_values join (value_at cmp es q) (value_at cmp fs q)
+      → value_at cmp (map_join cmp join (e ∷ es) fs) q
+      ≡ join_values join (value_at cmp (e ∷ es) q) (value_at cmp fs q)
+      → value_at cmp (map_join cmp join (e ∷ es) (f ∷ fs)) q
+      ≡ join_values join (value_at cmp (e ∷ es) q) (value_at cmp (f ∷ fs) q)
+  at_first q e f es fs Less l s t a b c =
+      ap (λ m. value_at cmp m q) (first_less cmp join e f es fs l)
+      ∙ at_less q e f es fs (is_at (cmp q) e.0) refl l t a
+  at_first q e f es fs Equal l s t a b c =
+      ap (λ m. value_at cmp m q) (first_equal cmp join e f es fs l)
+      ∙ at_equal q e f es fs (is_at (cmp q) e.0) refl l b
   at_first q e f es fs Greater l s t a b c =
       let u : cmp f.0 e.0 ≡ Less = order.antisymm f.0 e.0 ∙ ap ordering_reverse l in
-      ap (λ m. value_at cmp m q) (first_greater cmp join e f es fs l) ∙ at_greater q e f es fs (is_at (cmp q) f.0) refl u s c
+      ap (λ m. value_at cmp m q) (first_greater cmp join e f es fs l)
+      ∙ at_greater q e f es fs (is_at (cmp q) f.0) refl u s c
 
   values_past : (q : K) (e : K × X) (es : List (K × X)) → IsOrdered cmp (e ∷ es)
-      → ((fs : List (K × X)) → IsOrdered cmp fs → value_at cmp (map_join cmp join es fs) q ≡ join_values join (value_at cmp es q) (value_at cmp fs q))
-      → (fs : List (K × X)) → IsOrdered cmp fs → value_at cmp (map_join cmp join (e ∷ es) fs) q ≡ join_values join (value_at cmp (e ∷ es) q) (value_at cmp fs q)
-  values_past q e es s ih [] t = ap (λ m. value_at cmp m q) (join_nothing cmp join (e ∷ es)) ∙ sym (join_values_none (value_at cmp (e ∷ es) q))
+      → ((fs : List (K × X)) → IsOrdered cmp fs
+      → value_at cmp (map_join cmp join es fs) q
+      ≡ join_values join (value_at cmp es q) (value_at cmp fs q))
+      → (fs : List (K × X)) → IsOrdered cmp fs
+      → value_at cmp (map_join cmp join (e ∷ es) fs) q
+      ≡ join_values join (value_at cmp (e ∷ es) q) (value_at cmp fs q)
+  values_past q e es s ih [] t =
+      ap (λ m. value_at cmp m q) (join_nothing cmp join (e ∷ es))
+      ∙ sym (join_values_none (value_at cmp (e ∷ es) q))
   values_past q e es s ih (f ∷ fs) t =
       let u = sorted_tail cmp f.0 (keys_of fs) t in
-      at_first q e f es fs (cmp e.0 f.0) refl s t (ih (f ∷ fs) t) (ih fs u) (values_past q e es s ih fs u)
+      at_first q e f es fs (cmp e.0 f.0) refl s t (ih (f ∷ fs) t) (ih fs u)
+      (values_past q e es s ih fs u)
 
   -- at each key the join has the values of the two, joined
-  pub value_at-map_join : (es fs : List (K × X)) (q : K) → IsOrdered cmp es → IsOrdered cmp fs → value_at cmp (map_join cmp join es fs) q ≡ join_values join (value_at cmp es q) (value_at cmp fs q)
+  pub value_at-map_join : (es fs : List (K × X)) (q : K) → IsOrdered cmp es → IsOrdered cmp fs
+      → value_at cmp (map_join cmp join es fs) q
+      ≡ join_values join (value_at cmp es q) (value_at cmp fs q)
   value_at-map_join [] fs q s t = ap (λ m. value_at cmp m q) (nothing_join cmp join fs)
-  value_at-map_join (e ∷ es) fs q s t = values_past q e es s (λ gs u. value_at-map_join es gs q (sorted_tail cmp e.0 (keys_of es) s) u) fs t
+  value_at-map_join (e ∷ es) fs q s t =
+      values_past q e es s (λ gs u. value_at-map_join es gs q
+      (sorted_tail cmp e.0 (keys_of es) s) u) fs t
 
   -- ---- a join has no fewer keys
-  length_at : (e f : K × X) (es fs : List (K × X)) (r : Ordering) → cmp e.0 f.0 ≡ r → length es ≤ length (map_join cmp join es (f ∷ fs)) → length es ≤ length (map_join cmp join es fs)
-      → length (e ∷ es) ≤ length (map_join cmp join (e ∷ es) fs) → length (e ∷ es) ≤ length (map_join cmp join (e ∷ es) (f ∷ fs))
+  length_at : (e f : K × X) (es fs : List (K × X)) (r : Ordering) → cmp e.0 f.0 ≡ r
+      → length es ≤ length (map_join cmp join es (f ∷ fs))
+      → length es ≤ length (map_join cmp join es fs)
+      → length (e ∷ es) ≤ length (map_join cmp join (e ∷ es) fs)
+      → length (e ∷ es) ≤ length (map_join cmp join (e ∷ es) (f ∷ fs))
   length_at e f es fs Less l a b c = omega (arith, ap length (first_less cmp join e f es fs l), a)
   length_at e f es fs Equal l a b c = omega (arith, ap length (first_equal cmp join e f es fs l), b)
-  length_at e f es fs Greater l a b c = omega (arith, ap length (first_greater cmp join e f es fs l), c)
+  length_at e f es fs Greater l a b c =
+      omega (arith, ap length (first_greater cmp join e f es fs l), c)
 
-  length_past : (e : K × X) (es : List (K × X)) → ((fs : List (K × X)) → length es ≤ length (map_join cmp join es fs)) → (fs : List (K × X)) → length (e ∷ es) ≤ length (map_join cmp join (e ∷ es) fs)
+  length_past : (e : K × X) (es : List (K × X))
+      → ((fs : List (K × X)) → length es ≤ length (map_join cmp join es fs))
+      → (fs : List (K × X)) → length (e ∷ es) ≤ length (map_join cmp join (e ∷ es) fs)
   length_past e es ih [] = omega (arith, ap length (join_nothing cmp join (e ∷ es)))
-  length_past e es ih (f ∷ fs) = length_at e f es fs (cmp e.0 f.0) refl (ih (f ∷ fs)) (ih fs) (length_past e es ih fs)
+  length_past e es ih (f ∷ fs) =
+      length_at e f es fs (cmp e.0 f.0) refl (ih (f ∷ fs)) (ih fs) (length_past e es ih fs)
 
   pub length-le-map_join : (es fs : List (K × X)) → length es ≤ length (map_join cmp join es fs)
   length-le-map_join [] fs = omega arith

@@ -2,7 +2,8 @@
 ghost use Rattle.std.specs.Prelude.{◌≡◌, IfErr, IsOk, OnOk, OnErr, IsNone, IsTrue, ◌↔◌};
 ghost use Rattle.std.specs.Option.{option_copied};
 ghost use Rattle.flute_join.specs.Semilattice.{IsBelow};
-ghost use Rattle.flute_join.specs.Cell.{cell_join, one_value, cell_join_laws, IsKnown, CellNeedsMemory};
+ghost use Rattle.flute_join.specs.Cell.{cell_join, one_value, cell_join_laws, IsKnown};
+ghost use Rattle.flute_join.specs.Cell.{CellNeedsMemory};
 
 use crate::join::Join;
 use crate::refusal::JoinRefusal;

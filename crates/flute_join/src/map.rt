@@ -1,12 +1,15 @@
 //! A map whose values are joined at shared keys.
-ghost use Rattle.std.specs.Prelude.{◌≡◌, ◌≢◌, ℕ, Some, slice_get, ◌<◌, ◌≤◌, [], ◌∷◌, length, is_some, ◌==◌, List, IsNone, IfErr, OnOk, OnErr, ◌↔◌};
+ghost use Rattle.std.specs.Prelude.{◌≡◌, ◌≢◌, ℕ, Some, slice_get, ◌<◌, ◌≤◌};
+ghost use Rattle.std.specs.Prelude.{[], ◌∷◌, length, is_some, ◌==◌, List, IsNone, IfErr};
+ghost use Rattle.std.specs.Prelude.{OnOk, OnErr, ◌↔◌};
 ghost use Rattle.std.specs.declared.cmp.Ordering.TheVariants.{Less};
 ghost use Rattle.std.specs.Bool.{OnTrue, OnFalse};
 ghost use Rattle.std.specs.Option.{option_copied, option_copied_mut, ForSome};
 ghost use Rattle.std.specs.BTreeMap.{insert_entry};
 ghost use Rattle.std.specs.Map.Iter.{ShowsInOrder, deref_pair};
 ghost use Rattle.std.specs.Borrow.{sem};
-ghost use Rattle.flute_join.specs.JoinMap.{IsOrdered, value_at, map_join, MapOver, MapNeedsMemory, EachValue, IsSound};
+ghost use Rattle.flute_join.specs.JoinMap.{IsOrdered, value_at, map_join, MapOver, MapNeedsMemory};
+ghost use Rattle.flute_join.specs.JoinMap.{EachValue, IsSound};
 ghost use Rattle.flute_join.specs.Stopped.{StopsJoining};
 ghost use Rattle.flute_join.specs.Semilattice.{IsBelow};
 ghost use Rattle.flute_join.specs.MapLaws.{map_join_laws};

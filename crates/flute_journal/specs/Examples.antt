@@ -1,5 +1,6 @@
 -- Worked examples, computed from the definitions.
-use Rattle.std.specs.Prelude.{◌≡◌, refl, ℕ, ◌+◌, ◌*◌, ◌^◌, List, [], ◌∷◌, ◌++◌, length, replicate, Option, Some, None}
+use Rattle.std.specs.Prelude.{◌≡◌, refl, ℕ, ◌+◌, ◌*◌, ◌^◌, List, [], ◌∷◌}
+use Rattle.std.specs.Prelude.{◌++◌, length, replicate, Option, Some, None}
 use Rattle.flute_parts.specs.Session.{session}
 use Rattle.flute_parts.specs.Information.{information}
 use Rattle.flute_parts.specs.Facts.{IsRising, fact_at}
@@ -9,11 +10,13 @@ use Rattle.flute_parts.specs.declared.key.Key.{Key}
 use Rattle.flute_parts.specs.declared.symbol_id.SymbolId.{SymbolId}
 use Rattle.flute_parts.specs.declared.address.Part.TheVariants.{Symbol as SymbolPart}
 use Rattle.flute_parts.specs.declared.fact.Fact.{Fact}
-use Rattle.flute_parts.specs.declared.fact.Fact.TheVariants.{Info, InfoConflict, Symbol, SymbolConflict}
+use Rattle.flute_parts.specs.declared.fact.Fact.TheVariants.{Info, InfoConflict, Symbol}
+use Rattle.flute_parts.specs.declared.fact.Fact.TheVariants.{SymbolConflict}
 use Rattle.flute_journal.specs.declared.fault.ReadFault.{ReadFault}
 use Rattle.flute_journal.specs.declared.fault.ReadFault.TheVariants as faults
 use Rattle.flute_journal.specs.declared.format.version.Version.TheVariants.{One, Two}
-use Rattle.flute_journal.specs.Format.{sender_size, header, header_in, key_bytes, spelling_in, spelling}
+use Rattle.flute_journal.specs.Format.{sender_size, header, header_in, key_bytes, spelling_in}
+use Rattle.flute_journal.specs.Format.{spelling}
 use Rattle.flute_journal.specs.Faults.{header_fault, version_in, next_fault}
 use Rattle.flute_journal.specs.JournalFraming.{before}
 

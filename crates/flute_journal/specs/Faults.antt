@@ -1,5 +1,7 @@
 -- What is wrong with bytes that are no journal: the first fault in the order of the fields.
-use Rattle.std.specs.Prelude.{ℕ, ◌+◌, Bool, true, not, ◌&&◌, ◌||◌, ◌==◌, nat_lt, nat_le, if◌then◌else◌, ◌^◌, List, [], ◌∷◌, length, take, drop, bytes_eq, Option, Some, None}
+use Rattle.std.specs.Prelude.{ℕ, ◌+◌, Bool, true, not, ◌&&◌, ◌||◌, ◌==◌, nat_lt}
+use Rattle.std.specs.Prelude.{nat_le, if◌then◌else◌, ◌^◌, List, [], ◌∷◌, length}
+use Rattle.std.specs.Prelude.{take, drop, bytes_eq, Option, Some, None}
 use Rattle.std.specs.Ordering.{is_lt}
 use Rattle.flute_parts.specs.BigEndian.{big_endian}
 use Rattle.flute_parts.specs.Session.{session}

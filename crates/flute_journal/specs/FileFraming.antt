@@ -1,5 +1,6 @@
 -- How a datagram file is read, record by record.
-use Rattle.std.specs.Prelude.{ℕ, ◌+◌, nat_le, true, List, [], ◌∷◌, length, take, drop, Option, None, ⊤}
+use Rattle.std.specs.Prelude.{ℕ, ◌+◌, nat_le, true, List, [], ◌∷◌, length, take, drop}
+use Rattle.std.specs.Prelude.{Option, None, ⊤}
 use Rattle.flute_parts.specs.BigEndian.{big_endian}
 use Rattle.flute_journal.specs.declared.fault.ReadFault.{ReadFault}
 use Rattle.flute_journal.specs.declared.fault.ReadFault.TheVariants as faults

@@ -1,10 +1,13 @@
 -- How framed files are read, and which fault bytes have that are none.
-use Rattle.std.specs.Prelude.{◌≡◌, ℕ, ◌<◌, ◌≤◌, ◌⊎◌, Bool, true, false, IsTrue, List, [], ◌∷◌, ◌++◌, length, drop, Option, Some, None, ⊤, IfSome, Result, Ok, Err}
+use Rattle.std.specs.Prelude.{◌≡◌, ℕ, ◌<◌, ◌≤◌, ◌⊎◌, Bool, true, false}
+use Rattle.std.specs.Prelude.{IsTrue, List, [], ◌∷◌, ◌++◌, length, drop, Option, Some}
+use Rattle.std.specs.Prelude.{None, ⊤, IfSome, Result, Ok, Err}
 use Rattle.std.specs.Io.KnownBytes.{Consumes, Keeps, IsAtEnd}
 use Rattle.flute_journal.specs.declared.fault.ReadFault.{ReadFault}
 use Rattle.flute_journal.specs.declared.fault.ReadFault.TheVariants as faults
 use Rattle.flute_journal.specs.declared.readers.reader_state.ReaderState.{ReaderState}
-use Rattle.flute_journal.specs.declared.readers.reader_state.ReaderState.TheVariants.{Header, Items, Ended, Failed}
+use Rattle.flute_journal.specs.declared.readers.reader_state.ReaderState.TheVariants.{Header, Items}
+use Rattle.flute_journal.specs.declared.readers.reader_state.ReaderState.TheVariants.{Ended, Failed}
 use Rattle.flute_journal.specs.Frame.{Frame, AreItems, up_to_end}
 use Rattle.flute_journal.specs.Input.{AsksMemory, IsFaultUpTo, IsSettled, IsWithin}
 
@@ -92,7 +95,8 @@ module _ {V P T : Type 0} (framing : Framing V P T) where
   ReadsNext limit place old new (Ok None) =
       Consumes old new (framing.frame.end (framing.count place)) × IsAtEnd new
   ReadsNext limit place old new (Err f) =
-      IsFaultUpTo (framing.frame.end (framing.count place)) (framing.next_fault place limit) old new f
+      IsFaultUpTo (framing.frame.end (framing.count place))
+      (framing.next_fault place limit) old new f
 
   -- how many items were given
   abbrev pub count_at : ReaderState P → ℕ
@@ -119,7 +123,8 @@ module _ {V P T : Type 0} (framing : Framing V P T) where
 
   -- or the end
   abbrev pub end_bytes : T → ReaderState P → List ℕ
-  end_bytes told state = opening told state ++ framing.frame.end (framing.count (place_at told state))
+  end_bytes told state =
+      opening told state ++ framing.frame.end (framing.count (place_at told state))
 
   -- the fault of the bytes that are left, up to the next item
   abbrev pub fault_from : ReaderState P → ℕ → List ℕ → Option ReadFault

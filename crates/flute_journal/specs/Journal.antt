@@ -8,7 +8,8 @@ use Rattle.flute_parts.specs.Facts.{Same, IsRising}
 use Rattle.flute_parts.specs.Ranges.{IsFact, IsKey}
 use Rattle.flute_journal.specs.declared.format.version.Version.{Version}
 use Rattle.flute_journal.specs.declared.format.version.Version.TheVariants.{One, Two}
-use Rattle.flute_journal.specs.Format.{sender_size, fact_key, header_in, entry_in, end, spelling_in, spelling}
+use Rattle.flute_journal.specs.Format.{sender_size, fact_key, header_in, entry_in, end, spelling_in}
+use Rattle.flute_journal.specs.Format.{spelling}
 use Rattle.flute_journal.specs.Frame.{Frame, IsWhole}
 
 -- entries of this version have room for the sender: in version 1 it is 0

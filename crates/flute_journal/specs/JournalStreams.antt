@@ -8,7 +8,8 @@ use Rattle.flute_journal.specs.declared.fault.LoadFault.{LoadFault}
 use Rattle.flute_journal.specs.declared.fault.LoadFault.TheVariants.{Read, Full, OutOfMemory}
 use Rattle.flute_journal.specs.declared.readers.entry_fields.Before.{Before}
 use Rattle.flute_journal.specs.declared.readers.reader_state.ReaderState.{ReaderState}
-use Rattle.flute_journal.specs.declared.readers.reader_state.ReaderState.TheVariants.{Header, Items, Ended}
+use Rattle.flute_journal.specs.declared.readers.reader_state.ReaderState.TheVariants.{Header, Items}
+use Rattle.flute_journal.specs.declared.readers.reader_state.ReaderState.TheVariants.{Ended}
 use Rattle.flute_journal.specs.declared.readers.reader_state.ReaderState.TheVariants.{Failed}
 use Rattle.flute_journal.specs.declared.streams.journal_stream.JournalStream.{JournalStream}
 use Rattle.flute_journal.specs.declared.streams.journal_stream.LentStream.{LentStream}

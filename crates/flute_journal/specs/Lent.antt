@@ -1,5 +1,6 @@
 -- Entries and records that lie whole in memory.
-use Rattle.std.specs.Prelude.{◌≡◌, ℕ, ◌+◌, ◌≤◌, ◌++◌, IfSome, IsTrue, List, length, take, Option, Some, None, Result, Ok, Err}
+use Rattle.std.specs.Prelude.{◌≡◌, ℕ, ◌+◌, ◌≤◌, ◌++◌, IfSome, IsTrue, List}
+use Rattle.std.specs.Prelude.{length, take, Option, Some, None, Result, Ok, Err}
 use Rattle.std.specs.Io.KnownBytes.{Consumes}
 use Rattle.flute_parts.specs.Addresses.{address}
 use Rattle.flute_parts.specs.declared.address.Address.{Address}

@@ -1,11 +1,13 @@
 -- The outcome of a merge of two journals.
-use Rattle.std.specs.Prelude.{◌≡◌, ◌≢◌, ℕ, ◌≤◌, List, [], ◌∷◌, ◌++◌, length, Option, Some, ⊤, IfSome, Result, Ok, Err}
+use Rattle.std.specs.Prelude.{◌≡◌, ◌≢◌, ℕ, ◌≤◌, List, [], ◌∷◌, ◌++◌}
+use Rattle.std.specs.Prelude.{length, Option, Some, ⊤, IfSome, Result, Ok, Err}
 use Rattle.std.specs.List.{AllByRecursion}
 use Rattle.std.specs.Io.KnownBytes.{Appends, Consumes}
 use Rattle.flute_parts.specs.declared.fact.Fact.{Fact}
 use Rattle.flute_parts.specs.Ranges.{IsFact}
 use Rattle.flute_journal.specs.declared.merge.two_streams.MergeFault.{MergeFault}
-use Rattle.flute_journal.specs.declared.merge.two_streams.MergeFault.TheVariants.{First, Second, Write}
+use Rattle.flute_journal.specs.declared.merge.two_streams.MergeFault.TheVariants.{First, Second}
+use Rattle.flute_journal.specs.declared.merge.two_streams.MergeFault.TheVariants.{Write}
 use Rattle.flute_journal.specs.declared.format.version.Version.{Version}
 use Rattle.flute_journal.specs.Format.{header, entry, entry_in, end, without_end_in, without_end}
 use Rattle.flute_journal.specs.Input.{Fails, IsWithin}

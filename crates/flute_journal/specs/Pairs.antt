@@ -6,7 +6,8 @@ use Rattle.flute_journal.specs.declared.fault.LoadFault.TheVariants.{Read, Full,
 use Rattle.flute_journal.specs.declared.merge.streams_fault.StreamsFault.{StreamsFault}
 use Rattle.flute_journal.specs.declared.merge.streams_fault.StreamsFault.TheVariants as streams
 use Rattle.flute_journal.specs.declared.merge.two_streams.MergeFault.{MergeFault}
-use Rattle.flute_journal.specs.declared.merge.two_streams.MergeFault.TheVariants.{First, Second, Write}
+use Rattle.flute_journal.specs.declared.merge.two_streams.MergeFault.TheVariants.{First, Second}
+use Rattle.flute_journal.specs.declared.merge.two_streams.MergeFault.TheVariants.{Write}
 
 -- the fault of the input with that number
 abbrev pub fault_at : ℕ → ReadFault → MergeFault

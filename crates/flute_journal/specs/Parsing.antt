@@ -1,5 +1,7 @@
 -- What the bytes of an entry up to those of its symbol say.
-use Rattle.std.specs.Prelude.{◌≡◌, ℕ, ◌+◌, ◌<◌, ◌^◌, IsTrue, List, [], ◌∷◌, ◌++◌, length, Option, Some, ⊤, Result, Ok, Err, MatchResult}
+use Rattle.std.specs.Prelude.{◌≡◌, ℕ, ◌+◌, ◌<◌, ◌^◌, IsTrue, List, []}
+use Rattle.std.specs.Prelude.{◌∷◌, ◌++◌, length, Option, Some, ⊤, Result, Ok, Err}
+use Rattle.std.specs.Prelude.{MatchResult}
 use Rattle.std.specs.Io.KnownBytes.{Consumes, IsAtEnd}
 use Rattle.flute_parts.specs.Addresses.{address, symbol_address}
 use Rattle.flute_parts.specs.declared.key.Key.{Key}
@@ -16,7 +18,8 @@ use Rattle.flute_journal.specs.declared.fault.ReadFault.TheVariants as faults
 use Rattle.flute_journal.specs.Numbers.{in_bytes}
 use Rattle.flute_journal.specs.Input.{IsFaultUpTo}
 use Rattle.flute_journal.specs.Format.{key_bytes, id_bytes, rest_bytes, fact_key, kind}
-use Rattle.flute_journal.specs.Faults.{is_after, key_size, first_fault, cut, bytes_checks, rest_checks, body_checks, end_checks}
+use Rattle.flute_journal.specs.Faults.{is_after, key_size, first_fault, cut, bytes_checks}
+use Rattle.flute_journal.specs.Faults.{rest_checks, body_checks, end_checks}
 use Rattle.flute_journal.specs.Journal.{IsFactIn, HasRoom}
 use Rattle.flute_parts.specs.Ranges.{IsKey, IsId, IsFact}
 

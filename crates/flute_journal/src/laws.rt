@@ -1,14 +1,18 @@
 //! Laws of the definitions: each is the contract of a function that does nothing.
-ghost use Rattle.std.specs.Prelude.{◌≡◌, ◌≢◌, ℕ, ◌+◌, ◌<◌, ◌≤◌, ◌^◌, ◌↔◌, ◌⊎◌, List, [], ◌∷◌, ◌++◌, length, Option, IfSome};
+ghost use Rattle.std.specs.Prelude.{◌≡◌, ◌≢◌, ℕ, ◌+◌, ◌<◌, ◌≤◌};
+ghost use Rattle.std.specs.Prelude.{◌^◌, ◌↔◌, ◌⊎◌, List, [], ◌∷◌, ◌++◌};
+ghost use Rattle.std.specs.Prelude.{length, Option, IfSome};
 ghost use Rattle.std.specs.List.{AllByRecursion};
 ghost use Rattle.flute_parts.specs.Addresses.{address};
 ghost use Rattle.flute_parts.specs.Facts.{Same, Below, IsRising};
 ghost use Rattle.flute_parts.specs.declared.fact.Fact.{Fact};
 ghost use Rattle.flute_journal.specs.declared.fault.ReadFault.{ReadFault as Fault};
 ghost use Rattle.flute_journal.specs.Format.{entry_in, spelling_in};
-ghost use Rattle.flute_journal.specs.Journal.{IsFactIn, Collects, JournalIn, IsJournal, IsJournalWithin};
+ghost use Rattle.flute_journal.specs.Journal.{IsFactIn, Collects, JournalIn, IsJournal};
+ghost use Rattle.flute_journal.specs.Journal.{IsJournalWithin};
 ghost use Rattle.flute_journal.specs.JournalFraming.{journal_framing};
-ghost use Rattle.flute_journal.specs.Framing.{Stops, HasFault, GivesItem, GivesEnd, GivesFault, Sofar};
+ghost use Rattle.flute_journal.specs.Framing.{Stops, HasFault, GivesItem, GivesEnd, GivesFault};
+ghost use Rattle.flute_journal.specs.Framing.{Sofar};
 ghost use Rattle.flute_parts.specs.Ranges.{IsByte, IsFact};
 ghost use Rattle.flute_journal.specs.declared.format.version.Version.{Version};
 ghost use Rattle.flute_journal.specs.declared.format.version.Version.TheVariants.{One, Two};

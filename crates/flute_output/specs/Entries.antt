@@ -1,6 +1,7 @@
 -- Two entries of a folder: the name OUT, and the file beside it whose bytes are to become OUT's.
 -- They keep what OUT was, since a command whose sink is an output promises nothing of its folder.
-use Rattle.std.specs.Prelude.{◌≡◌, ◌⊎◌, ℕ, Bool, true, false, List, [], ◌∷◌, ◌++◌, Option, Some, None, IsSome, option_map, Contains, ⊤}
+use Rattle.std.specs.Prelude.{◌≡◌, ◌⊎◌, ℕ, Bool, true, false, List, [], ◌∷◌}
+use Rattle.std.specs.Prelude.{◌++◌, Option, Some, None, IsSome, option_map, Contains, ⊤}
 use Rattle.flute_output.specs.declared.folder.Name.{Name}
 use Rattle.flute_output.specs.declared.folder.Name.TheVariants.{Out, Beside}
 use Rattle.flute_output.specs.declared.output.FinishFault.{FinishFault}
@@ -66,7 +67,8 @@ synced e = record e { beside = option_map safe e.beside }
 
 -- the file beside OUT is named OUT, in one step
 abbrev pub put_in_place : Entries → Entries
-put_in_place e = record e { out = e.beside; beside = None; past = e.past ++ e.out ∷ []; named = false }
+put_in_place e =
+    record e { out = e.beside; beside = None; past = e.past ++ e.out ∷ []; named = false }
 
 -- the disk has both names as they are
 abbrev pub names_synced : Entries → Entries
@@ -146,7 +148,9 @@ IsNamed false e file = (file ≡ e.found) ⊎ WasOut e file
 
 -- whatever a lost power leaves of OUT now is a file of these bytes
 abbrev pub Lasts : List ℕ → Entries → Type 0
-Lasts bytes e = (file : Option Stored) (left : Option (List ℕ)) → IsNamed e.named e file → Survives file left → left ≡ Some bytes
+Lasts bytes e =
+    (file : Option Stored) (left : Option (List ℕ)) → IsNamed e.named e file
+    → Survives file left → left ≡ Some bytes
 
 -- the disk has all bytes of the file, if there is one
 abbrev pub IsSafe : Option Stored → Type 0

@@ -1,7 +1,10 @@
 //! A new folder that becomes OUT whole or not at all.
-ghost use Rattle.std.specs.Prelude.{◌≡◌, ℕ, ◌+◌, ◌<◌, ◌≤◌, IfOk, IfErr, IfSome, OnOk, OnErr, Ok, Err, if◌then◌else◌, is_ok};
+ghost use Rattle.std.specs.Prelude.{◌≡◌, ℕ, ◌+◌, ◌<◌, ◌≤◌, IfOk, IfErr};
+ghost use Rattle.std.specs.Prelude.{IfSome, OnOk, OnErr, Ok, Err, if◌then◌else◌, is_ok};
 ghost use Rattle.flute_output.specs.Entries.{IfWork};
-ghost use Rattle.flute_output.specs.NewFolders.{LeadsTo, IsNothing, HasBeside, FolderStays, BecomesFolder, EndsAt, IsWholeOrNothing, NoneBeside, StaysThere, files_beside, folder_of};
+ghost use Rattle.flute_output.specs.NewFolders.{LeadsTo, IsNothing, HasBeside, FolderStays};
+ghost use Rattle.flute_output.specs.NewFolders.{BecomesFolder, EndsAt, IsWholeOrNothing};
+ghost use Rattle.flute_output.specs.NewFolders.{NoneBeside, StaysThere, files_beside, folder_of};
 
 use crate::new_folder::NewFolder;
 use crate::output::FinishFault;

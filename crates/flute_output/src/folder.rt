@@ -1,6 +1,8 @@
 //! What an output needs of the folder that OUT is in.
-ghost use Rattle.std.specs.Prelude.{◌≡◌, ℕ, ◌+◌, ◌<◌, ◌≤◌, length, take, IfOk, OnOk, OnErr, Option, if◌then◌else◌, is_ok};
-ghost use Rattle.flute_output.specs.Entries.{Entries, Leads, Does, OutStays, created, takes, flushed, synced, put_in_place, names_synced, removes};
+ghost use Rattle.std.specs.Prelude.{◌≡◌, ℕ, ◌+◌, ◌<◌, ◌≤◌, length, take};
+ghost use Rattle.std.specs.Prelude.{IfOk, OnOk, OnErr, Option, if◌then◌else◌, is_ok};
+ghost use Rattle.flute_output.specs.Entries.{Entries, Leads, Does, OutStays, created, takes};
+ghost use Rattle.flute_output.specs.Entries.{flushed, synced, put_in_place, names_synced, removes};
 
 use flute_parts::DeviceFault;
 

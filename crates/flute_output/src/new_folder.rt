@@ -1,6 +1,8 @@
 //! A folder that is new, as an output.
 ghost use Rattle.std.specs.Prelude.{◌≡◌, ℕ, ◌+◌, OnOk, OnErr, Option, if◌then◌else◌, is_ok};
-ghost use Rattle.flute_output.specs.NewFolders.{Places, LeadsTo, Makes, IsMade, FolderStays, begins, puts, keeps, leaves, files_synced, named_out, out_synced, removed};
+ghost use Rattle.flute_output.specs.NewFolders.{Places, LeadsTo, Makes, IsMade, FolderStays};
+ghost use Rattle.flute_output.specs.NewFolders.{begins, puts, keeps, leaves, files_synced};
+ghost use Rattle.flute_output.specs.NewFolders.{named_out, out_synced, removed};
 
 use flute_parts::DeviceFault;
 

@@ -1,6 +1,10 @@
 //! An output that becomes OUT whole or not at all.
-ghost use Rattle.std.specs.Prelude.{◌≡◌, ◌≢◌, ℕ, ◌+◌, ◌<◌, ◌≤◌, length, take, IfOk, IfSome, IfErr, OnOk, OnErr, Ok, Err, option_map, is_ok, None, if◌then◌else◌};
-ghost use Rattle.flute_output.specs.Entries.{Leads, Does, OutStays, OutIsAsFound, OutBecomes, Lasts, Ends, IfWork, IsEitherAlways, IsWriting, created, takes, taken, whole, found_in, named_in};
+ghost use Rattle.std.specs.Prelude.{◌≡◌, ◌≢◌, ℕ, ◌+◌, ◌<◌, ◌≤◌, length};
+ghost use Rattle.std.specs.Prelude.{take, IfOk, IfSome, IfErr, OnOk, OnErr, Ok, Err, option_map};
+ghost use Rattle.std.specs.Prelude.{is_ok, None, if◌then◌else◌};
+ghost use Rattle.flute_output.specs.Entries.{Leads, Does, OutStays, OutIsAsFound, OutBecomes};
+ghost use Rattle.flute_output.specs.Entries.{Lasts, Ends, IfWork, IsEitherAlways, IsWriting};
+ghost use Rattle.flute_output.specs.Entries.{created, takes, taken, whole, found_in, named_in};
 ghost use Rattle.std.specs.Io.KnownBytes.{WriteAppends};
 
 use crate::folder::{Folder, Name};

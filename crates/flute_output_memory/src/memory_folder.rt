@@ -1,5 +1,7 @@
 //! A folder in memory.
-ghost use Rattle.std.specs.Prelude.{◌≡◌, IfOk, ◌+◌, ◌-◌, ◌++◌, ◌∷◌, Some, true, OnOk, IfSome, MatchOption, option_map, [], None, if◌then◌else◌, is_ok};
+ghost use Rattle.std.specs.Prelude.{◌≡◌, IfOk, ◌+◌, ◌-◌, ◌++◌, ◌∷◌, Some};
+ghost use Rattle.std.specs.Prelude.{true, OnOk, IfSome, MatchOption, option_map, [], None};
+ghost use Rattle.std.specs.Prelude.{if◌then◌else◌, is_ok};
 ghost use Rattle.flute_output_memory.specs.Memory.{stored};
 
 use flute_output::{Folder, Name};

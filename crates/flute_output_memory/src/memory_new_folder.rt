@@ -1,5 +1,6 @@
 //! A new folder in memory.
-ghost use Rattle.std.specs.Prelude.{◌≡◌, ◌+◌, ◌-◌, [], Some, None, true, OnOk, option_map, if◌then◌else◌, is_ok};
+ghost use Rattle.std.specs.Prelude.{◌≡◌, ◌+◌, ◌-◌, [], Some, None, true, OnOk};
+ghost use Rattle.std.specs.Prelude.{option_map, if◌then◌else◌, is_ok};
 ghost use Rattle.flute_output_memory.specs.NewMemory.{filled, memory_places};
 
 use flute_output::NewFolder;

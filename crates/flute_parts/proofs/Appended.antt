@@ -1,5 +1,6 @@
 -- Parts of bytes, appended one after the other.
-use Rattle.std.proofs.Common.{◌≡◌, ℕ, List, [], ◌∷◌, ◌++◌, Option, Result, Ok, Err, refl, sym, ap, ◌∙◌, append_assoc}
+use Rattle.std.proofs.Common.{◌≡◌, ℕ, List, [], ◌∷◌, ◌++◌, Option, Result, Ok}
+use Rattle.std.proofs.Common.{Err, refl, sym, ap, ◌∙◌, append_assoc}
 use Rattle.std.specs.Io.KnownBytes.{Appends}
 use Rattle.std.proofs.KnownBytes.{Appends-trans}
 use Rattle.flute_parts.specs.Devices.{AppendsPart, Writes}
@@ -9,7 +10,8 @@ append_nil_left [] b e = refl
 append_nil_left (x ∷ a) b e = absurd cc
 
 -- a part of the first bytes is a part of them all
-pub AppendsPart-first : (old new : Option (List ℕ)) (a b : List ℕ) → AppendsPart old new a → AppendsPart old new (a ++ b)
+pub AppendsPart-first : (old new : Option (List ℕ)) (a b : List ℕ) → AppendsPart old new a
+    → AppendsPart old new (a ++ b)
 AppendsPart-first old new a b p = record {
   part = p.part;
   rest = p.rest ++ b;
@@ -19,7 +21,8 @@ AppendsPart-first old new a b p = record {
 }
 
 -- the first bytes and a part of the second are a part of them all
-pub AppendsPart-second : (old mid new : Option (List ℕ)) (a b : List ℕ) → Appends old mid a → AppendsPart mid new b → AppendsPart old new (a ++ b)
+pub AppendsPart-second : (old mid new : Option (List ℕ)) (a b : List ℕ) → Appends old mid a
+    → AppendsPart mid new b → AppendsPart old new (a ++ b)
 AppendsPart-second old mid new a b done p = record {
   part = a ++ p.part;
   rest = p.rest;
@@ -29,6 +32,7 @@ AppendsPart-second old mid new a b done p = record {
 }
 
 -- what was appended, and then what a write did
-pub Writes-behind : {T E : Type 0} (old mid new : Option (List ℕ)) (a b : List ℕ) (r : Result T E) → Appends old mid a → Writes mid new b r → Writes old new (a ++ b) r
+pub Writes-behind : {T E : Type 0} (old mid new : Option (List ℕ)) (a b : List ℕ)
+    (r : Result T E) → Appends old mid a → Writes mid new b r → Writes old new (a ++ b) r
 Writes-behind old mid new a b (Ok x) done w = Appends-trans old mid new a b done w
 Writes-behind old mid new a b (Err e) done w = AppendsPart-second old mid new a b done w

@@ -1,5 +1,7 @@
 -- Lemmas on fact_at (specs/Facts): the value of a list of facts, in any order and grouping.
-use Rattle.std.proofs.Common.{◌≡◌, ℕ, zero, suc, ◌<◌, false, cond, List, [], ◌∷◌, ◌++◌, length, get_or, Option, Some, None, refl, sym, ap, ◌∙◌, subst, inl, inr, ◌⊎◌, arith}
+use Rattle.std.proofs.Common.{◌≡◌, ℕ, zero, suc, ◌<◌, false, cond, List, [], ◌∷◌}
+use Rattle.std.proofs.Common.{◌++◌, length, get_or, Option, Some, None, refl, sym, ap}
+use Rattle.std.proofs.Common.{◌∙◌, subst, inl, inr, ◌⊎◌, arith}
 use Rattle.std.specs.Prelude.{Contains}
 use Rattle.std.proofs.lemmas.Bool.{cases_Bool}
 use Rattle.flute_parts.specs.declared.address.Address.{Address}
@@ -8,7 +10,8 @@ use Rattle.flute_parts.specs.Order.{same_address}
 use Rattle.flute_parts.specs.Addresses.{address}
 use Rattle.flute_parts.specs.Facts.{agreed, fact_at, Same, Below, SameMembers}
 use Rattle.flute_parts.specs.Equality.{address_same, address_itself}
-use Rattle.flute_parts.proofs.Joined.{joined, joined-comm, joined-assoc, joined-itself, joined-none, fact_at-append}
+use Rattle.flute_parts.proofs.Joined.{joined, joined-comm, joined-assoc, joined-itself, joined-none}
+use Rattle.flute_parts.proofs.Joined.{fact_at-append}
 
 -- membership
 
@@ -36,7 +39,8 @@ Contains-from (g ∷ F) f (inr m) = let c = Contains-from F f m in (suc c.0, ome
 abbrev pub alone : Address → Fact → Option Fact
 alone a f = fact_at (f ∷ []) a
 
-pub fact_at-cons : (f : Fact) (F : List Fact) (a : Address) → fact_at (f ∷ F) a ≡ joined a (alone a f) (fact_at F a)
+pub fact_at-cons : (f : Fact) (F : List Fact) (a : Address)
+    → fact_at (f ∷ F) a ≡ joined a (alone a f) (fact_at F a)
 fact_at-cons f F a = fact_at-append (f ∷ []) F a
 
 pub fact_at-nil : (a : Address) → fact_at [] a ≡ None
@@ -44,7 +48,8 @@ unfolding fact_at
 fact_at-nil a = refl
 
 -- a member adds nothing
-pub fact_at-member : (f : Fact) (F : List Fact) (a : Address) → Member f F → joined a (alone a f) (fact_at F a) ≡ fact_at F a
+pub fact_at-member : (f : Fact) (F : List Fact) (a : Address) → Member f F
+    → joined a (alone a f) (fact_at F a) ≡ fact_at F a
 unfolding Member
 fact_at-member f [] a m = absurd m
 fact_at-member f (g ∷ F) a (inl e) =
@@ -62,7 +67,8 @@ fact_at-member f (g ∷ F) a (inr m) =
     ∙ sym (fact_at-cons g F a)
 
 -- facts that are all in G add nothing to it
-pub fact_at-members : (F G : List Fact) (a : Address) → ((f : Fact) → Member f F → Member f G) → joined a (fact_at F a) (fact_at G a) ≡ fact_at G a
+pub fact_at-members : (F G : List Fact) (a : Address) → ((f : Fact) → Member f F → Member f G)
+    → joined a (fact_at F a) (fact_at G a) ≡ fact_at G a
 unfolding Member
 fact_at-members [] G a h = ap (λ x. joined a x (fact_at G a)) (fact_at-nil a)
 fact_at-members (f ∷ F) G a h =
@@ -80,7 +86,11 @@ Same-members F G h = record {
 }
 
 pub Same-swap : (F G : List Fact) → Same (F ++ G) (G ++ F)
-Same-swap F G = record { each = λ a. fact_at-append F G a ∙ joined-comm a (fact_at F a) (fact_at G a) ∙ sym (fact_at-append G F a) }
+Same-swap F G =
+    record {
+      each = λ a. fact_at-append F G a ∙ joined-comm a (fact_at F a) (fact_at G a)
+          ∙ sym (fact_at-append G F a);
+    }
 
 pub Same-twice : (F : List Fact) → Same (F ++ F) F
 Same-twice F = record { each = λ a. fact_at-append F F a ∙ joined-itself a (fact_at F a) }
@@ -99,14 +109,17 @@ Same-trans F G H h k = record { each = λ a. h.each a ∙ k.each a }
 pub Same-append : (F G H K : List Fact) → Same F G → Same H K → Same (F ++ H) (G ++ K)
 Same-append F G H K p q = record {
   each = λ a.
-      fact_at-append F H a ∙ ap (λ x. joined a x (fact_at H a)) (p.each a) ∙ ap (joined a (fact_at G a)) (q.each a) ∙ sym (fact_at-append G K a);
+      fact_at-append F H a ∙ ap (λ x. joined a x (fact_at H a)) (p.each a)
+      ∙ ap (joined a (fact_at G a)) (q.each a) ∙ sym (fact_at-append G K a);
 }
 
 -- the value of the first joined with that of the second is that of the second
-below : (F G : List Fact) → Below F G → (a : Address) → joined a (fact_at F a) (fact_at G a) ≡ fact_at G a
+below : (F G : List Fact) → Below F G → (a : Address)
+    → joined a (fact_at F a) (fact_at G a) ≡ fact_at G a
 below F G h a = sym (fact_at-append F G a) ∙ h.each a
 
-above : (F G : List Fact) → ((a : Address) → joined a (fact_at F a) (fact_at G a) ≡ fact_at G a) → Below F G
+above : (F G : List Fact)
+    → ((a : Address) → joined a (fact_at F a) (fact_at G a) ≡ fact_at G a) → Below F G
 above F G h = record { each = λ a. fact_at-append F G a ∙ h a }
 
 pub Below-itself : (F : List Fact) → Below F F
@@ -128,10 +141,12 @@ Below-append F G H K p q = above (F ++ H) (G ++ K) (λ a.
     ∙ ap (joined a (fact_at G a)) (below H K q a)
     ∙ sym (fact_at-append G K a))
   where
-    crossed : (a : Address) (w x y z : Option Fact) → joined a (joined a w x) (joined a y z) ≡ joined a (joined a w y) (joined a x z)
+    crossed : (a : Address) (w x y z : Option Fact)
+        → joined a (joined a w x) (joined a y z) ≡ joined a (joined a w y) (joined a x z)
     crossed a w x y z =
         joined-assoc a w x (joined a y z)
-        ∙ ap (joined a w) (sym (joined-assoc a x y z) ∙ ap (λ v. joined a v z) (joined-comm a x y) ∙ joined-assoc a y x z)
+        ∙ ap (joined a w) (sym (joined-assoc a x y z)
+        ∙ ap (λ v. joined a v z) (joined-comm a x y) ∙ joined-assoc a y x z)
         ∙ sym (joined-assoc a w y (joined a x z))
 
 pub Same-from_Below : (F G : List Fact) → Below F G → Below G F → Same F G
@@ -141,7 +156,9 @@ Same-from_Below F G p q = record {
 }
 
 pub Below-from_Same : (F G : List Fact) → Same F G → Below F G
-Below-from_Same F G h = above F G (λ a. ap (λ x. joined a x (fact_at G a)) (h.each a) ∙ joined-itself a (fact_at G a))
+Below-from_Same F G h =
+    above F G (λ a. ap (λ x. joined a x (fact_at G a)) (h.each a)
+    ∙ joined-itself a (fact_at G a))
 
 -- which addresses are named
 
@@ -153,7 +170,8 @@ pub alone-here : (f : Fact) → alone (address f) f ≡ Some f
 unfolding fact_at
 alone-here f = ap (λ b. agreed (address f) (cond b (f ∷ []) [])) (address_itself (address f))
 
-pub alone-elsewhere : (f : Fact) (a : Address) → same_address (address f) a ≡ false → alone a f ≡ None
+pub alone-elsewhere : (f : Fact) (a : Address) → same_address (address f) a ≡ false
+    → alone a f ≡ None
 unfolding fact_at
 alone-elsewhere f a e = ap (λ b. agreed a (cond b (f ∷ []) [])) e
 
@@ -164,7 +182,8 @@ joined-some a f (Some g) e = cc
 pub fact_at-member_some : (f : Fact) (F : List Fact) → Member f F → fact_at F (address f) ≡ None → ⊥
 fact_at-member_some f F m e =
     joined-some (address f) f (fact_at F (address f))
-    (sym (ap (λ x. joined (address f) x (fact_at F (address f))) (alone-here f)) ∙ fact_at-member f F (address f) m ∙ e)
+    (sym (ap (λ x. joined (address f) x (fact_at F (address f))) (alone-here f))
+    ∙ fact_at-member f F (address f) m ∙ e)
 
 -- at an address without a fact, the value is `None`
 pub fact_at-some_named : (F : List Fact) (a : Address) → Names F a ⊎ (fact_at F a ≡ None)
@@ -174,7 +193,8 @@ fact_at-some_named (f ∷ F) a = elim (cases_Bool (same_address (address f) a)) 
   | inl e ↦ inl (f, inl refl, address_same (address f) a e)
   | inr e ↦ elim (fact_at-some_named F a) [
     | inl n ↦ inl (n.0, inr n.1, n.2)
-    | inr d ↦ inr (fact_at-cons f F a ∙ ap (λ x. joined a x (fact_at F a)) (alone-elsewhere f a e) ∙ d)
+    | inr d ↦ inr (fact_at-cons f F a
+        ∙ ap (λ x. joined a x (fact_at F a)) (alone-elsewhere f a e) ∙ d)
   ]
 ]
 
@@ -191,8 +211,13 @@ pub alone-at : (f : Fact) (a : Address) → address f ≡ a → alone a f ≡ So
 alone-at f a e = subst (λ x. alone x f ≡ Some f) e (alone-here f)
 
 -- a fact and others, at its address and elsewhere
-pub fact_at-here : (f : Fact) (F : List Fact) → fact_at F (address f) ≡ None → fact_at (f ∷ F) (address f) ≡ Some f
-fact_at-here f F e = fact_at-cons f F (address f) ∙ ap (joined (address f) (alone (address f) f)) e ∙ joined-none (address f) (alone (address f) f) ∙ alone-here f
+pub fact_at-here : (f : Fact) (F : List Fact) → fact_at F (address f) ≡ None
+    → fact_at (f ∷ F) (address f) ≡ Some f
+fact_at-here f F e =
+    fact_at-cons f F (address f) ∙ ap (joined (address f) (alone (address f) f)) e
+    ∙ joined-none (address f) (alone (address f) f) ∙ alone-here f
 
-pub fact_at-elsewhere : (f : Fact) (F : List Fact) (a : Address) → same_address (address f) a ≡ false → fact_at (f ∷ F) a ≡ fact_at F a
-fact_at-elsewhere f F a e = fact_at-cons f F a ∙ ap (λ x. joined a x (fact_at F a)) (alone-elsewhere f a e)
+pub fact_at-elsewhere : (f : Fact) (F : List Fact) (a : Address)
+    → same_address (address f) a ≡ false → fact_at (f ∷ F) a ≡ fact_at F a
+fact_at-elsewhere f F a e =
+    fact_at-cons f F a ∙ ap (λ x. joined a x (fact_at F a)) (alone-elsewhere f a e)

@@ -1,5 +1,7 @@
 -- Partition::fits: which lengths fit a symbol (specs/SymbolBytes).
-use Rattle.std.proofs.Common.{◌≡◌, ℕ, ◌+◌, ◌-◌, ◌||◌, ◌&&◌, Bool, true, false, List, length, Option, Some, None, refl, sym, ap, ◌∙◌, inl, inr, ◌⊎◌, arith}
+use Rattle.std.proofs.Common.{◌≡◌, ℕ, ◌+◌, ◌-◌, ◌||◌, ◌&&◌, Bool, true}
+use Rattle.std.proofs.Common.{false, List, length, Option, Some, None, refl, sym, ap, ◌∙◌}
+use Rattle.std.proofs.Common.{inl, inr, ◌⊎◌, arith}
 use Rattle.std.specs.Prelude.{slice_get, ◌==◌, ◌↔◌, Contains}
 use Rattle.std.proofs.lemmas.Bool.Decides.{nat_tests}
 use Rattle.std.proofs.lemmas.Option.{slice_get_within, slice_get-get_or, get_or_from_slice_get}
@@ -15,31 +17,38 @@ module _ (i : Information) (id : SymbolId) (n : ℕ) where
   unfolding fits
   fits-none e = ap (λ p. fits_at i p n) e
 
-  pub fits-full : (k : ℕ) → place i id ≡ Some k → n ≡ i.symbol_length → fits i id n ≡ (n == i.symbol_length)
+  pub fits-full : (k : ℕ) → place i id ≡ Some k → n ≡ i.symbol_length
+      → fits i id n ≡ (n == i.symbol_length)
   unfolding fits
   fits-full k e h =
       let t = eq-eqb n i.symbol_length h in
-      ap (λ p. fits_at i p n) e ∙ ap (λ b. b || ((k + 1 == symbol_count i) && (n == last_length i))) t ∙ sym t
+      ap (λ p. fits_at i p n) e
+      ∙ ap (λ b. b || ((k + 1 == symbol_count i) && (n == last_length i))) t ∙ sym t
 
-  pub fits-last : (k : ℕ) → place i id ≡ Some k → (n ≡ i.symbol_length → ⊥) → k + 1 ≡ symbol_count i → fits i id n ≡ (n == last_length i)
+  pub fits-last : (k : ℕ) → place i id ≡ Some k → (n ≡ i.symbol_length → ⊥)
+      → k + 1 ≡ symbol_count i → fits i id n ≡ (n == last_length i)
   unfolding fits
   fits-last k e h l =
       ap (λ p. fits_at i p n) e
-      ∙ ap (λ b. b || ((k + 1 == symbol_count i) && (n == last_length i))) (ne_eqb n i.symbol_length h)
+      ∙ ap (λ b. b || ((k + 1 == symbol_count i) && (n == last_length i)))
+      (ne_eqb n i.symbol_length h)
       ∙ ap (λ b. b && (n == last_length i)) (eq-eqb (k + 1) (symbol_count i) l)
 
-  pub fits-other : (k : ℕ) → place i id ≡ Some k → (n ≡ i.symbol_length → ⊥) → (k + 1 ≡ symbol_count i → ⊥) → fits i id n ≡ (k + 1 == symbol_count i)
+  pub fits-other : (k : ℕ) → place i id ≡ Some k → (n ≡ i.symbol_length → ⊥)
+      → (k + 1 ≡ symbol_count i → ⊥) → fits i id n ≡ (k + 1 == symbol_count i)
   unfolding fits
   fits-other k e h l =
       let t = ne_eqb (k + 1) (symbol_count i) l in
       ap (λ p. fits_at i p n) e
-      ∙ ap (λ b. b || ((k + 1 == symbol_count i) && (n == last_length i))) (ne_eqb n i.symbol_length h)
+      ∙ ap (λ b. b || ((k + 1 == symbol_count i) && (n == last_length i)))
+      (ne_eqb n i.symbol_length h)
       ∙ ap (λ b. b && (n == last_length i)) t
       ∙ sym t
 
 -- and in words
 
-fits-some : (info : Information) (id : SymbolId) (n k : ℕ) → place info id ≡ Some k → fits info id n ≡ fits_at info (Some k) n
+fits-some : (info : Information) (id : SymbolId) (n k : ℕ) → place info id ≡ Some k
+    → fits info id n ≡ fits_at info (Some k) n
 unfolding fits
 fits-some info id n k e = ap (λ p. fits_at info p n) e
 
@@ -47,15 +56,20 @@ Contains-at : (xs : List SymbolId) (x : SymbolId) (k : ℕ) → slice_get xs k �
 Contains-at xs x k e = (k, slice_get_within xs k x e, get_or_from_slice_get xs k x x e)
 
 Fits : Information → SymbolId → ℕ → Type 0
-Fits info id n = Contains (ids info) id × ((n ≡ info.symbol_length) ⊎ ((slice_get (ids info) (length (ids info) - 1) ≡ Some id) × (n ≡ last_length info)))
+Fits info id n =
+    Contains (ids info) id
+    × ((n ≡ info.symbol_length) ⊎ ((slice_get (ids info) (length (ids info) - 1) ≡ Some id)
+    × (n ≡ last_length info)))
 
-fits-from : (info : Information) (id : SymbolId) (n : ℕ) → IsValid info → (o : Option ℕ) → place info id ≡ o → fits_at info o n ≡ true → Fits info id n
+fits-from : (info : Information) (id : SymbolId) (n : ℕ) → IsValid info → (o : Option ℕ)
+    → place info id ≡ o → fits_at info o n ≡ true → Fits info id n
 unfolding Fits
 fits-from info id n v None e h = absurd (false≢true h)
 fits-from info id n v (Some k) e h =
     let at_k = (places-inverse info id k).0 e in
     let c = Contains-at (ids info) id k at_k in
-    elim (or_cases (n == info.symbol_length) ((k + 1 == symbol_count info) && (n == last_length info)) h) [
+    elim (or_cases (n == info.symbol_length)
+    ((k + 1 == symbol_count info) && (n == last_length info)) h) [
       | inl f ↦ (c, inl (is_equal n info.symbol_length f))
       | inr g ↦
           let p = both (k + 1 == symbol_count info) (n == last_length info) g in
@@ -68,19 +82,23 @@ fits-from info id n v (Some k) e h =
     is_equal : (m n : ℕ) → (m == n) ≡ true → m ≡ n
     is_equal m n t = grind (arith, nat_tests)
 
-fits-to : (info : Information) (id : SymbolId) (n : ℕ) → IsValid info → Fits info id n → fits info id n ≡ true
+fits-to : (info : Information) (id : SymbolId) (n : ℕ) → IsValid info → Fits info id n
+    → fits info id n ≡ true
 unfolding Fits
 fits-to info id n v (c, inl f) =
-    let e : slice_get (ids info) c.0 ≡ Some id = slice_get-get_or (ids info) c.0 id c.1 ∙ ap Some c.2 in
+    let e : slice_get (ids info) c.0 ≡ Some id =
+    slice_get-get_or (ids info) c.0 id c.1 ∙ ap Some c.2 in
     fits-some info id n c.0 ((places-inverse info id c.0).1 e)
-    ∙ ap (λ b. b || ((c.0 + 1 == symbol_count info) && (n == last_length info))) (eq-eqb n info.symbol_length f)
+    ∙ ap (λ b. b || ((c.0 + 1 == symbol_count info) && (n == last_length info)))
+    (eq-eqb n info.symbol_length f)
 fits-to info id n v (c, inr l) =
     let k = length (ids info) - 1 in
     let w = slice_get_within (ids info) k id l.0 in
     let t = ids_counted info v in
     let last : k + 1 ≡ symbol_count info = omega arith in
     fits-some info id n k ((places-inverse info id k).1 l.0)
-    ∙ ap (λ b. (n == info.symbol_length) || (b && (n == last_length info))) (eq-eqb (k + 1) (symbol_count info) last)
+    ∙ ap (λ b. (n == info.symbol_length) || (b && (n == last_length info)))
+    (eq-eqb (k + 1) (symbol_count info) last)
     ∙ ap (λ b. (n == info.symbol_length) || b) (eq-eqb n (last_length info) l.1)
     ∙ or_true (n == info.symbol_length)
   where
@@ -88,6 +106,10 @@ fits-to info id n v (c, inr l) =
     or_true true = refl
     or_true false = refl
 
-pub fits-means : (info : Information) (id : SymbolId) (n : ℕ) → IsValid info → (fits info id n ≡ true) ↔ (Contains (ids info) id × ((n ≡ info.symbol_length) ⊎ ((slice_get (ids info) (length (ids info) - 1) ≡ Some id) × (n ≡ last_length info))))
+pub fits-means : (info : Information) (id : SymbolId) (n : ℕ) → IsValid info
+    → (fits info id n ≡ true) ↔ (Contains (ids info) id
+    × ((n ≡ info.symbol_length) ⊎ ((slice_get (ids info) (length (ids info) - 1) ≡ Some id)
+    × (n ≡ last_length info))))
 unfolding Fits fits
-fits-means info id n v = (λ h. fits-from info id n v (place info id) refl h, λ f. fits-to info id n v f)
+fits-means info id n v =
+    (λ h. fits-from info id n v (place info id) refl h, λ f. fits-to info id n v f)

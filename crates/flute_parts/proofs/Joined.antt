@@ -1,5 +1,7 @@
 -- The value of two lists of facts together, from the values of each (specs/Facts).
-use Rattle.std.proofs.Common.{◌≡◌, Bool, true, false, cond, ◌&&◌, List, [], ◌∷◌, ◌++◌, Option, Some, None, refl, sym, ap, ◌∙◌, subst, inl, inr, append-nil}
+use Rattle.std.proofs.Common.{◌≡◌, Bool, true, false, cond, ◌&&◌, List, [], ◌∷◌}
+use Rattle.std.proofs.Common.{◌++◌, Option, Some, None, refl, sym, ap, ◌∙◌, subst, inl}
+use Rattle.std.proofs.Common.{inr, append-nil}
 use Rattle.std.specs.Prelude.{filter}
 use Rattle.std.specs.List.{list_all}
 use Rattle.std.proofs.lemmas.Bool.{false≢true, cases_Bool}
@@ -23,21 +25,25 @@ joined a (Some f) (Some g) = Some (joined_fact a f g)
 
 pub joined-same : (a : Address) (f g : Fact) → f ≡ g → joined_fact a f g ≡ f
 unfolding joined_fact
-joined-same a f g e = ap (λ b. cond b f (conflict_at a)) (subst (λ x. same_fact f x ≡ true) e (fact_itself f))
+joined-same a f g e =
+    ap (λ b. cond b f (conflict_at a)) (subst (λ x. same_fact f x ≡ true) e (fact_itself f))
 
-pub joined-apart : (a : Address) (f g : Fact) → same_fact f g ≡ false → joined_fact a f g ≡ conflict_at a
+pub joined-apart : (a : Address) (f g : Fact) → same_fact f g ≡ false
+    → joined_fact a f g ≡ conflict_at a
 unfolding joined_fact
 joined-apart a f g e = ap (λ b. cond b f (conflict_at a)) e
 
 -- with the conflict nothing but the conflict comes out
-pub joined-conflict_left : (a : Address) (g : Fact) → joined_fact a (conflict_at a) g ≡ conflict_at a
+pub joined-conflict_left : (a : Address) (g : Fact)
+    → joined_fact a (conflict_at a) g ≡ conflict_at a
 unfolding joined_fact
 joined-conflict_left a g = elim (cases_Bool (same_fact (conflict_at a) g)) [
   | inl e ↦ ap (λ b. cond b (conflict_at a) (conflict_at a)) e
   | inr e ↦ ap (λ b. cond b (conflict_at a) (conflict_at a)) e
 ]
 
-pub joined-conflict_right : (a : Address) (f : Fact) → joined_fact a f (conflict_at a) ≡ conflict_at a
+pub joined-conflict_right : (a : Address) (f : Fact)
+    → joined_fact a f (conflict_at a) ≡ conflict_at a
 unfolding joined_fact
 joined-conflict_right a f = elim (cases_Bool (same_fact f (conflict_at a))) [
   | inl e ↦ ap (λ b. cond b f (conflict_at a)) e ∙ fact_same f (conflict_at a) e
@@ -46,7 +52,9 @@ joined-conflict_right a f = elim (cases_Bool (same_fact f (conflict_at a))) [
 
 apart-sym : (f g : Fact) → same_fact f g ≡ false → same_fact g f ≡ false
 apart-sym f g h = elim (cases_Bool (same_fact g f)) [
-  | inl e ↦ absurd (false≢true (sym h ∙ subst (λ x. same_fact x g ≡ true) (fact_same g f e) (fact_itself g)))
+  | inl e ↦ absurd
+      (false≢true (sym h ∙ subst (λ x. same_fact x g ≡ true) (fact_same g f e)
+      (fact_itself g)))
   | inr e ↦ e
 ]
 
@@ -57,22 +65,29 @@ joined_fact-comm a f g = elim (cases_Bool (same_fact f g)) [
   | inr e ↦ joined-apart a f g e ∙ sym (joined-apart a g f (apart-sym f g e))
 ]
 
-pub joined_fact-assoc : (a : Address) (f g h : Fact) → joined_fact a (joined_fact a f g) h ≡ joined_fact a f (joined_fact a g h)
+pub joined_fact-assoc : (a : Address) (f g h : Fact)
+    → joined_fact a (joined_fact a f g) h ≡ joined_fact a f (joined_fact a g h)
 joined_fact-assoc a f g h = elim (cases_Bool (same_fact f g)) [
   | inl e ↦
       let p = fact_same f g e in
       elim (cases_Bool (same_fact g h)) [
         | inl d ↦ let q = fact_same g h d in
-            ap (λ x. joined_fact a x h) (joined-same a f g p) ∙ joined-same a f h (p ∙ q) ∙ sym (joined-same a f g p) ∙ ap (joined_fact a f) (sym (joined-same a g h q))
+            ap (λ x. joined_fact a x h) (joined-same a f g p) ∙ joined-same a f h (p ∙ q)
+            ∙ sym (joined-same a f g p) ∙ ap (joined_fact a f) (sym (joined-same a g h q))
         | inr d ↦
-            ap (λ x. joined_fact a x h) (joined-same a f g p ∙ p) ∙ joined-apart a g h d ∙ sym (joined-conflict_right a f) ∙ ap (joined_fact a f) (sym (joined-apart a g h d))
+            ap (λ x. joined_fact a x h) (joined-same a f g p ∙ p) ∙ joined-apart a g h d
+            ∙ sym (joined-conflict_right a f)
+            ∙ ap (joined_fact a f) (sym (joined-apart a g h d))
       ]
   | inr e ↦
       elim (cases_Bool (same_fact g h)) [
         | inl d ↦ let q = fact_same g h d in
-            ap (λ x. joined_fact a x h) (joined-apart a f g e) ∙ joined-conflict_left a h ∙ sym (joined-apart a f g e) ∙ ap (joined_fact a f) (sym (joined-same a g h q))
+            ap (λ x. joined_fact a x h) (joined-apart a f g e) ∙ joined-conflict_left a h
+            ∙ sym (joined-apart a f g e) ∙ ap (joined_fact a f) (sym (joined-same a g h q))
         | inr d ↦
-            ap (λ x. joined_fact a x h) (joined-apart a f g e) ∙ joined-conflict_left a h ∙ sym (joined-conflict_right a f) ∙ ap (joined_fact a f) (sym (joined-apart a g h d))
+            ap (λ x. joined_fact a x h) (joined-apart a f g e) ∙ joined-conflict_left a h
+            ∙ sym (joined-conflict_right a f)
+            ∙ ap (joined_fact a f) (sym (joined-apart a g h d))
       ]
 ]
 
@@ -82,7 +97,8 @@ joined-comm a None (Some g) = refl
 joined-comm a (Some f) None = refl
 joined-comm a (Some f) (Some g) = ap Some (joined_fact-comm a f g)
 
-pub joined-assoc : (a : Address) (x y z : Option Fact) → joined a (joined a x y) z ≡ joined a x (joined a y z)
+pub joined-assoc : (a : Address) (x y z : Option Fact)
+    → joined a (joined a x y) z ≡ joined a x (joined a y z)
 joined-assoc a None y z = refl
 joined-assoc a (Some f) None z = refl
 joined-assoc a (Some f) (Some g) None = refl
@@ -101,7 +117,9 @@ joined-none a (Some f) = refl
 abbrev choice : Address → Fact → Bool → Fact
 choice a f b = cond b f (conflict_at a)
 
-agreed_heads : (a : Address) (f g : Fact) (gs : List Fact) → choice a f (same_fact f g && list_all (same_fact f) gs) ≡ joined_fact a f (choice a g (list_all (same_fact g) gs))
+agreed_heads : (a : Address) (f g : Fact) (gs : List Fact)
+    → choice a f (same_fact f g && list_all (same_fact f) gs)
+    ≡ joined_fact a f (choice a g (list_all (same_fact g) gs))
 agreed_heads a f g gs = elim (cases_Bool (same_fact f g)) [
   | inr e ↦
       ap (λ b. choice a f (b && list_all (same_fact f) gs)) e
@@ -114,13 +132,18 @@ agreed_heads a f g gs = elim (cases_Bool (same_fact f g)) [
       ap (λ b. choice a f (b && list_all (same_fact f) gs)) e
       ∙ ap (λ x. choice a f (list_all (same_fact x) gs)) p
       ∙ elim (cases_Bool (list_all (same_fact g) gs)) [
-        | inl d ↦ ap (choice a f) d ∙ sym (joined-same a f g p) ∙ sym (ap (λ b. joined_fact a f (choice a g b)) d)
-        | inr d ↦ ap (choice a f) d ∙ sym (joined-conflict_right a f) ∙ sym (ap (λ b. joined_fact a f (choice a g b)) d)
+        | inl d ↦ ap (choice a f) d ∙ sym (joined-same a f g p)
+            ∙ sym (ap (λ b. joined_fact a f (choice a g b)) d)
+        | inr d ↦ ap (choice a f) d ∙ sym (joined-conflict_right a f)
+            ∙ sym (ap (λ b. joined_fact a f (choice a g b)) d)
       ]
 ]
 
 -- the first list's facts agree or not, and so do the second's
-agreed_pair : (a : Address) (f g : Fact) (fs gs : List Fact) → choice a f (list_all (same_fact f) fs && (same_fact f g && list_all (same_fact f) gs)) ≡ joined_fact a (choice a f (list_all (same_fact f) fs)) (choice a g (list_all (same_fact g) gs))
+agreed_pair : (a : Address) (f g : Fact) (fs gs : List Fact)
+    → choice a f (list_all (same_fact f) fs && (same_fact f g && list_all (same_fact f) gs))
+    ≡ joined_fact a (choice a f (list_all (same_fact f) fs))
+    (choice a g (list_all (same_fact g) gs))
 agreed_pair a f g fs gs = elim (cases_Bool (list_all (same_fact f) fs)) [
   | inr e ↦
       ap (λ b. choice a f (b && (same_fact f g && list_all (same_fact f) gs))) e
@@ -132,15 +155,19 @@ agreed_pair a f g fs gs = elim (cases_Bool (list_all (same_fact f) fs)) [
       ∙ sym (ap (λ b. joined_fact a (choice a f b) (choice a g (list_all (same_fact g) gs))) e)
 ]
 
-agreed-append : (a : Address) (xs ys : List Fact) → agreed a (xs ++ ys) ≡ joined a (agreed a xs) (agreed a ys)
+agreed-append : (a : Address) (xs ys : List Fact)
+    → agreed a (xs ++ ys) ≡ joined a (agreed a xs) (agreed a ys)
 agreed-append a [] ys = refl
 agreed-append a (f ∷ fs) [] = ap (agreed a) (append-nil (f ∷ fs))
 agreed-append a (f ∷ fs) (g ∷ gs) =
-    ap (λ b. Some (choice a f b)) (list_all-append (same_fact f) fs (g ∷ gs)) ∙ ap Some (agreed_pair a f g fs gs)
+    ap (λ b. Some (choice a f b)) (list_all-append (same_fact f) fs (g ∷ gs))
+    ∙ ap Some (agreed_pair a f g fs gs)
 
 -- the value of two lists together is the join of their values
-pub fact_at-append : (F G : List Fact) (a : Address) → fact_at (F ++ G) a ≡ joined a (fact_at F a) (fact_at G a)
+pub fact_at-append : (F G : List Fact) (a : Address)
+    → fact_at (F ++ G) a ≡ joined a (fact_at F a) (fact_at G a)
 unfolding fact_at
 fact_at-append F G a =
     ap (agreed a) (filter-append (λ f. same_address (address f) a) F G)
-    ∙ agreed-append a (filter (λ f. same_address (address f) a) F) (filter (λ f. same_address (address f) a) G)
+    ∙ agreed-append a (filter (λ f. same_address (address f) a) F)
+    (filter (λ f. same_address (address f) a) G)

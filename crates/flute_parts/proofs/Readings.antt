@@ -1,57 +1,75 @@
 -- The value of a list of facts at an address, by the facts that the list contains.
-use Rattle.std.proofs.Common.{◌≡◌, true, false, List, [], ◌∷◌, Option, Some, None, refl, sym, ap, ◌∙◌, subst, inl, inr, ◌⊎◌}
+use Rattle.std.proofs.Common.{◌≡◌, true, false, List, [], ◌∷◌, Option, Some, None, refl}
+use Rattle.std.proofs.Common.{sym, ap, ◌∙◌, subst, inl, inr, ◌⊎◌}
 use Rattle.std.specs.Prelude.{Contains}
 use Rattle.std.proofs.lemmas.Bool.{cases_Bool}
 use Rattle.flute_parts.specs.declared.key.Key.{Key}
 use Rattle.flute_parts.specs.declared.address.Part.{Part}
-use Rattle.flute_parts.specs.declared.address.Part.TheVariants.{Info as InfoPart, Symbol as SymbolPart}
+use Rattle.flute_parts.specs.declared.address.Part.TheVariants.{Info as InfoPart}
+use Rattle.flute_parts.specs.declared.address.Part.TheVariants.{Symbol as SymbolPart}
 use Rattle.flute_parts.specs.declared.address.Address.{Address}
 use Rattle.flute_parts.specs.declared.fact.Fact.{Fact}
 use Rattle.flute_parts.specs.Order.{same_address}
 use Rattle.flute_parts.specs.Addresses.{address}
 use Rattle.flute_parts.specs.Facts.{same_fact, conflict_in, conflict_at, fact_at}
 use Rattle.flute_parts.specs.Equality.{fact_same, address_same}
-use Rattle.flute_parts.proofs.Joined.{joined, joined-assoc, joined-itself, joined-same, joined-apart, joined-conflict_left}
-use Rattle.flute_parts.proofs.Facts.{Member, Member-from, Contains-from, alone, alone-at, alone-elsewhere, fact_at-nil, fact_at-cons, fact_at-member, fact_at-member_some, fact_at-some_named}
+use Rattle.flute_parts.proofs.Joined.{joined, joined-assoc, joined-itself, joined-same}
+use Rattle.flute_parts.proofs.Joined.{joined-apart, joined-conflict_left}
+use Rattle.flute_parts.proofs.Facts.{Member, Member-from, Contains-from, alone, alone-at}
+use Rattle.flute_parts.proofs.Facts.{alone-elsewhere, fact_at-nil, fact_at-cons, fact_at-member}
+use Rattle.flute_parts.proofs.Facts.{fact_at-member_some, fact_at-some_named}
 
-pub fact_at-none : (F : List Fact) (a : Address) → ((f : Fact) → Contains F f → address f ≡ a → ⊥) → fact_at F a ≡ None
+pub fact_at-none : (F : List Fact) (a : Address)
+    → ((f : Fact) → Contains F f → address f ≡ a → ⊥) → fact_at F a ≡ None
 fact_at-none F a h = elim (fact_at-some_named F a) [
   | inl n ↦ absurd (h n.0 (Contains-from F n.0 n.1) n.2)
   | inr e ↦ e
 ]
 
-pub none-at : (F : List Fact) (a : Address) → fact_at F a ≡ None → (f : Fact) → Contains F f → address f ≡ a → ⊥
-none-at F a e f m p = fact_at-member_some f F (Member-from F f m) (subst (λ x. fact_at F x ≡ None) (sym p) e)
+pub none-at : (F : List Fact) (a : Address) → fact_at F a ≡ None → (f : Fact) → Contains F f
+    → address f ≡ a → ⊥
+none-at F a e f m p =
+    fact_at-member_some f F (Member-from F f m) (subst (λ x. fact_at F x ≡ None) (sym p) e)
 
-one_or_none : (F : List Fact) (a : Address) (f : Fact) → ((g : Fact) → Member g F → address g ≡ a → g ≡ f) → (fact_at F a ≡ None) ⊎ (fact_at F a ≡ Some f)
+one_or_none : (F : List Fact) (a : Address) (f : Fact)
+    → ((g : Fact) → Member g F → address g ≡ a → g ≡ f)
+    → (fact_at F a ≡ None) ⊎ (fact_at F a ≡ Some f)
 unfolding Member
 one_or_none [] a f h = inl (fact_at-nil a)
 one_or_none (g ∷ F) a f h = elim (cases_Bool (same_address (address g) a)) [
   | inr e ↦ elim (one_or_none F a f (λ k m. h k (inr m))) [
-    | inl n ↦ inl (fact_at-cons g F a ∙ ap (λ x. joined a x (fact_at F a)) (alone-elsewhere g a e) ∙ n)
-    | inr s ↦ inr (fact_at-cons g F a ∙ ap (λ x. joined a x (fact_at F a)) (alone-elsewhere g a e) ∙ s)
+    | inl n ↦ inl (fact_at-cons g F a
+        ∙ ap (λ x. joined a x (fact_at F a)) (alone-elsewhere g a e) ∙ n)
+    | inr s ↦ inr (fact_at-cons g F a
+        ∙ ap (λ x. joined a x (fact_at F a)) (alone-elsewhere g a e) ∙ s)
   ]
   | inl e ↦
       let p = address_same (address g) a e in
       let q = h g (inl refl) p in
-      let here : fact_at (g ∷ F) a ≡ joined a (Some f) (fact_at F a) = fact_at-cons g F a ∙ ap (λ x. joined a x (fact_at F a)) (alone-at g a p ∙ ap Some q) in
+      let here : fact_at (g ∷ F) a ≡ joined a (Some f) (fact_at F a) =
+      fact_at-cons g F a ∙ ap (λ x. joined a x (fact_at F a))
+      (alone-at g a p ∙ ap Some q) in
       elim (one_or_none F a f (λ k m. h k (inr m))) [
         | inl n ↦ inr (here ∙ ap (joined a (Some f)) n)
         | inr s ↦ inr (here ∙ ap (joined a (Some f)) s ∙ joined-itself a (Some f))
       ]
 ]
 
-pub fact_at-one : (F : List Fact) (a : Address) (f : Fact) → Contains F f → address f ≡ a → ((g : Fact) → Contains F g → address g ≡ a → g ≡ f) → fact_at F a ≡ Some f
+pub fact_at-one : (F : List Fact) (a : Address) (f : Fact) → Contains F f → address f ≡ a
+    → ((g : Fact) → Contains F g → address g ≡ a → g ≡ f) → fact_at F a ≡ Some f
 fact_at-one F a f m p h = elim (one_or_none F a f (λ g n q. h g (Contains-from F g n) q)) [
   | inl n ↦ absurd (none-at F a n f m p)
   | inr s ↦ s
 ]
 
-conflict_stays : (a : Address) (y : Option Fact) → joined a (Some (conflict_at a)) y ≡ Some (conflict_at a)
+conflict_stays : (a : Address) (y : Option Fact)
+    → joined a (Some (conflict_at a)) y ≡ Some (conflict_at a)
 conflict_stays a None = refl
 conflict_stays a (Some g) = ap Some (joined-conflict_left a g)
 
-pub fact_at-two : (F : List Fact) (a : Address) (f g : Fact) → Contains F f → Contains F g → address f ≡ a → address g ≡ a → (f ≡ g → ⊥) → fact_at F a ≡ Some (conflict_at a)
+pub fact_at-two : (F : List Fact) (a : Address) (f g : Fact) → Contains F f → Contains F g
+    → address f ≡ a → address g ≡ a → (f ≡ g → ⊥)
+    → fact_at F a ≡ Some (conflict_at a)
 fact_at-two F a f g m n p q h =
     let apart : same_fact f g ≡ false = elim (cases_Bool (same_fact f g)) [
       | inl e ↦ absurd (h (fact_same f g e))
@@ -67,7 +85,8 @@ fact_at-two F a f g m n p q h =
 
 -- the value at an address is a fact of that address
 
-conflict-address : (key : Key) (part : Part) → address (conflict_in key part) ≡ record { key = key; part = part }
+conflict-address : (key : Key) (part : Part)
+    → address (conflict_in key part) ≡ record { key = key; part = part }
 conflict-address key InfoPart = refl
 conflict-address key (SymbolPart id) = refl
 
@@ -75,7 +94,8 @@ abbrev Stands : Address → Option Fact → Type 0
 Stands a None = Unit {0}
 Stands a (Some f) = address f ≡ a
 
-joined-stands : (a : Address) (x y : Option Fact) → Stands a x → Stands a y → Stands a (joined a x y)
+joined-stands : (a : Address) (x y : Option Fact) → Stands a x → Stands a y
+    → Stands a (joined a x y)
 joined-stands a None y p q = q
 joined-stands a (Some f) None p q = p
 joined-stands a (Some f) (Some g) p q = elim (cases_Bool (same_fact f g)) [
@@ -85,17 +105,25 @@ joined-stands a (Some f) (Some g) p q = elim (cases_Bool (same_fact f g)) [
 
 fact_at-stands : (F : List Fact) (a : Address) → Stands a (fact_at F a)
 fact_at-stands [] a = subst (Stands a) (sym (fact_at-nil a)) tt
-fact_at-stands (f ∷ F) a = subst (Stands a) (sym (fact_at-cons f F a)) (joined-stands a (alone a f) (fact_at F a) (alone_stands (cases_Bool (same_address (address f) a))) (fact_at-stands F a))
+fact_at-stands (f ∷ F) a =
+    subst (Stands a) (sym (fact_at-cons f F a))
+    (joined-stands a (alone a f) (fact_at F a)
+    (alone_stands (cases_Bool (same_address (address f) a))) (fact_at-stands F a))
   where
-    alone_stands : ((same_address (address f) a ≡ true) ⊎ (same_address (address f) a ≡ false)) → Stands a (alone a f)
-    alone_stands (inl e) = let p = address_same (address f) a e in subst (Stands a) (sym (alone-at f a p)) p
+    alone_stands : ((same_address (address f) a ≡ true)
+        ⊎ (same_address (address f) a ≡ false)) → Stands a (alone a f)
+    alone_stands (inl e) = let p =
+        address_same (address f) a e in subst (Stands a) (sym (alone-at f a p)) p
     alone_stands (inr e) = subst (Stands a) (sym (alone-elsewhere f a e)) tt
 
-pub fact_at-address : (F : List Fact) (a : Address) (f : Fact) → fact_at F a ≡ Some f → address f ≡ a
+pub fact_at-address : (F : List Fact) (a : Address) (f : Fact) → fact_at F a ≡ Some f
+    → address f ≡ a
 fact_at-address F a f e = subst (Stands a) e (fact_at-stands F a)
 
-pub fact_at-conflict : (F : List Fact) (a : Address) → Contains F (conflict_at a) → fact_at F a ≡ Some (conflict_at a)
+pub fact_at-conflict : (F : List Fact) (a : Address) → Contains F (conflict_at a)
+    → fact_at F a ≡ Some (conflict_at a)
 fact_at-conflict F a m =
     sym (fact_at-member (conflict_at a) F a (Member-from F (conflict_at a) m))
-    ∙ ap (λ x. joined a x (fact_at F a)) (alone-at (conflict_at a) a (conflict-address a.key a.part))
+    ∙ ap (λ x. joined a x (fact_at F a))
+    (alone-at (conflict_at a) a (conflict-address a.key a.part))
     ∙ conflict_stays a (fact_at F a)

@@ -1,5 +1,8 @@
 -- The partition that information gives, from its four numbers (specs/Split).
-use Rattle.std.proofs.Common.{◌≡◌, ℕ, zero, suc, ◌+◌, ◌-◌, ◌*◌, ◌/◌, ◌%◌, ◌^◌, ◌<◌, ◌≤◌, min, Bool, true, false, cond, List, [], ◌∷◌, ◌++◌, length, get_or, take, replicate, Some, None, refl, sym, ap, ◌∙◌, subst, inl, inr, arith}
+use Rattle.std.proofs.Common.{◌≡◌, ℕ, zero, suc, ◌+◌, ◌-◌, ◌*◌, ◌/◌}
+use Rattle.std.proofs.Common.{◌%◌, ◌^◌, ◌<◌, ◌≤◌, min, Bool, true, false, cond}
+use Rattle.std.proofs.Common.{List, [], ◌∷◌, ◌++◌, length, get_or, take, replicate, Some}
+use Rattle.std.proofs.Common.{None, refl, sym, ap, ◌∙◌, subst, inl, inr, arith}
 use Rattle.std.proofs.Math.Nat.{div-add-mod', eq-zero-or-pos}
 use Rattle.std.specs.Prelude.{slice_get, ◌==◌, ◌↔◌}
 use Rattle.std.specs.Int.{div_ceil}
@@ -11,11 +14,16 @@ use Rattle.std.proofs.lemmas.Bool.{cases_Bool}
 use Rattle.std.proofs.lemmas.Nat.{mod_below, div_below, mul-le}
 use Rattle.flute_parts.specs.declared.symbol_id.SymbolId.{SymbolId}
 use Rattle.flute_parts.specs.Order.{same_symbol_id, symbol_id_cmp}
-use Rattle.flute_parts.specs.Information.{Information, sizes, symbol_count, block_count, large_length, small_length, large_count, HasBlocks, IsValid}
+use Rattle.flute_parts.specs.Information.{Information, sizes, symbol_count, block_count}
+use Rattle.flute_parts.specs.Information.{large_length, small_length, large_count, HasBlocks}
+use Rattle.flute_parts.specs.Information.{IsValid}
 use Rattle.flute_parts.specs.Partition.{symbol_id, ids, place}
 use Rattle.flute_parts.specs.Split.{total, IsSplit}
 use Rattle.flute_parts.proofs.Division.{div_ceil-pos, div_ceil-le, div_ceil-zero}
-use Rattle.flute_parts.proofs.Listing.{listing, split, place-hit, place-miss, listing-at, length-listing, length-split, size-large, size-small, before-large, before-small, total-split, listed-of_place, place-of_listed, ids-rise, next-in_block}
+use Rattle.flute_parts.proofs.Listing.{listing, split, place-hit, place-miss, listing-at}
+use Rattle.flute_parts.proofs.Listing.{length-listing, length-split, size-large, size-small}
+use Rattle.flute_parts.proofs.Listing.{before-large, before-small, total-split, listed-of_place}
+use Rattle.flute_parts.proofs.Listing.{place-of_listed, ids-rise, next-in_block}
 
 -- how the numbers are made
 
@@ -24,7 +32,8 @@ unfolding sizes
 IsSplit-none i h =
     let is_zero : (i.transfer_length == 0) ≡ true = grind (arith, nat_tests) in
     record {
-      split = ap (λ b. cond b [] (replicate (large_count i) (large_length i) ++ replicate (block_count i - large_count i) (small_length i))) is_zero;
+      split = ap (λ b. cond b [] (replicate (large_count i) (large_length i)
+          ++ replicate (block_count i - large_count i) (small_length i))) is_zero;
       count = sym (ap (λ l. div_ceil l i.symbol_length) h ∙ div_ceil-zero i.symbol_length);
       all = omega arith;
       blocks = omega arith;
@@ -44,7 +53,10 @@ quotient_pos : (q r n t : ℕ) → q * n + r ≡ t → r < n → n ≤ t → 0 <
 quotient_pos zero r n t e h l = absurd (omega arith)
 quotient_pos (suc q) r n t e h l = omega arith
 
-pub IsSplit-of : (i : Information) (n : ℕ) → n ≡ block_count i → 0 < i.transfer_length → HasBlocks i → IsSplit i (symbol_count i) (symbol_count i % n) (n - symbol_count i % n) (symbol_count i / n)
+pub IsSplit-of : (i : Information) (n : ℕ) → n ≡ block_count i → 0 < i.transfer_length
+    → HasBlocks i
+    → IsSplit i (symbol_count i) (symbol_count i % n) (n - symbol_count i % n)
+    (symbol_count i / n)
 unfolding sizes
 IsSplit-of i n e l h =
     let t = symbol_count i in
@@ -62,8 +74,10 @@ IsSplit-of i n e l h =
     let not_zero : (i.transfer_length == 0) ≡ false = grind (arith, nat_tests) in
     record {
       split =
-          ap (λ b. cond b [] (replicate (large_count i) (large_length i) ++ replicate (block_count i - large_count i) (small_length i))) not_zero
-          ∙ ap (λ x. replicate (t - t / x * x) (div_ceil t x) ++ replicate (x - (t - t / x * x)) (t / x)) (sym e)
+          ap (λ b. cond b [] (replicate (large_count i) (large_length i)
+          ++ replicate (block_count i - large_count i) (small_length i))) not_zero
+          ∙ ap (λ x. replicate (t - t / x * x) (div_ceil t x)
+          ++ replicate (x - (t - t / x * x)) (t / x)) (sym e)
           ∙ ap (λ x. replicate x (q + min 1 r) ++ replicate (n - x) q) is_large
           ∙ ap (λ xs. xs ++ replicate (n - r) q) (larger q r);
       count = refl;
@@ -76,10 +90,12 @@ IsSplit-of i n e l h =
 
 -- what follows from the numbers of a partition
 
-module _ (i : Information) (symbols large small length' : ℕ) (s : IsSplit i symbols large small length') where
+module _ (i : Information) (symbols large small length' : ℕ)
+    (s : IsSplit i symbols large small length') where
   pub count-ids : length (ids i) ≡ symbols
   unfolding ids
-  count-ids = length-listing 0 (sizes i) ∙ ap total s.split ∙ total-split large (length' + 1) small length' ∙ sym s.all
+  count-ids = length-listing 0 (sizes i) ∙ ap total s.split
+      ∙ total-split large (length' + 1) small length' ∙ sym s.all
 
   -- no more than 2^16 blocks of 2^16 symbols
   pub few-symbols : symbols ≤ 2 ^ 32
@@ -93,7 +109,8 @@ module _ (i : Information) (symbols large small length' : ℕ) (s : IsSplit i sy
             omega arith
         | inr p ↦
             let l = s.large_longest p in
-            let e : large * (length' + 1) + small * length' ≤ (large + small) * (length' + 1) = omega arith in
+            let e : large * (length' + 1) + small * length' ≤ (large + small) * (length' + 1) =
+            omega arith in
             let q = mul-le (large + small) (length' + 1) 65536 65536 blocks (omega arith) in
             omega arith
       ]
@@ -102,38 +119,56 @@ module _ (i : Information) (symbols large small length' : ℕ) (s : IsSplit i sy
   count-sizes = ap length s.split ∙ length-split large (length' + 1) small length'
 
   pub before-first : (n : ℕ) → n ≤ large → total (take n (sizes i)) ≡ n * (length' + 1)
-  before-first n h = ap (λ xs. total (take n xs)) s.split ∙ before-large large (length' + 1) small length' n h
+  before-first n h =
+      ap (λ xs. total (take n xs)) s.split ∙ before-large large (length' + 1) small length' n h
 
-  pub before-second : (n : ℕ) → large ≤ n → n ≤ large + small → total (take n (sizes i)) ≡ large * (length' + 1) + (n - large) * length'
-  before-second n h l = ap (λ xs. total (take n xs)) s.split ∙ before-small large (length' + 1) small length' (n - large) n (omega arith) (omega arith)
+  pub before-second : (n : ℕ) → large ≤ n → n ≤ large + small
+      → total (take n (sizes i)) ≡ large * (length' + 1) + (n - large) * length'
+  before-second n h l =
+      ap (λ xs. total (take n xs)) s.split
+      ∙ before-small large (length' + 1) small length' (n - large) n (omega arith) (omega arith)
 
   -- an id at its place
-  pub at-first : (n j k : ℕ) → n < large → j < length' + 1 → n * (length' + 1) + j ≡ k → slice_get (ids i) k ≡ Some (symbol_id n j)
+  pub at-first : (n j k : ℕ) → n < large → j < length' + 1 → n * (length' + 1) + j ≡ k
+      → slice_get (ids i) k ≡ Some (symbol_id n j)
   unfolding ids
   at-first n j k h l e =
       let count = count-sizes in
-      let size : get_or (sizes i) n 0 ≡ length' + 1 = ap (λ xs. get_or xs n 0) s.split ∙ size-large large (length' + 1) small length' n h in
+      let size : get_or (sizes i) n 0 ≡ length' + 1 =
+      ap (λ xs. get_or xs n 0) s.split ∙ size-large large (length' + 1) small length' n h in
       let b = before-first n (omega arith) in
       listing-at (sizes i) 0 n j n k (omega arith) (omega arith) (omega arith) (omega arith)
 
-  pub at-second : (n j k : ℕ) → large ≤ n → n < large + small → j < length' → large * (length' + 1) + ((n - large) * length' + j) ≡ k → slice_get (ids i) k ≡ Some (symbol_id n j)
+  pub at-second : (n j k : ℕ) → large ≤ n → n < large + small → j < length'
+      → large * (length' + 1) + ((n - large) * length' + j) ≡ k
+      → slice_get (ids i) k ≡ Some (symbol_id n j)
   unfolding ids
   at-second n j k h m l e =
       let count = count-sizes in
-      let size : get_or (sizes i) n 0 ≡ length' = ap (λ xs. get_or xs n 0) s.split ∙ size-small large (length' + 1) small length' n h m in
+      let size : get_or (sizes i) n 0 ≡ length' =
+      ap (λ xs. get_or xs n 0) s.split
+      ∙ size-small large (length' + 1) small length' n h m in
       let b = before-second n h (omega arith) in
       listing-at (sizes i) 0 n j n k (omega arith) (omega arith) (omega arith) (omega arith)
 
   -- the id at each place
-  pub place-first : (k : ℕ) → k < large * (length' + 1) → slice_get (ids i) k ≡ Some (symbol_id (k / (length' + 1)) (k % (length' + 1)))
-  place-first k h = at-first (k / (length' + 1)) (k % (length' + 1)) k (div_below k (length' + 1) large (omega arith) h) (mod_below k (length' + 1) (omega arith)) (div-add-mod' k (length' + 1))
+  pub place-first : (k : ℕ) → k < large * (length' + 1)
+      → slice_get (ids i) k ≡ Some (symbol_id (k / (length' + 1)) (k % (length' + 1)))
+  place-first k h =
+      at-first (k / (length' + 1)) (k % (length' + 1)) k
+      (div_below k (length' + 1) large (omega arith) h) (mod_below k (length' + 1) (omega arith))
+      (div-add-mod' k (length' + 1))
 
-  pub place-second : (k : ℕ) → large * (length' + 1) ≤ k → k < symbols → slice_get (ids i) k ≡ Some (symbol_id (large + (k - large * (length' + 1)) / length') ((k - large * (length' + 1)) % length'))
+  pub place-second : (k : ℕ) → large * (length' + 1) ≤ k → k < symbols
+      → slice_get (ids i) k
+      ≡ Some (symbol_id (large + (k - large * (length' + 1)) / length')
+      ((k - large * (length' + 1)) % length'))
   place-second k h l =
       let rest = k - large * (length' + 1) in
       let below : rest < small * length' = let all = s.all in omega arith in
       let some : 0 < small = elim (eq-zero-or-pos small) [
-        | inl z ↦ absurd (let e : small * length' ≡ 0 = ap (λ x. x * length') z ∙ omega arith in omega arith)
+        | inl z ↦ absurd (let e : small * length' ≡ 0 =
+            ap (λ x. x * length') z ∙ omega arith in omega arith)
         | inr p ↦ p
       ] in
       let pos : 0 < length' = s.not_empty some in
@@ -143,72 +178,100 @@ module _ (i : Information) (symbols large small length' : ℕ) (s : IsSplit i sy
       let parts : q * length' + r ≡ rest = div-add-mod' rest length' in
       let shift : large + q - large ≡ q = omega arith in
       at-second (large + q) r k (omega arith) (omega arith) (mod_below rest length' pos)
-      (ap (λ x. large * (length' + 1) + (x * length' + r)) shift ∙ ap (λ x. large * (length' + 1) + x) parts ∙ omega arith)
+      (ap (λ x. large * (length' + 1) + (x * length' + r)) shift
+      ∙ ap (λ x. large * (length' + 1) + x) parts ∙ omega arith)
 
   pub past-last : (k : ℕ) → symbols ≤ k → slice_get (ids i) k ≡ None
   past-last k h = slice_get_past (ids i) k (let e = count-ids in omega arith)
 
   pub first-bound : (n : ℕ) → n < 65536 → n * (length' + 1) < 2 ^ 33
-  first-bound n h = let p = mul-le n (length' + 1) 65536 65537 (omega arith) (let l = s.longest in omega arith) in omega arith
+  first-bound n h = let p =
+      mul-le n (length' + 1) 65536 65537 (omega arith) (let l = s.longest in omega arith) in
+      omega arith
 
-  pub second-bound : (n : ℕ) → large ≤ n → n < 65536 → large * (length' + 1) + (n - large) * length' < 2 ^ 33
+  pub second-bound : (n : ℕ) → large ≤ n → n < 65536
+      → large * (length' + 1) + (n - large) * length' < 2 ^ 33
   second-bound n h l =
-      let e : large * (length' + 1) + (n - large) * length' ≤ (large + (n - large)) * (length' + 1) = omega arith in
+      let e : large * (length' + 1) + (n - large) * length'
+      ≤ (large + (n - large)) * (length' + 1) = omega arith in
       let m : large + (n - large) ≡ n = omega arith in
       let p = first-bound n l in
-      let w : (large + (n - large)) * (length' + 1) ≡ n * (length' + 1) = ap (λ x. x * (length' + 1)) m in
+      let w : (large + (n - large)) * (length' + 1) ≡ n * (length' + 1) =
+      ap (λ x. x * (length' + 1)) m in
       omega arith
 
 -- a symbol of a block is after the blocks before its own, and any other has no place
 
-pub place-in : (i : Information) (id : SymbolId) (k : ℕ) → id.esi < get_or (sizes i) id.sbn 0 → total (take id.sbn (sizes i)) + id.esi ≡ k → place i id ≡ Some k
+pub place-in : (i : Information) (id : SymbolId) (k : ℕ) → id.esi < get_or (sizes i) id.sbn 0
+    → total (take id.sbn (sizes i)) + id.esi ≡ k → place i id ≡ Some k
 unfolding place ids
-place-in i id k h e = place-hit (sizes i) 0 id.sbn id.esi 0 id.sbn k (inside (sizes i) id.sbn (omega arith)) h (omega arith) (omega arith)
+place-in i id k h e =
+    place-hit (sizes i) 0 id.sbn id.esi 0 id.sbn k (inside (sizes i) id.sbn (omega arith)) h
+    (omega arith) (omega arith)
   where
     inside : (xs : List ℕ) (n : ℕ) → 0 < get_or xs n 0 → n < length xs
     inside [] n p = absurd (omega arith)
     inside (x ∷ xs) zero p = omega arith
     inside (x ∷ xs) (suc n) p = omega (arith, inside xs n p)
 
-pub place-out : (i : Information) (id : SymbolId) → get_or (sizes i) id.sbn 0 ≤ id.esi → place i id ≡ None
+pub place-out : (i : Information) (id : SymbolId) → get_or (sizes i) id.sbn 0 ≤ id.esi
+    → place i id ≡ None
 unfolding place ids
-place-out i id h = place-miss (sizes i) id 0 0 (λ m l e. subst (λ x. get_or (sizes i) x 0 ≤ id.esi) (omega (arith, e)) h)
+place-out i id h =
+    place-miss (sizes i) id 0 0 (λ m l e.
+    subst (λ x. get_or (sizes i) x 0 ≤ id.esi) (omega (arith, e)) h)
 
-position-within : (p : SymbolId → Bool) (xs : List SymbolId) (k r : ℕ) → position_from p k xs ≡ Some r → r < k + length xs
+position-within : (p : SymbolId → Bool) (xs : List SymbolId) (k r : ℕ)
+    → position_from p k xs ≡ Some r → r < k + length xs
 position-within p [] k r e = cc
 position-within p (x ∷ xs) k r e = elim (cases_Bool (p x)) [
   | inl t ↦
-      let f : Some k ≡ Some r = sym (ap (λ b. cond b (Some k) (position_from p (k + 1) xs)) t) ∙ e in
+      let f : Some k ≡ Some r =
+      sym (ap (λ b. cond b (Some k) (position_from p (k + 1) xs)) t) ∙ e in
       let g : k ≡ r = cc in
       omega arith
   | inr t ↦
-      let f : position_from p (k + 1) xs ≡ Some r = sym (ap (λ b. cond b (Some k) (position_from p (k + 1) xs)) t) ∙ e in
+      let f : position_from p (k + 1) xs ≡ Some r =
+      sym (ap (λ b. cond b (Some k) (position_from p (k + 1) xs)) t) ∙ e in
       omega (arith, position-within p xs (k + 1) r f)
 ]
 
-pub place-within : (i : Information) (id : SymbolId) (k : ℕ) → place i id ≡ Some k → k < length (ids i)
+pub place-within : (i : Information) (id : SymbolId) (k : ℕ) → place i id ≡ Some k
+    → k < length (ids i)
 unfolding place
 place-within i id k e = omega (arith, position-within (same_symbol_id id) (ids i) 0 k e)
 
 -- the order of the ids
 
-pub places-inverse : (info : Information) (id : SymbolId) (k : ℕ) → (place info id ≡ Some k) ↔ (slice_get (ids info) k ≡ Some id)
+pub places-inverse : (info : Information) (id : SymbolId) (k : ℕ)
+    → (place info id ≡ Some k) ↔ (slice_get (ids info) k ≡ Some id)
 unfolding place ids
-places-inverse info id k = (λ e. sub-zero_at k (listed-of_place id (listing 0 (sizes info)) 0 k e).1, λ e. place-of_listed (sizes info) k id e)
+places-inverse info id k = (
+  λ e. sub-zero_at k (listed-of_place id (listing 0 (sizes info)) 0 k e).1,
+  λ e. place-of_listed (sizes info) k id e,
+)
   where
-    sub-zero_at : (k : ℕ) → slice_get (listing 0 (sizes info)) (k - 0) ≡ Some id → slice_get (listing 0 (sizes info)) k ≡ Some id
-    sub-zero_at k h = let e : k ≡ k - 0 = omega arith in ap (slice_get (listing 0 (sizes info))) e ∙ h
+    sub-zero_at : (k : ℕ) → slice_get (listing 0 (sizes info)) (k - 0) ≡ Some id
+        → slice_get (listing 0 (sizes info)) k ≡ Some id
+    sub-zero_at k h = let e : k ≡ k - 0 =
+        omega arith in ap (slice_get (listing 0 (sizes info))) e ∙ h
 
-pub ids_rise : (info : Information) (j k : ℕ) (a b : SymbolId) → j < k → slice_get (ids info) j ≡ Some a → slice_get (ids info) k ≡ Some b → symbol_id_cmp a b ≡ Less
+pub ids_rise : (info : Information) (j k : ℕ) (a b : SymbolId) → j < k
+    → slice_get (ids info) j ≡ Some a → slice_get (ids info) k ≡ Some b
+    → symbol_id_cmp a b ≡ Less
 unfolding ids
 ids_rise info = ids-rise (sizes info)
 
-pub ids_follow : (info : Information) (k : ℕ) (id : SymbolId) → slice_get (ids info) k ≡ Some id → id.esi + 1 < get_or (sizes info) id.sbn 0 → slice_get (ids info) (k + 1) ≡ Some (symbol_id id.sbn (id.esi + 1))
+pub ids_follow : (info : Information) (k : ℕ) (id : SymbolId)
+    → slice_get (ids info) k ≡ Some id → id.esi + 1 < get_or (sizes info) id.sbn 0
+    → slice_get (ids info) (k + 1) ≡ Some (symbol_id id.sbn (id.esi + 1))
 unfolding ids
 ids_follow info = next-in_block (sizes info)
 
 pub ids_counted : (info : Information) → IsValid info → length (ids info) ≡ symbol_count info
 ids_counted info v = elim (eq-zero-or-pos info.transfer_length) [
   | inl z ↦ let s = IsSplit-none info z in count-ids info 0 0 0 0 s ∙ s.count
-  | inr l ↦ let s = IsSplit-of info (block_count info) refl l (v.parts l) in count-ids info (symbol_count info) _ _ _ s
+  | inr l ↦ let s =
+      IsSplit-of info (block_count info) refl l (v.parts l) in
+      count-ids info (symbol_count info) _ _ _ s
 ]

@@ -2,12 +2,17 @@
 use Rattle.std.specs.Prelude.{ℕ, List, []}
 use Rattle.flute_parts.specs.declared.key.Key.{Key}
 use Rattle.flute_parts.specs.declared.symbol_id.SymbolId.{SymbolId}
-use Rattle.flute_parts.specs.declared.address.Part.TheVariants.{Info as InfoPart, Symbol as SymbolPart}
+use Rattle.flute_parts.specs.declared.address.Part.TheVariants.{Info as InfoPart}
+use Rattle.flute_parts.specs.declared.address.Part.TheVariants.{Symbol as SymbolPart}
 use Rattle.flute_parts.specs.declared.address.Address.{Address}
 use Rattle.flute_parts.specs.declared.fact.Fact.{Fact}
-use Rattle.flute_parts.specs.declared.fact.Fact.TheVariants.{Info, InfoConflict, Symbol, SymbolConflict}
+use Rattle.flute_parts.specs.declared.fact.Fact.TheVariants.{Info, InfoConflict, Symbol}
+use Rattle.flute_parts.specs.declared.fact.Fact.TheVariants.{SymbolConflict}
 use Rattle.flute_parts.specs.declared.fact.FactRef.{FactRef}
-use Rattle.flute_parts.specs.declared.fact.FactRef.TheVariants.{Info as InfoRef, InfoConflict as InfoConflictRef, Symbol as SymbolRef, SymbolConflict as SymbolConflictRef}
+use Rattle.flute_parts.specs.declared.fact.FactRef.TheVariants.{Info as InfoRef}
+use Rattle.flute_parts.specs.declared.fact.FactRef.TheVariants.{InfoConflict as InfoConflictRef}
+use Rattle.flute_parts.specs.declared.fact.FactRef.TheVariants.{Symbol as SymbolRef}
+use Rattle.flute_parts.specs.declared.fact.FactRef.TheVariants.{SymbolConflict as SymbolConflictRef}
 
 -- the address of the transmission information of an object, and of a symbol of it
 abbrev pub info_address : Key → Address

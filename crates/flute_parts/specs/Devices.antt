@@ -1,5 +1,6 @@
 -- What is written to a sink whose bytes contracts see, and how often a device failed.
-use Rattle.std.specs.Prelude.{◌≡◌, ◌≢◌, ℕ, Bool, true, false, List, [], ◌++◌, Option, Result, MatchResult}
+use Rattle.std.specs.Prelude.{◌≡◌, ◌≢◌, ℕ, Bool, true, false, List, [], ◌++◌}
+use Rattle.std.specs.Prelude.{Option, Result, MatchResult}
 use Rattle.std.specs.Io.KnownBytes.{Appends}
 
 -- a part of the bytes was appended, and not all of them

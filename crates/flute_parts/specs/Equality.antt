@@ -14,12 +14,15 @@ use Rattle.flute_parts.specs.declared.object_key.ObjectName.TheVariants.{Instanc
 use Rattle.flute_parts.specs.declared.key.Key.{Key}
 use Rattle.flute_parts.specs.declared.symbol_id.SymbolId.{SymbolId}
 use Rattle.flute_parts.specs.declared.address.Part.{Part}
-use Rattle.flute_parts.specs.declared.address.Part.TheVariants.{Info as InfoPart, Symbol as SymbolPart}
+use Rattle.flute_parts.specs.declared.address.Part.TheVariants.{Info as InfoPart}
+use Rattle.flute_parts.specs.declared.address.Part.TheVariants.{Symbol as SymbolPart}
 use Rattle.flute_parts.specs.declared.address.Address.{Address}
 use Rattle.flute_parts.specs.declared.fact.Fact.{Fact}
-use Rattle.flute_parts.specs.declared.fact.Fact.TheVariants.{Info, InfoConflict, Symbol, SymbolConflict}
+use Rattle.flute_parts.specs.declared.fact.Fact.TheVariants.{Info, InfoConflict, Symbol}
+use Rattle.flute_parts.specs.declared.fact.Fact.TheVariants.{SymbolConflict}
 use Rattle.flute_parts.specs.Information.{Information}
-use Rattle.flute_parts.specs.Order.{session_cmp, object_cmp, key_cmp, symbol_id_cmp, part_cmp, same_key, same_symbol_id, same_address}
+use Rattle.flute_parts.specs.Order.{session_cmp, object_cmp, key_cmp, symbol_id_cmp, part_cmp}
+use Rattle.flute_parts.specs.Order.{same_key, same_symbol_id, same_address}
 use Rattle.flute_parts.specs.Facts.{same_information, same_fact}
 
 -- tests

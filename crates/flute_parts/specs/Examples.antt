@@ -1,12 +1,15 @@
 -- Worked examples, computed from the definitions.
-use Rattle.std.specs.Prelude.{◌≡◌, ◌^◌, true, false, refl, List, [], ◌∷◌, ◌++◌, length, slice_get, Some, None}
+use Rattle.std.specs.Prelude.{◌≡◌, ◌^◌, true, false, refl, List, [], ◌∷◌, ◌++◌}
+use Rattle.std.specs.Prelude.{length, slice_get, Some, None}
 use Rattle.std.specs.declared.cmp.Ordering.TheVariants.{Less}
-use Rattle.flute_parts.specs.declared.info.InfoFault.TheVariants.{Length, SymbolLength, BlockLength, TooManyBlocks, BlockTooLong}
+use Rattle.flute_parts.specs.declared.info.InfoFault.TheVariants.{Length, SymbolLength, BlockLength}
+use Rattle.flute_parts.specs.declared.info.InfoFault.TheVariants.{TooManyBlocks, BlockTooLong}
 use Rattle.flute_parts.specs.declared.object_key.ObjectName.{ObjectName}
 use Rattle.flute_parts.specs.declared.object_key.ObjectName.TheVariants.{Instance, File}
 use Rattle.flute_parts.specs.declared.key.Key.{Key}
 use Rattle.flute_parts.specs.declared.fact.Fact.{Fact}
-use Rattle.flute_parts.specs.declared.fact.Fact.TheVariants.{Info, InfoConflict, Symbol, SymbolConflict}
+use Rattle.flute_parts.specs.declared.fact.Fact.TheVariants.{Info, InfoConflict, Symbol}
+use Rattle.flute_parts.specs.declared.fact.Fact.TheVariants.{SymbolConflict}
 use Rattle.flute_parts.specs.Session.{session}
 use Rattle.flute_parts.specs.Information.{Information, information, info_fault, sizes}
 use Rattle.flute_parts.specs.Order.{address_cmp}

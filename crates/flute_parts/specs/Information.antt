@@ -1,8 +1,11 @@
 -- FEC Object Transmission Information and the block lengths that it gives (RFC 5052, 9.1).
-use Rattle.std.specs.Prelude.{ℕ, ◌-◌, ◌*◌, ◌/◌, ◌<◌, ◌≤◌, ◌^◌, nat_lt, nat_le, ◌==◌, if◌then◌else◌, List, [], ◌++◌, replicate, Option, Some, None}
+use Rattle.std.specs.Prelude.{ℕ, ◌-◌, ◌*◌, ◌/◌, ◌<◌, ◌≤◌, ◌^◌, nat_lt}
+use Rattle.std.specs.Prelude.{nat_le, ◌==◌, if◌then◌else◌, List, [], ◌++◌, replicate}
+use Rattle.std.specs.Prelude.{Option, Some, None}
 use Rattle.std.specs.Int.{div_ceil}
 use Rattle.flute_parts.specs.declared.info.InfoFault.{InfoFault}
-use Rattle.flute_parts.specs.declared.info.InfoFault.TheVariants.{Length, SymbolLength, BlockLength, TooManyBlocks, BlockTooLong}
+use Rattle.flute_parts.specs.declared.info.InfoFault.TheVariants.{Length, SymbolLength, BlockLength}
+use Rattle.flute_parts.specs.declared.info.InfoFault.TheVariants.{TooManyBlocks, BlockTooLong}
 
 -- the transfer length, the encoding symbol length and the maximum source block length
 -- (RFC 5052, 6.2.4)

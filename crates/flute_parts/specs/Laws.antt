@@ -1,5 +1,7 @@
 -- Laws of lists of facts, of partitions and of transmission information.
-use Rattle.std.specs.Prelude.{◌≡◌, ℕ, ◌+◌, ◌-◌, ◌<◌, ◌⊎◌, true, length, slice_get, slice_index, List, ◌++◌, Contains, ◌↔◌, Some, None}
+use Rattle.std.specs.Prelude.{◌≡◌, ℕ, ◌+◌, ◌-◌, ◌<◌, ◌⊎◌, true, length}
+use Rattle.std.specs.Prelude.{slice_get, slice_index, List, ◌++◌, Contains, ◌↔◌, Some}
+use Rattle.std.specs.Prelude.{None}
 use Rattle.std.specs.declared.cmp.Ordering.TheVariants.{Less}
 use Rattle.flute_parts.specs.Information.{Information, sizes, IsValid, info_fault, symbol_count}
 use Rattle.flute_parts.specs.Order.{symbol_id_cmp}

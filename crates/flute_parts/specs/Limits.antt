@@ -1,5 +1,6 @@
 -- How many sessions, objects and symbols a list of facts names.
-use Rattle.std.specs.Prelude.{ℕ, Bool, ◌<◌, not, if◌then◌else◌, List, [], ◌∷◌, length, filter, filter_map, Option, Some, None}
+use Rattle.std.specs.Prelude.{ℕ, Bool, ◌<◌, not, if◌then◌else◌, List, [], ◌∷◌}
+use Rattle.std.specs.Prelude.{length, filter, filter_map, Option, Some, None}
 use Rattle.flute_parts.specs.Session.{Session}
 use Rattle.flute_parts.specs.Order.{same_session, same_object, same_key, same_symbol_id}
 use Rattle.flute_parts.specs.Addresses.{address}
@@ -7,7 +8,8 @@ use Rattle.flute_parts.specs.declared.object_key.ObjectName.{ObjectName}
 use Rattle.flute_parts.specs.declared.key.Key.{Key}
 use Rattle.flute_parts.specs.declared.symbol_id.SymbolId.{SymbolId}
 use Rattle.flute_parts.specs.declared.address.Part.{Part}
-use Rattle.flute_parts.specs.declared.address.Part.TheVariants.{Info as InfoPart, Symbol as SymbolPart}
+use Rattle.flute_parts.specs.declared.address.Part.TheVariants.{Info as InfoPart}
+use Rattle.flute_parts.specs.declared.address.Part.TheVariants.{Symbol as SymbolPart}
 use Rattle.flute_parts.specs.declared.address.Address.{Address}
 use Rattle.flute_parts.specs.declared.fact.Fact.{Fact}
 

@@ -1,5 +1,6 @@
 -- The block partition of an object (RFC 5052, 9.1).
-use Rattle.std.specs.Prelude.{ℕ, ◌+◌, ◌-◌, ◌*◌, ◌==◌, Bool, false, ◌&&◌, ◌||◌, List, map, flat_map, Option, Some, None}
+use Rattle.std.specs.Prelude.{ℕ, ◌+◌, ◌-◌, ◌*◌, ◌==◌, Bool, false, ◌&&◌}
+use Rattle.std.specs.Prelude.{◌||◌, List, map, flat_map, Option, Some, None}
 use Rattle.std.specs.List.{position_from, range_with_len, enumerate_from}
 use Rattle.flute_parts.specs.Information.{Information, sizes, symbol_count}
 use Rattle.flute_parts.specs.Order.{same_symbol_id}

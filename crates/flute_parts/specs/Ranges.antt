@@ -7,7 +7,8 @@ use Rattle.flute_parts.specs.Information.{Information, HasInfoFields, info_fault
 use Rattle.flute_parts.specs.declared.key.Key.{Key}
 use Rattle.flute_parts.specs.declared.symbol_id.SymbolId.{SymbolId}
 use Rattle.flute_parts.specs.declared.fact.Fact.{Fact}
-use Rattle.flute_parts.specs.declared.fact.Fact.TheVariants.{Info, InfoConflict, Symbol, SymbolConflict}
+use Rattle.flute_parts.specs.declared.fact.Fact.TheVariants.{Info, InfoConflict, Symbol}
+use Rattle.flute_parts.specs.declared.fact.Fact.TheVariants.{SymbolConflict}
 
 abbrev pub IsByte : ℕ → Type 0
 IsByte b = b < 256

@@ -1,5 +1,6 @@
 -- How many bytes a symbol has.
-use Rattle.std.specs.Prelude.{ℕ, ◌<◌, ◌≤◌, nat_lt, ◌==◌, if◌then◌else◌, List, length, Option, Some, None}
+use Rattle.std.specs.Prelude.{ℕ, ◌<◌, ◌≤◌, nat_lt, ◌==◌, if◌then◌else◌, List}
+use Rattle.std.specs.Prelude.{length, Option, Some, None}
 use Rattle.flute_parts.specs.declared.bytes.BytesFault.{BytesFault}
 use Rattle.flute_parts.specs.declared.bytes.BytesFault.TheVariants.{Empty, TooLong}
 

@@ -1,5 +1,6 @@
 //! Devices that bytes come from.
-ghost use Rattle.std.specs.Prelude.{◌≡◌, ℕ, ◌+◌, ◌≤◌, List, [], length, take, drop, IfOk, IfSome, Option, if◌then◌else◌, is_ok};
+ghost use Rattle.std.specs.Prelude.{◌≡◌, ℕ, ◌+◌, ◌≤◌, List, [], length, take};
+ghost use Rattle.std.specs.Prelude.{drop, IfOk, IfSome, Option, if◌then◌else◌, is_ok};
 ghost use Rattle.std.specs.Io.{StartsWith};
 ghost use Rattle.std.specs.Io.KnownBytes.{Consumes, ReadConsumes};
 

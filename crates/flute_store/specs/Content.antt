@@ -8,7 +8,8 @@ use Rattle.flute_parts.specs.declared.object_key.ObjectName.{ObjectName}
 use Rattle.flute_parts.specs.declared.key.Key.{Key}
 use Rattle.flute_parts.specs.declared.symbol_id.SymbolId.{SymbolId}
 use Rattle.flute_parts.specs.declared.fact.Fact.{Fact}
-use Rattle.flute_parts.specs.declared.fact.Fact.TheVariants.{Info, InfoConflict, Symbol, SymbolConflict}
+use Rattle.flute_parts.specs.declared.fact.Fact.TheVariants.{Info, InfoConflict, Symbol}
+use Rattle.flute_parts.specs.declared.fact.Fact.TheVariants.{SymbolConflict}
 use Rattle.flute_store.specs.declared.object.Object.{Object}
 
 abbrev pub key_in : Session → ObjectName → Key

@@ -12,7 +12,9 @@ use Rattle.flute_parts.specs.declared.fact.Fact.{Fact}
 use Rattle.flute_parts.specs.declared.fact.Fact.TheVariants.{Info}
 use Rattle.flute_store.specs.declared.gap.Gap.{Gap}
 use Rattle.flute_store.specs.declared.extract.ExtractFault.{ExtractFault}
-use Rattle.flute_store.specs.declared.extract.ExtractFault.TheVariants.{NoObject, NoInformation, ConflictingInformation, NotWhole, Write}
+use Rattle.flute_store.specs.declared.extract.ExtractFault.TheVariants.{NoObject, NoInformation}
+use Rattle.flute_store.specs.declared.extract.ExtractFault.TheVariants.{ConflictingInformation}
+use Rattle.flute_store.specs.declared.extract.ExtractFault.TheVariants.{NotWhole, Write}
 use Rattle.flute_store.specs.Objects.{Whole, object, gaps}
 use Rattle.flute_store.specs.Found.{IsUnheard}
 use Rattle.flute_store.specs.GapAnswers.{LacksInformation, HasConflict}

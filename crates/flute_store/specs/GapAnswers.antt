@@ -11,7 +11,8 @@ use Rattle.flute_parts.specs.declared.key.Key.{Key}
 use Rattle.flute_parts.specs.declared.fact.Fact.{Fact}
 use Rattle.flute_parts.specs.declared.fact.Fact.TheVariants.{Info, InfoConflict}
 use Rattle.flute_store.specs.declared.gaps.GapFault.{GapFault}
-use Rattle.flute_store.specs.declared.gaps.GapFault.TheVariants.{NoObject, NoInformation, ConflictingInformation}
+use Rattle.flute_store.specs.declared.gaps.GapFault.TheVariants.{NoObject, NoInformation}
+use Rattle.flute_store.specs.declared.gaps.GapFault.TheVariants.{ConflictingInformation}
 use Rattle.flute_store.specs.Objects.{gaps}
 use Rattle.flute_store.specs.Found.{IsUnheard}
 use Rattle.flute_store.specs.Held.{HoldsObject}

@@ -3,7 +3,8 @@ use Rattle.std.specs.Prelude.{◌≢◌, List, None}
 use Rattle.flute_parts.specs.declared.key.Key.{Key}
 use Rattle.flute_parts.specs.declared.address.Part.{Part}
 use Rattle.flute_parts.specs.declared.fact.Fact.{Fact}
-use Rattle.flute_parts.specs.declared.fact.Fact.TheVariants.{Info, InfoConflict, Symbol, SymbolConflict}
+use Rattle.flute_parts.specs.declared.fact.Fact.TheVariants.{Info, InfoConflict, Symbol}
+use Rattle.flute_parts.specs.declared.fact.Fact.TheVariants.{SymbolConflict}
 use Rattle.flute_parts.specs.Addresses.{symbol_address}
 use Rattle.flute_parts.specs.Facts.{fact_at}
 

@@ -1,9 +1,11 @@
 -- A walk over all that is held of an object, whose steps are counted.
-use Rattle.std.specs.Prelude.{◌≡◌, ℕ, Bool, true, false, ◌+◌, ◌<◌, ◌≤◌, ◌^◌, length, drop, Option, Some, None}
+use Rattle.std.specs.Prelude.{◌≡◌, ℕ, Bool, true, false, ◌+◌, ◌<◌, ◌≤◌}
+use Rattle.std.specs.Prelude.{◌^◌, length, drop, Option, Some, None}
 use Rattle.flute_parts.specs.Information.{sizes}
 use Rattle.flute_store.specs.declared.turn.Turn.{Turn}
 use Rattle.flute_store.specs.declared.held_scan.HeldScan.{HeldScan}
-use Rattle.flute_store.specs.PartitionScan.{Walk, walk_of, remaining, gaps_left, IsPlace, IsWalk, IsAhead, TurnsTo}
+use Rattle.flute_store.specs.PartitionScan.{Walk, walk_of, remaining, gaps_left, IsPlace, IsWalk}
+use Rattle.flute_store.specs.PartitionScan.{IsAhead, TurnsTo}
 
 abbrev pub walk_in : HeldScan → Walk
 walk_in w = walk_of w.walk w.held

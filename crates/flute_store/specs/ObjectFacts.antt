@@ -11,7 +11,8 @@ use Rattle.flute_parts.specs.declared.key.Key.{Key}
 use Rattle.flute_parts.specs.declared.symbol_id.SymbolId.{SymbolId}
 use Rattle.flute_parts.specs.declared.fact.Fact.{Fact}
 use Rattle.flute_store.specs.declared.object.Object.{Object}
-use Rattle.flute_store.specs.Content.{key_in, info_cell_facts, symbol_cell_facts, symbols_facts, object_facts, session_facts}
+use Rattle.flute_store.specs.Content.{key_in, info_cell_facts, symbol_cell_facts, symbols_facts}
+use Rattle.flute_store.specs.Content.{object_facts, session_facts}
 use Rattle.flute_store.specs.WellFormed.{IsObject, IsSession}
 
 cell_has : (key : Key) (id : SymbolId) (c : Cell (List ℕ)) (F : List Fact) → IsKnown c

@@ -1,5 +1,7 @@
 -- A walk over the blocks of an object, along with the symbols that are held of it.
-use Rattle.std.specs.Prelude.{◌≡◌, ℕ, cond, ◌&&◌, ◌+◌, ◌-◌, ◌<◌, ◌≤◌, ◌==◌, nat_lt, List, [], ◌∷◌, ◌++◌, length, drop, slice_index, Option, Some, None, if◌then◌else◌}
+use Rattle.std.specs.Prelude.{◌≡◌, ℕ, cond, ◌&&◌, ◌+◌, ◌-◌, ◌<◌, ◌≤◌}
+use Rattle.std.specs.Prelude.{◌==◌, nat_lt, List, [], ◌∷◌, ◌++◌, length, drop}
+use Rattle.std.specs.Prelude.{slice_index, Option, Some, None, if◌then◌else◌}
 use Rattle.std.specs.List.{AllByRecursion}
 use Rattle.std.specs.Map.{keys_of}
 use Rattle.std.specs.declared.cmp.Ordering.TheVariants.{Less}
@@ -17,7 +19,8 @@ use Rattle.flute_store.specs.declared.gap.Reason.TheVariants.{Missing, Conflicti
 use Rattle.flute_store.specs.declared.gap.Gap.{Gap}
 use Rattle.flute_store.specs.declared.turn.Turn.{Turn}
 use Rattle.flute_store.specs.declared.partition_scan.Upcoming.{Upcoming}
-use Rattle.flute_store.specs.declared.partition_scan.Upcoming.TheVariants.{End, BlockEnd, Passed, Fitting, Wanted, NotHeld}
+use Rattle.flute_store.specs.declared.partition_scan.Upcoming.TheVariants.{End, BlockEnd, Passed}
+use Rattle.flute_store.specs.declared.partition_scan.Upcoming.TheVariants.{Fitting, Wanted, NotHeld}
 use Rattle.flute_store.specs.declared.partition_scan.PartitionScan.{PartitionScan}
 use Rattle.flute_store.specs.Objects.{same_reason, listed, runs}
 use Rattle.flute_store.specs.Wanted.{want_cell, wanted, block_from, blocks_from}

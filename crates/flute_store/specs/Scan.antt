@@ -1,6 +1,7 @@
 -- A scan over what is held of an object, in the order of a journal, along with the symbols of its
 -- partition.
-use Rattle.std.specs.Prelude.{◌≡◌, ℕ, ◌<◌, List, [], ◌∷◌, ◌++◌, length, take, flat_map, Contains, Option, Some, None, IfSome, option_map}
+use Rattle.std.specs.Prelude.{◌≡◌, ℕ, ◌<◌, List, [], ◌∷◌, ◌++◌, length, take}
+use Rattle.std.specs.Prelude.{flat_map, Contains, Option, Some, None, IfSome, option_map}
 use Rattle.std.specs.Borrow.{Bor}
 use Rattle.std.specs.List.{AllByRecursion}
 use Rattle.flute_parts.specs.Information.{Information}

@@ -1,5 +1,7 @@
 -- How a scan represents what it has passed and given.
-use Rattle.std.specs.Prelude.{◌≡◌, ℕ, true, ◌+◌, ◌-◌, ◌*◌, ◌≤◌, List, [], ◌∷◌, ◌++◌, length, flat_map, Contains, Option, Some, None, IfSome}
+use Rattle.std.specs.Prelude.{◌≡◌, ℕ, true, ◌+◌, ◌-◌, ◌*◌, ◌≤◌, List, []}
+use Rattle.std.specs.Prelude.{◌∷◌, ◌++◌, length, flat_map, Contains, Option, Some, None}
+use Rattle.std.specs.Prelude.{IfSome}
 use Rattle.std.specs.Borrow.{Bor}
 use Rattle.flute_join.specs.Cell.{IsKnown}
 use Rattle.flute_join.specs.JoinMap.{value_at, IsOrdered, EachValue}

@@ -1,5 +1,7 @@
 -- How much of an object is held.
-use Rattle.std.specs.Prelude.{◌≡◌, ◌≢◌, ℕ, ◌+◌, ◌<◌, ◌≤◌, ◌^◌, ◌==◌, ◌&&◌, if◌then◌else◌, List, [], length, filter, Option, Some}
+use Rattle.std.specs.Prelude.{◌≡◌, ◌≢◌, ℕ, ◌+◌, ◌<◌, ◌≤◌, ◌^◌}
+use Rattle.std.specs.Prelude.{◌==◌, ◌&&◌, if◌then◌else◌, List, [], length, filter}
+use Rattle.std.specs.Prelude.{Option, Some}
 use Rattle.flute_parts.specs.Information.{Information}
 use Rattle.flute_parts.specs.Addresses.{info_address}
 use Rattle.flute_parts.specs.Facts.{fact_at}
@@ -11,7 +13,9 @@ use Rattle.flute_store.specs.declared.gap.Reason.{Reason}
 use Rattle.flute_store.specs.declared.gap.Reason.TheVariants.{Missing, Conflicting, Misfit}
 use Rattle.flute_store.specs.declared.gap.Gap.{Gap}
 use Rattle.flute_store.specs.declared.status.Status.{Status}
-use Rattle.flute_store.specs.declared.status.Status.TheVariants.{NoInformation, ConflictingInformation, Partial, Whole as WholeObject}
+use Rattle.flute_store.specs.declared.status.Status.TheVariants.{NoInformation}
+use Rattle.flute_store.specs.declared.status.Status.TheVariants.{ConflictingInformation, Partial}
+use Rattle.flute_store.specs.declared.status.Status.TheVariants.{Whole as WholeObject}
 use Rattle.flute_store.specs.declared.turn.Turn.{Turn}
 use Rattle.flute_store.specs.declared.status.Wanted.{Wanted}
 use Rattle.flute_store.specs.Objects.{Whole, wants, same_reason, listed}

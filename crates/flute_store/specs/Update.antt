@@ -13,7 +13,9 @@ use Rattle.flute_parts.specs.declared.fact.Fact.{Fact}
 use Rattle.flute_store.specs.ObjectJoin.{symbols_join, session_join, store_join}
 use Rattle.flute_store.specs.Content.{info_cell_facts, symbols_facts}
 use Rattle.flute_store.specs.declared.update.SymbolUpdate.{SymbolUpdate}
-use Rattle.flute_store.specs.declared.update.SymbolUpdate.TheVariants.{Borrowed as BorrowedUpdate, Owned as OwnedUpdate, Conflict as ConflictUpdate}
+use Rattle.flute_store.specs.declared.update.SymbolUpdate.TheVariants.{Borrowed as BorrowedUpdate}
+use Rattle.flute_store.specs.declared.update.SymbolUpdate.TheVariants.{Owned as OwnedUpdate}
+use Rattle.flute_store.specs.declared.update.SymbolUpdate.TheVariants.{Conflict as ConflictUpdate}
 use Rattle.flute_store.specs.declared.update.Update.{Update}
 use Rattle.flute_store.specs.declared.object.Object.{Object}
 

@@ -1,5 +1,6 @@
 -- What is wanted of an object, from the symbols that are held.
-use Rattle.std.specs.Prelude.{ℕ, ◌-◌, if◌then◌else◌, List, length, map, drop, flat_map, filter_map, Option, Some, None, option_map}
+use Rattle.std.specs.Prelude.{ℕ, ◌-◌, if◌then◌else◌, List, length, map, drop, flat_map}
+use Rattle.std.specs.Prelude.{filter_map, Option, Some, None, option_map}
 use Rattle.std.specs.List.{range_with_len, enumerate_from}
 use Rattle.flute_join.specs.JoinMap.{value_at}
 use Rattle.flute_join.specs.declared.cell.Cell.{Cell}

@@ -1,5 +1,6 @@
 //! `Store::extract`: whole objects, written symbol after symbol.
-ghost use Rattle.std.specs.Prelude.{◌≡◌, ◌+◌, ◌<◌, ◌^◌, [], length, take, MatchOption, if◌then◌else◌, is_ok};
+ghost use Rattle.std.specs.Prelude.{◌≡◌, ◌+◌, ◌<◌, ◌^◌, [], length, take};
+ghost use Rattle.std.specs.Prelude.{MatchOption, if◌then◌else◌, is_ok};
 ghost use Rattle.flute_join.specs.Cell.{IsKnown};
 ghost use Rattle.flute_join.specs.JoinMap.{IsOrdered, EachValue};
 ghost use Rattle.flute_parts.specs.Order.{symbol_id_cmp};

@@ -5,8 +5,10 @@ ghost use Rattle.flute_join.specs.Cell.{IsKnown};
 ghost use Rattle.flute_join.specs.JoinMap.{IsOrdered, EachValue};
 ghost use Rattle.flute_parts.specs.Order.{symbol_id_cmp};
 ghost use Rattle.flute_parts.specs.Partition.{ids};
-ghost use Rattle.flute_store.specs.PartitionScan.{at_start, gaps_left, ShowsNext, PassesGap, length_of};
-ghost use Rattle.flute_store.specs.HeldScan.{walk_in, bound, IsHeldScan, Turns, IsAheadOf, HasEnded, with_end, counted};
+ghost use Rattle.flute_store.specs.PartitionScan.{at_start, gaps_left, ShowsNext, PassesGap};
+ghost use Rattle.flute_store.specs.PartitionScan.{length_of};
+ghost use Rattle.flute_store.specs.HeldScan.{walk_in, bound, IsHeldScan, Turns, IsAheadOf};
+ghost use Rattle.flute_store.specs.HeldScan.{HasEnded, with_end, counted};
 
 use crate::gap::Gap;
 use crate::held_symbol::HeldSymbol;

@@ -4,7 +4,9 @@ ghost use Rattle.flute_parts.specs.Addresses.{address};
 ghost use Rattle.flute_parts.specs.Facts.{fact_at, Same, Below};
 ghost use Rattle.flute_parts.specs.declared.fact.Fact.{Fact as Known};
 ghost use Rattle.flute_store.specs.Held.{HasCell};
-ghost use Rattle.flute_store.specs.Laws.{SameWhole, SameObject, SameGaps, GapsListWants, GapsAreRuns, GapsAreUnique, WholeHasNoGap, WholeHasItsLength};
+ghost use Rattle.flute_store.specs.Laws.{SameWhole, SameObject, SameGaps, GapsListWants};
+ghost use Rattle.flute_store.specs.Laws.{GapsAreRuns, GapsAreUnique, WholeHasNoGap};
+ghost use Rattle.flute_store.specs.Laws.{WholeHasItsLength};
 ghost use Rattle.flute_store.specs.Sent.{DatagramsGiveTheObject};
 
 /// What a refused `absorb` leaves, joined again with success, gives the join.

@@ -3,7 +3,8 @@ ghost use Rattle.std.specs.Prelude.{◌≡◌, ◌<◌, [], length, OnOk, OnErr,
 ghost use Rattle.flute_join.specs.Cell.{IsKnown};
 ghost use Rattle.flute_join.specs.JoinMap.{EachValue, IsSound, value_at};
 ghost use Rattle.flute_parts.specs.Order.{symbol_id_cmp};
-ghost use Rattle.flute_store.specs.Update.{with_symbol, update_symbols, HasSize, HasSizes, IsHeldSymbol};
+ghost use Rattle.flute_store.specs.Update.{with_symbol, update_symbols, HasSize, HasSizes};
+ghost use Rattle.flute_store.specs.Update.{IsHeldSymbol};
 ghost use Rattle.flute_store.specs.WellFormed.{AreSymbols};
 ghost use Rattle.flute_store.specs.ObjectJoin.{
   object_join,

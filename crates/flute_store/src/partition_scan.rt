@@ -4,7 +4,10 @@ ghost use Rattle.flute_join.specs.declared.cell.Cell.{Cell};
 ghost use Rattle.flute_parts.specs.declared.symbol_id.SymbolId.{SymbolId as Id};
 ghost use Rattle.flute_parts.specs.Information.{sizes};
 ghost use Rattle.flute_parts.specs.Partition.{symbol_id, ids};
-ghost use Rattle.flute_store.specs.PartitionScan.{at_start, walk_of, IsPlace, upcoming_at, until_next, ended_run, missing_gap, after_missing, after_wanted, after_block, turn_of, want_length};
+ghost use Rattle.flute_store.specs.PartitionScan.{at_start, walk_of, IsPlace, upcoming_at};
+ghost use Rattle.flute_store.specs.PartitionScan.{until_next, ended_run, missing_gap};
+ghost use Rattle.flute_store.specs.PartitionScan.{after_missing, after_wanted, after_block};
+ghost use Rattle.flute_store.specs.PartitionScan.{turn_of, want_length};
 
 use crate::gap::{Gap, Reason};
 use crate::turn::Turn;

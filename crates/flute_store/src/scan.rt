@@ -2,8 +2,10 @@
 ghost use Rattle.std.specs.Prelude.{◌≡◌, ◌+◌, ◌≤◌, List, length, IfNone};
 ghost use Rattle.flute_parts.specs.Information.{sizes};
 ghost use Rattle.flute_parts.specs.declared.fact.Fact.{Fact};
-ghost use Rattle.flute_store.specs.Scan.{Scanned, Turned, CanFollow, CanCome, at_begin, PartOf, GaveAll};
-ghost use Rattle.flute_store.specs.Scans.{Next, Scans, held_next, announced, passed_at_end, BeginsBlocks, Stepped};
+ghost use Rattle.flute_store.specs.Scan.{Scanned, Turned, CanFollow, CanCome, at_begin, PartOf};
+ghost use Rattle.flute_store.specs.Scan.{GaveAll};
+ghost use Rattle.flute_store.specs.Scans.{Next, Scans, held_next, announced, passed_at_end};
+ghost use Rattle.flute_store.specs.Scans.{BeginsBlocks, Stepped};
 ghost use Rattle.flute_store.specs.Status.{TellsStatus};
 
 use crate::partition_scan::{Held, PartitionScan};

@@ -1,5 +1,6 @@
 //! An update of an object: what one fact or one packet adds to it.
-ghost use Rattle.std.specs.Prelude.{◌≡◌, [], ◌∷◌, length, List, ℕ, IfSome, IfNone, IfOk, IfErr, IsOk, bytes_eq};
+ghost use Rattle.std.specs.Prelude.{◌≡◌, [], ◌∷◌, length, List, ℕ, IfSome, IfNone};
+ghost use Rattle.std.specs.Prelude.{IfOk, IfErr, IsOk, bytes_eq};
 ghost use Rattle.flute_join.specs.Cell.{cell_join, IsKnown};
 ghost use Rattle.flute_parts.specs.Addresses.{address};
 ghost use Rattle.flute_parts.specs.Facts.{same_information};

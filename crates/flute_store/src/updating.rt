@@ -2,7 +2,8 @@
 ghost use Rattle.std.specs.Prelude.{◌≡◌, OnOk, OnErr, IsOk};
 ghost use Rattle.flute_join.specs.JoinMap.{EachValue, IsSound};
 ghost use Rattle.flute_parts.specs.Order.{session_cmp};
-ghost use Rattle.flute_store.specs.Update.{with_object, with_session, IsUpdate, IsHeldObject, IsHeldSession};
+ghost use Rattle.flute_store.specs.Update.{with_object, with_session, IsUpdate, IsHeldObject};
+ghost use Rattle.flute_store.specs.Update.{IsHeldSession};
 ghost use Rattle.flute_store.specs.WellFormed.{IsObject, IsSession};
 ghost use Rattle.flute_store.specs.Beyond.{SessionBeyond, StoreBeyond};
 

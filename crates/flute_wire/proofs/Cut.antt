@@ -1,5 +1,7 @@
 -- An object's bytes are those of its symbols, one after the other (specs/Carousel).
-use Rattle.std.proofs.Common.{◌≡◌, ℕ, suc, ◌+◌, ◌-◌, ◌*◌, ◌<◌, ◌≤◌, ◌⊎◌, inl, inr, List, [], ◌∷◌, ◌++◌, length, take, drop, map, true, Option, Some, None, refl, sym, ap, ◌∙◌, arith}
+use Rattle.std.proofs.Common.{◌≡◌, ℕ, suc, ◌+◌, ◌-◌, ◌*◌, ◌<◌, ◌≤◌}
+use Rattle.std.proofs.Common.{◌⊎◌, inl, inr, List, [], ◌∷◌, ◌++◌, length, take}
+use Rattle.std.proofs.Common.{drop, map, true, Option, Some, None, refl, sym, ap, ◌∙◌, arith}
 use Rattle.std.specs.Prelude.{slice_get, flat_map, Contains}
 use Rattle.std.specs.List.{enumerate_from}
 use Rattle.std.specs.Option.{option_map}
@@ -19,7 +21,8 @@ use Rattle.flute_wire.proofs.Pieces.{symbol_there, begins_within}
 use Rattle.flute_wire.proofs.Faults.{length-piece}
 
 -- the symbols are those of the partition
-named : (i : Information) (content : List ℕ) (n : ℕ) (xs : List SymbolId) → map (λ s. s.0) (map (with_piece i content) (enumerate_from n xs)) ≡ xs
+named : (i : Information) (content : List ℕ) (n : ℕ) (xs : List SymbolId)
+    → map (λ s. s.0) (map (with_piece i content) (enumerate_from n xs)) ≡ xs
 named i content n [] = refl
 named i content n (x ∷ xs) = ap (λ ys. x ∷ ys) (named i content (n + 1) xs)
 
@@ -29,7 +32,8 @@ cut-ids i content = named i content 0 (ids i)
 
 -- their bytes follow one another
 pieces_from : (i : Information) (content : List ℕ) (n : ℕ) (xs : List SymbolId)
-    → flat_map (λ s. s.1) (map (with_piece i content) (enumerate_from n xs)) ≡ take (length xs * i.symbol_length) (drop (n * i.symbol_length) content)
+    → flat_map (λ s. s.1) (map (with_piece i content) (enumerate_from n xs))
+    ≡ take (length xs * i.symbol_length) (drop (n * i.symbol_length) content)
 pieces_from i content n [] =
     let none : 0 * i.symbol_length ≡ 0 = omega arith in
     rw none refl
@@ -38,8 +42,11 @@ pieces_from i content n (x ∷ xs) =
     let rest = pieces_from i content (n + 1) xs in
     let longer : suc (length xs) * e ≡ e + length xs * e = grind arith in
     let further : (n + 1) * e ≡ n * e + e = grind arith in
-    flat_map-cons (λ s. s.1) (with_piece i content (n, x)) (map (with_piece i content) (enumerate_from (n + 1) xs))
-    ∙ ap (λ ys. piece i content n ++ ys) (rest ∙ ap (λ (m : ℕ). take (length xs * e) (drop m content)) further ∙ ap (take (length xs * e)) (sym (drop-drop e (n * e) content)))
+    flat_map-cons (λ s. s.1) (with_piece i content (n, x))
+    (map (with_piece i content) (enumerate_from (n + 1) xs))
+    ∙ ap (λ ys. piece i content n ++ ys)
+    (rest ∙ ap (λ (m : ℕ). take (length xs * e) (drop m content)) further
+    ∙ ap (take (length xs * e)) (sym (drop-drop e (n * e) content)))
     ∙ sym (take-add e (length xs * e) (drop (n * e) content))
     ∙ ap (λ (m : ℕ). take m (drop (n * e) content)) (sym longer)
 
@@ -51,7 +58,9 @@ enough i v = elim (eq-zero-or-pos i.transfer_length) [
       rw (ids_counted i v) t
 ]
 
-pub cut-joined : (i : Information) (content : List ℕ) → IsValid i → length content ≡ i.transfer_length → flat_map (λ s. s.1) (symbols_of i content) ≡ content
+pub cut-joined : (i : Information) (content : List ℕ) → IsValid i
+    → length content ≡ i.transfer_length
+    → flat_map (λ s. s.1) (symbols_of i content) ≡ content
 unfolding symbols_of
 cut-joined i content v whole =
     let none : 0 * i.symbol_length ≡ 0 = omega arith in
@@ -65,19 +74,26 @@ record IsAt (i : Information) (content : List ℕ) (s : SymbolId × List ℕ) : 
   id : slice_get (ids i) place ≡ Some s.0
   bytes : s.1 ≡ piece i content place
 
-both : (i : Information) (content : List ℕ) (k : ℕ) (s : SymbolId × List ℕ) (o : Option SymbolId) → option_map (λ id. (id, piece i content k)) o ≡ Some s → (o ≡ Some s.0) × (s.1 ≡ piece i content k)
+both : (i : Information) (content : List ℕ) (k : ℕ) (s : SymbolId × List ℕ)
+    (o : Option SymbolId) → option_map (λ id. (id, piece i content k)) o ≡ Some s
+    → (o ≡ Some s.0) × (s.1 ≡ piece i content k)
 both i content k s None h = absurd (cc)
 both i content k s (Some id) h =
     let is : (id, piece i content k) ≡ s = cc in
     (ap (λ (t : SymbolId × List ℕ). Some t.0) is, sym (ap (λ (t : SymbolId × List ℕ). t.1) is))
 
-is_at : (i : Information) (content : List ℕ) (s : SymbolId × List ℕ) → Contains (symbols_of i content) s → IsAt i content s
+is_at : (i : Information) (content : List ℕ) (s : SymbolId × List ℕ)
+    → Contains (symbols_of i content) s → IsAt i content s
 is_at i content s h =
-    let there : slice_get (symbols_of i content) h.0 ≡ Some s = slice_get-get_or (symbols_of i content) h.0 s h.1 ∙ ap (λ t. Some t) h.2 in
-    let parts = both i content h.0 s (slice_get (ids i) h.0) (sym (symbol_there i content h.0) ∙ there) in
+    let there : slice_get (symbols_of i content) h.0 ≡ Some s =
+    slice_get-get_or (symbols_of i content) h.0 s h.1 ∙ ap (λ t. Some t) h.2 in
+    let parts = both i content h.0 s (slice_get (ids i) h.0)
+    (sym (symbol_there i content h.0) ∙ there) in
     record { place = h.0; id = parts.0; bytes = parts.1 }
 
-pub cut-one : (i : Information) (content : List ℕ) (s t : SymbolId × List ℕ) → Contains (symbols_of i content) s → Contains (symbols_of i content) t → s.0 ≡ t.0 → s ≡ t
+pub cut-one : (i : Information) (content : List ℕ) (s t : SymbolId × List ℕ)
+    → Contains (symbols_of i content) s → Contains (symbols_of i content) t → s.0 ≡ t.0
+    → s ≡ t
 cut-one i content s t a b same =
     let x = is_at i content s a in
     let y = is_at i content t b in
@@ -86,7 +102,8 @@ cut-one i content s t a b same =
     let moved : place i s.0 ≡ Some y.place = ap (place i) same ∙ second in
     let one : x.place ≡ y.place = cc in
     let bytes : s.1 ≡ t.1 = x.bytes ∙ ap (piece i content) one ∙ sym y.bytes in
-    ap (λ (id : SymbolId). let p : SymbolId × List ℕ = (id, s.1) in p) same ∙ ap (λ (bs : List ℕ). let p : SymbolId × List ℕ = (t.0, bs) in p) bytes
+    ap (λ (id : SymbolId). let p : SymbolId × List ℕ = (id, s.1) in p) same
+    ∙ ap (λ (bs : List ℕ). let p : SymbolId × List ℕ = (t.0, bs) in p) bytes
 
 -- a piece that is short is the last
 is_last : (k t e l : ℕ) → k < t → t * e < l + e → k * e < l → l - k * e < e → k + 1 ≡ t
@@ -98,8 +115,12 @@ is_last k t e l h b begins short = elim (cases_lt (k + 1) t) [
   | inr none ↦ omega (arith, none, h)
 ]
 
-fitting : (i : Information) (content : List ℕ) (s : SymbolId × List ℕ) (k : ℕ) → IsValid i → length content ≡ i.transfer_length → slice_get (ids i) k ≡ Some s.0 → s.1 ≡ piece i content k
-    → (length s.1 ≡ i.symbol_length) ⊎ ((slice_get (ids i) (length (ids i) - 1) ≡ Some s.0) × (length s.1 ≡ last_length i))
+fitting : (i : Information) (content : List ℕ) (s : SymbolId × List ℕ) (k : ℕ) → IsValid i
+    → length content ≡ i.transfer_length → slice_get (ids i) k ≡ Some s.0
+    → s.1 ≡ piece i content k
+    → (length s.1 ≡ i.symbol_length)
+    ⊎ ((slice_get (ids i) (length (ids i) - 1) ≡ Some s.0)
+    × (length s.1 ≡ last_length i))
 fitting i content s k v whole id bytes =
     let e = i.symbol_length in
     let l = i.transfer_length in
@@ -111,7 +132,8 @@ fitting i content s k v whole id bytes =
       | inl short ↦
           let some : 0 < l = omega (arith, begins) in
           let few = (div_ceil_times l e (v.parts some).symbol).1 in
-          let last : k + 1 ≡ symbol_count i = is_last k (symbol_count i) e l (omega (arith, within, count)) few begins short in
+          let last : k + 1 ≡ symbol_count i =
+          is_last k (symbol_count i) e l (omega (arith, within, count)) few begins short in
           let before : length (ids i) - 1 ≡ k = omega (arith, count, last) in
           let place : symbol_count i - 1 ≡ k = omega (arith, last) in
           let left : length s.1 ≡ l - k * e = omega (arith, len, short, whole) in
@@ -119,8 +141,14 @@ fitting i content s k v whole id bytes =
       | inr full ↦ inl (omega (arith, len, full, whole))
     ]
 
-pub cut-fit : (i : Information) (content : List ℕ) (s : SymbolId × List ℕ) → IsValid i → length content ≡ i.transfer_length → Contains (symbols_of i content) s → fits i s.0 (length s.1) ≡ true
+pub cut-fit : (i : Information) (content : List ℕ) (s : SymbolId × List ℕ) → IsValid i
+    → length content ≡ i.transfer_length → Contains (symbols_of i content) s
+    → fits i s.0 (length s.1) ≡ true
 cut-fit i content s v whole h =
     let x = is_at i content s h in
-    let there : Contains (ids i) s.0 = (x.place, slice_get_within (ids i) x.place s.0 x.id, get_or_from_slice_get (ids i) x.place s.0 s.0 x.id) in
+    let there : Contains (ids i) s.0 = (
+      x.place,
+      slice_get_within (ids i) x.place s.0 x.id,
+      get_or_from_slice_get (ids i) x.place s.0 s.0 x.id,
+    ) in
     (fits-means i s.0 (length s.1) v).1 (there, fitting i content s x.place v whole x.id x.bytes)

@@ -1,13 +1,22 @@
 -- Whether a datagram spells a packet is decided: it does, or a refusal applies (specs/Refusals).
-use Rattle.std.proofs.Common.{◌≡◌, ℕ, ◌<◌, ◌⊎◌, List, [], ◌∷◌, length, Option, Some, None, inl, inr, refl, arith}
+use Rattle.std.proofs.Common.{◌≡◌, ℕ, ◌<◌, ◌⊎◌, List, [], ◌∷◌, length}
+use Rattle.std.proofs.Common.{Option, Some, None, inl, inr, refl, arith}
 use Rattle.std.specs.Prelude.{IsSomeAnd}
 use Rattle.std.proofs.lemmas.Bool.{cases_lt, cases_eq}
 use Rattle.flute_parts.specs.Information.{info_fault}
 use Rattle.flute_parts.specs.declared.info.InfoFault.{InfoFault}
 use Rattle.flute_wire.specs.declared.refusal.Refusal.{Refusal}
-use Rattle.flute_wire.specs.declared.refusal.Refusal.TheVariants.{TooLong, TooShort, LctVersion, HeaderLength, HeaderCut, NoTsi, NoToi, Codepoint, ExtensionLength, Repeated, FtiLength, Information, NoInstance, FluteVersion, ContentEncoded, PayloadIdCut}
-use Rattle.flute_wire.specs.Header.{first_word, fixed_words, header_len, tsi_len, toi_len, toi_in, extension_area, after_header}
-use Rattle.flute_wire.specs.Extensions.{HeaderExtension, HasExtensions, bodies, ext_fti, ext_fdt, ext_cenc, fti_information, fdt_version, content_encoding, first}
+use Rattle.flute_wire.specs.declared.refusal.Refusal.TheVariants.{TooLong, TooShort, LctVersion}
+use Rattle.flute_wire.specs.declared.refusal.Refusal.TheVariants.{HeaderLength, HeaderCut, NoTsi}
+use Rattle.flute_wire.specs.declared.refusal.Refusal.TheVariants.{NoToi, Codepoint, ExtensionLength}
+use Rattle.flute_wire.specs.declared.refusal.Refusal.TheVariants.{Repeated, FtiLength, Information}
+use Rattle.flute_wire.specs.declared.refusal.Refusal.TheVariants.{NoInstance, FluteVersion}
+use Rattle.flute_wire.specs.declared.refusal.Refusal.TheVariants.{ContentEncoded, PayloadIdCut}
+use Rattle.flute_wire.specs.Header.{first_word, fixed_words, header_len, tsi_len, toi_len, toi_in}
+use Rattle.flute_wire.specs.Header.{extension_area, after_header}
+use Rattle.flute_wire.specs.Extensions.{HeaderExtension, HasExtensions, bodies, ext_fti, ext_fdt}
+use Rattle.flute_wire.specs.Extensions.{ext_cenc, fti_information, fdt_version, content_encoding}
+use Rattle.flute_wire.specs.Extensions.{first}
 use Rattle.flute_wire.specs.Content.{Content}
 use Rattle.flute_wire.specs.Datagram.{Spells}
 use Rattle.flute_wire.specs.Refusals.{Applies, Carries}
@@ -35,7 +44,8 @@ either P Q (inl p) q = inl (inl p)
 either P Q (inr h) (inl q) = inl (inr q)
 either P Q (inr h) (inr k) = inr (λ x. elim x [ inl p ↦ h p | inr q ↦ k q ])
 
-some_such : (o : Option (List ℕ)) (P : List ℕ → Type 0) → ((body : List ℕ) → Either (P body)) → Either (IsSomeAnd o P)
+some_such : (o : Option (List ℕ)) (P : List ℕ → Type 0)
+    → ((body : List ℕ) → Either (P body)) → Either (IsSomeAnd o P)
 some_such None P d = inr (λ h. h)
 some_such (Some body) P d = d body
 
@@ -43,16 +53,21 @@ is_empty : (bs : List (List ℕ)) → Either (bs ≡ [])
 is_empty [] = inl refl
 is_empty (b ∷ bs) = inr (λ e. cc)
 
-fault_in : (o : Option InfoFault) → ((f : InfoFault) × (o ≡ Some f)) ⊎ ((f : InfoFault) → o ≡ Some f → ⊥)
+fault_in : (o : Option InfoFault) → ((f : InfoFault) × (o ≡ Some f))
+    ⊎ ((f : InfoFault) → o ≡ Some f → ⊥)
 fault_in None = inr (λ f e. cc)
 fault_in (Some f) = inl (f, refl)
 
-fault_at : (o : Option (List ℕ)) → ((f : InfoFault) × IsSomeAnd o (λ body. info_fault (fti_information body) ≡ Some f)) ⊎ ((f : InfoFault) → IsSomeAnd o (λ body. info_fault (fti_information body) ≡ Some f) → ⊥)
+fault_at : (o : Option (List ℕ))
+    → ((f : InfoFault) × IsSomeAnd o (λ body. info_fault (fti_information body) ≡ Some f))
+    ⊎ ((f : InfoFault) → IsSomeAnd o (λ body. info_fault (fti_information body) ≡ Some f)
+    → ⊥)
 fault_at None = inr (λ f h. h)
 fault_at (Some body) = fault_in (info_fault (fti_information body))
 
 -- what the extensions of a datagram have is decided for the datagram
-carries : (d : List ℕ) (es : List HeaderExtension) → HasExtensions (extension_area d) es → (P : List HeaderExtension → Type 0) → Either (P es) → Either (Carries d P)
+carries : (d : List ℕ) (es : List HeaderExtension) → HasExtensions (extension_area d) es
+    → (P : List HeaderExtension → Type 0) → Either (P es) → Either (Carries d P)
 carries d es x P (inl p) = inl (es, x, p)
 carries d es x P (inr h) = inr (λ c. h (carried d es x P c))
 
@@ -60,13 +75,20 @@ abbrev Outcome : List ℕ → Type 0
 Outcome d = ((r : Refusal) → Applies r d → ⊥) ⊎ ((r : Refusal) × Applies r d)
 
 -- one refusal after another: the first that applies, else a packet
-ask : (d : List ℕ) (r : Refusal) → Either (Applies r d) → ((Applies r d → ⊥) → Outcome d) → Outcome d
+ask : (d : List ℕ) (r : Refusal) → Either (Applies r d)
+    → ((Applies r d → ⊥) → Outcome d) → Outcome d
 ask d r (inl a) k = inr (r, a)
 ask d r (inr n) k = k n
 
-all_pass : (d : List ℕ) → (Applies TooLong d → ⊥) → (Applies TooShort d → ⊥) → (Applies LctVersion d → ⊥) → (Applies HeaderLength d → ⊥) → (Applies HeaderCut d → ⊥) → (Applies NoTsi d → ⊥) → (Applies NoToi d → ⊥)
-    → (Applies Codepoint d → ⊥) → (Applies ExtensionLength d → ⊥) → (Applies Repeated d → ⊥) → (Applies FtiLength d → ⊥) → ((f : InfoFault) → Applies (Information f) d → ⊥) → (Applies NoInstance d → ⊥)
-    → (Applies FluteVersion d → ⊥) → (Applies ContentEncoded d → ⊥) → (Applies PayloadIdCut d → ⊥) → (r : Refusal) → Applies r d → ⊥
+all_pass : (d : List ℕ) → (Applies TooLong d → ⊥) → (Applies TooShort d → ⊥)
+    → (Applies LctVersion d → ⊥) → (Applies HeaderLength d → ⊥)
+    → (Applies HeaderCut d → ⊥) → (Applies NoTsi d → ⊥) → (Applies NoToi d → ⊥)
+    → (Applies Codepoint d → ⊥) → (Applies ExtensionLength d → ⊥)
+    → (Applies Repeated d → ⊥) → (Applies FtiLength d → ⊥)
+    → ((f : InfoFault) → Applies (Information f) d → ⊥)
+    → (Applies NoInstance d → ⊥)
+    → (Applies FluteVersion d → ⊥) → (Applies ContentEncoded d → ⊥)
+    → (Applies PayloadIdCut d → ⊥) → (r : Refusal) → Applies r d → ⊥
 all_pass d a b c e f g h i j k l m n o p q TooLong = a
 all_pass d a b c e f g h i j k l m n o p q TooShort = b
 all_pass d a b c e f g h i j k l m n o p q LctVersion = c
@@ -84,20 +106,45 @@ all_pass d a b c e f g h i j k l m n o p q FluteVersion = o
 all_pass d a b c e f g h i j k l m n o p q ContentEncoded = p
 all_pass d a b c e f g h i j k l m n o p q PayloadIdCut = q
 
-behind : (d : List ℕ) (es : List HeaderExtension) → HasExtensions (extension_area d) es → (Applies TooLong d → ⊥) → (Applies TooShort d → ⊥) → (Applies LctVersion d → ⊥) → (Applies HeaderLength d → ⊥)
-    → (Applies HeaderCut d → ⊥) → (Applies NoTsi d → ⊥) → (Applies NoToi d → ⊥) → (Applies Codepoint d → ⊥) → Outcome d
+behind : (d : List ℕ) (es : List HeaderExtension) → HasExtensions (extension_area d) es
+    → (Applies TooLong d → ⊥) → (Applies TooShort d → ⊥)
+    → (Applies LctVersion d → ⊥) → (Applies HeaderLength d → ⊥)
+    → (Applies HeaderCut d → ⊥) → (Applies NoTsi d → ⊥) → (Applies NoToi d → ⊥)
+    → (Applies Codepoint d → ⊥) → Outcome d
 behind d es x a b c e f g h i =
-    ask d Repeated (carries d es x (λ es. (1 < length (bodies ext_fti es)) ⊎ ((1 < length (bodies ext_fdt es)) ⊎ (1 < length (bodies ext_cenc es)))) (either _ _ (below 1 (length (bodies ext_fti es))) (either _ _ (below 1 (length (bodies ext_fdt es))) (below 1 (length (bodies ext_cenc es)))))) (λ k.
-    ask d FtiLength (carries d es x (λ es. IsSomeAnd (first (bodies ext_fti es)) (λ body. length body ≡ 15 → ⊥)) (some_such (first (bodies ext_fti es)) (λ body. length body ≡ 15 → ⊥) (λ body. other (length body) 15))) (λ l.
+    ask d Repeated
+    (carries d es x (λ es. (1 < length (bodies ext_fti es))
+    ⊎ ((1 < length (bodies ext_fdt es)) ⊎ (1 < length (bodies ext_cenc es))))
+    (either _ _ (below 1 (length (bodies ext_fti es)))
+    (either _ _ (below 1 (length (bodies ext_fdt es)))
+    (below 1 (length (bodies ext_cenc es)))))) (λ k.
+    ask d FtiLength
+    (carries d es x (λ es. IsSomeAnd (first (bodies ext_fti es))
+    (λ body. length body ≡ 15 → ⊥))
+    (some_such (first (bodies ext_fti es)) (λ body. length body ≡ 15 → ⊥)
+    (λ body. other (length body) 15))) (λ l.
     elim (fault_at (first (bodies ext_fti es))) [
       | inl bad ↦ inr (Information bad.0, (es, x, bad.1))
       | inr m ↦
-          ask d NoInstance (both _ _ (cases_eq (toi_in d) 0) (carries d es x (λ es. bodies ext_fdt es ≡ []) (is_empty (bodies ext_fdt es)))) (λ n.
-          ask d FluteVersion (both _ _ (cases_eq (toi_in d) 0) (carries d es x (λ es. IsSomeAnd (first (bodies ext_fdt es)) (λ body. fdt_version body ≡ 2 → ⊥)) (some_such (first (bodies ext_fdt es)) (λ body. fdt_version body ≡ 2 → ⊥) (λ body. other (fdt_version body) 2)))) (λ o.
-          ask d ContentEncoded (carries d es x (λ es. IsSomeAnd (first (bodies ext_cenc es)) (λ body. content_encoding body ≡ 0 → ⊥)) (some_such (first (bodies ext_cenc es)) (λ body. content_encoding body ≡ 0 → ⊥) (λ body. other (content_encoding body) 0))) (λ p.
-          ask d PayloadIdCut (both _ _ (below 0 (length (after_header d))) (below (length (after_header d)) 4)) (λ q.
+          ask d NoInstance (both _ _ (cases_eq (toi_in d) 0)
+          (carries d es x (λ es. bodies ext_fdt es ≡ []) (is_empty (bodies ext_fdt es))))
+          (λ n.
+          ask d FluteVersion (both _ _ (cases_eq (toi_in d) 0)
+          (carries d es x (λ es. IsSomeAnd (first (bodies ext_fdt es))
+          (λ body. fdt_version body ≡ 2 → ⊥))
+          (some_such (first (bodies ext_fdt es)) (λ body. fdt_version body ≡ 2 → ⊥)
+          (λ body. other (fdt_version body) 2)))) (λ o.
+          ask d ContentEncoded (carries d es x
+          (λ es. IsSomeAnd (first (bodies ext_cenc es))
+          (λ body. content_encoding body ≡ 0 → ⊥))
+          (some_such (first (bodies ext_cenc es)) (λ body. content_encoding body ≡ 0 → ⊥)
+          (λ body. other (content_encoding body) 0))) (λ p.
+          ask d PayloadIdCut (both _ _ (below 0 (length (after_header d)))
+          (below (length (after_header d)) 4)) (λ q.
           inl (all_pass d a b c e f g h i (λ none. none es x) k l
-          (λ fault z. m fault (carried d es x (λ es. IsSomeAnd (first (bodies ext_fti es)) (λ body. info_fault (fti_information body) ≡ Some fault)) z)) n o p q)))))
+          (λ fault z. m fault (carried d es x
+          (λ es. IsSomeAnd (first (bodies ext_fti es))
+          (λ body. info_fault (fti_information body) ≡ Some fault)) z)) n o p q)))))
     ]))
 
 -- the decision for any datagram
@@ -117,4 +164,5 @@ decide_refusal d =
     ]))))))))
 
 pub decide_packet : (d : List ℕ) → ((c : Content) × Spells d c) ⊎ ((r : Refusal) × Applies r d)
-decide_packet d = elim (decide_refusal d) [ inl none ↦ inl (some_packet d none) | inr some ↦ inr some ]
+decide_packet d =
+    elim (decide_refusal d) [ inl none ↦ inl (some_packet d none) | inr some ↦ inr some ]

@@ -1,5 +1,6 @@
 -- A datagram to which no refusal applies spells a packet (specs/Datagram).
-use Rattle.std.proofs.Common.{◌≡◌, ℕ, ◌<◌, ◌≤◌, ◌⊎◌, List, [], ◌∷◌, length, Option, Some, None, inl, inr, refl, arith}
+use Rattle.std.proofs.Common.{◌≡◌, ℕ, ◌<◌, ◌≤◌, ◌⊎◌, List, [], ◌∷◌}
+use Rattle.std.proofs.Common.{length, Option, Some, None, inl, inr, refl, arith}
 use Rattle.std.specs.Prelude.{IfSome, IsSomeAnd}
 use Rattle.std.specs.Option.{option_to_list}
 use Rattle.std.proofs.lemmas.Bool.{cases_lt}
@@ -7,9 +8,13 @@ use Rattle.std.proofs.lemmas.List.{nil_from_length}
 use Rattle.flute_parts.specs.Information.{info_fault}
 use Rattle.flute_parts.specs.declared.info.InfoFault.{InfoFault}
 use Rattle.flute_wire.specs.declared.refusal.Refusal.{Refusal}
-use Rattle.flute_wire.specs.declared.refusal.Refusal.TheVariants.{ExtensionLength, Repeated, FtiLength, Information, NoInstance, FluteVersion, ContentEncoded, PayloadIdCut}
+use Rattle.flute_wire.specs.declared.refusal.Refusal.TheVariants.{ExtensionLength, Repeated}
+use Rattle.flute_wire.specs.declared.refusal.Refusal.TheVariants.{FtiLength, Information}
+use Rattle.flute_wire.specs.declared.refusal.Refusal.TheVariants.{NoInstance, FluteVersion}
+use Rattle.flute_wire.specs.declared.refusal.Refusal.TheVariants.{ContentEncoded, PayloadIdCut}
 use Rattle.flute_wire.specs.Header.{extension_area, after_header}
-use Rattle.flute_wire.specs.Extensions.{bodies, ext_fti, ext_fdt, ext_cenc, fti_information, fdt_version, content_encoding, first}
+use Rattle.flute_wire.specs.Extensions.{bodies, ext_fti, ext_fdt, ext_cenc, fti_information}
+use Rattle.flute_wire.specs.Extensions.{fdt_version, content_encoding, first}
 use Rattle.flute_wire.specs.Content.{Content}
 use Rattle.flute_wire.specs.Datagram.{Spells}
 use Rattle.flute_wire.specs.Refusals.{Applies, PassesUpTo}
@@ -27,24 +32,37 @@ no_fault : (o : Option InfoFault) → ((f : InfoFault) → o ≡ Some f → ⊥)
 no_fault None h = refl
 no_fault (Some f) h = absurd (h f refl)
 
-fti_taken : (o : Option (List ℕ)) → (IsSomeAnd o (λ body. length body ≡ 15 → ⊥) → ⊥) → ((f : InfoFault) → IsSomeAnd o (λ body. info_fault (fti_information body) ≡ Some f) → ⊥)
+fti_taken : (o : Option (List ℕ)) → (IsSomeAnd o (λ body. length body ≡ 15 → ⊥) → ⊥)
+    → ((f : InfoFault) → IsSomeAnd o (λ body. info_fault (fti_information body) ≡ Some f)
+    → ⊥)
     → IfSome o (λ body. (length body ≡ 15) × (info_fault (fti_information body) ≡ None))
 fti_taken None h k = tt
-fti_taken (Some body) h k = (stable (length body) 15 h, no_fault (info_fault (fti_information body)) k)
+fti_taken (Some body) h k =
+    (stable (length body) 15 h, no_fault (info_fault (fti_information body)) k)
 
-fdt_taken : (bs : List (List ℕ)) → (bs ≡ [] → ⊥) → (IsSomeAnd (first bs) (λ body. fdt_version body ≡ 2 → ⊥) → ⊥) → IsSomeAnd (first bs) (λ body. fdt_version body ≡ 2)
+fdt_taken : (bs : List (List ℕ)) → (bs ≡ [] → ⊥)
+    → (IsSomeAnd (first bs) (λ body. fdt_version body ≡ 2 → ⊥) → ⊥)
+    → IsSomeAnd (first bs) (λ body. fdt_version body ≡ 2)
 fdt_taken [] h k = absurd (h refl)
 fdt_taken (body ∷ bs) h k = stable (fdt_version body) 2 k
 
-plain_taken : (o : Option (List ℕ)) → (IsSomeAnd o (λ body. content_encoding body ≡ 0 → ⊥) → ⊥) → IfSome o (λ body. content_encoding body ≡ 0)
+plain_taken : (o : Option (List ℕ))
+    → (IsSomeAnd o (λ body. content_encoding body ≡ 0 → ⊥) → ⊥)
+    → IfSome o (λ body. content_encoding body ≡ 0)
 plain_taken None h = tt
 plain_taken (Some body) h = stable (content_encoding body) 0 h
 
-tail_taken : (tail : List ℕ) → ((0 < length tail) × (length tail < 4) → ⊥) → (tail ≡ []) ⊎ (4 ≤ length tail)
+tail_taken : (tail : List ℕ) → ((0 < length tail) × (length tail < 4) → ⊥)
+    → (tail ≡ []) ⊎ (4 ≤ length tail)
 tail_taken tail h =
     elim (cases_lt 0 (length tail)) [
       | inr none ↦ inl (nil_from_length tail (omega arith))
-      | inl some ↦ elim (cases_lt (length tail) 4) [ inl cut ↦ absurd (h (some, cut)) | inr whole ↦ inr whole ]
+      | inl some ↦
+          elim (cases_lt (length tail) 4) [
+            | inl cut ↦ absurd (h (some, cut))
+            | inr whole ↦
+                inr whole
+          ]
     ]
 
 pub some_packet : (d : List ℕ) → ((r : Refusal) → Applies r d → ⊥) → (c : Content) × Spells d c
@@ -58,21 +76,27 @@ some_packet d h =
           let fdt = first (bodies ext_fdt es) in
           let cenc = first (bodies ext_cenc es) in
           let fdt_is = at_most_one (bodies ext_fdt es) (λ two. h Repeated (es, x, inr (inl two))) in
-          let cenc_is = at_most_one (bodies ext_cenc es) (λ two. h Repeated (es, x, inr (inr two))) in
+          let cenc_is =
+          at_most_one (bodies ext_cenc es) (λ two. h Repeated (es, x, inr (inr two))) in
           let f : Finds (extension_area d) fti fdt cenc = record {
             extensions = es;
             spelled = x;
             fti_is = at_most_one (bodies ext_fti es) (λ two. h Repeated (es, x, inl two));
             fdt_is = fdt_is;
             cenc_is = cenc_is;
-            fdt_len = short_body fdt (bodies ext_fdt es) fdt_is (short_bodies ext_fdt (omega arith) es x.each);
-            cenc_len = short_body cenc (bodies ext_cenc es) cenc_is (short_bodies ext_cenc (omega arith) es x.each);
+            fdt_len = short_body fdt (bodies ext_fdt es) fdt_is
+                (short_bodies ext_fdt (omega arith) es x.each);
+            cenc_len = short_body cenc (bodies ext_cenc es) cenc_is
+                (short_bodies ext_cenc (omega arith) es x.each);
           } in
           let passes : PassesUpTo 9 d = λ r lt a. h r a in (
             content_at d fti fdt,
             spells d fti fdt cenc passes f
-                (fti_taken fti (λ a. h FtiLength (es, x, a)) (λ fault a. h (Information fault) (es, x, a)))
-                (λ zero. fdt_taken (bodies ext_fdt es) (λ none. h NoInstance (zero, (es, x, none))) (λ a. h FluteVersion (zero, (es, x, a))))
+                (fti_taken fti (λ a. h FtiLength (es, x, a))
+                (λ fault a. h (Information fault) (es, x, a)))
+                (λ zero. fdt_taken (bodies ext_fdt es)
+                (λ none. h NoInstance (zero, (es, x, none)))
+                (λ a. h FluteVersion (zero, (es, x, a))))
                 (plain_taken cenc (λ a. h ContentEncoded (es, x, a)))
                 (tail_taken (after_header d) (λ a. h PayloadIdCut a)),
           )

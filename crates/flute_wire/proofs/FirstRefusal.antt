@@ -1,14 +1,23 @@
 -- The first refusal that applies, from what each check of `read` found (specs/Refusals).
-use Rattle.std.proofs.Common.{◌≡◌, ℕ, ◌+◌, ◌<◌, ◌⊎◌, List, [], length, cond, eqb, Option, Some, None, inl, inr, refl, sym, ap, subst, ◌∙◌, arith}
+use Rattle.std.proofs.Common.{◌≡◌, ℕ, ◌+◌, ◌<◌, ◌⊎◌, List, [], length, cond}
+use Rattle.std.proofs.Common.{eqb, Option, Some, None, inl, inr, refl, sym, ap, subst, ◌∙◌}
+use Rattle.std.proofs.Common.{arith}
 use Rattle.std.specs.Prelude.{IfSome, IsSomeAnd}
 use Rattle.std.specs.Option.{option_to_list}
 use Rattle.std.proofs.lemmas.Bool.{cases_lt}
 use Rattle.flute_parts.specs.Information.{info_fault}
 use Rattle.flute_parts.specs.declared.info.InfoFault.{InfoFault}
 use Rattle.flute_wire.specs.declared.refusal.Refusal.{Refusal}
-use Rattle.flute_wire.specs.declared.refusal.Refusal.TheVariants.{TooLong, TooShort, LctVersion, HeaderLength, HeaderCut, NoTsi, NoToi, Codepoint, ExtensionLength, Repeated, FtiLength, Information, NoInstance, FluteVersion, ContentEncoded, PayloadIdCut}
+use Rattle.flute_wire.specs.declared.refusal.Refusal.TheVariants.{TooLong, TooShort, LctVersion}
+use Rattle.flute_wire.specs.declared.refusal.Refusal.TheVariants.{HeaderLength, HeaderCut, NoTsi}
+use Rattle.flute_wire.specs.declared.refusal.Refusal.TheVariants.{NoToi, Codepoint, ExtensionLength}
+use Rattle.flute_wire.specs.declared.refusal.Refusal.TheVariants.{Repeated, FtiLength, Information}
+use Rattle.flute_wire.specs.declared.refusal.Refusal.TheVariants.{NoInstance, FluteVersion}
+use Rattle.flute_wire.specs.declared.refusal.Refusal.TheVariants.{ContentEncoded, PayloadIdCut}
 use Rattle.flute_wire.specs.Header.{toi_in, extension_area, after_header}
-use Rattle.flute_wire.specs.Extensions.{HeaderExtension, HasExtensions, bodies, ext_fti, ext_fdt, ext_cenc, fti_information, fdt_version, content_encoding, first}
+use Rattle.flute_wire.specs.Extensions.{HeaderExtension, HasExtensions, bodies, ext_fti, ext_fdt}
+use Rattle.flute_wire.specs.Extensions.{ext_cenc, fti_information, fdt_version, content_encoding}
+use Rattle.flute_wire.specs.Extensions.{first}
 use Rattle.flute_wire.specs.Refusals.{Applies, Carries, PassesUpTo, Refuses, rank}
 use Rattle.flute_wire.specs.Walk.{Finds, RefusesFti, RefusesFdt}
 use Rattle.flute_wire.proofs.Walking.{same_extensions}
@@ -70,17 +79,21 @@ is_information ContentEncoded at = absurd (omega arith)
 is_information PayloadIdCut at = absurd (omega arith)
 
 -- one check more
-pub passes_more : (n : ℕ) (d : List ℕ) (r : Refusal) → rank r ≡ n → (n ≡ 12 → ⊥) → PassesUpTo n d → (Applies r d → ⊥) → PassesUpTo (n + 1) d
+pub passes_more : (n : ℕ) (d : List ℕ) (r : Refusal) → rank r ≡ n → (n ≡ 12 → ⊥)
+    → PassesUpTo n d → (Applies r d → ⊥) → PassesUpTo (n + 1) d
 passes_more n d r at other before not q lt applies =
     elim (cases_lt (rank q) n) [
       | inl below ↦ before q below applies
       | inr above ↦
           let same : rank q ≡ n = omega arith in
-          let is : q ≡ r = sym (by_rank-rank q (λ e. other (sym same ∙ e))) ∙ ap by_rank (same ∙ sym at) ∙ by_rank-rank r (λ e. other (sym at ∙ e)) in
+          let is : q ≡ r =
+          sym (by_rank-rank q (λ e. other (sym same ∙ e))) ∙ ap by_rank (same ∙ sym at)
+          ∙ by_rank-rank r (λ e. other (sym at ∙ e)) in
           not (subst (λ (x : Refusal). Applies x d) is applies)
     ]
 
-passes_information : (d : List ℕ) → PassesUpTo 12 d → ((f : InfoFault) → Applies (Information f) d → ⊥) → PassesUpTo 13 d
+passes_information : (d : List ℕ) → PassesUpTo 12 d
+    → ((f : InfoFault) → Applies (Information f) d → ⊥) → PassesUpTo 13 d
 passes_information d before not q lt applies =
     elim (cases_lt (rank q) 12) [
       | inl below ↦ before q below applies
@@ -90,31 +103,40 @@ passes_information d before not q lt applies =
     ]
 
 -- what the extensions of a datagram are said to have, they have
-pub carried : (d : List ℕ) (es : List HeaderExtension) → HasExtensions (extension_area d) es → (P : List HeaderExtension → Type 0) → Carries d P → P es
+pub carried : (d : List ℕ) (es : List HeaderExtension) → HasExtensions (extension_area d) es
+    → (P : List HeaderExtension → Type 0) → Carries d P → P es
 carried d es x P c = subst P (same_extensions (extension_area d) c.0 es c.1 x) c.2
 
-one_at_most : (found : Option (List ℕ)) (bs : List (List ℕ)) → bs ≡ option_to_list found → 1 < length bs → ⊥
+one_at_most : (found : Option (List ℕ)) (bs : List (List ℕ)) → bs ≡ option_to_list found
+    → 1 < length bs → ⊥
 one_at_most None bs is two = absurd (omega (arith, ap length is))
 one_at_most (Some b) bs is two = absurd (omega (arith, ap length is))
 
-pub first_found : (found : Option (List ℕ)) (bs : List (List ℕ)) → bs ≡ option_to_list found → first bs ≡ found
+pub first_found : (found : Option (List ℕ)) (bs : List (List ℕ)) → bs ≡ option_to_list found
+    → first bs ≡ found
 first_found None bs is = ap first is
 first_found (Some b) bs is = ap first is
 
-none_found : (found : Option (List ℕ)) (bs : List (List ℕ)) → bs ≡ option_to_list found → bs ≡ [] → found ≡ None
+none_found : (found : Option (List ℕ)) (bs : List (List ℕ)) → bs ≡ option_to_list found
+    → bs ≡ [] → found ≡ None
 none_found None bs is none = refl
 none_found (Some b) bs is none = let e = sym none ∙ is in absurd cc
 
 -- ---- the walk
 
-pub found_in : (d area : List ℕ) (fti fdt cenc : Option (List ℕ)) → area ≡ extension_area d → Finds area fti fdt cenc → Finds (extension_area d) fti fdt cenc
+pub found_in : (d area : List ℕ) (fti fdt cenc : Option (List ℕ)) → area ≡ extension_area d
+    → Finds area fti fdt cenc → Finds (extension_area d) fti fdt cenc
 found_in d area fti fdt cenc is f = subst (λ (a : List ℕ). Finds a fti fdt cenc) is f
 
-pub passes_area : (d : List ℕ) (fti fdt cenc : Option (List ℕ)) → PassesUpTo 9 d → Finds (extension_area d) fti fdt cenc → PassesUpTo 11 d
+pub passes_area : (d : List ℕ) (fti fdt cenc : Option (List ℕ)) → PassesUpTo 9 d
+    → Finds (extension_area d) fti fdt cenc → PassesUpTo 11 d
 passes_area d fti fdt cenc before f =
-    let nine = passes_more 9 d ExtensionLength refl (λ h. absurd (omega arith)) before (λ none. none f.extensions f.spelled) in
+    let nine = passes_more 9 d ExtensionLength refl (λ h. absurd (omega arith)) before
+    (λ none. none f.extensions f.spelled) in
     passes_more 10 d Repeated refl (λ h. absurd (omega arith)) nine (λ c.
-    elim (carried d f.extensions f.spelled (λ es. (1 < length (bodies ext_fti es)) ⊎ ((1 < length (bodies ext_fdt es)) ⊎ (1 < length (bodies ext_cenc es)))) c) [
+    elim (carried d f.extensions f.spelled
+    (λ es. (1 < length (bodies ext_fti es))
+    ⊎ ((1 < length (bodies ext_fdt es)) ⊎ (1 < length (bodies ext_cenc es)))) c) [
       | inl two ↦ one_at_most fti (bodies ext_fti f.extensions) f.fti_is two
       | inr rest ↦ elim rest [
         | inl two ↦ one_at_most fdt (bodies ext_fdt f.extensions) f.fdt_is two
@@ -123,21 +145,34 @@ passes_area d fti fdt cenc before f =
     ])
 
 -- a body that is found, in the words of the refusals
-pub carries_found : (d : List ℕ) (het : ℕ) (found : Option (List ℕ)) (es : List HeaderExtension) → HasExtensions (extension_area d) es → bodies het es ≡ option_to_list found → (P : List ℕ → Type 0) → IsSomeAnd found P
+pub carries_found : (d : List ℕ) (het : ℕ) (found : Option (List ℕ))
+    (es : List HeaderExtension) → HasExtensions (extension_area d) es
+    → bodies het es ≡ option_to_list found → (P : List ℕ → Type 0) → IsSomeAnd found P
     → Carries d (λ es. IsSomeAnd (first (bodies het es)) P)
-carries_found d het found es x is P h = (es, x, subst (λ (o : Option (List ℕ)). IsSomeAnd o P) (sym (first_found found (bodies het es) is)) h)
+carries_found d het found es x is P h = (
+  es,
+  x,
+  subst (λ (o : Option (List ℕ)). IsSomeAnd o P)
+      (sym (first_found found (bodies het es) is)) h,
+)
 
-pub found_carried : (d : List ℕ) (het : ℕ) (found : Option (List ℕ)) (es : List HeaderExtension) → HasExtensions (extension_area d) es → bodies het es ≡ option_to_list found → (P : List ℕ → Type 0)
+pub found_carried : (d : List ℕ) (het : ℕ) (found : Option (List ℕ))
+    (es : List HeaderExtension) → HasExtensions (extension_area d) es
+    → bodies het es ≡ option_to_list found → (P : List ℕ → Type 0)
     → Carries d (λ es. IsSomeAnd (first (bodies het es)) P) → IsSomeAnd found P
 found_carried d het found es x is P c =
-    subst (λ (o : Option (List ℕ)). IsSomeAnd o P) (first_found found (bodies het es) is) (carried d es x (λ es. IsSomeAnd (first (bodies het es)) P) c)
+    subst (λ (o : Option (List ℕ)). IsSomeAnd o P) (first_found found (bodies het es) is)
+    (carried d es x (λ es. IsSomeAnd (first (bodies het es)) P) c)
 
 -- a found body that has one property does not have the opposite
-pub not_both : (found : Option (List ℕ)) (P Q : List ℕ → Type 0) (apart : (b : List ℕ) → P b → Q b → ⊥) → IfSome found P → IsSomeAnd found Q → ⊥
+pub not_both : (found : Option (List ℕ)) (P Q : List ℕ → Type 0)
+    (apart : (b : List ℕ) → P b → Q b → ⊥) → IfSome found P
+    → IsSomeAnd found Q → ⊥
 not_both None P Q apart h k = k
 not_both (Some b) P Q apart h k = apart b h k
 
-and_then : (found : Option (List ℕ)) (P Q : List ℕ → Type 0) → ((b : List ℕ) → P b → Q b) → IsSomeAnd found P → IsSomeAnd found Q
+and_then : (found : Option (List ℕ)) (P Q : List ℕ → Type 0)
+    → ((b : List ℕ) → P b → Q b) → IsSomeAnd found P → IsSomeAnd found Q
 and_then None P Q f h = h
 and_then (Some b) P Q f h = f b h
 
@@ -147,29 +182,48 @@ some_if (Some b) P h = h
 
 -- ---- EXT_FTI
 
-pub refuses_fti : (d : List ℕ) (fti fdt cenc : Option (List ℕ)) → PassesUpTo 11 d → Finds (extension_area d) fti fdt cenc → (r : Refusal) → RefusesFti fti r → Refuses d r
+pub refuses_fti : (d : List ℕ) (fti fdt cenc : Option (List ℕ)) → PassesUpTo 11 d
+    → Finds (extension_area d) fti fdt cenc → (r : Refusal) → RefusesFti fti r → Refuses d r
 refuses_fti d fti fdt cenc before f FtiLength h =
-    record { applies = carries_found d ext_fti fti f.extensions f.spelled f.fti_is (λ body. length body ≡ 15 → ⊥) h; first = before }
+    record {
+      applies = carries_found d ext_fti fti f.extensions f.spelled f.fti_is
+          (λ body. length body ≡ 15 → ⊥) h;
+      first = before;
+    }
 refuses_fti d fti fdt cenc before f (Information fault) h =
     record {
-      applies = carries_found d ext_fti fti f.extensions f.spelled f.fti_is (λ body. info_fault (fti_information body) ≡ Some fault)
-          (and_then fti (λ body. (length body ≡ 15) × (info_fault (fti_information body) ≡ Some fault)) (λ body. info_fault (fti_information body) ≡ Some fault) (λ b p. p.1) h);
+      applies = carries_found d ext_fti fti f.extensions f.spelled f.fti_is
+          (λ body. info_fault (fti_information body) ≡ Some fault)
+          (and_then fti (λ body. (length body ≡ 15)
+          × (info_fault (fti_information body) ≡ Some fault))
+          (λ body. info_fault (fti_information body) ≡ Some fault) (λ b p. p.1) h);
       first = passes_more 11 d FtiLength refl (λ e. absurd (omega arith)) before (λ c.
-          not_both fti (λ body. (length body ≡ 15) × (info_fault (fti_information body) ≡ Some fault)) (λ body. length body ≡ 15 → ⊥) (λ b p q. q p.0)
-          (some_if fti (λ body. (length body ≡ 15) × (info_fault (fti_information body) ≡ Some fault)) h)
-          (found_carried d ext_fti fti f.extensions f.spelled f.fti_is (λ body. length body ≡ 15 → ⊥) c));
+          not_both fti (λ body. (length body ≡ 15)
+          × (info_fault (fti_information body) ≡ Some fault))
+          (λ body. length body ≡ 15 → ⊥) (λ b p q. q p.0)
+          (some_if fti (λ body. (length body ≡ 15)
+          × (info_fault (fti_information body) ≡ Some fault)) h)
+          (found_carried d ext_fti fti f.extensions f.spelled f.fti_is
+          (λ body. length body ≡ 15 → ⊥) c));
     }
 refuses_fti d fti fdt cenc before f _ h = absurd h
 
-pub passes_fti : (d : List ℕ) (fti fdt cenc : Option (List ℕ)) → PassesUpTo 11 d → Finds (extension_area d) fti fdt cenc
-    → IfSome fti (λ body. (length body ≡ 15) × (info_fault (fti_information body) ≡ None)) → PassesUpTo 13 d
+pub passes_fti : (d : List ℕ) (fti fdt cenc : Option (List ℕ)) → PassesUpTo 11 d
+    → Finds (extension_area d) fti fdt cenc
+    → IfSome fti (λ body. (length body ≡ 15) × (info_fault (fti_information body) ≡ None))
+    → PassesUpTo 13 d
 passes_fti d fti fdt cenc before f taken =
     let twelve = passes_more 11 d FtiLength refl (λ e. absurd (omega arith)) before (λ c.
-    not_both fti (λ body. (length body ≡ 15) × (info_fault (fti_information body) ≡ None)) (λ body. length body ≡ 15 → ⊥) (λ b p q. q p.0) taken
-    (found_carried d ext_fti fti f.extensions f.spelled f.fti_is (λ body. length body ≡ 15 → ⊥) c)) in
+    not_both fti (λ body. (length body ≡ 15) × (info_fault (fti_information body) ≡ None))
+    (λ body. length body ≡ 15 → ⊥) (λ b p q. q p.0) taken
+    (found_carried d ext_fti fti f.extensions f.spelled f.fti_is
+    (λ body. length body ≡ 15 → ⊥) c)) in
     passes_information d twelve (λ fault c.
-    not_both fti (λ body. (length body ≡ 15) × (info_fault (fti_information body) ≡ None)) (λ body. info_fault (fti_information body) ≡ Some fault) (λ b p q. let e = sym p.1 ∙ q in cc) taken
-    (found_carried d ext_fti fti f.extensions f.spelled f.fti_is (λ body. info_fault (fti_information body) ≡ Some fault) c))
+    not_both fti (λ body. (length body ≡ 15) × (info_fault (fti_information body) ≡ None))
+    (λ body. info_fault (fti_information body) ≡ Some fault)
+    (λ b p q. let e = sym p.1 ∙ q in cc) taken
+    (found_carried d ext_fti fti f.extensions f.spelled f.fti_is
+    (λ body. info_fault (fti_information body) ≡ Some fault) c))
 
 -- ---- EXT_FDT
 
@@ -177,48 +231,81 @@ some_is : (found : Option (List ℕ)) (P : List ℕ → Type 0) → IsSomeAnd fo
 some_is None P h e = h
 some_is (Some b) P h e = cc
 
-nothing_found : (found : Option (List ℕ)) (bs : List (List ℕ)) → bs ≡ option_to_list found → found ≡ None → bs ≡ []
+nothing_found : (found : Option (List ℕ)) (bs : List (List ℕ)) → bs ≡ option_to_list found
+    → found ≡ None → bs ≡ []
 nothing_found found bs is none = is ∙ ap option_to_list none
 
-not_here : (d : List ℕ) (fdt : Option (List ℕ)) (es : List HeaderExtension) → HasExtensions (extension_area d) es → bodies ext_fdt es ≡ option_to_list fdt → Carries d (λ es. bodies ext_fdt es ≡ []) → fdt ≡ None
-not_here d fdt es x is c = none_found fdt (bodies ext_fdt es) is (carried d es x (λ es. bodies ext_fdt es ≡ []) c)
+not_here : (d : List ℕ) (fdt : Option (List ℕ)) (es : List HeaderExtension)
+    → HasExtensions (extension_area d) es → bodies ext_fdt es ≡ option_to_list fdt
+    → Carries d (λ es. bodies ext_fdt es ≡ []) → fdt ≡ None
+not_here d fdt es x is c =
+    none_found fdt (bodies ext_fdt es) is (carried d es x (λ es. bodies ext_fdt es ≡ []) c)
 
-pub refuses_fdt : (d : List ℕ) (toi : ℕ) (fti fdt cenc : Option (List ℕ)) → toi ≡ toi_in d → PassesUpTo 13 d → Finds (extension_area d) fti fdt cenc → (r : Refusal) → RefusesFdt toi fdt r → Refuses d r
+pub refuses_fdt : (d : List ℕ) (toi : ℕ) (fti fdt cenc : Option (List ℕ)) → toi ≡ toi_in d
+    → PassesUpTo 13 d → Finds (extension_area d) fti fdt cenc → (r : Refusal)
+    → RefusesFdt toi fdt r → Refuses d r
 refuses_fdt d toi fti fdt cenc is before f NoInstance h =
-    record { applies = (sym is ∙ h.0, (f.extensions, f.spelled, nothing_found fdt (bodies ext_fdt f.extensions) f.fdt_is h.1)); first = before }
+    record {
+      applies = (
+        sym is ∙ h.0,
+        (
+          f.extensions,
+          f.spelled,
+          nothing_found fdt (bodies ext_fdt f.extensions) f.fdt_is h.1,
+        ),
+      );
+      first = before;
+    }
 refuses_fdt d toi fti fdt cenc is before f FluteVersion h =
     record {
-      applies = (sym is ∙ h.0, carries_found d ext_fdt fdt f.extensions f.spelled f.fdt_is (λ body. fdt_version body ≡ 2 → ⊥) h.1);
+      applies = (
+        sym is ∙ h.0,
+        carries_found d ext_fdt fdt f.extensions f.spelled f.fdt_is
+            (λ body. fdt_version body ≡ 2 → ⊥) h.1,
+      );
       first = passes_more 13 d NoInstance refl (λ e. absurd (omega arith)) before (λ a.
-          some_is fdt (λ body. fdt_version body ≡ 2 → ⊥) h.1 (not_here d fdt f.extensions f.spelled f.fdt_is a.1));
+          some_is fdt (λ body. fdt_version body ≡ 2 → ⊥) h.1
+          (not_here d fdt f.extensions f.spelled f.fdt_is a.1));
     }
 refuses_fdt d toi fti fdt cenc is before f _ h = absurd h
 
-pub passes_fdt : (d : List ℕ) (toi : ℕ) (fti fdt cenc : Option (List ℕ)) → toi ≡ toi_in d → PassesUpTo 13 d → Finds (extension_area d) fti fdt cenc
+pub passes_fdt : (d : List ℕ) (toi : ℕ) (fti fdt cenc : Option (List ℕ)) → toi ≡ toi_in d
+    → PassesUpTo 13 d → Finds (extension_area d) fti fdt cenc
     → (toi ≡ 0 → IsSomeAnd fdt (λ body. fdt_version body ≡ 2)) → PassesUpTo 15 d
 passes_fdt d toi fti fdt cenc is before f taken =
     let fourteen = passes_more 13 d NoInstance refl (λ e. absurd (omega arith)) before (λ a.
-    some_is fdt (λ body. fdt_version body ≡ 2) (taken (is ∙ a.0)) (not_here d fdt f.extensions f.spelled f.fdt_is a.1)) in
+    some_is fdt (λ body. fdt_version body ≡ 2) (taken (is ∙ a.0))
+    (not_here d fdt f.extensions f.spelled f.fdt_is a.1)) in
     passes_more 14 d FluteVersion refl (λ e. absurd (omega arith)) fourteen (λ a.
     not_both fdt (λ body. fdt_version body ≡ 2) (λ body. fdt_version body ≡ 2 → ⊥) (λ b p q. q p)
     (some_if fdt (λ body. fdt_version body ≡ 2) (taken (is ∙ a.0)))
-    (found_carried d ext_fdt fdt f.extensions f.spelled f.fdt_is (λ body. fdt_version body ≡ 2 → ⊥) a.1))
+    (found_carried d ext_fdt fdt f.extensions f.spelled f.fdt_is
+    (λ body. fdt_version body ≡ 2 → ⊥) a.1))
 
 -- ---- EXT_CENC and the payload
 
-pub refuses_cenc : (d : List ℕ) (fti fdt cenc : Option (List ℕ)) → PassesUpTo 15 d → Finds (extension_area d) fti fdt cenc
+pub refuses_cenc : (d : List ℕ) (fti fdt cenc : Option (List ℕ)) → PassesUpTo 15 d
+    → Finds (extension_area d) fti fdt cenc
     → IsSomeAnd cenc (λ body. content_encoding body ≡ 0 → ⊥) → Refuses d ContentEncoded
 refuses_cenc d fti fdt cenc before f h =
-    record { applies = carries_found d ext_cenc cenc f.extensions f.spelled f.cenc_is (λ body. content_encoding body ≡ 0 → ⊥) h; first = before }
+    record {
+      applies = carries_found d ext_cenc cenc f.extensions f.spelled f.cenc_is
+          (λ body. content_encoding body ≡ 0 → ⊥) h;
+      first = before;
+    }
 
-pub passes_cenc : (d : List ℕ) (fti fdt cenc : Option (List ℕ)) → PassesUpTo 15 d → Finds (extension_area d) fti fdt cenc
+pub passes_cenc : (d : List ℕ) (fti fdt cenc : Option (List ℕ)) → PassesUpTo 15 d
+    → Finds (extension_area d) fti fdt cenc
     → IfSome cenc (λ body. content_encoding body ≡ 0) → PassesUpTo 16 d
 passes_cenc d fti fdt cenc before f plain =
     passes_more 15 d ContentEncoded refl (λ e. absurd (omega arith)) before (λ c.
-    not_both cenc (λ body. content_encoding body ≡ 0) (λ body. content_encoding body ≡ 0 → ⊥) (λ b p q. q p) plain
-    (found_carried d ext_cenc cenc f.extensions f.spelled f.cenc_is (λ body. content_encoding body ≡ 0 → ⊥) c))
+    not_both cenc (λ body. content_encoding body ≡ 0)
+    (λ body. content_encoding body ≡ 0 → ⊥) (λ b p q. q p) plain
+    (found_carried d ext_cenc cenc f.extensions f.spelled f.cenc_is
+    (λ body. content_encoding body ≡ 0 → ⊥) c))
 
-pub refuses_tail : (d tail : List ℕ) → tail ≡ after_header d → PassesUpTo 16 d → (0 < length tail) × (length tail < 4) → Refuses d PayloadIdCut
+pub refuses_tail : (d tail : List ℕ) → tail ≡ after_header d → PassesUpTo 16 d
+    → (0 < length tail) × (length tail < 4) → Refuses d PayloadIdCut
 refuses_tail d tail is before h =
     let len = ap length is in
     record { applies = (omega (arith, h.0), omega (arith, h.1)); first = before }

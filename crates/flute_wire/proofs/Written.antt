@@ -1,5 +1,8 @@
 -- A datagram that is written spells the packet it was made of (specs/Datagram: Spells).
-use Rattle.std.proofs.Common.{◌≡◌, ℕ, ◌+◌, ◌*◌, ◌/◌, ◌%◌, ◌^◌, ◌<◌, ◌≤◌, ◌⊎◌, List, [], ◌∷◌, ◌++◌, length, Bool, true, false, cond, eqb, ltb, leb, Option, Some, None, inl, inr, refl, sym, ap, subst, ◌∙◌, arith}
+use Rattle.std.proofs.Common.{◌≡◌, ℕ, ◌+◌, ◌*◌, ◌/◌, ◌%◌, ◌^◌, ◌<◌}
+use Rattle.std.proofs.Common.{◌≤◌, ◌⊎◌, List, [], ◌∷◌, ◌++◌, length, Bool}
+use Rattle.std.proofs.Common.{true, false, cond, eqb, ltb, leb, Option, Some, None, inl, inr, refl}
+use Rattle.std.proofs.Common.{sym, ap, subst, ◌∙◌, arith}
 use Rattle.std.specs.Prelude.{IfSome, IsSomeAnd, slice_range}
 use Rattle.std.specs.Option.{option_to_list, option_map}
 use Rattle.std.proofs.lemmas.Bool.{lt-ltb, leb-false, ltb-false}
@@ -15,10 +18,14 @@ use Rattle.flute_parts.specs.declared.object_key.ObjectName.{ObjectName}
 use Rattle.flute_parts.specs.declared.object_key.ObjectName.TheVariants.{Instance, File}
 use Rattle.flute_wire.specs.declared.writing.WriteFault.TheVariants.{Tsi, Toi, EmptySymbol, TooLong}
 use Rattle.flute_wire.specs.Header.{Fields, fields, cci_len, tsi_len, toi_len, header_len}
-use Rattle.flute_wire.specs.Extensions.{HeaderExtension, HasExtensions, bodies, ext_fti, ext_fdt, ext_cenc, fti_information, fdt_version, fdt_instance, content_encoding, first}
+use Rattle.flute_wire.specs.Extensions.{HeaderExtension, HasExtensions, bodies, ext_fti, ext_fdt}
+use Rattle.flute_wire.specs.Extensions.{ext_cenc, fti_information, fdt_version, fdt_instance}
+use Rattle.flute_wire.specs.Extensions.{content_encoding, first}
 use Rattle.flute_wire.specs.Content.{Content, HasKey}
 use Rattle.flute_wire.specs.Datagram.{Parts, HasParts, content_of, tail_symbol, Spells}
-use Rattle.flute_wire.specs.Writing.{packet_at, outgoing_facts, IsWritten, spelling, fdt_bytes, fti_bytes, symbol_bytes, fdt_words, fti_words, word_bytes, write_fault, has_no_byte}
+use Rattle.flute_wire.specs.Writing.{packet_at, outgoing_facts, IsWritten, spelling, fdt_bytes}
+use Rattle.flute_wire.specs.Writing.{fti_bytes, symbol_bytes, fdt_words, fti_words, word_bytes}
+use Rattle.flute_wire.specs.Writing.{write_fault, has_no_byte}
 use Rattle.flute_wire.specs.Encoding.{HasFittingId, HasFittingInformation, IsEncodable}
 use Rattle.flute_wire.proofs.BigEndian.{big_from-whole}
 use Rattle.flute_wire.specs.Facts.{object_named, key_of}
@@ -32,14 +39,17 @@ use Rattle.flute_parts.proofs.Public.{fault-none}
 pub big_endian-big_bytes : (k n : ℕ) → n < 256 ^ k → big_endian (big_bytes k n) ≡ n
 big_endian-big_bytes k n h =
     let back : big_from 0 k (big_bytes k n ++ []) ≡ n = big_number-reads_back k n [] h in
-    sym (big_from-whole k (big_bytes k n) (sym (length-bytes_high_first k n))) ∙ ap (big_from 0 k) (sym (append-nil (big_bytes k n))) ∙ back
+    sym (big_from-whole k (big_bytes k n) (sym (length-bytes_high_first k n)))
+    ∙ ap (big_from 0 k) (sym (append-nil (big_bytes k n))) ∙ back
 
 -- the extensions that are written
 abbrev fdt_body : ℕ → List ℕ
 fdt_body instance = big_bytes 3 (2 * 2 ^ 20 + instance)
 
 abbrev fti_body : Information → List ℕ
-fti_body i = 4 ∷ big_bytes 6 i.transfer_length ++ (big_bytes 2 0 ++ (big_bytes 2 i.symbol_length ++ big_bytes 4 i.max_block_length))
+fti_body i =
+    4 ∷ big_bytes 6 i.transfer_length
+    ++ (big_bytes 2 0 ++ (big_bytes 2 i.symbol_length ++ big_bytes 4 i.max_block_length))
 
 abbrev fdt_extensions : Option ℕ → List HeaderExtension
 fdt_extensions None = []
@@ -50,46 +60,54 @@ fti_extensions None = []
 fti_extensions (Some i) = record { het = 64; body = fti_body i } ∷ []
 
 -- the fields of the first word
-fields_are : (n : Option ℕ) (i : Option Information) → fields (big_endian (word_bytes (4 + fdt_words n + fti_words i))) ≡ record {
-  version = 1;
-  congestion_words = 0;
-  tsi_words = 1;
-  toi_words = 1;
-  half_word = 0;
-  header_words = 4 + fdt_words n + fti_words i;
-  codepoint = 0;
-}
+fields_are : (n : Option ℕ) (i : Option Information)
+    → fields (big_endian (word_bytes (4 + fdt_words n + fti_words i))) ≡ record {
+      version = 1;
+      congestion_words = 0;
+      tsi_words = 1;
+      toi_words = 1;
+      half_word = 0;
+      header_words = 4 + fdt_words n + fti_words i;
+      codepoint = 0;
+    }
 fields_are None None = refl
 fields_are None (Some i) = refl
 fields_are (Some n) None = refl
 fields_are (Some n) (Some i) = refl
 
 -- the extensions of the bytes, and the bodies of each type
-extensions_are : (n : Option ℕ) (i : Option Information) → HasExtensions (fdt_bytes n ++ fti_bytes i) (fdt_extensions n ++ fti_extensions i)
+extensions_are : (n : Option ℕ) (i : Option Information)
+    → HasExtensions (fdt_bytes n ++ fti_bytes i) (fdt_extensions n ++ fti_extensions i)
 extensions_are None None = record { joined = refl; each = tt }
 extensions_are None (Some i) = record { joined = refl; each = (refl, tt) }
 extensions_are (Some n) None = record { joined = refl; each = (refl, tt) }
 extensions_are (Some n) (Some i) = record { joined = refl; each = (refl, (refl, tt)) }
 
-fti_bodies : (n : Option ℕ) (i : Option Information) → bodies ext_fti (fdt_extensions n ++ fti_extensions i) ≡ option_to_list (option_map fti_body i)
+fti_bodies : (n : Option ℕ) (i : Option Information)
+    → bodies ext_fti (fdt_extensions n ++ fti_extensions i)
+    ≡ option_to_list (option_map fti_body i)
 fti_bodies None None = refl
 fti_bodies None (Some i) = refl
 fti_bodies (Some n) None = refl
 fti_bodies (Some n) (Some i) = refl
 
-fdt_bodies : (n : Option ℕ) (i : Option Information) → bodies ext_fdt (fdt_extensions n ++ fti_extensions i) ≡ option_to_list (option_map fdt_body n)
+fdt_bodies : (n : Option ℕ) (i : Option Information)
+    → bodies ext_fdt (fdt_extensions n ++ fti_extensions i)
+    ≡ option_to_list (option_map fdt_body n)
 fdt_bodies None None = refl
 fdt_bodies None (Some i) = refl
 fdt_bodies (Some n) None = refl
 fdt_bodies (Some n) (Some i) = refl
 
-cenc_bodies : (n : Option ℕ) (i : Option Information) → bodies ext_cenc (fdt_extensions n ++ fti_extensions i) ≡ []
+cenc_bodies : (n : Option ℕ) (i : Option Information)
+    → bodies ext_cenc (fdt_extensions n ++ fti_extensions i) ≡ []
 cenc_bodies None None = refl
 cenc_bodies None (Some i) = refl
 cenc_bodies (Some n) None = refl
 cenc_bodies (Some n) (Some i) = refl
 
-area_len : (n : Option ℕ) (i : Option Information) → length (fdt_bytes n ++ fti_bytes i) ≡ 4 * (fdt_words n + fti_words i)
+area_len : (n : Option ℕ) (i : Option Information)
+    → length (fdt_bytes n ++ fti_bytes i) ≡ 4 * (fdt_words n + fti_words i)
 area_len None None = refl
 area_len None (Some i) = refl
 area_len (Some n) None = refl
@@ -118,22 +136,33 @@ has_parts c =
       cci = sym (ap cci_len f);
       tsi = sym (ap tsi_len f);
       toi = sym (ap toi_len f);
-      header = let h : header_len (fields (big_endian (word_bytes (4 + fdt_words c.instance + fti_words c.info)))) ≡ 4 * (4 + fdt_words c.instance + fti_words c.info) = ap header_len f in omega (arith, len, h);
+      header = let h : header_len (fields
+          (big_endian (word_bytes (4 + fdt_words c.instance + fti_words c.info))))
+          ≡ 4 * (4 + fdt_words c.instance + fti_words c.info) =
+          ap header_len f in omega (arith, len, h);
       extensions = extensions_are c.instance c.info;
     }
 
 -- EXT_FTI contains the information's numbers
-information_again : (i : Information) → i.transfer_length < 2 ^ 48 → i.symbol_length < 2 ^ 16 → i.max_block_length < 2 ^ 32 → fti_information (fti_body i) ≡ i
+information_again : (i : Information) → i.transfer_length < 2 ^ 48 → i.symbol_length < 2 ^ 16
+    → i.max_block_length < 2 ^ 32 → fti_information (fti_body i) ≡ i
 information_again i l e b =
-    let three : big_endian (slice_range (fti_body i) 1 7) ≡ i.transfer_length = big_endian-big_bytes 6 i.transfer_length l in
-    let four : big_endian (slice_range (fti_body i) 9 11) ≡ i.symbol_length = big_endian-big_bytes 2 i.symbol_length e in
-    let five : big_endian (slice_range (fti_body i) 11 15) ≡ i.max_block_length = big_endian-big_bytes 4 i.max_block_length b in
-    ap (λ (x : ℕ). information x (big_endian (slice_range (fti_body i) 9 11)) (big_endian (slice_range (fti_body i) 11 15))) three
-    ∙ ap (λ (y : ℕ). information i.transfer_length y (big_endian (slice_range (fti_body i) 11 15))) four
+    let three : big_endian (slice_range (fti_body i) 1 7) ≡ i.transfer_length =
+    big_endian-big_bytes 6 i.transfer_length l in
+    let four : big_endian (slice_range (fti_body i) 9 11) ≡ i.symbol_length =
+    big_endian-big_bytes 2 i.symbol_length e in
+    let five : big_endian (slice_range (fti_body i) 11 15) ≡ i.max_block_length =
+    big_endian-big_bytes 4 i.max_block_length b in
+    ap (λ (x : ℕ). information x (big_endian (slice_range (fti_body i) 9 11))
+    (big_endian (slice_range (fti_body i) 11 15))) three
+    ∙ ap (λ (y : ℕ). information i.transfer_length y
+    (big_endian (slice_range (fti_body i) 11 15))) four
     ∙ ap (λ (z : ℕ). information i.transfer_length i.symbol_length z) five
 
 fti_taken : (i : Option Information) → HasFittingInformation i
-    → IfSome (option_map fti_body i) (λ body. (length body ≡ 15) × (info_fault (fti_information body) ≡ None)) × (option_map fti_information (option_map fti_body i) ≡ i)
+    → IfSome (option_map fti_body i)
+    (λ body. (length body ≡ 15) × (info_fault (fti_information body) ≡ None))
+    × (option_map fti_information (option_map fti_body i) ≡ i)
 fti_taken None h = (tt, refl)
 fti_taken (Some i) h =
     let again = information_again i h.0.length h.1.0 h.1.1 in
@@ -142,10 +171,12 @@ fti_taken (Some i) h =
 -- EXT_FDT contains the instance
 fdt_number : (n : ℕ) → n < 2 ^ 20 → (fdt_version (fdt_body n) ≡ 2) × (fdt_instance (fdt_body n) ≡ n)
 fdt_number n h =
-    let is : big_endian (fdt_body n) ≡ 2 * 2 ^ 20 + n = big_endian-big_bytes 3 (2 * 2 ^ 20 + n) (omega arith) in
+    let is : big_endian (fdt_body n) ≡ 2 * 2 ^ 20 + n =
+    big_endian-big_bytes 3 (2 * 2 ^ 20 + n) (omega arith) in
     (ap (λ (x : ℕ). x / 2 ^ 20) is ∙ omega arith, ap (λ (x : ℕ). x % 2 ^ 20) is ∙ omega arith)
 
-fdt_taken : (tsi toi : ℕ) (n : Option ℕ) → HasKey tsi toi n → toi ≡ 0 → IsSomeAnd (option_map fdt_body n) (λ body. fdt_version body ≡ 2)
+fdt_taken : (tsi toi : ℕ) (n : Option ℕ) → HasKey tsi toi n → toi ≡ 0
+    → IsSomeAnd (option_map fdt_body n) (λ body. fdt_version body ≡ 2)
 fdt_taken tsi toi None h at = absurd (omega (arith, h.1.0))
 fdt_taken tsi toi (Some n) h at = (fdt_number n h.1).0
 
@@ -159,15 +190,20 @@ instance_again tsi toi None h z = none_either_way (eqb toi 0)
 instance_again tsi toi (Some n) h z = rw z (ap (λ (x : ℕ). Some x) (fdt_number n h.1).1)
 
 -- the payload contains the symbol
-symbol_again : (s : Option (SymbolId × List ℕ)) → HasFittingId s → has_no_byte s ≡ false → (tail_symbol (symbol_bytes s) ≡ s) × ((symbol_bytes s ≡ []) ⊎ (4 ≤ length (symbol_bytes s)))
+symbol_again : (s : Option (SymbolId × List ℕ)) → HasFittingId s → has_no_byte s ≡ false
+    → (tail_symbol (symbol_bytes s) ≡ s)
+    × ((symbol_bytes s ≡ []) ⊎ (4 ≤ length (symbol_bytes s)))
 symbol_again None h some = (refl, inl refl)
 symbol_again (Some (id, [])) h some = absurd (cc)
 symbol_again (Some (id, b ∷ bs)) h some =
     let tail = symbol_bytes (Some (id, b ∷ bs)) in
-    let make : ℕ → ℕ → Option (SymbolId × List ℕ) = λ x y. Some (record { sbn = x; esi = y }, b ∷ bs) in
+    let make : ℕ → ℕ → Option (SymbolId × List ℕ) =
+    λ x y. Some (record { sbn = x; esi = y }, b ∷ bs) in
     let long : ltb 4 (length tail) ≡ true = lt-ltb 4 (length tail) (omega arith) in (
-      ap (λ (c : Bool). cond c (make (big_endian (big_bytes 2 id.sbn)) (big_endian (big_bytes 2 id.esi))) None) long
-          ∙ ap (λ (x : ℕ). make x (big_endian (big_bytes 2 id.esi))) (big_endian-big_bytes 2 id.sbn h.0)
+      ap (λ (c : Bool). cond c (make (big_endian (big_bytes 2 id.sbn))
+          (big_endian (big_bytes 2 id.esi))) None) long
+          ∙ ap (λ (x : ℕ). make x (big_endian (big_bytes 2 id.esi)))
+          (big_endian-big_bytes 2 id.sbn h.0)
           ∙ ap (λ (y : ℕ). make id.sbn y) (big_endian-big_bytes 2 id.esi h.1),
       inr (omega arith),
     )
@@ -179,7 +215,9 @@ pub record IsSent (c : Content) : Type 0 where
   pub symbol : has_no_byte c.symbol ≡ false
   pub limit : length (spelling c) ≤ 65535
 
-by_tests : (a b s l : Bool) → cond a (Some Tsi) (cond b (Some Toi) (cond s (Some EmptySymbol) (cond l (Some TooLong) None))) ≡ None
+by_tests : (a b s l : Bool)
+    → cond a (Some Tsi) (cond b (Some Toi)
+    (cond s (Some EmptySymbol) (cond l (Some TooLong) None))) ≡ None
     → (a ≡ false) × (b ≡ false) × (s ≡ false) × (l ≡ false)
 by_tests true b s l h = absurd (cc)
 by_tests false true s l h = absurd (cc)
@@ -189,7 +227,8 @@ by_tests false false false false h = (refl, refl, refl, refl)
 
 pub no_fault : (c : Content) → write_fault c ≡ None → IsSent c
 no_fault c h =
-    let t = by_tests (leb (2 ^ 32) c.tsi) (leb (2 ^ 32) c.toi) (has_no_byte c.symbol) (ltb 65535 (length (spelling c))) h in
+    let t = by_tests (leb (2 ^ 32) c.tsi) (leb (2 ^ 32) c.toi) (has_no_byte c.symbol)
+    (ltb 65535 (length (spelling c))) h in
     record {
       tsi = leb-false (2 ^ 32) c.tsi t.0;
       toi = leb-false (2 ^ 32) c.toi t.1;
@@ -203,18 +242,23 @@ instance_has_toi (Instance n) = refl
 instance_has_toi (File toi) = tt
 
 -- a packet without a fault is spelled by its bytes
-spelled : (c : Content) → IsEncodable c → IfSome c.instance (λ _. c.toi ≡ 0) → write_fault c ≡ None → Spells (spelling c) c
+spelled : (c : Content) → IsEncodable c → IfSome c.instance (λ _. c.toi ≡ 0)
+    → write_fault c ≡ None → Spells (spelling c) c
 unfolding parts
 spelled c e z none =
     let p = no_fault c none in
-    let tsi : big_endian (big_bytes 4 c.tsi) ≡ c.tsi = big_endian-big_bytes 4 c.tsi (omega (arith, p.tsi)) in
-    let toi : big_endian (big_bytes 4 c.toi) ≡ c.toi = big_endian-big_bytes 4 c.toi (omega (arith, p.toi)) in
+    let tsi : big_endian (big_bytes 4 c.tsi) ≡ c.tsi =
+    big_endian-big_bytes 4 c.tsi (omega (arith, p.tsi)) in
+    let toi : big_endian (big_bytes 4 c.toi) ≡ c.toi =
+    big_endian-big_bytes 4 c.toi (omega (arith, p.toi)) in
     let n = c.instance in
     let i = c.info in
     let f = fields_are n i in
     let es = fdt_extensions n ++ fti_extensions i in
-    let fti_is : first (bodies ext_fti es) ≡ option_map fti_body i = first_found (option_map fti_body i) (bodies ext_fti es) (fti_bodies n i) in
-    let fdt_is : first (bodies ext_fdt es) ≡ option_map fdt_body n = first_found (option_map fdt_body n) (bodies ext_fdt es) (fdt_bodies n i) in
+    let fti_is : first (bodies ext_fti es) ≡ option_map fti_body i =
+    first_found (option_map fti_body i) (bodies ext_fti es) (fti_bodies n i) in
+    let fdt_is : first (bodies ext_fdt es) ≡ option_map fdt_body n =
+    first_found (option_map fdt_body n) (bodies ext_fdt es) (fdt_bodies n i) in
     let info = fti_taken i e.info in
     let symbol = symbol_again c.symbol e.symbol p.symbol in (
       parts c,
@@ -228,28 +272,48 @@ spelled c e z none =
         one_fti = few (option_map fti_body i) (bodies ext_fti es) (fti_bodies n i);
         one_fdt = few (option_map fdt_body n) (bodies ext_fdt es) (fdt_bodies n i);
         one_cenc = omega (arith, ap length (cenc_bodies n i));
-        information = subst (λ (x : Option (List ℕ)). IfSome x (λ body. (length body ≡ 15) × (info_fault (fti_information body) ≡ None))) (sym fti_is) info.0;
-        instance = λ none. subst (λ (x : Option (List ℕ)). IsSomeAnd x (λ body. fdt_version body ≡ 2)) (sym fdt_is) (fdt_taken c.tsi c.toi n e.key (sym toi ∙ none));
-        plain = subst (λ (l : List (List ℕ)). IfSome (first l) (λ body. content_encoding body ≡ 0)) (sym (cenc_bodies n i)) tt;
+        information =
+            subst (λ (x : Option (List ℕ)).
+            IfSome x (λ body. (length body ≡ 15)
+            × (info_fault (fti_information body) ≡ None))) (sym fti_is) info.0;
+        instance = λ none.
+            subst (λ (x : Option (List ℕ)). IsSomeAnd x (λ body. fdt_version body ≡ 2))
+            (sym fdt_is) (fdt_taken c.tsi c.toi n e.key (sym toi ∙ none));
+        plain = subst (λ (l : List (List ℕ)).
+            IfSome (first l) (λ body. content_encoding body ≡ 0)) (sym (cenc_bodies n i)) tt;
         payload = symbol.1;
       },
       same_content c (content_of (parts c)) (sym tsi) (sym toi)
-          (sym (ap (λ (k : ℕ). cond (eqb k 0) (option_map fdt_instance (first (bodies ext_fdt es))) None) toi
-          ∙ ap (λ (x : Option (List ℕ)). cond (eqb c.toi 0) (option_map fdt_instance x) None) fdt_is ∙ instance_again c.tsi c.toi n e.key z))
+          (sym (ap (λ (k : ℕ). cond (eqb k 0)
+          (option_map fdt_instance (first (bodies ext_fdt es))) None) toi
+          ∙ ap (λ (x : Option (List ℕ)). cond (eqb c.toi 0) (option_map fdt_instance x) None)
+          fdt_is ∙ instance_again c.tsi c.toi n e.key z))
           (sym (ap (option_map fti_information) fti_is ∙ info.1))
           (sym symbol.0),
     )
 
-pub written : (d : List ℕ) (c : Content) → d ≡ spelling c → IsEncodable c → IfSome c.instance (λ _. c.toi ≡ 0) → write_fault c ≡ None → IsWritten d c
-written d c is e z none = record { spelled = subst (λ (x : List ℕ). Spells x c) (sym is) (spelled c e z none); form = is }
+pub written : (d : List ℕ) (c : Content) → d ≡ spelling c → IsEncodable c
+    → IfSome c.instance (λ _. c.toi ≡ 0) → write_fault c ≡ None → IsWritten d c
+written d c is e z none =
+    record {
+      spelled = subst (λ (x : List ℕ). Spells x c) (sym is) (spelled c e z none);
+      form = is;
+    }
 
 -- the key is the packet's, with its own sender
 same_object : (o : ObjectName) → object_named (toi_of o) (instance_of o) ≡ o
 same_object (Instance n) = refl
 same_object (File toi) = refl
 
-pub same_key : (key : Key) (i : Option Information) (s : Option (SymbolId × List ℕ)) → key_of key.session.sender (packet_at key i s) ≡ key
-same_key key i s = ap (λ (o : ObjectName). let k : Key = record { session = key.session; object = o } in k) (same_object key.object)
+pub same_key : (key : Key) (i : Option Information) (s : Option (SymbolId × List ℕ))
+    → key_of key.session.sender (packet_at key i s) ≡ key
+same_key key i s =
+    ap (λ (o : ObjectName). let k : Key = record { session = key.session; object = o } in k)
+    (same_object key.object)
 
-pub facts_told : (d : List ℕ) (key : Key) (i : Option Information) (s : Option (SymbolId × List ℕ)) → IsWritten d (packet_at key i s) → facts key.session.sender d ≡ outgoing_facts key i s
-facts_told d key i s h = facts-Spells key.session.sender d (packet_at key i s) h.spelled ∙ ap (λ (k : Key). outgoing_facts k i s) (same_key key i s)
+pub facts_told : (d : List ℕ) (key : Key) (i : Option Information)
+    (s : Option (SymbolId × List ℕ)) → IsWritten d (packet_at key i s)
+    → facts key.session.sender d ≡ outgoing_facts key i s
+facts_told d key i s h =
+    facts-Spells key.session.sender d (packet_at key i s) h.spelled
+    ∙ ap (λ (k : Key). outgoing_facts k i s) (same_key key i s)

@@ -1,11 +1,15 @@
 -- Which datagram spells which packet.
-use Rattle.std.specs.Prelude.{◌≡◌, ℕ, ◌+◌, ◌≤◌, ◌<◌, ◌⊎◌, ◌==◌, nat_lt, List, [], ◌++◌, length, take, drop, slice_range, Option, Some, None, IfSome, IsSomeAnd, if◌then◌else◌}
+use Rattle.std.specs.Prelude.{◌≡◌, ℕ, ◌+◌, ◌≤◌, ◌<◌, ◌⊎◌, ◌==◌}
+use Rattle.std.specs.Prelude.{nat_lt, List, [], ◌++◌, length, take, drop, slice_range, Option}
+use Rattle.std.specs.Prelude.{Some, None, IfSome, IsSomeAnd, if◌then◌else◌}
 use Rattle.std.specs.Option.{option_map}
 use Rattle.flute_parts.specs.Information.{info_fault}
 use Rattle.flute_parts.specs.declared.symbol_id.SymbolId.{SymbolId}
 use Rattle.flute_parts.specs.BigEndian.{big_endian}
 use Rattle.flute_wire.specs.Header.{fields, cci_len, tsi_len, toi_len, header_len}
-use Rattle.flute_wire.specs.Extensions.{HeaderExtension, HasExtensions, bodies, ext_fti, ext_fdt, ext_cenc, fti_information, fdt_version, fdt_instance, content_encoding, first}
+use Rattle.flute_wire.specs.Extensions.{HeaderExtension, HasExtensions, bodies, ext_fti, ext_fdt}
+use Rattle.flute_wire.specs.Extensions.{ext_cenc, fti_information, fdt_version, fdt_instance}
+use Rattle.flute_wire.specs.Extensions.{content_encoding, first}
 use Rattle.flute_wire.specs.Content.{Content}
 
 -- the parts of a datagram, in order

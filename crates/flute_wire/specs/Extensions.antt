@@ -1,5 +1,7 @@
 -- Header extensions.
-use Rattle.std.specs.Prelude.{◌≡◌, ℕ, ◌+◌, ◌*◌, ◌/◌, ◌%◌, ◌^◌, ◌==◌, nat_lt, List, [], ◌∷◌, length, map, filter, slice_index, slice_range, Option, Some, None, if◌then◌else◌}
+use Rattle.std.specs.Prelude.{◌≡◌, ℕ, ◌+◌, ◌*◌, ◌/◌, ◌%◌, ◌^◌, ◌==◌}
+use Rattle.std.specs.Prelude.{nat_lt, List, [], ◌∷◌, length, map, filter, slice_index}
+use Rattle.std.specs.Prelude.{slice_range, Option, Some, None, if◌then◌else◌}
 use Rattle.std.specs.List.{flat_map, AllByRecursion}
 use Rattle.flute_parts.specs.Information.{Information, information}
 use Rattle.flute_parts.specs.BigEndian.{big_endian}

@@ -1,10 +1,15 @@
 -- The packet of a datagram, and its facts from a sender, computed.
-use Rattle.std.specs.Prelude.{ℕ, zero, suc, ◌-◌, ◌*◌, nat_le, nat_lt, ◌==◌, Bool, true, false, ◌&&◌, ◌||◌, is_none, List, [], ◌∷◌, length, take, drop, slice_index, Option, Some, None, if◌then◌else◌}
+use Rattle.std.specs.Prelude.{ℕ, zero, suc, ◌-◌, ◌*◌, nat_le, nat_lt, ◌==◌, Bool}
+use Rattle.std.specs.Prelude.{true, false, ◌&&◌, ◌||◌, is_none, List, [], ◌∷◌, length}
+use Rattle.std.specs.Prelude.{take, drop, slice_index, Option, Some, None, if◌then◌else◌}
 use Rattle.std.specs.Option.{option_map, option_and_then}
 use Rattle.flute_parts.specs.Information.{info_fault}
 use Rattle.flute_parts.specs.declared.fact.Fact.{Fact}
-use Rattle.flute_wire.specs.Header.{first_word, fixed_words, header_len, tsi_len, toi_len, tsi_in, toi_in, extension_area, after_header}
-use Rattle.flute_wire.specs.Extensions.{HeaderExtension, bodies, ext_fti, ext_fdt, ext_cenc, fti_information, fdt_version, fdt_instance, content_encoding, first}
+use Rattle.flute_wire.specs.Header.{first_word, fixed_words, header_len, tsi_len, toi_len, tsi_in}
+use Rattle.flute_wire.specs.Header.{toi_in, extension_area, after_header}
+use Rattle.flute_wire.specs.Extensions.{HeaderExtension, bodies, ext_fti, ext_fdt, ext_cenc}
+use Rattle.flute_wire.specs.Extensions.{fti_information, fdt_version, fdt_instance}
+use Rattle.flute_wire.specs.Extensions.{content_encoding, first}
 use Rattle.flute_wire.specs.Content.{Content}
 use Rattle.flute_wire.specs.Datagram.{tail_symbol}
 use Rattle.flute_wire.specs.Facts.{facts_of}

@@ -2,9 +2,17 @@
 use Rattle.std.specs.Prelude.{◌≡◌, ◌≢◌, ℕ, ◌<◌, ◌⊎◌, List, [], length, Some, IsSomeAnd}
 use Rattle.flute_parts.specs.Information.{info_fault}
 use Rattle.flute_wire.specs.declared.refusal.Refusal.{Refusal}
-use Rattle.flute_wire.specs.declared.refusal.Refusal.TheVariants.{TooLong, TooShort, LctVersion, HeaderLength, HeaderCut, NoTsi, NoToi, Codepoint, ExtensionLength, Repeated, FtiLength, Information, NoInstance, FluteVersion, ContentEncoded, PayloadIdCut}
-use Rattle.flute_wire.specs.Header.{first_word, tsi_len, toi_len, header_len, fixed_words, toi_in, extension_area, after_header}
-use Rattle.flute_wire.specs.Extensions.{HeaderExtension, HasExtensions, bodies, ext_fti, ext_fdt, ext_cenc, fti_information, fdt_version, content_encoding, first}
+use Rattle.flute_wire.specs.declared.refusal.Refusal.TheVariants.{TooLong, TooShort, LctVersion}
+use Rattle.flute_wire.specs.declared.refusal.Refusal.TheVariants.{HeaderLength, HeaderCut, NoTsi}
+use Rattle.flute_wire.specs.declared.refusal.Refusal.TheVariants.{NoToi, Codepoint, ExtensionLength}
+use Rattle.flute_wire.specs.declared.refusal.Refusal.TheVariants.{Repeated, FtiLength, Information}
+use Rattle.flute_wire.specs.declared.refusal.Refusal.TheVariants.{NoInstance, FluteVersion}
+use Rattle.flute_wire.specs.declared.refusal.Refusal.TheVariants.{ContentEncoded, PayloadIdCut}
+use Rattle.flute_wire.specs.Header.{first_word, tsi_len, toi_len, header_len, fixed_words, toi_in}
+use Rattle.flute_wire.specs.Header.{extension_area, after_header}
+use Rattle.flute_wire.specs.Extensions.{HeaderExtension, HasExtensions, bodies, ext_fti, ext_fdt}
+use Rattle.flute_wire.specs.Extensions.{ext_cenc, fti_information, fdt_version, content_encoding}
+use Rattle.flute_wire.specs.Extensions.{first}
 
 -- the extensions of the datagram, which are these: they have the property
 abbrev pub Carries : List ℕ → (List HeaderExtension → Type 0) → Type 0

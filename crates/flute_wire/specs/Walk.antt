@@ -1,8 +1,10 @@
 -- What the walk over the extensions has seen.
-use Rattle.std.specs.Prelude.{◌≡◌, ◌≢◌, ◌<◌, ◌⊎◌, ℕ, List, [], ◌∷◌, length, Option, Some, None, IfSome, IsSomeAnd}
+use Rattle.std.specs.Prelude.{◌≡◌, ◌≢◌, ◌<◌, ◌⊎◌, ℕ, List, [], ◌∷◌}
+use Rattle.std.specs.Prelude.{length, Option, Some, None, IfSome, IsSomeAnd}
 use Rattle.std.specs.Option.{option_to_list}
 use Rattle.flute_parts.specs.Information.{info_fault}
-use Rattle.flute_wire.specs.Extensions.{HeaderExtension, HasExtensions, bodies, ext_fti, ext_fdt, ext_cenc, fti_information, fdt_version}
+use Rattle.flute_wire.specs.Extensions.{HeaderExtension, HasExtensions, bodies, ext_fti, ext_fdt}
+use Rattle.flute_wire.specs.Extensions.{ext_cenc, fti_information, fdt_version}
 use Rattle.flute_wire.specs.declared.extensions.Extension.{Extension}
 use Rattle.flute_wire.specs.declared.extensions.Occurrence.{Occurrence}
 use Rattle.flute_wire.specs.declared.extensions.Occurrence.TheVariants.{Absent, Once, Repeated}

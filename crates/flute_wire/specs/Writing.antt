@@ -1,5 +1,7 @@
 -- The datagrams that are written: their one form, and why a packet is not written.
-use Rattle.std.specs.Prelude.{◌≡◌, ℕ, ◌+◌, ◌*◌, ◌^◌, ◌==◌, nat_lt, nat_le, Bool, false, if◌then◌else◌, List, [], ◌∷◌, ◌++◌, length, Option, Some, None}
+use Rattle.std.specs.Prelude.{◌≡◌, ℕ, ◌+◌, ◌*◌, ◌^◌, ◌==◌, nat_lt, nat_le}
+use Rattle.std.specs.Prelude.{Bool, false, if◌then◌else◌, List, [], ◌∷◌, ◌++◌}
+use Rattle.std.specs.Prelude.{length, Option, Some, None}
 use Rattle.byteorder.specs.Endian.{big_bytes}
 use Rattle.flute_parts.specs.Information.{Information}
 use Rattle.flute_parts.specs.ObjectName.{toi_of, instance_of}

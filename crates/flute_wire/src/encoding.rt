@@ -5,7 +5,8 @@ ghost use Rattle.std.specs.Option.{option_map};
 ghost use Rattle.byteorder.specs.Endian.{big_bytes};
 ghost use Rattle.flute_parts.specs.ObjectName.{IsObjectName, instance_of};
 ghost use Rattle.flute_wire.specs.Outgoing.{said};
-ghost use Rattle.flute_wire.specs.Writing.{spelling, word_bytes, fdt_bytes, fti_bytes, symbol_bytes, words_to_write, write_fault};
+ghost use Rattle.flute_wire.specs.Writing.{spelling, word_bytes, fdt_bytes, fti_bytes};
+ghost use Rattle.flute_wire.specs.Writing.{symbol_bytes, words_to_write, write_fault};
 ghost use Rattle.flute_wire.specs.Encoding.{HasFittingId, HasFittingInformation, IsEncodable};
 
 use crate::extensions::{EXT_FDT, EXT_FTI};

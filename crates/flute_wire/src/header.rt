@@ -1,7 +1,8 @@
 //! The LCT header before its extensions (RFC 5651, section 5.1).
 
 ghost use Rattle.std.specs.Prelude.{◌≡◌, ◌<◌, ◌≤◌, ◌^◌, length, IfOk, IfErr, OnOk};
-ghost use Rattle.flute_wire.specs.Header.{first_word, fixed_words, header_len, tsi_len, toi_len, tsi_in, toi_in, extension_area, after_header};
+ghost use Rattle.flute_wire.specs.Header.{first_word, fixed_words, header_len, tsi_len, toi_len};
+ghost use Rattle.flute_wire.specs.Header.{tsi_in, toi_in, extension_area, after_header};
 ghost use Rattle.flute_wire.specs.Refusals.{PassesUpTo, Refuses};
 
 use crate::datagram::MAX_LEN;

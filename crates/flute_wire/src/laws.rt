@@ -1,6 +1,7 @@
 //! Laws of the format, each the contract of a function that does nothing.
 
-ghost use Rattle.std.specs.Prelude.{◌≡◌, ◌↔◌, ◌⊎◌, ℕ, true, List, [], length, map, flat_map, Contains, Some};
+ghost use Rattle.std.specs.Prelude.{◌≡◌, ◌↔◌, ◌⊎◌, ℕ, true, List, [], length};
+ghost use Rattle.std.specs.Prelude.{map, flat_map, Contains, Some};
 ghost use Rattle.flute_parts.specs.Information.{Information, IsValid};
 ghost use Rattle.flute_parts.specs.Partition.{ids, fits};
 ghost use Rattle.flute_parts.specs.declared.symbol_id.SymbolId.{SymbolId};

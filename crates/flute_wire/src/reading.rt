@@ -1,9 +1,13 @@
 //! Datagrams read as packets.
 
-ghost use Rattle.std.specs.Prelude.{◌≡◌, ◌≢◌, ◌<◌, ◌≤◌, ◌⊎◌, ◌^◌, ◌==◌, [], length, Option, Some, None, IfOk, IfErr, OnOk, OnErr, IfSome, IsSomeAnd, Ok, Err, ◌↔◌, if◌then◌else◌};
+ghost use Rattle.std.specs.Prelude.{◌≡◌, ◌≢◌, ◌<◌, ◌≤◌, ◌⊎◌, ◌^◌};
+ghost use Rattle.std.specs.Prelude.{◌==◌, [], length, Option, Some, None, IfOk, IfErr, OnOk};
+ghost use Rattle.std.specs.Prelude.{OnErr, IfSome, IsSomeAnd, Ok, Err, ◌↔◌};
+ghost use Rattle.std.specs.Prelude.{if◌then◌else◌};
 ghost use Rattle.std.specs.Option.{option_copied, option_map};
 ghost use Rattle.flute_parts.specs.Information.{info_fault};
-ghost use Rattle.flute_wire.specs.Extensions.{fti_information, fdt_version, fdt_instance, content_encoding};
+ghost use Rattle.flute_wire.specs.Extensions.{fti_information, fdt_version, fdt_instance};
+ghost use Rattle.flute_wire.specs.Extensions.{content_encoding};
 ghost use Rattle.flute_wire.specs.Content.{Content};
 ghost use Rattle.flute_wire.specs.Datagram.{Spells, tail_symbol};
 ghost use Rattle.flute_wire.specs.Refusals.{Refuses};

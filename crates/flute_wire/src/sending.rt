@@ -1,6 +1,7 @@
 //! `carousel`: the datagrams of a whole object.
 
-ghost use Rattle.std.specs.Prelude.{◌≡◌, ◌*◌, ◌≤◌, length, take, drop, flat_map, slice_get, Some, None, IfOk, IfErr, OnOk, IfSome, Err};
+ghost use Rattle.std.specs.Prelude.{◌≡◌, ◌*◌, ◌≤◌, length, take, drop, flat_map};
+ghost use Rattle.std.specs.Prelude.{slice_get, Some, None, IfOk, IfErr, OnOk, IfSome, Err};
 ghost use Rattle.std.specs.List.{AllZip};
 ghost use Rattle.std.specs.Option.{option_map};
 ghost use Rattle.flute_parts.specs.Information.{IsValid};

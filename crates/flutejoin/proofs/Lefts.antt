@@ -17,7 +17,8 @@ use Rattle.flute_journal.specs.declared.choice.selection.Selection.{Selection}
 use Rattle.flutejoin.specs.Laws.{Leaves}
 use Rattle.flutejoin.specs.declared.forget.ForgetCounts.{ForgetCounts}
 use Rattle.flutejoin.specs.declared.limits.TheConstants.{MAX_ENTRIES}
-use Rattle.flutejoin.proofs.join_lemmas.Receptions.{IsJournal-from_within, Journal-only, Same-from_journals}
+use Rattle.flutejoin.proofs.join_lemmas.Receptions.{IsJournal-from_within, Journal-only}
+use Rattle.flutejoin.proofs.join_lemmas.Receptions.{Same-from_journals}
 
 rising_after : (p : Fact → Bool) (a : Address) (facts : List Fact) → StandAfter a facts
     → StandAfter a (filter p facts)

@@ -18,7 +18,10 @@ use Rattle.flutejoin.specs.Load.{LoadFails}
 use Rattle.flutejoin.specs.Limits.{Limits, IsOver}
 use Rattle.flutejoin.specs.declared.limits.TheConstants.{MAX_ENTRIES}
 use Rattle.flutejoin.specs.declared.command_fault.CommandFault.{CommandFault}
-use Rattle.flutejoin.specs.declared.command_fault.CommandFault.TheVariants.{Input, Full, NoObject, NoInformation, ConflictingInformation, NotWhole, CannotWrite}
+use Rattle.flutejoin.specs.declared.command_fault.CommandFault.TheVariants.{Input, Full, NoObject}
+use Rattle.flutejoin.specs.declared.command_fault.CommandFault.TheVariants.{NoInformation}
+use Rattle.flutejoin.specs.declared.command_fault.CommandFault.TheVariants.{ConflictingInformation}
+use Rattle.flutejoin.specs.declared.command_fault.CommandFault.TheVariants.{NotWhole, CannotWrite}
 
 -- the input is a journal of entries within the limits, and was read to its end; of its entries P
 -- holds

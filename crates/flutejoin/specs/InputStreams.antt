@@ -10,7 +10,8 @@ use Rattle.flute_journal.specs.OwnedStreams.{owned_behaviour}
 use Rattle.flute_journal.specs.Scopes.{of_scope}
 use Rattle.flute_journal.specs.Streams.{Behaviour}
 use Rattle.flutejoin.specs.declared.join.join_input.JoinInput.{JoinInput}
-use Rattle.flutejoin.specs.declared.join.join_input.JoinInput.TheVariants.{Journal, Datagrams, Unknown}
+use Rattle.flutejoin.specs.declared.join.join_input.JoinInput.TheVariants.{Journal, Datagrams}
+use Rattle.flutejoin.specs.declared.join.join_input.JoinInput.TheVariants.{Unknown}
 use Rattle.flutejoin.specs.declared.join.peeked_source.PeekedSource.{PeekedSource}
 use Rattle.flutejoin.specs.JoinInputs.{left}
 

@@ -3,7 +3,8 @@ use Rattle.std.specs.Prelude.{◌≡◌, ℕ, List, length, take, drop, slice_ge
 use Rattle.std.specs.Io.KnownBytes.{prepend_known}
 use Rattle.flute_journal.specs.Kinds.{HasKind, IsNeither}
 use Rattle.flutejoin.specs.declared.join.join_input.JoinInput.{JoinInput}
-use Rattle.flutejoin.specs.declared.join.join_input.JoinInput.TheVariants.{Journal, Datagrams, Unknown}
+use Rattle.flutejoin.specs.declared.join.join_input.JoinInput.TheVariants.{Journal, Datagrams}
+use Rattle.flutejoin.specs.declared.join.join_input.JoinInput.TheVariants.{Unknown}
 use Rattle.flutejoin.specs.declared.join.peeked_source.PeekedSource.{PeekedSource}
 use Rattle.flute_journal.specs.declared.kind.Kind.TheVariants as kinds
 

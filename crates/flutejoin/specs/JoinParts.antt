@@ -30,7 +30,8 @@ use Rattle.flute_journal.specs.Eithers.{either_behaviour}
 use Rattle.flute_journal.specs.declared.streams.either.Either.{Either}
 use Rattle.flute_journal.specs.declared.merge.all_streams.MergedJournal.{MergedJournal}
 use Rattle.flutejoin.specs.declared.join.join_input.JoinInput.{JoinInput}
-use Rattle.flutejoin.specs.declared.join.join_input.JoinInput.TheVariants.{Journal, Datagrams, Unknown}
+use Rattle.flutejoin.specs.declared.join.join_input.JoinInput.TheVariants.{Journal, Datagrams}
+use Rattle.flutejoin.specs.declared.join.join_input.JoinInput.TheVariants.{Unknown}
 use Rattle.flute_journal.specs.declared.kind.Kind.TheVariants as kinds
 use Rattle.flutejoin.specs.Joined.{InputContent, Choice, facts_by, content_facts, content_datagrams}
 use Rattle.flutejoin.specs.Joined.{is_of_others, content_others, TellAll}

@@ -5,7 +5,8 @@ use Rattle.flute_journal.specs.Whole.{StopsAfter}
 use Rattle.flutejoin.specs.Limits.{Limits, BeginsOverLimits, IsOver}
 use Rattle.flutejoin.specs.declared.limits.TheConstants.{MAX_ENTRIES}
 use Rattle.flutejoin.specs.declared.command_fault.CommandFault.{CommandFault}
-use Rattle.flutejoin.specs.declared.command_fault.CommandFault.TheVariants.{Input, Full, OutOfMemory}
+use Rattle.flutejoin.specs.declared.command_fault.CommandFault.TheVariants.{Input, Full}
+use Rattle.flutejoin.specs.declared.command_fault.CommandFault.TheVariants.{OutOfMemory}
 
 -- the input with this number has this fault after entries within the limits, or begins with
 -- entries beyond them; memory may run out at any entry

@@ -14,7 +14,9 @@ use Rattle.flute_store.specs.declared.gap.Reason.{Reason}
 use Rattle.flute_store.specs.declared.gap.Reason.TheVariants.{Missing, Conflicting, Misfit}
 use Rattle.flute_store.specs.declared.gap.Gap.{Gap}
 use Rattle.flute_store.specs.declared.status.Status.{Status}
-use Rattle.flute_store.specs.declared.status.Status.TheVariants.{NoInformation, ConflictingInformation, Partial, Whole}
+use Rattle.flute_store.specs.declared.status.Status.TheVariants.{NoInformation}
+use Rattle.flute_store.specs.declared.status.Status.TheVariants.{ConflictingInformation, Partial}
+use Rattle.flute_store.specs.declared.status.Status.TheVariants.{Whole}
 use Rattle.flute_store.specs.Objects.{wants, gaps}
 use Rattle.flute_store.specs.Status.{how_many}
 use Rattle.flute_store.specs.Held.{HoldsObject}

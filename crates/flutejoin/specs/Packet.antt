@@ -8,7 +8,9 @@ use Rattle.flute_wire.specs.Datagram.{Spells}
 use Rattle.flute_wire.specs.Refusals.{Refuses}
 use Rattle.flutejoin.specs.Lines.{packet_lines}
 use Rattle.flutejoin.specs.declared.command_fault.CommandFault.{CommandFault}
-use Rattle.flutejoin.specs.declared.command_fault.CommandFault.TheVariants.{BadHex, Refused, OutOfMemory, CannotWrite}
+use Rattle.flutejoin.specs.declared.command_fault.CommandFault.TheVariants.{BadHex, Refused}
+use Rattle.flutejoin.specs.declared.command_fault.CommandFault.TheVariants.{OutOfMemory}
+use Rattle.flutejoin.specs.declared.command_fault.CommandFault.TheVariants.{CannotWrite}
 
 -- the text is these bytes in hexadecimal
 abbrev pub IsHexOf : List ℕ → List ℕ → Type 0

@@ -4,8 +4,10 @@ use Rattle.flute_parts.specs.declared.symbol_id.SymbolId.{SymbolId}
 use Rattle.flute_wire.specs.Content.{Content}
 use Rattle.flute_wire.specs.Facts.{object_named}
 use Rattle.flute_parts.specs.declared.fact.Fact.{Fact}
-use Rattle.flute_parts.specs.declared.fact.Fact.TheVariants.{Info, InfoConflict, Symbol, SymbolConflict}
-use Rattle.flutejoin.specs.Lines.{object_words, info_or_none, key_words, information_words, id_words, symbol_words}
+use Rattle.flute_parts.specs.declared.fact.Fact.TheVariants.{Info, InfoConflict, Symbol}
+use Rattle.flute_parts.specs.declared.fact.Fact.TheVariants.{SymbolConflict}
+use Rattle.flutejoin.specs.Lines.{object_words, info_or_none, key_words, information_words}
+use Rattle.flutejoin.specs.Lines.{id_words, symbol_words}
 
 abbrev pub symbol_head : Option (SymbolId × List ℕ) → List ℕ
 symbol_head None = codes "symbol none"

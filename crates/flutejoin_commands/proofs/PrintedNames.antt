@@ -26,7 +26,8 @@ both P Q (Err e) p q = (p, q)
 
 -- a fault that depends on what a folder is
 pub of_place : {S : Type 0} (P : S → CommandFault → Type 0) (after : S)
-    (r : Result (Unit {0}) CommandFault) → IfErr r (P after) → IfErr r (λ fault. (a : S) × P a fault)
+    (r : Result (Unit {0}) CommandFault) → IfErr r (P after)
+    → IfErr r (λ fault. (a : S) × P a fault)
 of_place P after (Ok u) p = tt
 of_place P after (Err e) p = (after, p)
 

@@ -2,9 +2,11 @@
 use Rattle.std.specs.Prelude.{◌≡◌, ◌⊎◌, ◌+◌, ◌<◌, ℕ, List, Option, Some, None, option_map, ⊤}
 use Rattle.std.specs.Io.KnownBytes.{Appends}
 use Rattle.flute_parts.specs.Devices.{AppendsPart}
-use Rattle.flute_output.specs.Entries.{Entries, Leads, OutStays, IsEitherAlways, OutBecomes, OutIsAsFound, Lasts, created, whole, taken}
+use Rattle.flute_output.specs.Entries.{Entries, Leads, OutStays, IsEitherAlways, OutBecomes}
+use Rattle.flute_output.specs.Entries.{OutIsAsFound, Lasts, created, whole, taken}
 use Rattle.flutejoin.specs.declared.command_fault.CommandFault.{CommandFault}
-use Rattle.flutejoin.specs.declared.command_fault.CommandFault.TheVariants.{CannotCreate, CannotWrite, NotOnDisk}
+use Rattle.flutejoin.specs.declared.command_fault.CommandFault.TheVariants.{CannotCreate}
+use Rattle.flutejoin.specs.declared.command_fault.CommandFault.TheVariants.{CannotWrite, NotOnDisk}
 
 -- the devices of a command at one moment: the folder of its output and its report, as far as they
 -- are known, and how often each has failed

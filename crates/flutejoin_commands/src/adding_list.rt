@@ -4,7 +4,8 @@ ghost use Rattle.flutejoin.specs.InfoLists.{AddsList, AddListFails};
 ghost use Rattle.flutejoin.specs.Limits.{limits_of};
 ghost use Rattle.flutejoin.specs.Lines.{entries_line};
 ghost use Rattle.flutejoin.specs.declared.command_fault.CommandFault.TheVariants.{CannotWrite};
-ghost use Rattle.flutejoin_commands.specs.Commands.{Succeeds, Fails, CouldBeDone, IsWholeAlways, devices, with_beside};
+ghost use Rattle.flutejoin_commands.specs.Commands.{Succeeds, Fails, CouldBeDone, IsWholeAlways};
+ghost use Rattle.flutejoin_commands.specs.Commands.{devices, with_beside};
 ghost use Rattle.flutejoin_commands.specs.Works.{AddListReadFails, AddsListRead};
 
 use crate::nothing::{Nothing, fault_or};

@@ -1,7 +1,8 @@
 //! The command `extract`.
 ghost use Rattle.std.specs.Prelude.{OnOk, IfErr};
 ghost use Rattle.flutejoin.specs.Limits.{limits_of};
-ghost use Rattle.flutejoin_commands.specs.Commands.{Succeeds, Fails, CouldBeDone, IsWholeAlways, devices, with_beside};
+ghost use Rattle.flutejoin_commands.specs.Commands.{Succeeds, Fails, CouldBeDone, IsWholeAlways};
+ghost use Rattle.flutejoin_commands.specs.Commands.{devices, with_beside};
 ghost use Rattle.flutejoin_commands.specs.Works.{WritesObject, ExtractFails, bytes_line};
 
 use crate::nothing::{Nothing, fault_or};

@@ -1,5 +1,6 @@
 //! The command `extract --all`.
-ghost use Rattle.std.specs.Prelude.{◌≡◌, ◌+◌, ◌≤◌, ◌⊎◌, ℕ, List, Option, IfOk, IfErr, IfSome, OnOk, Err, codes};
+ghost use Rattle.std.specs.Prelude.{◌≡◌, ◌+◌, ◌≤◌, ◌⊎◌, ℕ, List, Option};
+ghost use Rattle.std.specs.Prelude.{IfOk, IfErr, IfSome, OnOk, Err, codes};
 ghost use Rattle.std.specs.Io.KnownBytes.{Appends};
 ghost use Rattle.flute_output.specs.NewFolders.{Places, LeadsTo, IsMade, FolderStays, IsReady};
 ghost use Rattle.flutejoin.specs.declared.command_fault.CommandFault.TheVariants.{CannotWrite};

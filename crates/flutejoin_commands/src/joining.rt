@@ -6,7 +6,8 @@ ghost use Rattle.flutejoin.specs.Joined.{choice_of};
 ghost use Rattle.flutejoin.specs.Joining.{JoinsTo};
 ghost use Rattle.flutejoin.specs.Limits.{limits_of};
 ghost use Rattle.flutejoin.specs.declared.command_fault.CommandFault.TheVariants.{CannotWrite};
-ghost use Rattle.flutejoin_commands.specs.Commands.{Succeeds, Fails, CouldBeDone, IsWholeAlways, devices, with_beside};
+ghost use Rattle.flutejoin_commands.specs.Commands.{Succeeds, Fails, CouldBeDone, IsWholeAlways};
+ghost use Rattle.flutejoin_commands.specs.Commands.{devices, with_beside};
 ghost use Rattle.flutejoin_commands.specs.Works.{JoinsAll, JoinAllFails, join_lines};
 
 use crate::nothing::{Nothing, fault_or};

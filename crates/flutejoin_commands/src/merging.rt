@@ -1,7 +1,8 @@
 //! The command `merge`.
 ghost use Rattle.std.specs.Prelude.{OnOk, IfErr, ⊤};
 ghost use Rattle.flutejoin.specs.Lines.{entries_line};
-ghost use Rattle.flutejoin_commands.specs.Commands.{Succeeds, Fails, IsWholeAlways, devices, with_beside};
+ghost use Rattle.flutejoin_commands.specs.Commands.{Succeeds, Fails, IsWholeAlways, devices};
+ghost use Rattle.flutejoin_commands.specs.Commands.{with_beside};
 ghost use Rattle.flutejoin_commands.specs.Works.{MergeReadFails, MergesRead};
 
 use crate::output_command::write_into;

@@ -1,7 +1,8 @@
 //! A command that writes an output.
 ghost use Rattle.std.specs.Prelude.{◌≡◌, option_map, OnOk, IfErr};
 ghost use Rattle.flute_output.specs.Entries.{found_in, named_in};
-ghost use Rattle.flutejoin_commands.specs.Commands.{Succeeds, Fails, FailsWriting, IsWholeAlways, WasWholeAlways, devices, with_beside};
+ghost use Rattle.flutejoin_commands.specs.Commands.{Succeeds, Fails, FailsWriting, IsWholeAlways};
+ghost use Rattle.flutejoin_commands.specs.Commands.{WasWholeAlways, devices, with_beside};
 
 use crate::begun_output::{Begun, BegunOutput};
 use crate::work::Work;

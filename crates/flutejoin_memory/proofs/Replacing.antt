@@ -1,5 +1,6 @@
 -- MemoryWorld: what a closed output makes of the files of the names.
-use Rattle.std.proofs.Common.{◌≡◌, ◌≢◌, ℕ, List, ◌∷◌, ◌++◌, codes, length, true, false, if◌then◌else◌}
+use Rattle.std.proofs.Common.{◌≡◌, ◌≢◌, ℕ, List, ◌∷◌, ◌++◌, codes, length}
+use Rattle.std.proofs.Common.{true, false, if◌then◌else◌}
 use Rattle.std.proofs.Common.{option_map, refl, sym, ap, subst, arith, length-append, ◌∙◌}
 use Rattle.std.proofs.lemmas.Bool.{false_from_ne_true}
 use Rattle.std.proofs.lemmas.Slice.Eq.{bytes_eq-Decides}

@@ -1,5 +1,6 @@
 //! What became of the files of names, as outputs were closed.
-ghost use Rattle.std.specs.Prelude.{◌≡◌, ◌++◌, string_bytes, List, [], ◌∷◌, IfOk, MatchOption, map, option_map};
+ghost use Rattle.std.specs.Prelude.{◌≡◌, ◌++◌, string_bytes, List, [], ◌∷◌, IfOk};
+ghost use Rattle.std.specs.Prelude.{MatchOption, map, option_map};
 ghost use Rattle.std.specs.Option.{ForSome};
 ghost use Rattle.flute_output_memory.specs.Memory.{memory_entries};
 ghost use Rattle.flutejoin_commands.specs.Closings.{closing};

@@ -33,8 +33,8 @@ use Rattle.flutejoin_replicas.proofs.Places.{EachSame-itself, EachSame-sym, Each
 use Rattle.flutejoin_replicas.proofs.Places.{EachBelow-itself, EachBelow-trans, EachBelow-from_same}
 use Rattle.flutejoin_replicas.proofs.Places.{EachSame-set, given_to-each_below}
 use Rattle.flutejoin.proofs.Public.{slice_get-set_other, slice_get-set_same, some_same}
-use Rattle.flutejoin_replicas.proofs.RunSteps.{held_after-same, one_more-min, count_by-more}
-use Rattle.flutejoin_replicas.proofs.RunSteps.{NeedsNothing-below}
+use Rattle.flutejoin_replicas.proofs.RunSteps.{EachOf, each_more, held_after-same, one_more-min}
+use Rattle.flutejoin_replicas.proofs.RunSteps.{count_by-more, NeedsNothing-below}
 use Rattle.flutejoin_replicas.proofs.Outcomes.{held_after-above}
 use Rattle.flutejoin_replicas.proofs.KnownSteps.{known_after-agree, known_after-marked}
 use Rattle.flutejoin_replicas.proofs.KnownSteps.{known_after-next, known_after-none}
@@ -75,14 +75,12 @@ refused_needs_nothing r held (Reopen replica) within h = cc
 
 -- the marked ones of the first k steps name replicas and load journals
 abbrev AreNamed : Held → List Step → List Bool → ℕ → Type 0
-AreNamed before steps done k = (j : ℕ) (step : Step) → j < k → slice_get steps j ≡ Some step
-    → slice_get done j ≡ Some true
-    → NamesReplicas (length before.contents) step × LoadsJournal MAX_ENTRIES step
+AreNamed before steps done = EachOf (λ j step. slice_get done j ≡ Some true
+    → NamesReplicas (length before.contents) step × LoadsJournal MAX_ENTRIES step) steps
 
 -- those of the first k steps of which P holds are marked
 abbrev AreMarked : (ℕ → Step → Type 0) → List Step → List Bool → ℕ → Type 0
-AreMarked P steps done k = (j : ℕ) (step : Step) → j < k → slice_get steps j ≡ Some step
-    → P j step → slice_get done j ≡ Some true
+AreMarked P steps done = EachOf (λ j step. P j step → slice_get done j ≡ Some true) steps
 
 -- a step needs nothing by what the done ones gave before it
 abbrev NeedsNothingSince : Held → List Step → List Bool → (ℕ → List Fact) → ℕ → Step → Type 0
@@ -153,41 +151,25 @@ named_more : {before mid : Held} {steps : List Step} {done : List Bool} {k : ℕ
     (b : Bool) → DriveSoFar before steps done k mid → IsNext steps done k step
     → (b ≡ true → NamesReplicas (length before.contents) step × LoadsJournal MAX_ENTRIES step)
     → AreNamed before steps (set done k b) (k + 1)
-named_more {before = before} {steps = steps} {done = done} {k = k} {step = step} b so_far next here
-    j s below e marked =
-    elim (cases_lt j k) [
-      | inl low ↦
-          so_far.named j s low e
-          (sym (slice_get-set_other done k j b (λ d. absurd (omega arith))) ∙ marked)
-      | inr high ↦
-          let same : j ≡ k = omega arith in
-          let Q : ℕ → Type 0 = λ i. slice_get steps i ≡ Some s in
-          let R : ℕ → Type 0 = λ i. slice_get (set done k b) i ≡ Some true in
-          let P : Step → Type 0 = λ t.
-          NamesReplicas (length before.contents) t × LoadsJournal MAX_ENTRIES t in
-          let on : Some b ≡ Some true =
-          sym (slice_get-set_same done k b next.within) ∙ subst R same marked in
-          subst P (some_same (slice_get steps k) step s next.is (subst Q same e)) (here (cc))
-    ]
+named_more {before = before} {steps = steps} {done = done} {k = k} b so_far next here =
+    each_more (λ j s. slice_get (set done k b) j ≡ Some true
+    → NamesReplicas (length before.contents) s × LoadsJournal MAX_ENTRIES s) steps k next.is
+    (λ marked.
+    let on : Some b ≡ Some true =
+    sym (slice_get-set_same done k b next.within) ∙ marked in here (cc))
+    (λ j s below e marked.
+    so_far.named j s below e
+    (sym (slice_get-set_other done k j b (λ d. absurd (omega arith))) ∙ marked))
 
 -- what is marked wherever P holds so far is so one step further
 marked_more : (P : ℕ → Step → Type 0) {steps : List Step} {done : List Bool} {k : ℕ} {step : Step}
     (b : Bool) → IsNext steps done k step → (P k step → b ≡ true) → AreMarked P steps done k
     → AreMarked P steps (set done k b) (k + 1)
-marked_more P {steps = steps} {done = done} {k = k} {step = step} b next here so_far j s below e
-    holds =
-    elim (cases_lt j k) [
-      | inl low ↦
-          slice_get-set_other done k j b (λ d. absurd (omega arith)) ∙ so_far j s low e holds
-      | inr high ↦
-          let same : j ≡ k = omega arith in
-          let Q : ℕ → Type 0 = λ i. slice_get steps i ≡ Some s in
-          let R : ℕ → Type 0 = λ i. slice_get (set done k b) i ≡ Some true in
-          let S : ℕ → Type 0 = λ i. P i s in
-          let is : step ≡ s = some_same (slice_get steps k) step s next.is (subst Q same e) in
-          let on : b ≡ true = here (subst (P k) (sym is) (subst S same holds)) in
-          subst R (sym same) (slice_get-set_same done k b next.within ∙ ap Some on)
-    ]
+marked_more P {steps = steps} {done = done} {k = k} b next here so_far =
+    each_more (λ j s. P j s → slice_get (set done k b) j ≡ Some true) steps k next.is
+    (λ holds. slice_get-set_same done k b next.within ∙ ap Some (here holds))
+    (λ j s below e holds.
+    slice_get-set_other done k j b (λ d. absurd (omega arith)) ∙ so_far j s below e holds)
 
 -- a mark that is set changes nothing of what was given before its step
 known_after-before : (held : List (List Fact)) (steps : List Step) (done : List Bool)

@@ -47,7 +47,7 @@ held_after-same A B (Merge into from) origin h =
 held_after-same A B (Reopen replica) origin h = h
 
 -- what holds of the first k steps
-abbrev EachOf : (ℕ → Step → Type 0) → List Step → ℕ → Type 0
+abbrev pub EachOf : (ℕ → Step → Type 0) → List Step → ℕ → Type 0
 EachOf P steps k = (j : ℕ) (step : Step) → j < k → slice_get steps j ≡ Some step → P j step
 
 -- the step has no cause for a fault but want of memory, by what was given before it
@@ -117,7 +117,7 @@ run_start limit count steps =
     zeros (suc count) (suc r) = zeros count r
 
 -- what holds of each step so far holds of one more
-each_more : (P : ℕ → Step → Type 0) (steps : List Step) (k : ℕ) {step : Step}
+pub each_more : (P : ℕ → Step → Type 0) (steps : List Step) (k : ℕ) {step : Step}
     → slice_get steps k ≡ Some step → P k step → EachOf P steps k → EachOf P steps (k + 1)
 each_more P steps k {step = step} is here before j s within e =
     elim (cases_lt j k) [

@@ -18,11 +18,13 @@ use Rattle.flutejoin.proofs.Public.{HasOneReading, is_packet, IsPacket, refused_
 
 pub full_is_packet : (d : List ℕ) (result : Result Taken TakeFault) → HasOneReading d
     → TellsRefusals d result → result ≡ Err Full → IsPacket d
-full_is_packet d result one tells is = is_packet d one (λ r refuses. let e = (tells r).1 refuses in cc)
+full_is_packet d result one tells is =
+    is_packet d one (λ r refuses. let e = (tells r).1 refuses in cc)
 
 pub memory_is_packet : (d : List ℕ) (result : Result Taken TakeFault) → HasOneReading d
     → TellsRefusals d result → result ≡ Err OutOfMemory → IsPacket d
-memory_is_packet d result one tells is = is_packet d one (λ r refuses. let e = (tells r).1 refuses in cc)
+memory_is_packet d result one tells is =
+    is_packet d one (λ r refuses. let e = (tells r).1 refuses in cc)
 
 -- a store that took the datagram is within its limits
 pub ok_within : (sender : ℕ) {s o y : ℕ} (old : List Fact) {new : List Fact} (d : List ℕ)
@@ -45,12 +47,14 @@ refused_within sender {s = s} {o = o} {y = y} {old = old} {new = new} d {r = r} 
 
 -- a packet whose facts are all at held addresses is taken
 abbrev pub TakesHeld : ℕ → List Fact → List ℕ → Result Taken TakeFault → Type 0
-TakesHeld sender old d result = (p : Content) → Spells d p → AllByRecursion (HasCell old) (facts sender d) → IsOk result
+TakesHeld sender old d result =
+    (p : Content) → Spells d p → AllByRecursion (HasCell old) (facts sender d) → IsOk result
 
 pub not_held : (sender : ℕ) (old : List Fact) (d : List ℕ) (result : Result Taken TakeFault)
     (f : TakeFault) → IsPacket d → TakesHeld sender old d result → result ≡ Err f
     → ¬ AllByRecursion (HasCell old) (facts sender d)
 not_held sender old d result f spelled held is cells =
     let P : Result Taken TakeFault → Type 0 = λ r. IsOk r in
-    let e : IsOk {T = Taken} {E = TakeFault} (Err f) = subst P is (held spelled.0 spelled.1 cells) in
+    let e : IsOk {T = Taken} {E = TakeFault} (Err f) =
+    subst P is (held spelled.0 spelled.1 cells) in
     cc

@@ -38,127 +38,200 @@ use Rattle.flute_journal.proofs.format_lemmas.Parts.{info_spelled, length_none, 
 use Rattle.flute_journal.proofs.format_lemmas.Parts.{symbol_comes}
 
 pub joined : (bs a b : List ℕ) (n : ℕ) → IsSplitAt bs n a b → bs ≡ a ++ b
-joined bs a b n s = sym (take-append-drop n bs) ∙ ap (λ (x : List ℕ). x ++ drop n bs) (sym s.1) ∙ ap (λ (x : List ℕ). a ++ x) (sym s.2)
+joined bs a b n s =
+    sym (take-append-drop n bs) ∙ ap (λ (x : List ℕ). x ++ drop n bs) (sym s.1)
+    ∙ ap (λ (x : List ℕ). a ++ x) (sym s.2)
 
-pub front_octets : (bs a b : List ℕ) (n : ℕ) → IsSplitAt bs n a b → AllByRecursion IsByte bs → AllByRecursion IsByte a
+pub front_octets : (bs a b : List ℕ) (n : ℕ) → IsSplitAt bs n a b → AllByRecursion IsByte bs
+    → AllByRecursion IsByte a
 front_octets bs a b n s h = subst (AllByRecursion IsByte) (sym s.1) (octets-take n bs h)
 
-pub opening_version : (m : List ℕ) (is_known : List ℕ → Bool) (bs a b : List ℕ) → length bs ≤ 6 → IsSplitAt bs 4 a b → bytes_eq a m ≡ true → 2 ≤ length b → is_known b ≡ false
+pub opening_version : (m : List ℕ) (is_known : List ℕ → Bool) (bs a b : List ℕ)
+    → length bs ≤ 6 → IsSplitAt bs 4 a b → bytes_eq a m ≡ true → 2 ≤ length b
+    → is_known b ≡ false
     → StopsReading 6 (version_fault m is_known) bs faults.Version
 opening_version m is_known bs a b most s e some wrong =
     stops_here 6 (version_fault m is_known) bs faults.Version (λ h. cc) tt
-    (λ r. ap (λ (x : List ℕ). version_fault m is_known (x ++ r)) (joined bs a b 4 s) ∙ version_wrong m is_known a b r s.3 (omega (arith, most, some, s.4)) e wrong)
+    (λ r. ap (λ (x : List ℕ). version_fault m is_known (x ++ r)) (joined bs a b 4 s)
+    ∙ version_wrong m is_known a b r s.3 (omega (arith, most, some, s.4)) e wrong)
 
-header_read : (bs a b : List ℕ) (v : Version) → IsSplitAt bs 4 a b → bytes_eq a magic ≡ true → b ≡ version_bytes v → header_in v ≡ bs
-header_read bs a b v s e is = sym (joined bs a b 4 s ∙ ap (λ (x : List ℕ). x ++ b) ((bytes_eq-Decides a magic).0 e) ∙ ap (λ (x : List ℕ). magic ++ x) is)
+header_read : (bs a b : List ℕ) (v : Version) → IsSplitAt bs 4 a b → bytes_eq a magic ≡ true
+    → b ≡ version_bytes v → header_in v ≡ bs
+header_read bs a b v s e is =
+    sym (joined bs a b 4 s ∙ ap (λ (x : List ℕ). x ++ b) ((bytes_eq-Decides a magic).0 e)
+    ∙ ap (λ (x : List ℕ). magic ++ x) is)
 
 -- a header with the magic number, by what its version is
-pub header_parsed : (bs a b : List ℕ) (o : Option Version) (r : Result Version ReadFault) → r ≡ ok_or o faults.Version → length bs ≤ 6 → IsSplitAt bs 4 a b → bytes_eq a magic ≡ true → 2 ≤ length b
-    → MatchOption o (is_version b ≡ false) (λ (v : Version). b ≡ version_bytes v) → Parses 6 (λ (v : Version). header_in v ≡ bs) header_fault bs r
+pub header_parsed : (bs a b : List ℕ) (o : Option Version) (r : Result Version ReadFault)
+    → r ≡ ok_or o faults.Version → length bs ≤ 6 → IsSplitAt bs 4 a b
+    → bytes_eq a magic ≡ true → 2 ≤ length b
+    → MatchOption o (is_version b ≡ false) (λ (v : Version). b ≡ version_bytes v)
+    → Parses 6 (λ (v : Version). header_in v ≡ bs) header_fault bs r
 header_parsed bs a b None r is most s e some wrong =
-    subst (Parses 6 (λ (v : Version). header_in v ≡ bs) header_fault bs) (sym is) (opening_version magic is_version bs a b most s e some wrong)
+    subst (Parses 6 (λ (v : Version). header_in v ≡ bs) header_fault bs) (sym is)
+    (opening_version magic is_version bs a b most s e some wrong)
 header_parsed bs a b (Some v) r is most s e some h =
-    subst (Parses 6 (λ (v : Version). header_in v ≡ bs) header_fault bs) (sym is) (header_read bs a b v s e h)
+    subst (Parses 6 (λ (v : Version). header_in v ≡ bs) header_fault bs) (sym is)
+    (header_read bs a b v s e h)
 
-pub opening_read : (o bs a b : List ℕ) → length o ≡ 6 → length bs ≤ 6 → IsSplitAt bs 4 a b → bytes_eq a (take 4 o) ≡ true → 2 ≤ length b → bytes_eq b (take 2 (drop 4 o)) ≡ true → bs ≡ o
+pub opening_read : (o bs a b : List ℕ) → length o ≡ 6 → length bs ≤ 6
+    → IsSplitAt bs 4 a b → bytes_eq a (take 4 o) ≡ true → 2 ≤ length b
+    → bytes_eq b (take 2 (drop 4 o)) ≡ true → bs ≡ o
 opening_read o bs a b len most s e some e' =
     let front : a ≡ take 4 o = (bytes_eq-Decides a (take 4 o)).0 e in
     let back : b ≡ take 2 (drop 4 o) = (bytes_eq-Decides b (take 2 (drop 4 o))).0 e' in
     joined bs a b 4 s
     ∙ ap (λ (x : List ℕ). x ++ b) front
-    ∙ ap (λ (x : List ℕ). take 4 o ++ x) (back ∙ take_all 2 (drop 4 o) (omega (arith, len, length-drop 4 o)))
+    ∙ ap (λ (x : List ℕ). take 4 o ++ x)
+    (back ∙ take_all 2 (drop 4 o) (omega (arith, len, length-drop 4 o)))
     ∙ take-append-drop 4 o
 
 -- the number at the end was read, and no bytes follow it
-pub end_read : (bs a b : List ℕ) (n count : ℕ) → IsSplitAt bs 8 a b → AllByRecursion IsByte bs → length b ≡ 0 → n ≡ big_endian a → n ≡ count → bs ≡ in_bytes 8 count
-end_read bs a b n count s h none is or_failed = cc (joined bs a b 8 s, nil_from_length b none, append-nil a, spelled 8 a s.3 (front_octets bs a b 8 s h), is, or_failed)
+pub end_read : (bs a b : List ℕ) (n count : ℕ) → IsSplitAt bs 8 a b
+    → AllByRecursion IsByte bs → length b ≡ 0 → n ≡ big_endian a → n ≡ count
+    → bs ≡ in_bytes 8 count
+end_read bs a b n count s h none is or_failed =
+    cc (
+      joined bs a b 8 s,
+      nil_from_length b none,
+      append-nil a,
+      spelled 8 a s.3 (front_octets bs a b 8 s h),
+      is,
+      or_failed,
+    )
 
-pub id_read : (bs a b : List ℕ) (m n : ℕ) → IsSplitAt bs 4 a b → AllByRecursion IsByte bs → m ≡ big_endian (take 2 a) → n ≡ big_endian (take (length a - 2) (drop 2 a))
+pub id_read : (bs a b : List ℕ) (m n : ℕ) → IsSplitAt bs 4 a b → AllByRecursion IsByte bs
+    → m ≡ big_endian (take 2 a) → n ≡ big_endian (take (length a - 2) (drop 2 a))
     → bs ≡ (in_bytes 2 m ++ in_bytes 2 n) ++ b
-id_read bs a b m n s h first second = grind (arith, take_all, length-drop, spelled_pair, front_octets, joined)
+id_read bs a b m n s h first second =
+    grind (arith, take_all, length-drop, spelled_pair, front_octets, joined)
 
-pub length_empty : (bs : List ℕ) (n : ℕ) → length bs ≡ 2 → n ≡ big_endian bs → n ≡ 0 → StopsReading 2 bytes_fault bs faults.EmptySymbol
-length_empty bs n len is none = stops_here 2 bytes_fault bs faults.EmptySymbol (λ h. cc) tt (λ r. length_none bs r len (sym is ∙ none))
+pub length_empty : (bs : List ℕ) (n : ℕ) → length bs ≡ 2 → n ≡ big_endian bs → n ≡ 0
+    → StopsReading 2 bytes_fault bs faults.EmptySymbol
+length_empty bs n len is none =
+    stops_here 2 bytes_fault bs faults.EmptySymbol (λ h. cc) tt
+    (λ r. length_none bs r len (sym is ∙ none))
 
-pub length_read : (bs : List ℕ) (n : ℕ) → length bs ≡ 2 → AllByRecursion IsByte bs → n ≡ big_endian bs → in_bytes 2 n ≡ bs
+pub length_read : (bs : List ℕ) (n : ℕ) → length bs ≡ 2 → AllByRecursion IsByte bs
+    → n ≡ big_endian bs → in_bytes 2 n ≡ bs
 length_read bs n len h is = ap (in_bytes 2) is ∙ spelled 2 bs len h
 
-pub info_read : (info : Information) (bs : List ℕ) → length bs ≡ 12 → AllByRecursion IsByte bs → info ≡ info_in bs → info_bytes info ≡ bs
+pub info_read : (info : Information) (bs : List ℕ) → length bs ≡ 12
+    → AllByRecursion IsByte bs → info ≡ info_in bs → info_bytes info ≡ bs
 info_read info bs len h is = ap info_bytes is ∙ info_spelled bs len h
 
 -- the bytes of a sender
 
-pub sender_none : (v : Version) (bs : List ℕ) → v ≡ One → length bs ≡ sender_size v → 0 ≡ big_endian bs
+pub sender_none : (v : Version) (bs : List ℕ) → v ≡ One → length bs ≡ sender_size v
+    → 0 ≡ big_endian bs
 unfolding sender_size
-sender_none v bs e len = let none : length bs ≡ 0 = len ∙ ap sender_size e in sym (ap big_endian (nil_from_length bs none))
+sender_none v bs e len = let none : length bs ≡ 0 =
+    len ∙ ap sender_size e in sym (ap big_endian (nil_from_length bs none))
 
 pub sender_long : (v : Version) (bs : List ℕ) → v ≡ Two → length bs ≡ sender_size v → length bs ≡ 16
 unfolding sender_size
 sender_long v bs e len = len ∙ ap sender_size e
 
 -- a key is that of its sender and its name
-pub key_found : (v : Version) (n sender : ℕ) (bs front back : List ℕ) (r : Option Key) → n ≡ sender_size v → length bs ≡ key_size v → AllByRecursion IsByte bs → front ≡ take n bs → back ≡ drop n bs
-    → sender ≡ big_endian front → MatchOption r (is_name back ≡ false) (λ key. (is_name back ≡ true) × (key ≡ named_in sender back) × IsKey key)
-    → MatchOption r (is_key v bs ≡ false) (λ key. (is_key v bs ≡ true) × (key ≡ key_in v bs) × IsKeyIn v key)
-key_found v n sender bs front back None size len oct f b is h = ap is_name (ap (λ m. drop m bs) (sym size) ∙ sym b) ∙ h
+pub key_found : (v : Version) (n sender : ℕ) (bs front back : List ℕ) (r : Option Key)
+    → n ≡ sender_size v → length bs ≡ key_size v → AllByRecursion IsByte bs
+    → front ≡ take n bs → back ≡ drop n bs
+    → sender ≡ big_endian front
+    → MatchOption r (is_name back ≡ false)
+    (λ key. (is_name back ≡ true) × (key ≡ named_in sender back) × IsKey key)
+    → MatchOption r (is_key v bs ≡ false)
+    (λ key. (is_key v bs ≡ true) × (key ≡ key_in v bs) × IsKeyIn v key)
+key_found v n sender bs front back None size len oct f b is h =
+    ap is_name (ap (λ m. drop m bs) (sym size) ∙ sym b) ∙ h
 key_found v n sender bs front back (Some key) size len oct f b is h =
     let m = sender_size v in
     let f' : front ≡ take m bs = f ∙ ap (λ k. take k bs) size in
     let b' : back ≡ drop m bs = b ∙ ap (λ k. drop k bs) size in
     let long : length front ≡ m = ap length f' ∙ length-take-le m bs (omega (arith, len)) in
-    let small : big_endian front < 256 ^ length front = number-below front (subst (AllByRecursion IsByte) (sym f') (octets-take m bs oct)) in
+    let small : big_endian front < 256 ^ length front =
+    number-below front (subst (AllByRecursion IsByte) (sym f') (octets-take m bs oct)) in
     let or_failed : sender ≡ number_at 0 m bs = is ∙ ap big_endian f' in
-    let fits : sender < 256 ^ m = subst (λ k. k < 256 ^ m) (sym is) (subst (λ k. big_endian front < 256 ^ k) long small) in
-    (ap is_name (sym b') ∙ h.0, h.1 ∙ (λ i. named_in (or_failed i) (b' i)), (h.2, subst (λ (z : Key). HasRoom v z.session) (sym h.1) fits))
+    let fits : sender < 256 ^ m =
+    subst (λ k. k < 256 ^ m) (sym is) (subst (λ k. big_endian front < 256 ^ k) long small) in (
+      ap is_name (sym b') ∙ h.0,
+      h.1 ∙ (λ i. named_in (or_failed i) (b' i)),
+      (h.2, subst (λ (z : Key). HasRoom v z.session) (sym h.1) fits),
+    )
 
 -- an id that is not in order
-pub id_wrong : (last : Option Address) (key : Key) (id : SymbolId) (bs b : List ℕ) → IsId id → bs ≡ id_bytes id ++ b → is_after last (symbol_address key id) ≡ false
+pub id_wrong : (last : Option Address) (key : Key) (id : SymbolId) (bs b : List ℕ) → IsId id
+    → bs ≡ id_bytes id ++ b → is_after last (symbol_address key id) ≡ false
     → StopsReading 6 (rest_fault last kinds.Symbol key) bs faults.Order
 id_wrong last key id bs b p is wrong =
     let stop = λ (r : List ℕ).
-    id_comes last key id r (bytes_checks (drop 4 (id_bytes id ++ r))) p ∙ first-stop (in_order last (symbol_address key id)) (bytes_checks (drop 4 (id_bytes id ++ r))) (ap not wrong) in
+    id_comes last key id r (bytes_checks (drop 4 (id_bytes id ++ r))) p
+    ∙ first-stop (in_order last (symbol_address key id))
+    (bytes_checks (drop 4 (id_bytes id ++ r))) (ap not wrong) in
     stops_here 6 (rest_fault last kinds.Symbol key) bs faults.Order (λ h. cc) tt
-    (λ r. ap (λ (x : List ℕ). rest_fault last kinds.Symbol key (x ++ r)) is ∙ ap (rest_fault last kinds.Symbol key) (append_assoc (id_bytes id) b r) ∙ stop (b ++ r))
+    (λ r. ap (λ (x : List ℕ). rest_fault last kinds.Symbol key (x ++ r)) is
+    ∙ ap (rest_fault last kinds.Symbol key) (append_assoc (id_bytes id) b r)
+    ∙ stop (b ++ r))
 
 -- the bytes of a key that is none
-pub key_wrong : (v : Version) (k : Kind) (last : Option Address) (n : ℕ) (bs a b : List ℕ) → n ≡ key_size v → IsSplitAt bs n a b → is_key v a ≡ false
+pub key_wrong : (v : Version) (k : Kind) (last : Option Address) (n : ℕ) (bs a b : List ℕ)
+    → n ≡ key_size v → IsSplitAt bs n a b → is_key v a ≡ false
     → StopsReading (head_size v k) (body_fault v last k) bs faults.Key
 key_wrong v k last n bs a b size s wrong =
     let m = key_size v in
     let long : length a ≡ m = s.3 ∙ size in
     let stop = λ (r : List ℕ).
-    first-pass (cut m (a ++ r)) ((not (is_key v (take m (a ++ r))), faults.Key) ∷ rest_checks last (byte_of k) (key_in v (take m (a ++ r))) (drop m (a ++ r))) (cut-passes m a r (omega (arith, long)))
-    ∙ first-stop (not (is_key v (take m (a ++ r))), faults.Key) (rest_checks last (byte_of k) (key_in v (take m (a ++ r))) (drop m (a ++ r)))
+    first-pass (cut m (a ++ r)) ((not (is_key v (take m (a ++ r))), faults.Key)
+    ∷ rest_checks last (byte_of k) (key_in v (take m (a ++ r))) (drop m (a ++ r)))
+    (cut-passes m a r (omega (arith, long)))
+    ∙ first-stop (not (is_key v (take m (a ++ r))), faults.Key)
+    (rest_checks last (byte_of k) (key_in v (take m (a ++ r))) (drop m (a ++ r)))
     (ap (λ (x : List ℕ). not (is_key v x)) (take_at a r m long) ∙ ap not wrong) in
     stops_here (head_size v k) (body_fault v last k) bs faults.Key (λ h. cc) tt
-    (λ r. ap (λ (x : List ℕ). body_fault v last k (x ++ r)) (joined bs a b n s) ∙ ap (body_fault v last k) (append_assoc a b r) ∙ stop (b ++ r))
+    (λ r. ap (λ (x : List ℕ). body_fault v last k (x ++ r)) (joined bs a b n s)
+    ∙ ap (body_fault v last k) (append_assoc a b r) ∙ stop (b ++ r))
 
 -- parsing an entry's head: its key, and then what follows the key
-behind_key : (v : Version) (k : Kind) (last : Option Address) (key : Key) (bs b : List ℕ) (r : Result EntryHead ReadFault) → IsKeyIn v key → bs ≡ key_bytes v key ++ b
+behind_key : (v : Version) (k : Kind) (last : Option Address) (key : Key) (bs b : List ℕ)
+    (r : Result EntryHead ReadFault) → IsKeyIn v key → bs ≡ key_bytes v key ++ b
     → Parses (rest_size k) (RestIs last k key b) (rest_fault last k key) b r
-    → Parses (head_size v k) (λ x. HeadIn v last k x × (head_bytes v x ≡ bs)) (body_fault v last k) bs r
-behind_key v k last key bs b (Ok x) p is h =
-    ((h.0, subst (λ (z : Key). HasRoom v z.session) (sym h.1) p.1), (λ i. key_bytes v (h.1 i) ++ h.2 i) ∙ sym is)
+    → Parses (head_size v k) (λ x. HeadIn v last k x × (head_bytes v x ≡ bs))
+    (body_fault v last k) bs r
+behind_key v k last key bs b (Ok x) p is h = (
+  (h.0, subst (λ (z : Key). HasRoom v z.session) (sym h.1) p.1),
+  (λ i. key_bytes v (h.1 i) ++ h.2 i) ∙ sym is,
+)
 behind_key v k last key bs b (Err f) p is h =
-    stops_behind (head_size v k) (rest_size k) (body_fault v last k) (rest_fault last k key) bs (key_bytes v key) b f is (omega (arith, length-key_bytes v key))
+    stops_behind (head_size v k) (rest_size k) (body_fault v last k) (rest_fault last k key) bs
+    (key_bytes v key) b f is (omega (arith, length-key_bytes v key))
     (λ r e. key_comes v last k key r p.0 p.1 ∙ e) h
 
 -- the same for a kind that is known by an equation
-pub parsed_at : (v : Version) (kind k : Kind) (last : Option Address) (key : Key) (n : ℕ) (bs a b : List ℕ) (r : Result EntryHead ReadFault) → kind ≡ k → n ≡ key_size v → IsSplitAt bs n a b
+pub parsed_at : (v : Version) (kind k : Kind) (last : Option Address) (key : Key) (n : ℕ)
+    (bs a b : List ℕ) (r : Result EntryHead ReadFault) → kind ≡ k → n ≡ key_size v
+    → IsSplitAt bs n a b
     → AllByRecursion IsByte bs → is_key v a ≡ true → key ≡ key_in v a → IsKeyIn v key
     → Parses (rest_size k) (RestIs last k key b) (rest_fault last k key) b r
-    → Parses (head_size v kind) (λ x. HeadIn v last kind x × (head_bytes v x ≡ bs)) (body_fault v last kind) bs r
+    → Parses (head_size v kind) (λ x. HeadIn v last kind x × (head_bytes v x ≡ bs))
+    (body_fault v last kind) bs r
 parsed_at v kind k last key n bs a b r e size s h passes is valid p =
     let spelled_key : bs ≡ key_bytes v key ++ b =
-    joined bs a b n s ∙ ap (λ (x : List ℕ). x ++ b) (sym (key_spelled v a (s.3 ∙ size) (front_octets bs a b n s h) passes) ∙ ap (key_bytes v) (sym is)) in
-    subst (λ z. Parses (head_size v z) (λ x. HeadIn v last z x × (head_bytes v x ≡ bs)) (body_fault v last z) bs r) (sym e)
+    joined bs a b n s ∙ ap (λ (x : List ℕ). x ++ b)
+    (sym (key_spelled v a (s.3 ∙ size) (front_octets bs a b n s h) passes)
+    ∙ ap (key_bytes v) (sym is)) in
+    subst (λ z. Parses (head_size v z) (λ x. HeadIn v last z x × (head_bytes v x ≡ bs))
+    (body_fault v last z) bs r) (sym e)
     (behind_key v k last key bs b r valid spelled_key p)
 
 -- a head in front of more bytes: the head with the first n of them is a prefix of the whole
-pub in_front : (head body rest : List ℕ) (n : ℕ) → body ≡ take n rest → (length (head ++ body) ≤ length (head ++ rest)) × (take (length (head ++ body)) (head ++ rest) ≡ head ++ body)
+pub in_front : (head body rest : List ℕ) (n : ℕ) → body ≡ take n rest
+    → (length (head ++ body) ≤ length (head ++ rest))
+    × (take (length (head ++ body)) (head ++ rest) ≡ head ++ body)
 in_front head body rest n is =
-    let whole : head ++ rest ≡ (head ++ body) ++ drop n rest = simp (is, append_assoc, take-append-drop) in
-    (omega (arith, ap length whole, length-append (head ++ body) (drop n rest)), ap (take (length (head ++ body))) whole ∙ take-append_seam (head ++ body) (drop n rest))
+    let whole : head ++ rest ≡ (head ++ body) ++ drop n rest =
+    simp (is, append_assoc, take-append-drop) in (
+      omega (arith, ap length whole, length-append (head ++ body) (drop n rest)),
+      ap (take (length (head ++ body))) whole ∙ take-append_seam (head ++ body) (drop n rest),
+    )
 
 -- a symbol whose length is at fault
 pub ruleset symbol_faults = (err_from_is_err_and, stops_behind, symbol_comes)
@@ -172,11 +245,14 @@ then-equal Greater o h = absurd (false≢true h)
 
 -- the tests of the parts of two keys
 abbrev same_parts : Key → Key → Bool
-same_parts a b = ((a.session.sender == b.session.sender) && (a.session.tsi == b.session.tsi)) && same_object a.object b.object
+same_parts a b =
+    ((a.session.sender == b.session.sender) && (a.session.tsi == b.session.tsi))
+    && same_object a.object b.object
 
 key-same : (a b : Key) → true ≡ same_parts a b → a ≡ b
 key-same a b t =
-    let p = both ((a.session.sender == b.session.sender) && (a.session.tsi == b.session.tsi)) (same_object a.object b.object) (sym t) in
+    let p = both ((a.session.sender == b.session.sender) && (a.session.tsi == b.session.tsi))
+    (same_object a.object b.object) (sym t) in
     let q = both (a.session.sender == b.session.sender) (a.session.tsi == b.session.tsi) p.0 in
     let s = eqb-true a.session.sender b.session.sender q.0 in
     let i = eqb-true a.session.tsi b.session.tsi q.1 in
@@ -188,4 +264,5 @@ pub same_object_after : (last : Address) (key : Key) (part : Part)
     → is_lt (part_cmp last.part part) ≡ is_after (Some last) (record { key = key; part = part })
 same_object_after last key part t =
     let e = key-same last.key key t in
-    ap is_lt (sym (then-equal (key_cmp last.key key) (part_cmp last.part part) (subst (λ (k : Key). same_key last.key k ≡ true) e (key_itself last.key))))
+    ap is_lt (sym (then-equal (key_cmp last.key key) (part_cmp last.part part)
+    (subst (λ (k : Key). same_key last.key k ≡ true) e (key_itself last.key))))

@@ -14,7 +14,8 @@ pub data Next {V P T : Type 0} (framing : Framing V P T) (limit : ℕ) (place : 
     Type 0 where
   at_end : rest ≡ framing.frame.end (framing.count place) → Next framing limit place rest
   at_item : (x : V) (more : List ℕ) → rest ≡ framing.frame.item (framing.told place) x ++ more
-      → 0 < length (framing.frame.item (framing.told place) x) → framing.frame.IsItem (framing.told place) x
+      → 0 < length (framing.frame.item (framing.told place) x)
+      → framing.frame.IsItem (framing.told place) x
       → IsTrue (framing.may_follow place x) → framing.count place < limit
       → Next framing limit place rest
 
@@ -50,7 +51,8 @@ module _ {V P T : Type 0} {framing : Framing V P T} (sound : IsSound framing)
         record {
           are_items = b.are_items;
           bytes_are =
-              b.whole ∙ ap (λ (l : List ℕ). up_to_end framing.frame t xs ++ l) (e ∙ ap framing.frame.end count);
+              b.whole ∙ ap (λ (l : List ℕ). up_to_end framing.frame t xs ++ l)
+              (e ∙ ap framing.frame.end count);
         },
       )
   goes_on limit bytes xs rest again b place is (at_item x more e some valid follows few) =

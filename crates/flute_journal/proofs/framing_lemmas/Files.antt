@@ -67,7 +67,8 @@ grouped bytes ds rest e = e ∙ append_assoc file_header (flat_map record_of ds)
 
 pub file_header_passes : (r : List ℕ) → opening_fault file_header (file_header ++ r) ≡ None
 file_header_passes r =
-    opening_comes (take 4 file_header) (λ version. bytes_eq version (take 2 (drop 4 file_header))) (0x46 ∷ 0x4C ∷ 0x44 ∷ 0x47 ∷ []) (0 ∷ 1 ∷ []) r refl refl refl
+    opening_comes (take 4 file_header) (λ version. bytes_eq version (take 2 (drop 4 file_header)))
+    (0x46 ∷ 0x4C ∷ 0x44 ∷ 0x47 ∷ []) (0 ∷ 1 ∷ []) r refl refl refl
 
 not_in_header : (bytes rest : List ℕ) (f : ReadFault) → bytes ≡ file_header ++ rest
     → opening_fault file_header bytes ≡ Some f → ⊥

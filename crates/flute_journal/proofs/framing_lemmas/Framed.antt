@@ -19,7 +19,8 @@ pub record IsSound {V P T : Type 0} (framing : Framing V P T) : Type 0 where
   pub header_size : (told : T) → length (framing.frame.header told) ≡ 6
   pub header_passes : (told : T) (r : List ℕ)
       → framing.header_fault (framing.frame.header told ++ r) ≡ None
-  pub header_told : (told : T) (r : List ℕ) → framing.told_in (framing.frame.header told ++ r) ≡ told
+  pub header_told : (told : T) (r : List ℕ)
+      → framing.told_in (framing.frame.header told ++ r) ≡ told
   pub header_is : (y : List ℕ) → framing.header_fault y ≡ None
       → y ≡ framing.frame.header (framing.told_in y) ++ drop 6 y
   pub told_is : (told : T) (xs : List V) → framing.told (framing.place_after told xs) ≡ told
@@ -50,7 +51,8 @@ fault-first u v p q f some h = known_header u p q f h
 module _ {V P T : Type 0} (framing : Framing V P T) where
   pub reads_on : (limit : ℕ) (told : T) (place : P) (u v : Option (List ℕ))
       (r : Result (Option V) ReadFault) → ReadsNext framing limit place u v r
-      → StaysWithin (framing.frame.item (framing.told place)) (framing.frame.IsItem (framing.told place)) u v r
+      → StaysWithin (framing.frame.item (framing.told place))
+      (framing.frame.IsItem (framing.told place)) u v r
       → IfErr r framing.IsFault → ReadsFrom framing told limit (Items place) u v r
   reads_on limit told place u v (Ok (Some x)) h w k = h
   reads_on limit told place u v (Ok None) h w k = h
@@ -61,7 +63,8 @@ module _ {V P T : Type 0} (framing : Framing V P T) where
         asks = λ e. (
           u,
           Consumes-nil u,
-          asked (framing.frame.end (framing.count place)) (framing.next_fault place limit) u v f h e,
+          asked (framing.frame.end (framing.count place))
+              (framing.next_fault place limit) u v f h e,
         );
         part = w.0;
         read = w.1;

@@ -10,9 +10,12 @@ use Rattle.flute_journal.proofs.Common.{first_fault, ◌∷◌}
 use Rattle.flute_journal.specs.declared.fault.ReadFault.TheVariants as faults
 
 -- the whole has the fault of the part after the bytes that were read
-pub fault-behind : (u v w : Option (List ℕ)) (front : List ℕ) (whole part : List ℕ → Option ReadFault) (f : ReadFault)
-    → Consumes u v front → ((r : List ℕ) → whole (front ++ r) ≡ part r) → IsFaultOf part v w f → IsFaultOf whole u w f
-fault-behind u v w front whole part faults.Read took e h = (front ++ h.0, Consumes-trans u v w front h.0 took h.1, e h.0 ∙ h.2)
+pub fault-behind : (u v w : Option (List ℕ)) (front : List ℕ)
+    (whole part : List ℕ → Option ReadFault) (f : ReadFault)
+    → Consumes u v front → ((r : List ℕ) → whole (front ++ r) ≡ part r)
+    → IsFaultOf part v w f → IsFaultOf whole u w f
+fault-behind u v w front whole part faults.Read took e h =
+    (front ++ h.0, Consumes-trans u v w front h.0 took h.1, e h.0 ∙ h.2)
 fault-behind u v w front whole part faults.OutOfMemory took e h = record {
   read = front ++ h.read;
   seen = h.seen;
@@ -20,8 +23,10 @@ fault-behind u v w front whole part faults.OutOfMemory took e h = record {
   follows = h.follows;
   settled = λ more.
       let all = h.read ++ h.seen in
-      let one = ap (λ (l : List ℕ). l ++ more) (append_assoc front h.read h.seen) ∙ append_assoc front all more in
-      subst (λ (o : Option ReadFault). IfSome o (λ f. f ≡ faults.Cut)) (sym (ap whole one ∙ e (all ++ more))) (h.settled more);
+      let one = ap (λ (l : List ℕ). l ++ more) (append_assoc front h.read h.seen)
+      ∙ append_assoc front all more in
+      subst (λ (o : Option ReadFault). IfSome o (λ f. f ≡ faults.Cut))
+      (sym (ap whole one ∙ e (all ++ more))) (h.settled more);
 }
 fault-behind u v w front whole part f took e h = grind (arith)
 
@@ -35,15 +40,25 @@ follows_nil : (u : Option (List ℕ)) → IfSome u (λ bytes. (rest : List ℕ) 
 follows_nil None = tt
 follows_nil (Some x) = (x, refl)
 
-pub asks_first : (fault : List ℕ → Option ReadFault) (u v : Option (List ℕ)) → v ≡ u → IsSettled fault [] → AsksMemory fault u v
+pub asks_first : (fault : List ℕ → Option ReadFault) (u v : Option (List ℕ)) → v ≡ u
+    → IsSettled fault [] → AsksMemory fault u v
 asks_first fault u v same h =
-    subst (λ (x : Option (List ℕ)). AsksMemory fault u x) (sym same) (record { read = []; seen = []; consumed = Consumes-nil u; follows = follows_nil u; settled = h })
+    subst (λ (x : Option (List ℕ)). AsksMemory fault u x) (sym same)
+    (record {
+      read = [];
+      seen = [];
+      consumed = Consumes-nil u;
+      follows = follows_nil u;
+      settled = h;
+    })
 
 pub asks_bytes : (n : ℕ) (u : Option (List ℕ)) → AsksMemory (cut_fault n) u u
 asks_bytes n u = asks_first (cut_fault n) u u refl (λ more. cut_only (cut n more).0)
 
 -- and once the next was seen, and has no fault
-pub asks_seen : (fault : List ℕ → Option ReadFault) (u v : Option (List ℕ)) (x : List ℕ) → v ≡ u → IfSome u (λ bytes. (rest : List ℕ) × (bytes ≡ x ++ rest)) → ((r : List ℕ) → fault (x ++ r) ≡ None)
+pub asks_seen : (fault : List ℕ → Option ReadFault) (u v : Option (List ℕ)) (x : List ℕ)
+    → v ≡ u → IfSome u (λ bytes. (rest : List ℕ) × (bytes ≡ x ++ rest))
+    → ((r : List ℕ) → fault (x ++ r) ≡ None)
     → AsksMemory fault u v
 asks_seen fault u v x same begins none =
     subst (λ (y : Option (List ℕ)). AsksMemory fault u y) (sym same) (record {
@@ -51,26 +66,36 @@ asks_seen fault u v x same begins none =
       seen = x;
       consumed = Consumes-nil u;
       follows = begins;
-      settled = λ more. subst (λ (o : Option ReadFault). IfSome o (λ f. f ≡ faults.Cut)) (sym (none more)) tt;
+      settled = λ more. subst (λ (o : Option ReadFault). IfSome o (λ f. f ≡ faults.Cut))
+          (sym (none more)) tt;
     })
 
 -- it was asked for if it ran out
-pub asked : (last : List ℕ) (fault : List ℕ → Option ReadFault) (u v : Option (List ℕ)) (f : ReadFault) → IsFaultUpTo last fault u v f → f ≡ faults.OutOfMemory → AsksMemory fault u v
+pub asked : (last : List ℕ) (fault : List ℕ → Option ReadFault) (u v : Option (List ℕ))
+    (f : ReadFault) → IsFaultUpTo last fault u v f → f ≡ faults.OutOfMemory
+    → AsksMemory fault u v
 asked last fault u v f h e = subst (IsFaultUpTo last fault u v) e h
 
 -- the same, where the source may fail after the last bytes
-pub fault_up_to-behind : (u v w : Option (List ℕ)) (front last : List ℕ) (whole part : List ℕ → Option ReadFault) (f : ReadFault)
-    → Consumes u v front → ((r : List ℕ) → whole (front ++ r) ≡ part r) → IsFaultUpTo last part v w f → IsFaultUpTo (front ++ last) whole u w f
-fault_up_to-behind u v w front last whole part faults.Read took e h = grind (arith, fault-behind, Consumes-trans)
-fault_up_to-behind u v w front last whole part f took e h = fault-behind u v w front whole part f took e h
+pub fault_up_to-behind : (u v w : Option (List ℕ)) (front last : List ℕ)
+    (whole part : List ℕ → Option ReadFault) (f : ReadFault)
+    → Consumes u v front → ((r : List ℕ) → whole (front ++ r) ≡ part r)
+    → IsFaultUpTo last part v w f → IsFaultUpTo (front ++ last) whole u w f
+fault_up_to-behind u v w front last whole part faults.Read took e h =
+    grind (arith, fault-behind, Consumes-trans)
+fault_up_to-behind u v w front last whole part f took e h =
+    fault-behind u v w front whole part f took e h
 
 -- a fault of bytes is one of bytes that may end
-pub fault_up_to : (last : List ℕ) (fault : List ℕ → Option ReadFault) (u v : Option (List ℕ)) (f : ReadFault) → IsFaultOf fault u v f → IsFaultUpTo last fault u v f
+pub fault_up_to : (last : List ℕ) (fault : List ℕ → Option ReadFault)
+    (u v : Option (List ℕ)) (f : ReadFault) → IsFaultOf fault u v f
+    → IsFaultUpTo last fault u v f
 fault_up_to last fault u v faults.Read h = inl h
 fault_up_to last fault u v f h = h
 
 -- what was read is at fault already
-pub fault_here : (u v : Option (List ℕ)) (front : List ℕ) (whole : List ℕ → Option ReadFault) (o : Option ReadFault)
+pub fault_here : (u v : Option (List ℕ)) (front : List ℕ)
+    (whole : List ℕ → Option ReadFault) (o : Option ReadFault)
     → Consumes u v front → ((r : List ℕ) → whole (front ++ r) ≡ o) → IfSome u (λ bs. whole bs ≡ o)
 fault_here None v front whole o took e = tt
 fault_here (Some x) None front whole o took e = absurd took
@@ -79,27 +104,36 @@ fault_here (Some x) (Some y) front whole o took e = ap whole took ∙ e y
 -- ReadsUpTo alone.
 
 -- they have a fault that isn't the end of the input
-pub stops_here : (n : ℕ) (whole : List ℕ → Option ReadFault) (front : List ℕ) (f : ReadFault) → (f ≡ faults.Cut → ⊥) → IsOfBytes f
+pub stops_here : (n : ℕ) (whole : List ℕ → Option ReadFault) (front : List ℕ)
+    (f : ReadFault) → (f ≡ faults.Cut → ⊥) → IsOfBytes f
     → ((r : List ℕ) → whole (front ++ r) ≡ Some f) → StopsReading n whole front f
-stops_here n whole front f other bytes h = record { of_bytes = bytes; short = λ e. absurd (other e); whole = λ r e. h r }
+stops_here n whole front f other bytes h =
+    record { of_bytes = bytes; short = λ e. absurd (other e); whole = λ r e. h r }
 
 -- if the bytes after their prefix stop reading, the whole stops it with the same fault
-pub stops_behind : (n m : ℕ) (whole part : List ℕ → Option ReadFault) (front a b : List ℕ) (f : ReadFault) → front ≡ a ++ b → length a + m ≤ n
-    → ((r : List ℕ) → part r ≡ Some f → whole (a ++ r) ≡ Some f) → StopsReading m part b f → StopsReading n whole front f
+pub stops_behind : (n m : ℕ) (whole part : List ℕ → Option ReadFault) (front a b : List ℕ)
+    (f : ReadFault) → front ≡ a ++ b → length a + m ≤ n
+    → ((r : List ℕ) → part r ≡ Some f → whole (a ++ r) ≡ Some f)
+    → StopsReading m part b f → StopsReading n whole front f
 stops_behind n m whole part front a b f is fits h s = grind (arith, length-append, append_assoc)
 
-at_front : (fault : List ℕ → Option ReadFault) (u v : Option (List ℕ)) (n : ℕ) (failed : Bool) (front : List ℕ) (f : ReadFault) → ReadsUpTo u v n failed front → StopsReading n fault front f
+at_front : (fault : List ℕ → Option ReadFault) (u v : Option (List ℕ)) (n : ℕ)
+    (failed : Bool) (front : List ℕ) (f : ReadFault) → ReadsUpTo u v n failed front
+    → StopsReading n fault front f
     → (f ≡ faults.Cut → failed ≡ false) → IfSome u (λ bytes. fault bytes ≡ Some f)
 at_front fault None v n failed front f a s whole = tt
 at_front fault (Some x) None n failed front f a s whole = absurd a.read
-at_front fault (Some x) (Some y) n failed front f a s whole = ap fault a.read ∙ s.whole y (λ e. a.fewer (s.short e) (whole e))
+at_front fault (Some x) (Some y) n failed front f a s whole =
+    ap fault a.read ∙ s.whole y (λ e. a.fewer (s.short e) (whole e))
 
-cut_there : (fault : List ℕ → Option ReadFault) (n : ℕ) (front : List ℕ) → StopsReading n fault front faults.Cut → fault front ≡ Some faults.Cut
+cut_there : (fault : List ℕ → Option ReadFault) (n : ℕ) (front : List ℕ)
+    → StopsReading n fault front faults.Cut → fault front ≡ Some faults.Cut
 cut_there fault n front s = ap fault (sym (append-nil front)) ∙ s.whole [] (λ e. refl)
 
 -- the fault of what was read is that of the bytes that were left, unless the source failed where
 -- they are cut
-pub fault_found : (T : Type 0) (fault : List ℕ → Option ReadFault) (u v : Option (List ℕ)) (n : ℕ) (failed : Bool) (front : List ℕ) (f : ReadFault) → ReadsUpTo u v n failed front
+pub fault_found : (T : Type 0) (fault : List ℕ → Option ReadFault) (u v : Option (List ℕ))
+    (n : ℕ) (failed : Bool) (front : List ℕ) (f : ReadFault) → ReadsUpTo u v n failed front
     → StopsReading n fault front f → IfErr (or_failed {T = T} failed (Err f)) (IsFaultOf fault u v)
 fault_found T fault u v n failed front faults.Read a s = absurd s.of_bytes
 fault_found T fault u v n failed front faults.OutOfMemory a s = absurd s.of_bytes
@@ -108,36 +142,50 @@ fault_found T fault u v n false front f a s = at_front fault u v n false front f
 fault_found T fault u v n true front f a s = at_front fault u v n true front f a s (λ e. absurd cc)
 
 -- what was read of a source, as it is parsed: a value takes all of the bytes
-pub parsed_reads : {T : Type 0} (spelling : T → List ℕ) (IsIt : T → Type 0) (fault : List ℕ → Option ReadFault) (u v : Option (List ℕ)) (n : ℕ) (failed : Bool) (front : List ℕ)
-    (r : Result T ReadFault) → ReadsUpTo u v n failed front → ((x : T) → IsIt x → n ≤ length (spelling x)) → Parses n (λ x. IsIt x × (spelling x ≡ front)) fault front r
+pub parsed_reads : {T : Type 0} (spelling : T → List ℕ) (IsIt : T → Type 0)
+    (fault : List ℕ → Option ReadFault) (u v : Option (List ℕ)) (n : ℕ) (failed : Bool)
+    (front : List ℕ)
+    (r : Result T ReadFault) → ReadsUpTo u v n failed front
+    → ((x : T) → IsIt x → n ≤ length (spelling x))
+    → Parses n (λ x. IsIt x × (spelling x ≡ front)) fault front r
     → Reads spelling IsIt fault u v (or_failed failed r)
-parsed_reads spelling IsIt fault u v n true front (Ok x) a least p = absurd (omega (arith, a.short refl, least x p.0, ap length p.1))
-parsed_reads spelling IsIt fault u v n false front (Ok x) a least p = (p.0, subst (Consumes u v) (sym p.1) a.read)
-parsed_reads {T} spelling IsIt fault u v n true front (Err f) a least p = fault_found T fault u v n true front f a p
-parsed_reads {T} spelling IsIt fault u v n false front (Err f) a least p = fault_found T fault u v n false front f a p
+parsed_reads spelling IsIt fault u v n true front (Ok x) a least p =
+    absurd (omega (arith, a.short refl, least x p.0, ap length p.1))
+parsed_reads spelling IsIt fault u v n false front (Ok x) a least p =
+    (p.0, subst (Consumes u v) (sym p.1) a.read)
+parsed_reads {T} spelling IsIt fault u v n true front (Err f) a least p =
+    fault_found T fault u v n true front f a p
+parsed_reads {T} spelling IsIt fault u v n false front (Err f) a least p =
+    fault_found T fault u v n false front f a p
 
-fails_once : (T : Type 0) (f : ReadFault) (old new : ℕ) → IsOfBytes f → new ≡ old + 1 → Fails {T = T} old new (Err (left_by f))
+fails_once : (T : Type 0) (f : ReadFault) (old new : ℕ) → IsOfBytes f → new ≡ old + 1
+    → Fails {T = T} old new (Err (left_by f))
 fails_once T faults.Read old new b e = absurd b
 fails_once T faults.OutOfMemory old new b e = absurd b
 fails_once T faults.Cut old new b e = e
 fails_once T f old new b e = inr e
 
-fails_never : (T : Type 0) (f : ReadFault) (old new : ℕ) → IsOfBytes f → new ≡ old → Fails {T = T} old new (Err f)
+fails_never : (T : Type 0) (f : ReadFault) (old new : ℕ) → IsOfBytes f → new ≡ old
+    → Fails {T = T} old new (Err f)
 fails_never T faults.Read old new b e = absurd b
 fails_never T faults.OutOfMemory old new b e = absurd b
 fails_never T faults.Cut old new b e = e
 fails_never T f old new b e = inl e
 
 -- how often the source failed where bytes of it were parsed
-pub parsed_fails : {T : Type 0} (IsIt : T → Type 0) (fault : List ℕ → Option ReadFault) (n : ℕ) (failed : Bool) (front : List ℕ) (r : Result T ReadFault) (old new : ℕ)
-    → new ≡ old + times_failed failed → Parses n IsIt fault front r → Fails old new (or_failed failed r)
+pub parsed_fails : {T : Type 0} (IsIt : T → Type 0) (fault : List ℕ → Option ReadFault)
+    (n : ℕ) (failed : Bool) (front : List ℕ) (r : Result T ReadFault) (old new : ℕ)
+    → new ≡ old + times_failed failed → Parses n IsIt fault front r
+    → Fails old new (or_failed failed r)
 parsed_fails IsIt fault n true front (Ok x) old new e p = e
 parsed_fails IsIt fault n false front (Ok x) old new e p = omega (arith, e)
 parsed_fails {T} IsIt fault n true front (Err f) old new e p = fails_once T f old new p.of_bytes e
-parsed_fails {T} IsIt fault n false front (Err f) old new e p = fails_never T f old new p.of_bytes (omega (arith, e))
+parsed_fails {T} IsIt fault n false front (Err f) old new e p =
+    fails_never T f old new p.of_bytes (omega (arith, e))
 
 -- parsing takes no memory
-pub parsed_memory : {T : Type 0} (IsIt : T → Type 0) (fault : List ℕ → Option ReadFault) (n : ℕ) (failed : Bool) (front : List ℕ) (r : Result T ReadFault)
+pub parsed_memory : {T : Type 0} (IsIt : T → Type 0) (fault : List ℕ → Option ReadFault)
+    (n : ℕ) (failed : Bool) (front : List ℕ) (r : Result T ReadFault)
     → Parses n IsIt fault front r → IfErr (or_failed failed r) (λ f. f ≡ faults.OutOfMemory → ⊥)
 parsed_memory IsIt fault n true front (Ok x) p = λ e. cc
 parsed_memory IsIt fault n false front (Ok x) p = tt

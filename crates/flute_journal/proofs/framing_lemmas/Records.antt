@@ -43,7 +43,8 @@ record_comes limit count n (b ∷ bs) r few len is =
 
 -- a record within the bound has no fault but that it is cut
 
-cuts_only : (a b : Bool) → IfSome (first_fault ((a, faults.Cut) ∷ (b, faults.Cut) ∷ [])) (λ f. f ≡ faults.Cut)
+cuts_only : (a b : Bool)
+    → IfSome (first_fault ((a, faults.Cut) ∷ (b, faults.Cut) ∷ [])) (λ f. f ≡ faults.Cut)
 cuts_only true b = refl
 cuts_only false true = refl
 cuts_only false false = tt

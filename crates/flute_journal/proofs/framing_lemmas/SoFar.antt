@@ -47,7 +47,8 @@ module _ {V P T : Type 0} (framing : Framing V P T) where
   state_more t (y ∷ ys) x = refl
 
   read_more : (t : T) (xs : List V) (x : V)
-      → read_of framing t xs ++ (opening framing t (state_at framing t xs) ++ framing.frame.item t x) ≡
+      → read_of framing t xs
+      ++ (opening framing t (state_at framing t xs) ++ framing.frame.item t x) ≡
       read_of framing t (xs ++ x ∷ [])
   read_more t [] x =
       ap (λ (l : List ℕ). l ++ framing.frame.item t x) (sym (append-nil (framing.frame.header t))) ∙
@@ -184,7 +185,8 @@ module _ {V P T : Type 0} {framing : Framing V P T} (sound : IsSound framing) wh
       let t = a.told in
       let told : framing.told (place_at framing h.told old) ≡ t =
       ap framing.told p.place ∙ sound.told_is t xs in
-      let valid : framing.frame.IsItem t x = subst (λ (z : T). framing.frame.IsItem z x) told h.valid in
+      let valid : framing.frame.IsItem t x =
+      subst (λ (z : T). framing.frame.IsItem z x) told h.valid in
       let follows : IsTrue (framing.may_follow (framing.place_after t xs) x) =
       subst (λ (z : P). IsTrue (framing.may_follow z x)) p.place h.in_order in
       let within : length xs < limit =
@@ -192,7 +194,8 @@ module _ {V P T : Type 0} {framing : Framing V P T} (sound : IsSound framing) wh
       let goes : new ≡ Items (framing.place_after t (xs ++ x ∷ [])) =
       h.goes_on ∙ ap (λ (z : P). Items (framing.next z x)) p.place ∙ ap Items
       (sound.next_is t xs x) in
-      let bytes : Consumes v w (opening framing t (state_at framing t xs) ++ framing.frame.item t x) =
+      let bytes : Consumes v w (opening framing t (state_at framing t xs)
+      ++ framing.frame.item t x) =
       subst (Consumes v w) (λ i. p.start i ++ framing.frame.item (told i) x) h.bytes in
       record {
         are_items = record {
@@ -228,7 +231,8 @@ module _ {V P T : Type 0} {framing : Framing V P T} (sound : IsSound framing) wh
         subst (Consumes v w) (λ i. p.start i ++ framing.frame.end (count i)) b.1 in
         record {
           are_items = p.are_items;
-          read = subst (Consumes u w) (all_read framing t settled (framing.frame.end (length settled)))
+          read = subst (Consumes u w) (all_read framing t settled
+              (framing.frame.end (length settled)))
               (Consumes-trans u v w (read_of framing t settled)
               (start ++ framing.frame.end (length settled)) p.read last);
           at_end = b.2;
@@ -239,7 +243,8 @@ module _ {V P T : Type 0} {framing : Framing V P T} (sound : IsSound framing) wh
   pub whole-at : (limit : ℕ) (u w : Option (List ℕ)) (items : List V)
       → AtEnd framing limit u w items → IfSome u (λ bytes. IsWhole framing.frame limit bytes items)
   whole-at limit u w items s =
-      Consumes-whole u w (up_to_end framing.frame s.are_items.told items ++ framing.frame.end (length items))
+      Consumes-whole u w (up_to_end framing.frame s.are_items.told items
+      ++ framing.frame.end (length items))
       (λ bytes. IsWhole framing.frame limit bytes items) s.read s.at_end
       (record { are_items = s.are_items; bytes_are = refl })
 

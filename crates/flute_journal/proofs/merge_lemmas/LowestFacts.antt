@@ -17,7 +17,8 @@ use Rattle.flute_parts.specs.{
   Facts.{same_information},
   Order.{same_key, same_symbol_id},
 }
-use Rattle.flute_parts.specs.declared.address.Part.TheVariants.{Info as InfoPart, Symbol as SymbolPart}
+use Rattle.flute_parts.specs.declared.address.Part.TheVariants.{Info as InfoPart}
+use Rattle.flute_parts.specs.declared.address.Part.TheVariants.{Symbol as SymbolPart}
 
 -- The order of addresses.
 
@@ -28,10 +29,15 @@ IsUpTo o = o ≢ Greater
 pub up_to_less : (o : Ordering) → o ≡ Less → IsUpTo o
 up_to_less o e h = cc
 
-pub up_to-trans : (a b c : Address) (o p : Ordering) → address_cmp a b ≡ o → address_cmp b c ≡ p → IsUpTo o → IsUpTo p → IsUpTo (address_cmp a c)
+pub up_to-trans : (a b c : Address) (o p : Ordering) → address_cmp a b ≡ o
+    → address_cmp b c ≡ p → IsUpTo o → IsUpTo p → IsUpTo (address_cmp a c)
 up_to-trans a b c Less Less e f h k = up_to_less (address_cmp a c) (address_total.trans a b c e f)
-up_to-trans a b c Less Equal e f h k = up_to_less (address_cmp a c) (subst (λ x. address_cmp a x ≡ Less) (address_same b c (ap is_eq f)) e)
-up_to-trans a b c Equal p e f h k = subst (λ x. IsUpTo (address_cmp x c)) (sym (address_same a b (ap is_eq e))) (subst IsUpTo (sym f) k)
+up_to-trans a b c Less Equal e f h k =
+    up_to_less (address_cmp a c) (subst (λ x. address_cmp a x ≡ Less)
+    (address_same b c (ap is_eq f)) e)
+up_to-trans a b c Equal p e f h k =
+    subst (λ x. IsUpTo (address_cmp x c)) (sym (address_same a b (ap is_eq e)))
+    (subst IsUpTo (sym f) k)
 up_to-trans a b c Less Greater e f h k = absurd (k refl)
 up_to-trans a b c Greater p e f h k = absurd (h refl)
 
@@ -39,38 +45,49 @@ pub up_to_itself : (a : Address) → IsUpTo (address_cmp a a)
 up_to_itself a e = let h : is_eq (address_cmp a a) ≡ true = address_itself a in absurd cc
 
 -- the second is not above the first, where the first isn't below it
-pub up_to_turned : (a b : Address) (o : Ordering) → address_cmp a b ≡ o → is_lt o ≡ false → IsUpTo (address_cmp b a)
+pub up_to_turned : (a b : Address) (o : Ordering) → address_cmp a b ≡ o → is_lt o ≡ false
+    → IsUpTo (address_cmp b a)
 up_to_turned a b Less e h = absurd cc
 up_to_turned a b Equal e h = λ k. let r = address_total.antisymm b a in absurd cc
 up_to_turned a b Greater e h = λ k. let r = address_total.antisymm b a in absurd cc
 
 -- what is held, stream by stream
 
-pub heads-append : {S : Type 0} (b : Behaviour S) (xs ys : List S) → heads b (xs ++ ys) ≡ heads b xs ++ heads b ys
+pub heads-append : {S : Type 0} (b : Behaviour S) (xs ys : List S)
+    → heads b (xs ++ ys) ≡ heads b xs ++ heads b ys
 heads-append b [] ys = refl
-heads-append b (x ∷ xs) ys = cc (heads-append b xs ys, append_assoc (option_list (b.held x)) (heads b xs) (heads b ys))
+heads-append b (x ∷ xs) ys =
+    cc (heads-append b xs ys, append_assoc (option_list (b.held x)) (heads b xs) (heads b ys))
 
 -- what is held by one stream more
-pub heads-more : {S : Type 0} (b : Behaviour S) (xs : List S) (k : ℕ) (o : Option Fact) → k < length xs → ((x : S) → slice_get xs k ≡ Some x → o ≡ b.held x)
+pub heads-more : {S : Type 0} (b : Behaviour S) (xs : List S) (k : ℕ) (o : Option Fact)
+    → k < length xs → ((x : S) → slice_get xs k ≡ Some x → o ≡ b.held x)
     → heads b (take (k + 1) xs) ≡ heads b (take k xs) ++ option_list o
 heads-more b xs k o within held =
     let x = item_at xs k within in
     ap (heads b) (take_more xs k x.0 within)
     ∙ heads-append b (take k xs) (get_or xs k x.0 ∷ [])
-    ∙ ap (λ s. heads b (take k xs) ++ (option_list (b.held s) ++ [])) (get_or_from_slice_get xs k x.0 x.0 x.1)
+    ∙ ap (λ s. heads b (take k xs) ++ (option_list (b.held s) ++ []))
+    (get_or_from_slice_get xs k x.0 x.0 x.1)
     ∙ ap (λ l. heads b (take k xs) ++ l) (append-nil (option_list (b.held x.0)))
     ∙ ap (λ p. heads b (take k xs) ++ option_list p) (sym (held x.0 x.1))
 
-pub less_up_to : (a b c : Address) (o : Ordering) → address_cmp a b ≡ Less → address_cmp b c ≡ o → IsUpTo o → address_cmp a c ≡ Less
+pub less_up_to : (a b c : Address) (o : Ordering) → address_cmp a b ≡ Less
+    → address_cmp b c ≡ o → IsUpTo o → address_cmp a c ≡ Less
 less_up_to a b c Less l e h = address_total.trans a b c l e
 less_up_to a b c Equal l e h = subst (λ x. address_cmp a x ≡ Less) (address_same b c (ap is_eq e)) l
 less_up_to a b c Greater l e h = absurd (h refl)
 
-stand_after : (a b : Address) (facts : List Fact) → address_cmp a b ≡ Less → AllByRecursion (IsNotBefore b) facts → StandAfter a facts
+stand_after : (a b : Address) (facts : List Fact) → address_cmp a b ≡ Less
+    → AllByRecursion (IsNotBefore b) facts → StandAfter a facts
 stand_after a b [] less h = tt
-stand_after a b (f ∷ facts) less h = (less_up_to a b (address f) (address_cmp b (address f)) less refl h.0, stand_after a b facts less h.1)
+stand_after a b (f ∷ facts) less h = (
+  less_up_to a b (address f) (address_cmp b (address f)) less refl h.0,
+  stand_after a b facts less h.1,
+)
 
-conflict-part : (key : Key) (part : Part) → address (conflict_in key part) ≡ record { key = key; part = part }
+conflict-part : (key : Key) (part : Part)
+    → address (conflict_in key part) ≡ record { key = key; part = part }
 conflict-part key InfoPart = refl
 conflict-part key (SymbolPart id) = refl
 
@@ -82,43 +99,76 @@ conflict-place a = conflict-part a.key a.part
 -- the fact alone is the lowest
 pub lowest_alone : (facts : List Fact) (f : Fact) → facts ≡ [] → Lowest (facts ++ f ∷ []) f
 lowest_alone facts f none =
-    subst (λ (x : List Fact). Lowest (x ++ f ∷ []) f) (sym none) (record { comes = alone-at f (address f) refl; first = (up_to_itself (address f), tt) })
+    subst (λ (x : List Fact). Lowest (x ++ f ∷ []) f) (sym none)
+    (record { comes = alone-at f (address f) refl; first = (up_to_itself (address f), tt) })
 
 -- that fact is below the others, and becomes the lowest
-pub lowest_turns : (facts : List Fact) (f g : Fact) → Lowest facts g → address_cmp (address f) (address g) ≡ Less → Lowest (facts ++ f ∷ []) f
-lowest_turns facts f g h less = search (rules, stand_after, fact_at-append, joined, fact_at-after, alone-at, all_append, all_map, up_to-trans, up_to_less, up_to_itself)
+pub lowest_turns : (facts : List Fact) (f g : Fact) → Lowest facts g
+    → address_cmp (address f) (address g) ≡ Less → Lowest (facts ++ f ∷ []) f
+lowest_turns facts f g h less =
+    search (
+      rules,
+      stand_after,
+      fact_at-append,
+      joined,
+      fact_at-after,
+      alone-at,
+      all_append,
+      all_map,
+      up_to-trans,
+      up_to_less,
+      up_to_itself,
+    )
 
 -- that fact is above the lowest, which remains
-pub lowest_stays : (facts : List Fact) (f g : Fact) → Lowest facts g → address_cmp (address f) (address g) ≡ Greater → Lowest (facts ++ f ∷ []) g
+pub lowest_stays : (facts : List Fact) (f g : Fact) → Lowest facts g
+    → address_cmp (address f) (address g) ≡ Greater → Lowest (facts ++ f ∷ []) g
 lowest_stays facts f g h greater =
     let a = address g in
     record {
-      comes = fact_at-append facts (f ∷ []) a ∙ ap (joined a (fact_at facts a)) (alone-elsewhere f a (ap is_eq greater)) ∙ joined-none a (fact_at facts a) ∙ h.comes;
-      first = all_append (IsNotBefore a) facts (f ∷ []) h.first (up_to_turned (address f) a Greater greater refl, tt);
+      comes = fact_at-append facts (f ∷ []) a
+          ∙ ap (joined a (fact_at facts a)) (alone-elsewhere f a (ap is_eq greater))
+          ∙ joined-none a (fact_at facts a) ∙ h.comes;
+      first = all_append (IsNotBefore a) facts (f ∷ []) h.first
+          (up_to_turned (address f) a Greater greater refl, tt);
     }
 
 -- a fact at the lowest address is joined with its value
-with_more : (facts : List Fact) (f g : Fact) → Lowest facts g → address f ≡ address g → fact_at (facts ++ f ∷ []) (address g) ≡ joined (address g) (Some g) (Some f)
+with_more : (facts : List Fact) (f g : Fact) → Lowest facts g → address f ≡ address g
+    → fact_at (facts ++ f ∷ []) (address g) ≡ joined (address g) (Some g) (Some f)
 with_more facts f g h e = grind (arith, fact_at-append, joined, alone-at)
 
-first_more : (facts : List Fact) (f g : Fact) → Lowest facts g → address f ≡ address g → AllByRecursion (IsNotBefore (address g)) (facts ++ f ∷ [])
+first_more : (facts : List Fact) (f g : Fact) → Lowest facts g → address f ≡ address g
+    → AllByRecursion (IsNotBefore (address g)) (facts ++ f ∷ [])
 first_more facts f g h e =
-    all_append (IsNotBefore (address g)) facts (f ∷ []) h.first (subst (λ x. IsUpTo (address_cmp (address g) x)) (sym e) (up_to_itself (address g)), tt)
+    all_append (IsNotBefore (address g)) facts (f ∷ []) h.first
+    (subst (λ x. IsUpTo (address_cmp (address g) x)) (sym e) (up_to_itself (address g)), tt)
 
 -- that fact has the same value, which remains
-pub lowest_same : (facts : List Fact) (f g : Fact) → Lowest facts g → address_cmp (address f) (address g) ≡ Equal → same_fact g f ≡ true → Lowest (facts ++ f ∷ []) g
+pub lowest_same : (facts : List Fact) (f g : Fact) → Lowest facts g
+    → address_cmp (address f) (address g) ≡ Equal → same_fact g f ≡ true
+    → Lowest (facts ++ f ∷ []) g
 lowest_same facts f g h equal same =
     let e = address_same (address f) (address g) (ap is_eq equal) in
-    record { comes = with_more facts f g h e ∙ ap Some (joined-same (address g) g f (fact_same g f same)); first = first_more facts f g h e }
+    record {
+      comes = with_more facts f g h e
+          ∙ ap Some (joined-same (address g) g f (fact_same g f same));
+      first =
+          first_more facts f g h e;
+    }
 
 -- that fact has another value: the result is a conflict
-pub lowest_apart : (facts : List Fact) (f g : Fact) → Lowest facts g → address_cmp (address f) (address g) ≡ Equal → same_fact g f ≡ false → Lowest (facts ++ f ∷ []) (conflict_at (address f))
+pub lowest_apart : (facts : List Fact) (f g : Fact) → Lowest facts g
+    → address_cmp (address f) (address g) ≡ Equal → same_fact g f ≡ false
+    → Lowest (facts ++ f ∷ []) (conflict_at (address f))
 lowest_apart facts f g h equal apart =
     let e = address_same (address f) (address g) (ap is_eq equal) in
     let is : address (conflict_at (address f)) ≡ address g = conflict-place (address f) ∙ e in
     record {
-      comes = ap (fact_at (facts ++ f ∷ [])) is ∙ with_more facts f g h e ∙ ap Some (joined-apart (address g) g f apart ∙ ap conflict_at (sym e));
-      first = subst (λ x. AllByRecursion (IsNotBefore x) (facts ++ f ∷ [])) (sym is) (first_more facts f g h e);
+      comes = ap (fact_at (facts ++ f ∷ [])) is ∙ with_more facts f g h e
+          ∙ ap Some (joined-apart (address g) g f apart ∙ ap conflict_at (sym e));
+      first = subst (λ x. AllByRecursion (IsNotBefore x) (facts ++ f ∷ [])) (sym is)
+          (first_more facts f g h e);
     }
 
 -- the value of two facts at one address

@@ -12,31 +12,40 @@ use Rattle.flute_journal.proofs.Common.{joined-apart, joined-same, length, lengt
 use Rattle.flute_journal.proofs.Common.{none-some, option_list, place_of, refl, same_address}
 use Rattle.flute_journal.proofs.Common.{same_fact, subst, sym, true, ◌++◌, ◌+◌, ◌∙◌, ◌∷◌, ◌≡◌, ◌≢◌}
 use Rattle.flute_journal.proofs.Common.{◌≤◌}
-use Rattle.flute_journal.proofs.{Each.{all_split}, merge_lemmas.MergeRising.{after, last_of-snoc, Rises-second, Same-crossed, rising-rises}}
+use Rattle.flute_journal.proofs.Each.{all_split}
+use Rattle.flute_journal.proofs.merge_lemmas.MergeRising.{after, last_of-snoc, Rises-second}
+use Rattle.flute_journal.proofs.merge_lemmas.MergeRising.{Same-crossed, rising-rises}
 
 -- the value of sized facts is sized
 
 sized_conflict : (key : Key) (part : Part) → IsSized (conflict_in key part)
 sized_conflict key part = grind (arith)
 
-sized_joined : (a : Address) (f : Fact) (o : Option Fact) → IsSized f → IfSome (joined a (Some f) o) IsSized
+sized_joined : (a : Address) (f : Fact) (o : Option Fact) → IsSized f
+    → IfSome (joined a (Some f) o) IsSized
 sized_joined a f None v = v
 sized_joined a f (Some g) v = elim (cases_Bool (same_fact f g)) [
   | inl s ↦ subst IsSized (sym (joined-same a f g (fact_same f g s))) v
   | inr s ↦ subst IsSized (sym (joined-apart a f g s)) (sized_conflict a.key a.part)
 ]
 
-fact_at-sized : (facts : List Fact) (a : Address) → AllByRecursion IsSized facts → IfSome (fact_at facts a) IsSized
+fact_at-sized : (facts : List Fact) (a : Address) → AllByRecursion IsSized facts
+    → IfSome (fact_at facts a) IsSized
 fact_at-sized [] a v = subst (λ (o : Option Fact). IfSome o IsSized) (sym (fact_at-nil a)) tt
 fact_at-sized (f ∷ fs) a v = elim (cases_Bool (same_address (address f) a)) [
   | inl e ↦
       let p = address_same (address f) a e in
-      subst (λ (o : Option Fact). IfSome o IsSized) (sym (fact_at-cons f fs a ∙ ap (λ x. joined a x (fact_at fs a)) (alone-at f a p))) (sized_joined a f (fact_at fs a) v.0)
-  | inr e ↦ subst (λ (o : Option Fact). IfSome o IsSized) (sym (fact_at-elsewhere f fs a e)) (fact_at-sized fs a v.1)
+      subst (λ (o : Option Fact). IfSome o IsSized)
+      (sym (fact_at-cons f fs a ∙ ap (λ x. joined a x (fact_at fs a)) (alone-at f a p)))
+      (sized_joined a f (fact_at fs a) v.0)
+  | inr e ↦ subst (λ (o : Option Fact). IfSome o IsSized) (sym (fact_at-elsewhere f fs a e))
+      (fact_at-sized fs a v.1)
 ]
 
-pub lowest-sized : (facts : List Fact) (g : Fact) → AllByRecursion IsSized facts → Lowest facts g → IsSized g
-lowest-sized facts g v l = subst (λ (o : Option Fact). IfSome o IsSized) l.comes (fact_at-sized facts (address g) v)
+pub lowest-sized : (facts : List Fact) (g : Fact) → AllByRecursion IsSized facts
+    → Lowest facts g → IsSized g
+lowest-sized facts g v l =
+    subst (λ (o : Option Fact). IfSome o IsSized) l.comes (fact_at-sized facts (address g) v)
 
 -- The facts that a turn takes.
 
@@ -54,18 +63,21 @@ taken_here a [] = refl
 taken_here a (f ∷ fs) = elim (cases_Bool (same_address (address f) a)) [
   | inl e ↦
       ap (λ b. fact_at (taken_by b f ++ taken_at a fs) a) e
-      ∙ fact_at-cons f (taken_at a fs) a ∙ ap (joined a (alone a f)) (taken_here a fs) ∙ sym (fact_at-cons f fs a)
+      ∙ fact_at-cons f (taken_at a fs) a ∙ ap (joined a (alone a f)) (taken_here a fs)
+      ∙ sym (fact_at-cons f fs a)
   | inr e ↦
       ap (λ b. fact_at (taken_by b f ++ taken_at a fs) a) e
       ∙ taken_here a fs ∙ sym (fact_at-elsewhere f fs a e)
 ]
 
-taken_elsewhere : (a b : Address) (fs : List Fact) → same_address a b ≡ false → fact_at (taken_at a fs) b ≡ None
+taken_elsewhere : (a b : Address) (fs : List Fact) → same_address a b ≡ false
+    → fact_at (taken_at a fs) b ≡ None
 taken_elsewhere a b [] n = fact_at-nil b
 taken_elsewhere a b (f ∷ fs) n = elim (cases_Bool (same_address (address f) a)) [
   | inl e ↦
       ap (λ t. fact_at (taken_by t f ++ taken_at a fs) b) e
-      ∙ fact_at-elsewhere f (taken_at a fs) b (subst (λ x. same_address x b ≡ false) (sym (address_same (address f) a e)) n)
+      ∙ fact_at-elsewhere f (taken_at a fs) b
+      (subst (λ x. same_address x b ≡ false) (sym (address_same (address f) a e)) n)
       ∙ taken_elsewhere a b fs n
   | inr e ↦
       ap (λ t. fact_at (taken_by t f ++ taken_at a fs) b) e
@@ -73,7 +85,8 @@ taken_elsewhere a b (f ∷ fs) n = elim (cases_Bool (same_address (address f) a)
 ]
 
 -- their value is the fact that is written
-pub taken_same : (fs : List Fact) (g : Fact) → fact_at fs (address g) ≡ Some g → Same (taken_at (address g) fs) (g ∷ [])
+pub taken_same : (fs : List Fact) (g : Fact) → fact_at fs (address g) ≡ Some g
+    → Same (taken_at (address g) fs) (g ∷ [])
 taken_same fs g h = record {
   each = λ b. elim (cases_Bool (same_address (address g) b)) [
     | inl e ↦
@@ -85,11 +98,15 @@ taken_same fs g h = record {
 }
 
 -- and it holds one fact at least
-pub taken_some : (fs : List Fact) (g : Fact) → fact_at fs (address g) ≡ Some g → 1 ≤ length (taken_at (address g) fs)
+pub taken_some : (fs : List Fact) (g : Fact) → fact_at fs (address g) ≡ Some g
+    → 1 ≤ length (taken_at (address g) fs)
 taken_some fs g h = some (taken_at (address g) fs) refl
   where
     some : (t : List Fact) → taken_at (address g) fs ≡ t → 1 ≤ length t
-    some [] e = absurd (none-some g (sym (fact_at-nil (address g)) ∙ sym (ap (λ (l : List Fact). fact_at l (address g)) e) ∙ taken_here (address g) fs ∙ h))
+    some [] e = absurd
+        (none-some g (sym (fact_at-nil (address g))
+        ∙ sym (ap (λ (l : List Fact). fact_at l (address g)) e)
+        ∙ taken_here (address g) fs ∙ h))
     some (f ∷ t) e = omega arith
 
 -- A stream that was merged up to some place.
@@ -122,10 +139,13 @@ abbrev pub given_at : Option Address → Option Fact → List Fact
 given_at None o = []
 given_at (Some a) o = taken_from a o
 
-pub given_here : (p : Option Address) (o : Option Fact) → place_of o ≡ p → given_at p o ≡ option_list o
+pub given_here : (p : Option Address) (o : Option Fact) → place_of o ≡ p
+    → given_at p o ≡ option_list o
 given_here None None e = refl
 given_here (Some a) None e = refl
-given_here p (Some f) e = subst (λ q. given_at q (Some f) ≡ f ∷ []) e (ap (λ b. taken_by b f) (address_itself (address f)))
+given_here p (Some f) e =
+    subst (λ q. given_at q (Some f) ≡ f ∷ []) e
+    (ap (λ b. taken_by b f) (address_itself (address f)))
 
 pub given_elsewhere : (p : Option Address) (o : Option Fact) → place_of o ≢ p → given_at p o ≡ []
 given_elsewhere None o n = refl
@@ -139,17 +159,20 @@ abbrev pub IsAbove : Option Address → Option Fact → Type 0
 IsAbove place o = IfSome o (λ f. IsTrue (is_after place (address f)))
 
 -- what is not before an address, and not there, is above it
-pub above_other : (a : Address) (o : Option Fact) → place_of o ≢ Some a → AllByRecursion (IsNotBefore a) (option_list o) → IsAbove (Some a) o
+pub above_other : (a : Address) (o : Option Fact) → place_of o ≢ Some a
+    → AllByRecursion (IsNotBefore a) (option_list o) → IsAbove (Some a) o
 above_other a None n h = tt
 above_other a (Some f) n h = by_order (address_cmp a (address f)) refl
   where
-    by_order : (p : Ordering) → address_cmp a (address f) ≡ p → IsTrue (is_after (Some a) (address f))
+    by_order : (p : Ordering) → address_cmp a (address f) ≡ p
+        → IsTrue (is_after (Some a) (address f))
     by_order Less e = after a (address f) e
     by_order Equal e = absurd (n (ap Some (sym (address_same a (address f) (ap is_eq e)))))
     by_order Greater e = absurd (h.0 e)
 
 -- what follows a fact in a rising list is above its address
-above_next : (F : List Fact) (held o : Option Fact) (p : Option Address) → place_of held ≡ p → IsRising ((F ++ option_list held) ++ option_list o) → IsAbove p o
+above_next : (F : List Fact) (held o : Option Fact) (p : Option Address) → place_of held ≡ p
+    → IsRising ((F ++ option_list held) ++ option_list o) → IsAbove p o
 above_next F held o None e r = grind (arith)
 above_next F held None (Some a) e r = tt
 above_next F None (Some h) (Some a) e r = absurd (let q : None ≡ Some a = e in cc)
@@ -173,12 +196,22 @@ module _ {S : Type 0} (b : Behaviour S) where
     pub above : IsAbove place (b.held r.now)
 
   pub ready : (place : Option Address) (r : Run S) → Went place r → Ready r
-  ready place r w = record { passes = w.gave.passes; reads = w.gave.reads; reads_held = w.gave.reads_held; fails = w.gave.fails; fewer = w.fewer }
+  ready place r w =
+      record {
+        passes = w.gave.passes;
+        reads = w.gave.reads;
+        reads_held = w.gave.reads_held;
+        fails =
+            w.gave.fails;
+        fewer = w.fewer;
+      }
 
   -- a stream is advanced if it holds that address
-  pub went_on : (p : Option Address) (r : Run S) (u : S) → Ready r → (place_of (b.held r.now) ≢ p → Went p r) → GoesOnAt b p r.now u
+  pub went_on : (p : Option Address) (r : Run S) (u : S) → Ready r
+      → (place_of (b.held r.now) ≢ p → Went p r) → GoesOnAt b p r.now u
       → Went p (record { start = r.start; now = u; given = r.given ++ given_at p (b.held r.now) })
-  went_on p r u w stays goes = grind (arith, given_here, length-append, above_next, given_at, given_elsewhere, append-nil)
+  went_on p r u w stays goes =
+      grind (arith, given_here, length-append, above_next, given_at, given_elsewhere, append-nil)
 
   -- what streams will have given
   abbrev pub givens_at : Option Address → List (Run S) → List (List Fact)
@@ -196,12 +229,15 @@ module _ {S : Type 0} (b : Behaviour S) where
   abbrev pub Stays : Option Address → Run S → Type 0
   Stays p r = Ready r × (place_of (b.held r.now) ≢ p → Went p r)
 
-  pub turn : (p : Option Address) (runs : List (Run S)) (new : List S) → AllByRecursion (Stays p) runs → GoOnAt b p (nows runs) new → Turned p runs new
-  turn p [] [] w h = record { next = []; starts_are = refl; nows_are = refl; givens_are = refl; went = tt }
+  pub turn : (p : Option Address) (runs : List (Run S)) (new : List S)
+      → AllByRecursion (Stays p) runs → GoOnAt b p (nows runs) new → Turned p runs new
+  turn p [] [] w h =
+      record { next = []; starts_are = refl; nows_are = refl; givens_are = refl; went = tt }
   turn p (r ∷ runs) (u ∷ new) w h =
       let t = turn p runs new w.1 h.1 in
       record {
-        next = record { start = r.start; now = u; given = r.given ++ given_at p (b.held r.now) } ∷ t.next;
+        next = record { start = r.start; now = u; given = r.given ++ given_at p (b.held r.now) }
+            ∷ t.next;
         starts_are = ap (λ l. r.start ∷ l) t.starts_are;
         nows_are = ap (λ l. u ∷ l) t.nows_are;
         givens_are = ap (λ l. (r.given ++ given_at p (b.held r.now)) ∷ l) t.givens_are;
@@ -227,7 +263,8 @@ module _ {S : Type 0} (b : Behaviour S) where
   new_givens [] = refl
   new_givens (s ∷ streams) = new_givens streams
 
-  pub new_stays : (streams : List S) → AreNew b streams → AllByRecursion (Stays None) (new_runs streams)
+  pub new_stays : (streams : List S) → AreNew b streams
+      → AllByRecursion (Stays None) (new_runs streams)
   new_stays [] n = tt
   new_stays (s ∷ streams) n = (
     (
@@ -245,42 +282,66 @@ module _ {S : Type 0} (b : Behaviour S) where
 
   -- in a turn
 
-  pub went_stays : (place : Option Address) (a : Address) (runs : List (Run S)) → AllByRecursion (Went place) runs → AllByRecursion (IsNotBefore a) (heads b (nows runs))
+  pub went_stays : (place : Option Address) (a : Address) (runs : List (Run S))
+      → AllByRecursion (Went place) runs → AllByRecursion (IsNotBefore a) (heads b (nows runs))
       → AllByRecursion (Stays (Some a)) runs
   went_stays place a [] w n = tt
   went_stays place a (r ∷ runs) w n =
       let both = all_split (IsNotBefore a) (option_list (b.held r.now)) (heads b (nows runs)) n in (
-        (ready place r w.0, λ e. record { gave = w.0.gave; fewer = w.0.fewer; above = above_other a (b.held r.now) e both.0 }),
+        (
+          ready place r w.0,
+          λ e. record {
+            gave = w.0.gave;
+            fewer = w.0.fewer;
+            above =
+                above_other a (b.held r.now) e both.0;
+          },
+        ),
         went_stays place a runs w.1 both.1,
       )
 
-  taken_split : (a : Address) (o : Option Fact) (fs : List Fact) → taken_at a (option_list o ++ fs) ≡ taken_from a o ++ taken_at a fs
+  taken_split : (a : Address) (o : Option Fact) (fs : List Fact)
+      → taken_at a (option_list o ++ fs) ≡ taken_from a o ++ taken_at a fs
   taken_split a o fs = grind (arith)
 
   -- what they give together
-  pub given_same : (a : Address) (runs : List (Run S)) → Same (all_of (givens_at (Some a) runs)) (all_of (givens runs) ++ taken_at a (heads b (nows runs)))
+  pub given_same : (a : Address) (runs : List (Run S))
+      → Same (all_of (givens_at (Some a) runs))
+      (all_of (givens runs) ++ taken_at a (heads b (nows runs)))
   given_same a [] = Same-itself []
   given_same a (r ∷ runs) =
       let here = taken_from a (b.held r.now) in
       let rest = taken_at a (heads b (nows runs)) in
-      subst (λ (l : List Fact). Same ((r.given ++ here) ++ all_of (givens_at (Some a) runs)) ((r.given ++ all_of (givens runs)) ++ l))
+      subst (λ (l : List Fact). Same ((r.given ++ here) ++ all_of (givens_at (Some a) runs))
+      ((r.given ++ all_of (givens runs)) ++ l))
       (sym (taken_split a (b.held r.now) (heads b (nows runs))))
-      (Same-trans ((r.given ++ here) ++ all_of (givens_at (Some a) runs)) ((r.given ++ here) ++ (all_of (givens runs) ++ rest)) ((r.given ++ all_of (givens runs)) ++ (here ++ rest))
-      (Same-append (r.given ++ here) (r.given ++ here) (all_of (givens_at (Some a) runs)) (all_of (givens runs) ++ rest) (Same-itself (r.given ++ here)) (given_same a runs))
+      (Same-trans ((r.given ++ here) ++ all_of (givens_at (Some a) runs))
+      ((r.given ++ here) ++ (all_of (givens runs) ++ rest))
+      ((r.given ++ all_of (givens runs)) ++ (here ++ rest))
+      (Same-append (r.given ++ here) (r.given ++ here) (all_of (givens_at (Some a) runs))
+      (all_of (givens runs) ++ rest) (Same-itself (r.given ++ here)) (given_same a runs))
       (Same-crossed r.given here (all_of (givens runs)) rest))
 
-  pub given_length : (a : Address) (runs : List (Run S)) → length (all_of (givens_at (Some a) runs)) ≡ length (all_of (givens runs)) + length (taken_at a (heads b (nows runs)))
+  pub given_length : (a : Address) (runs : List (Run S))
+      → length (all_of (givens_at (Some a) runs))
+      ≡ length (all_of (givens runs)) + length (taken_at a (heads b (nows runs)))
   given_length a [] = refl
   given_length a (r ∷ runs) = grind (arith, taken_split, length-append, given_length a runs)
 
-  fewer_one : (a : Address) (t u : S) → GoesOnAt b (Some a) t u → b.most u + length (taken_from a (b.held t)) ≤ b.most t
-  fewer_one a t u (inl h) = subst (λ (l : List Fact). b.most u + length l ≤ b.most t) (sym (given_here (Some a) (b.held t) h.0)) h.1.fewer
+  fewer_one : (a : Address) (t u : S) → GoesOnAt b (Some a) t u
+      → b.most u + length (taken_from a (b.held t)) ≤ b.most t
+  fewer_one a t u (inl h) =
+      subst (λ (l : List Fact). b.most u + length l ≤ b.most t)
+      (sym (given_here (Some a) (b.held t) h.0)) h.1.fewer
   fewer_one a t u (inr h) =
-      subst (λ (l : List Fact). b.most u + length l ≤ b.most t) (sym (given_elsewhere (Some a) (b.held t) h.0))
+      subst (λ (l : List Fact). b.most u + length l ≤ b.most t)
+      (sym (given_elsewhere (Some a) (b.held t) h.0))
       (let e : b.most u ≡ b.most t = ap b.most h.1 in omega (arith, e))
 
   -- how many facts they may still hold
-  pub fewer_all : (a : Address) (now new : List S) → GoOnAt b (Some a) now new → most_of b new + length (taken_at a (heads b now)) ≤ most_of b now
+  pub fewer_all : (a : Address) (now new : List S) → GoOnAt b (Some a) now new
+      → most_of b new + length (taken_at a (heads b now)) ≤ most_of b now
   fewer_all a [] [] h = omega arith
-  fewer_all a (t ∷ now) (u ∷ new) h = grind (arith, taken_split, fewer_one, length-append, fewer_all a now new h.1)
+  fewer_all a (t ∷ now) (u ∷ new) h =
+      grind (arith, taken_split, fewer_one, length-append, fewer_all a now new h.1)
   fewer_all a now new h = absurd h

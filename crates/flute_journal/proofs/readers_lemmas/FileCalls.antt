@@ -12,17 +12,22 @@ use Rattle.flute_journal.proofs.framing_lemmas.Framings.{file_sound}
 use Rattle.flute_journal.specs.declared.fault.ReadFault.TheVariants as faults
 
 -- a header has no other faults
-opening_faults : (a b c d : Bool) (f : ReadFault) → first_fault ((a, faults.Cut) ∷ (b, faults.Magic) ∷ (c, faults.Cut) ∷ (d, faults.Version) ∷ []) ≡ Some f → IsFileFault f
+opening_faults : (a b c d : Bool) (f : ReadFault)
+    → first_fault ((a, faults.Cut) ∷ (b, faults.Magic) ∷ (c, faults.Cut)
+    ∷ (d, faults.Version) ∷ []) ≡ Some f → IsFileFault f
 opening_faults true b c d f e = let is : faults.Cut ≡ f = cc in subst IsFileFault is tt
 opening_faults false true c d f e = let is : faults.Magic ≡ f = cc in subst IsFileFault is tt
 opening_faults false false true d f e = let is : faults.Cut ≡ f = cc in subst IsFileFault is tt
-opening_faults false false false true f e = let is : faults.Version ≡ f = cc in subst IsFileFault is tt
+opening_faults false false false true f e = let is : faults.Version ≡ f =
+    cc in subst IsFileFault is tt
 opening_faults false false false false f e = absurd cc
 
-opening_stops : (o front : List ℕ) (f : ReadFault) → StopsReading 6 (opening_fault o) front f → IsFileFault f
+opening_stops : (o front : List ℕ) (f : ReadFault) → StopsReading 6 (opening_fault o) front f
+    → IsFileFault f
 opening_stops o front f s =
     let bs = front ++ [] in
-    opening_faults (cut 4 bs).0 (not (bytes_eq (take 4 bs) (take 4 o))) (cut 6 bs).0 (not (bytes_eq (take 2 (drop 4 bs)) (take 2 (drop 4 o)))) f (s.whole [] (λ e. refl))
+    opening_faults (cut 4 bs).0 (not (bytes_eq (take 4 bs) (take 4 o))) (cut 6 bs).0
+    (not (bytes_eq (take 2 (drop 4 bs)) (take 2 (drop 4 o)))) f (s.whole [] (λ e. refl))
 
 left_faults : (f : ReadFault) → IsFileFault f → IsFileFault (left_by f)
 left_faults faults.Cut h = tt

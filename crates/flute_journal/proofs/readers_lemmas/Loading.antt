@@ -203,7 +203,8 @@ refused-part s o y limit bound u v w old new F given f l b e h join.Full full =
       within = l.entries;
       last = f;
       are_items = next.are_items;
-      read = subst (Consumes u w) (read_some journal_framing next.are_items.told l.entries f) next.read;
+      read = subst (Consumes u w) (read_some journal_framing next.are_items.told l.entries f)
+          next.read;
       none_over = l.fits;
       over = over-same (F ++ f ∷ []) es s o y (one_more F l.entries f l.same) (full refl);
     }

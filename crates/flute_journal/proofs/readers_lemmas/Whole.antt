@@ -18,7 +18,8 @@ use Rattle.flute_journal.proofs.merge_lemmas.MergeBytes.{without_end_in-snoc, wi
 use Rattle.flute_journal.proofs.merge_lemmas.MergeBytes.{within_end, within_nil}
 use Rattle.flute_journal.proofs.merge_lemmas.MergeBytes.{without_end-of_spelling}
 use Rattle.flute_journal.proofs.merge_lemmas.MergeRising.{Rises-second, Rises, rising-rises}
-use Rattle.flute_journal.specs.{Whole.{in_header as part_in_header, after_entries as part_after}, Merges.{in_header, after_entries}}
+use Rattle.flute_journal.specs.Whole.{in_header as part_in_header, after_entries as part_after}
+use Rattle.flute_journal.specs.Merges.{in_header, after_entries}
 use Rattle.flute_journal.specs.declared.fault.ReadFault.TheVariants as faults
 
 -- no entry is held back before the next one

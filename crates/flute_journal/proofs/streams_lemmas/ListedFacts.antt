@@ -4,7 +4,8 @@ use Rattle.flute_journal.proofs.Common.{sym, ap, ◌∙◌, subst, inl, inr, app
 use Rattle.flute_journal.proofs.Common.{arith, length-append, IfSome, ◌⊎◌, AllByRecursion, address}
 use Rattle.flute_journal.proofs.Common.{IsRising, Address, Fact, FactRef, IsSized, YieldsFact}
 use Rattle.flute_journal.proofs.Common.{fact_in, option_list, GoesOn}
-use Rattle.flute_journal.proofs.{Each.{all_split}, merge_lemmas.MergeRising.{Rises, rising-rises, rises-rising}}
+use Rattle.flute_journal.proofs.Each.{all_split}
+use Rattle.flute_journal.proofs.merge_lemmas.MergeRising.{Rises, rising-rises, rises-rising}
 use Rattle.flute_journal.specs.Listed.{listed_behaviour}
 
 rises_front : (l : Option Address) (xs ys : List Fact) → Rises l (xs ++ ys) → Rises l xs

@@ -1,16 +1,22 @@
 //! From bytes to what they say. Every function takes the bytes that were read: all that its part
 //! needs, or fewer at the end of the input.
-ghost use Rattle.std.specs.Prelude.{◌≡◌, ◌<◌, ◌≤◌, ◌++◌, IfSome, IsTrue, MatchOption, MatchResult, length, true, false, Some};
+ghost use Rattle.std.specs.Prelude.{◌≡◌, ◌<◌, ◌≤◌, ◌++◌, IfSome, IsTrue};
+ghost use Rattle.std.specs.Prelude.{MatchOption, MatchResult, length, true, false, Some};
 ghost use Rattle.flute_parts.specs.Information.{info_fault};
 ghost use Rattle.flute_journal.specs.Numbers.{in_bytes};
 ghost use Rattle.flute_parts.specs.BigEndian.{big_endian};
-ghost use Rattle.flute_journal.specs.Format.{header_in, sender_size, id_bytes, key_bytes, name_bytes};
-ghost use Rattle.flute_journal.specs.Faults.{is_after, is_name, is_key, key_size, named_in, key_in as key_of_bytes, info_in as info_of_bytes, opening_fault, header_fault};
+ghost use Rattle.flute_journal.specs.Format.{header_in, sender_size, id_bytes, key_bytes};
+ghost use Rattle.flute_journal.specs.Format.{name_bytes};
+ghost use Rattle.flute_journal.specs.Faults.{is_after, is_name, is_key, key_size, named_in};
+ghost use Rattle.flute_journal.specs.Faults.{key_in as key_of_bytes, info_in as info_of_bytes};
+ghost use Rattle.flute_journal.specs.Faults.{opening_fault, header_fault};
 ghost use Rattle.flute_journal.specs.Journal.{IsKeyIn};
 ghost use Rattle.flute_parts.specs.Ranges.{IsKey, IsId, IsInfo};
 ghost use Rattle.flute_parts.specs.Session.{IsTsi};
 ghost use Rattle.flute_parts.specs.ObjectName.{IsObjectName};
-ghost use Rattle.flute_journal.specs.Parsing.{HeadIn, RestIs, Parses, StopsReading, head_bytes, head_size, rest_size, body_fault, rest_fault, bytes_fault, end_fault};
+ghost use Rattle.flute_journal.specs.Parsing.{HeadIn, RestIs, Parses, StopsReading, head_bytes};
+ghost use Rattle.flute_journal.specs.Parsing.{head_size, rest_size, body_fault, rest_fault};
+ghost use Rattle.flute_journal.specs.Parsing.{bytes_fault, end_fault};
 ghost use Rattle.flute_journal.specs.declared.format.EntryHead.TheVariants.{Symbol};
 ghost use Rattle.flute_journal.specs.declared.format.version.Version.TheVariants.{Two};
 ghost use Rattle.flute_journal.specs.declared.format.Kind.TheVariants as kinds;

@@ -1,5 +1,6 @@
 //! Any number of streams, merged into one journal.
-ghost use Rattle.std.specs.Prelude.{◌≡◌, ◌≢◌, true, false, ◌+◌, ◌<◌, ◌≤◌, ◌^◌, List, [], ◌∷◌, ◌++◌, IfOk, IfErr};
+ghost use Rattle.std.specs.Prelude.{◌≡◌, ◌≢◌, true, false, ◌+◌, ◌<◌, ◌≤◌};
+ghost use Rattle.std.specs.Prelude.{◌^◌, List, [], ◌∷◌, ◌++◌, IfOk, IfErr};
 ghost use Rattle.flute_parts.specs.declared.fact.Fact.{Fact};
 ghost use Rattle.flute_parts.specs.Addresses.{address};
 ghost use Rattle.flute_parts.specs.Facts.{IsRising};
@@ -8,7 +9,10 @@ ghost use Rattle.flute_parts.specs.Devices.{times_failed};
 ghost use Rattle.flute_journal.specs.Streams.{most_of};
 ghost use Rattle.flute_journal.specs.Advances.{AreNew};
 ghost use Rattle.flute_journal.specs.FirstFaults.{FirstFault};
-ghost use Rattle.flute_journal.specs.StreamMerges.{MergedAll, AppendsPartOf, ReadsAhead, NamesInput, CanGoOn, FailAs, NoneFails, AppendsNoJournal, EndsMerged, IsCounted, streams_sink_failed};
+ghost use Rattle.flute_journal.specs.StreamMerges.{MergedAll, AppendsPartOf, ReadsAhead};
+ghost use Rattle.flute_journal.specs.StreamMerges.{NamesInput, CanGoOn, FailAs, NoneFails};
+ghost use Rattle.flute_journal.specs.StreamMerges.{AppendsNoJournal, EndsMerged, IsCounted};
+ghost use Rattle.flute_journal.specs.StreamMerges.{streams_sink_failed};
 
 use crate::merge::advance::advance_at;
 use crate::merge::leading::Lead;

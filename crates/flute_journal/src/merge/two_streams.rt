@@ -1,15 +1,19 @@
 //! Two journals, merged as streams: nothing is kept of them but the next entry of each.
 ghost use Rattle.std.specs.Prelude.{◌≡◌, false, ℕ, ◌+◌, ◌<◌, ◌^◌, [], ◌∷◌, IfOk, IfErr};
 ghost use Rattle.flute_journal.specs.Readers.{source_of, limit_of, state_of};
-ghost use Rattle.flute_journal.specs.Merges.{Merged, StopsShort, KeepsUp, NamesFault, MergeGives, FirstFails, SecondFails, sink_failed};
+ghost use Rattle.flute_journal.specs.Merges.{Merged, StopsShort, KeepsUp, NamesFault, MergeGives};
+ghost use Rattle.flute_journal.specs.Merges.{FirstFails, SecondFails, sink_failed};
 ghost use Rattle.flute_journal.specs.Streams.{IsNew, most_of};
 ghost use Rattle.flute_journal.specs.Advances.{AreNew};
 ghost use Rattle.flute_journal.specs.Eithers.{either_behaviour};
 ghost use Rattle.flute_journal.specs.JournalStreams.{lent_behaviour, SameLoans};
-ghost use Rattle.flute_journal.specs.StreamMerges.{MergedAll, AppendsPartOf, ReadsAhead, NamesInput, CanGoOn, FailAs, streams_sink_failed};
+ghost use Rattle.flute_journal.specs.StreamMerges.{MergedAll, AppendsPartOf, ReadsAhead};
+ghost use Rattle.flute_journal.specs.StreamMerges.{NamesInput, CanGoOn, FailAs};
+ghost use Rattle.flute_journal.specs.StreamMerges.{streams_sink_failed};
 ghost use Rattle.flute_journal.specs.Pairs.{fault_at, IsOfReading, IsFaultOfTwo};
 ghost use Rattle.flute_journal.specs.declared.readers.reader_state.ReaderState.TheVariants as ReaderState;
-ghost use Rattle.flute_journal.specs.declared.streams.either.Either.TheVariants.{First as Left, Second as Right};
+ghost use Rattle.flute_journal.specs.declared.streams.either.Either.TheVariants.{First as Left};
+ghost use Rattle.flute_journal.specs.declared.streams.either.Either.TheVariants.{Second as Right};
 
 use crate::fault::{LoadFault, ReadFault};
 use crate::merge::all_streams::{MergedJournal, merge_all};

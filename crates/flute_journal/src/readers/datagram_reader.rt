@@ -1,5 +1,6 @@
 //! Reading a datagram file, record by record.
-ghost use Rattle.std.specs.Prelude.{◌≡◌, ◌≢◌, ◌+◌, ◌<◌, ◌^◌, IfOk, IfErr, IfSome, length as length_of};
+ghost use Rattle.std.specs.Prelude.{◌≡◌, ◌≢◌, ◌+◌, ◌<◌, ◌^◌, IfOk, IfErr};
+ghost use Rattle.std.specs.Prelude.{IfSome, length as length_of};
 ghost use Rattle.std.specs.List.{AllByRecursion};
 ghost use Rattle.flute_parts.specs.BigEndian.{big_endian};
 ghost use Rattle.flute_journal.specs.Numbers.{in_bytes};
@@ -10,7 +11,8 @@ ghost use Rattle.flute_journal.specs.Parsing.{cut_fault};
 ghost use Rattle.flute_journal.specs.Records.{file_header, record_of, IsDatagram};
 ghost use Rattle.flute_journal.specs.FileFraming.{IsFileFault, file_framing};
 ghost use Rattle.flute_journal.specs.Framing.{is_open, Gives, ReadsFrom, ReadsNext, state_after};
-ghost use Rattle.flute_journal.specs.DatagramReaders.{datagrams_source_of, records_limit_of, file_stage_of};
+ghost use Rattle.flute_journal.specs.DatagramReaders.{datagrams_source_of, records_limit_of};
+ghost use Rattle.flute_journal.specs.DatagramReaders.{file_stage_of};
 ghost use Rattle.flute_journal.specs.declared.fault.ReadFault.TheVariants.{OutOfMemory};
 ghost use Rattle.flute_journal.specs.declared.readers.reader_state.ReaderState.TheVariants as ReaderState;
 

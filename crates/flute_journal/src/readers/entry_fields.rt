@@ -10,7 +10,8 @@ ghost use Rattle.flute_journal.specs.Journal.{IsFactIn};
 ghost use Rattle.flute_journal.specs.JournalFraming.{journal_framing};
 ghost use Rattle.flute_journal.specs.Framing.{ReadsNext};
 ghost use Rattle.flute_parts.specs.Ranges.{IsByte};
-ghost use Rattle.flute_journal.specs.Parsing.{head_size, head_bytes, HeadIn, BodyIn, IsBody, body_fault, cut_fault, end_fault, ReadsEnd};
+ghost use Rattle.flute_journal.specs.Parsing.{head_size, head_bytes, HeadIn, BodyIn, IsBody};
+ghost use Rattle.flute_journal.specs.Parsing.{body_fault, cut_fault, end_fault, ReadsEnd};
 ghost use Rattle.flute_journal.specs.declared.fault.ReadFault.TheVariants.{OutOfMemory};
 
 use crate::fault::ReadFault;

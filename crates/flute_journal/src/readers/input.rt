@@ -1,7 +1,9 @@
 //! Bytes out of a source that hands them out in any pieces.
-ghost use Rattle.std.specs.Prelude.{◌≡◌, ℕ, ◌+◌, ◌<◌, ◌≤◌, IfOk, IfErr, length, length as length_of, take, slice_index};
+ghost use Rattle.std.specs.Prelude.{◌≡◌, ℕ, ◌+◌, ◌<◌, ◌≤◌, IfOk, IfErr};
+ghost use Rattle.std.specs.Prelude.{length, length as length_of, take, slice_index};
 ghost use Rattle.std.specs.List.{AllByRecursion};
-ghost use Rattle.flute_journal.specs.Input.{Advances, Fails, Fills, ReadsUpTo, Reads, shortage, or_failed};
+ghost use Rattle.flute_journal.specs.Input.{Advances, Fails, Fills, ReadsUpTo, Reads, shortage};
+ghost use Rattle.flute_journal.specs.Input.{or_failed};
 ghost use Rattle.flute_parts.specs.Devices.{times_failed};
 ghost use Rattle.flute_parts.specs.Ranges.{IsByte};
 ghost use Rattle.flute_journal.specs.FileFraming.{IsFileFault};

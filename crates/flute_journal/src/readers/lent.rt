@@ -1,9 +1,11 @@
 //! Entries and records that lie whole in the buffer of their source, looked at where they lie.
-ghost use Rattle.std.specs.Prelude.{◌≡◌, IfOk, IfErr, IfSome, MatchOption, Ok, Some, None, length as length_of};
+ghost use Rattle.std.specs.Prelude.{◌≡◌, IfOk, IfErr, IfSome, MatchOption, Ok, Some, None};
+ghost use Rattle.std.specs.Prelude.{length as length_of};
 ghost use Rattle.flute_journal.specs.declared.format.version.Version.TheVariants.{Two};
 ghost use Rattle.flute_parts.specs.Addresses.{address, symbol_address};
 ghost use Rattle.flute_parts.specs.declared.fact.Fact.TheVariants.{Symbol};
-ghost use Rattle.flute_journal.specs.Lent.{BeginsWithEntry, TakesEntry, BeginsWithRecord, TakesRecord};
+ghost use Rattle.flute_journal.specs.Lent.{BeginsWithEntry, TakesEntry, BeginsWithRecord};
+ghost use Rattle.flute_journal.specs.Lent.{TakesRecord};
 ghost use Rattle.flute_journal.specs.declared.fault.ReadFault.TheVariants.{OutOfMemory};
 
 use crate::fault::ReadFault;

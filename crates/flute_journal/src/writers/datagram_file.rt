@@ -1,5 +1,6 @@
 //! `write_datagrams`: datagrams, written as a datagram file.
-ghost use Rattle.std.specs.Prelude.{◌≡◌, ◌+◌, ◌≤◌, ◌++◌, length, flat_map, IfOk, if◌then◌else◌, is_ok};
+ghost use Rattle.std.specs.Prelude.{◌≡◌, ◌+◌, ◌≤◌, ◌++◌, length, flat_map};
+ghost use Rattle.std.specs.Prelude.{IfOk, if◌then◌else◌, is_ok};
 ghost use Rattle.flute_parts.specs.Devices.{Writes};
 ghost use Rattle.std.specs.List.{AllByRecursion};
 ghost use Rattle.flute_journal.specs.Numbers.{in_bytes};

@@ -1,5 +1,6 @@
 //! `write_store`: a store, written as a journal.
-ghost use Rattle.std.specs.Prelude.{◌≡◌, ℕ, ◌+◌, ◌*◌, ◌<◌, ◌^◌, List, length, IfOk, if◌then◌else◌, is_ok};
+ghost use Rattle.std.specs.Prelude.{◌≡◌, ℕ, ◌+◌, ◌*◌, ◌<◌, ◌^◌, List};
+ghost use Rattle.std.specs.Prelude.{length, IfOk, if◌then◌else◌, is_ok};
 ghost use Rattle.flute_parts.specs.Devices.{Writes};
 ghost use Rattle.flute_journal.specs.Format.{spelling};
 ghost use Rattle.flute_journal.specs.Journal.{Journal};

@@ -23,7 +23,8 @@ use Rattle.flute_wire.specs.Writing.{has_no_byte, write_fault}
 use Rattle.flute_wire.specs.declared.writing.WriteFault.{WriteFault}
 use Rattle.flute_wire.specs.declared.writing.WriteFault.TheVariants.{Tsi, Toi, EmptySymbol, TooLong}
 use Rattle.flutejoin.specs.Sending.{packet_with}
-use Rattle.flutejoin.proofs.carousel_lemmas.SentPackets.{length-packets_of, no_symbol, or_none, packet_there}
+use Rattle.flutejoin.proofs.carousel_lemmas.SentPackets.{length-packets_of, no_symbol, or_none}
+use Rattle.flutejoin.proofs.carousel_lemmas.SentPackets.{packet_there}
 
 abbrev chain : Bool → Bool → Bool → Bool → Option WriteFault
 chain a b s l =

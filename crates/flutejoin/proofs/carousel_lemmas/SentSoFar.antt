@@ -28,7 +28,8 @@ use Rattle.flutejoin.specs.declared.command_fault.CommandFault.{CommandFault}
 use Rattle.flutejoin.specs.declared.command_fault.CommandFault.TheVariants.{CannotSend, CannotWrite}
 use Rattle.flutejoin.specs.declared.command_fault.CommandFault.TheVariants.{Input, OutOfMemory}
 use Rattle.flutejoin.proofs.carousel_lemmas.SentLengths.{none_fails}
-use Rattle.flutejoin.proofs.carousel_lemmas.SentPackets.{length-packets_of, packet_there, first_at, none_more}
+use Rattle.flutejoin.proofs.carousel_lemmas.SentPackets.{length-packets_of, packet_there, first_at}
+use Rattle.flutejoin.proofs.carousel_lemmas.SentPackets.{none_more}
 use Rattle.flutejoin.proofs.carousel_lemmas.SentPackets.{take_one_more, both_more}
 
 -- ---- the file

@@ -1,5 +1,7 @@
 -- extract_to: what was written of an object, by the entries that were read (specs/Extract).
-use Rattle.std.proofs.Common.{◌≡◌, ℕ, ◌+◌, Bool, true, false, List, [], ◌∷◌, ◌++◌, length, Option, Some, None, Result, Ok, Err, inl, inr, refl, sym, ◌∙◌, subst, append-nil, arith}
+use Rattle.std.proofs.Common.{◌≡◌, ℕ, ◌+◌, Bool, true, false, List, [], ◌∷◌}
+use Rattle.std.proofs.Common.{◌++◌, length, Option, Some, None, Result, Ok, Err, inl, inr, refl}
+use Rattle.std.proofs.Common.{sym, ◌∙◌, subst, append-nil, arith}
 use Rattle.std.specs.Prelude.{◌⊎◌, IfSome, IfErr}
 use Rattle.std.specs.Io.KnownBytes.{Appends}
 use Rattle.std.proofs.lemmas.Option.{none-some}
@@ -21,14 +23,20 @@ use Rattle.flute_journal.specs.declared.fault.LoadFault.TheVariants as load
 use Rattle.flute_journal.specs.declared.fault.ReadFault.{ReadFault}
 use Rattle.flute_journal.specs.declared.readers.reader_state.ReaderState.{ReaderState}
 use Rattle.flute_journal.specs.declared.readers.entry_fields.Before.{Before}
-use Rattle.flute_journal.proofs.Public.{Loaded, loaded-over, whole-at, side-from, journal_sound, sofar-next, sofar-stops}
-use Rattle.flutejoin.specs.Extract.{OfJournal, AnswersFrom, Extracts, FirstWritten, WritesFirst, SinkFails}
+use Rattle.flute_journal.proofs.Public.{Loaded, loaded-over, whole-at, side-from, journal_sound}
+use Rattle.flute_journal.proofs.Public.{sofar-next, sofar-stops}
+use Rattle.flutejoin.specs.Extract.{OfJournal, AnswersFrom, Extracts, FirstWritten, WritesFirst}
+use Rattle.flutejoin.specs.Extract.{SinkFails}
 use Rattle.flutejoin.specs.Limits.{Limits, at_most}
-use Rattle.flutejoin.specs.ObjectWriters.{WroteFirst, WritesNothing, TellsUntouched, FailedBy, Stands, PassesAll}
+use Rattle.flutejoin.specs.ObjectWriters.{WroteFirst, WritesNothing, TellsUntouched, FailedBy}
+use Rattle.flutejoin.specs.ObjectWriters.{Stands, PassesAll}
 use Rattle.flutejoin.specs.Show.{FailsToRead}
 use Rattle.flutejoin.specs.Status.{of_load}
 use Rattle.flutejoin.specs.declared.command_fault.CommandFault.{CommandFault}
-use Rattle.flutejoin.specs.declared.command_fault.CommandFault.TheVariants.{Input, Full, NoObject, NoInformation, ConflictingInformation, NotWhole, CannotWrite}
+use Rattle.flutejoin.specs.declared.command_fault.CommandFault.TheVariants.{Input, Full, NoObject}
+use Rattle.flutejoin.specs.declared.command_fault.CommandFault.TheVariants.{NoInformation}
+use Rattle.flutejoin.specs.declared.command_fault.CommandFault.TheVariants.{ConflictingInformation}
+use Rattle.flutejoin.specs.declared.command_fault.CommandFault.TheVariants.{NotWhole, CannotWrite}
 use Rattle.flutejoin.specs.declared.limits.TheConstants.{MAX_ENTRIES}
 use Rattle.flutejoin.specs.declared.extract.object_writer.Found.{Found}
 use Rattle.flutejoin.specs.declared.extract.object_writer.ObjectWriter.{ObjectWriter}

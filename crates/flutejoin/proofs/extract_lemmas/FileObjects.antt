@@ -52,8 +52,10 @@ use Rattle.flutejoin.specs.declared.extract.object_files.ObjectFile.{ObjectFile}
 use Rattle.flutejoin.specs.declared.extract.object_files.ObjectFiles.{ObjectFiles}
 use Rattle.flutejoin.proofs.extract_lemmas.FileScans.{without}
 use Rattle.flutejoin.proofs.extract_lemmas.FolderSteps.{fills_nothing}
-use Rattle.flutejoin.proofs.gaps_lemmas.ObjectsListed.{in_nothing, holds-from, named-from, rising-back}
-use Rattle.flutejoin.proofs.gaps_lemmas.ObjectsListed.{stands_before, same_object_between, lesser_key}
+use Rattle.flutejoin.proofs.gaps_lemmas.ObjectsListed.{in_nothing, holds-from, named-from}
+use Rattle.flutejoin.proofs.gaps_lemmas.ObjectsListed.{rising-back}
+use Rattle.flutejoin.proofs.gaps_lemmas.ObjectsListed.{stands_before, same_object_between}
+use Rattle.flutejoin.proofs.gaps_lemmas.ObjectsListed.{lesser_key}
 use Rattle.flutejoin.proofs.gaps_lemmas.ObjectsListed.{sorted_more, wants_same, status_same}
 use Rattle.flutejoin.proofs.gaps_lemmas.OpenObjects.{told_part}
 use Rattle.flutejoin.proofs.gaps_lemmas.StatusLines.{status_is}

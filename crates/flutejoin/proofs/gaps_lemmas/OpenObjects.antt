@@ -37,8 +37,10 @@ use Rattle.flutejoin.specs.declared.gaps.listing.ObjectState.TheVariants.{NoInfo
 use Rattle.flutejoin.specs.declared.gaps.listing.ObjectState.TheVariants.{ConflictingInformation}
 use Rattle.flutejoin.specs.declared.gaps.listing.ObjectState.TheVariants.{OneInformation}
 use Rattle.flutejoin.specs.Listing.{AllClosed, IsFirstOf, StateIs, HasOpen, Passes, TellsAll}
-use Rattle.flutejoin.proofs.gaps_lemmas.ObjectsListed.{in_nothing, holds-from, rising-back, stands_before}
-use Rattle.flutejoin.proofs.gaps_lemmas.ObjectsListed.{same_object_between, information_first, one_more_told}
+use Rattle.flutejoin.proofs.gaps_lemmas.ObjectsListed.{in_nothing, holds-from, rising-back}
+use Rattle.flutejoin.proofs.gaps_lemmas.ObjectsListed.{stands_before}
+use Rattle.flutejoin.proofs.gaps_lemmas.ObjectsListed.{same_object_between, information_first}
+use Rattle.flutejoin.proofs.gaps_lemmas.ObjectsListed.{one_more_told}
 use Rattle.flutejoin.proofs.gaps_lemmas.ObjectsListed.{none_told}
 
 -- ---- a held symbol as a fact

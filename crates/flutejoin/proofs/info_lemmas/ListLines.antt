@@ -37,7 +37,8 @@ use Rattle.flutejoin.specs.InformationLines.{not_valid, no_room, no_memory_for, 
 use Rattle.flutejoin.specs.Lines.{line, source_words, object_words, information_words, fact_words}
 use Rattle.flutejoin.specs.JoinParts.{NamesOnly}
 use Rattle.flutejoin.specs.Show.{FailsToRead}
-use Rattle.flutejoin.proofs.info_lemmas.LinePieces.{fact_chain, from_block, from_info, from_object, from_space}
+use Rattle.flutejoin.proofs.info_lemmas.LinePieces.{fact_chain, from_block, from_info, from_object}
+use Rattle.flutejoin.proofs.info_lemmas.LinePieces.{from_space}
 use Rattle.flutejoin.proofs.info_lemmas.LinePieces.{from_symbol, information_chain}
 use Rattle.flutejoin.proofs.info_lemmas.LineSenders.{digits_length, digits_of}
 

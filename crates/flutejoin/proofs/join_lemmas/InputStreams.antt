@@ -7,7 +7,8 @@ use Rattle.flute_journal.specs.Streams.{Behaviour, Gave, GoesOn, Stopped, StopsA
 use Rattle.flute_journal.specs.declared.fault.LoadFault.{LoadFault}
 use Rattle.flutejoin.specs.Begins.{Begins}
 use Rattle.flutejoin.specs.declared.join.join_input.JoinInput.{JoinInput}
-use Rattle.flutejoin.specs.declared.join.join_input.JoinInput.TheVariants.{Journal, Datagrams, Unknown}
+use Rattle.flutejoin.specs.declared.join.join_input.JoinInput.TheVariants.{Journal, Datagrams}
+use Rattle.flutejoin.specs.declared.join.join_input.JoinInput.TheVariants.{Unknown}
 use Rattle.flutejoin.specs.InputStreams.{JournalInput}
 use Rattle.flutejoin.specs.JoinInputs.{IsInput}
 use Rattle.flutejoin.specs.InputStreams.{journal_behaviour, input_behaviour}

@@ -1,5 +1,6 @@
 -- inspect_all: inputs that are inspected one after the other (specs/JoinParts).
-use Rattle.std.proofs.Common.{◌≡◌, ℕ, zero, suc, ◌+◌, ◌*◌, ◌<◌, ◌≤◌, List, [], ◌∷◌, ◌++◌, length, take}
+use Rattle.std.proofs.Common.{◌≡◌, ℕ, zero, suc, ◌+◌, ◌*◌, ◌<◌, ◌≤◌, List}
+use Rattle.std.proofs.Common.{[], ◌∷◌, ◌++◌, length, take}
 use Rattle.std.proofs.Common.{append-nil, append_assoc, Option, Some, Err, inl, inr, refl, sym, ap}
 use Rattle.std.proofs.Common.{◌∙◌, subst, arith, Bool, true}
 use Rattle.std.proofs.Math.ListN.{set}
@@ -17,7 +18,8 @@ use Rattle.flutejoin.specs.declared.command_fault.CommandFault.TheVariants.{Inpu
 use Rattle.flutejoin.specs.declared.command_fault.CommandFault.TheVariants.{CannotWrite}
 use Rattle.flutejoin.specs.declared.join.held_files.HeldFiles.{HeldFiles}
 use Rattle.flutejoin.specs.declared.join.join_input.JoinInput.{JoinInput}
-use Rattle.flutejoin.specs.declared.join.join_input.JoinInput.TheVariants.{Journal, Datagrams, Unknown}
+use Rattle.flutejoin.specs.declared.join.join_input.JoinInput.TheVariants.{Journal, Datagrams}
+use Rattle.flutejoin.specs.declared.join.join_input.JoinInput.TheVariants.{Unknown}
 use Rattle.flutejoin.specs.JoinInputs.{IsInput, AreInputs}
 use Rattle.flutejoin.specs.InputStreams.{failures_of, NoneFailed, OneFailed}
 use Rattle.flutejoin.specs.Joined.{Choice}

@@ -23,7 +23,8 @@ use Rattle.flute_journal.specs.declared.merge.all_streams.MergedJournal.{MergedJ
 use Rattle.flute_journal.specs.declared.streams.either.Either.{Either}
 use Rattle.flute_journal.specs.declared.streams.either.Either.TheVariants.{Second}
 use Rattle.flutejoin.specs.declared.join.join_input.JoinInput.{JoinInput}
-use Rattle.flutejoin.specs.declared.join.join_input.JoinInput.TheVariants.{Journal, Datagrams, Unknown}
+use Rattle.flutejoin.specs.declared.join.join_input.JoinInput.TheVariants.{Journal, Datagrams}
+use Rattle.flutejoin.specs.declared.join.join_input.JoinInput.TheVariants.{Unknown}
 use Rattle.flutejoin.specs.declared.limits.TheConstants.{MAX_ENTRIES}
 use Rattle.flutejoin.specs.InputStreams.{passed_over, input_behaviour}
 use Rattle.flutejoin.specs.Joined.{Choice, facts_by, is_of_others, InputContent, of_journal}

@@ -1,5 +1,6 @@
 -- Joins of journals that joins wrote (specs/JoinTrees).
-use Rattle.std.proofs.Common.{◌≡◌, ℕ, List, [], ◌∷◌, None, inl, inr, refl, sym, ap, ◌∙◌, subst, append-nil, arith}
+use Rattle.std.proofs.Common.{◌≡◌, ℕ, List, [], ◌∷◌, None, inl, inr, refl, sym, ap}
+use Rattle.std.proofs.Common.{◌∙◌, subst, append-nil, arith}
 use Rattle.std.specs.Prelude.{slice_index, Bool, true, false}
 use Rattle.std.specs.List.{flat_map}
 use Rattle.std.proofs.lemmas.Bool.{cases_Bool, false≢true}
@@ -11,16 +12,19 @@ use Rattle.flute_parts.specs.Addresses.{address}
 use Rattle.flute_parts.specs.Equality.{address_same}
 use Rattle.flute_parts.specs.Facts.{fact_at, Same}
 use Rattle.flute_parts.specs.Order.{same_address}
-use Rattle.flute_parts.proofs.Public.{alone, fact_at-cons, fact_at-elsewhere, fact_at-nil, joined, Same-append, Same-itself, Same-sym, Same-trans}
+use Rattle.flute_parts.proofs.Public.{alone, fact_at-cons, fact_at-elsewhere, fact_at-nil, joined}
+use Rattle.flute_parts.proofs.Public.{Same-append, Same-itself, Same-sym, Same-trans}
 use Rattle.flute_journal.specs.Journal.{IsJournal, IsJournalWithin, Journal}
 use Rattle.flute_journal.specs.Records.{IsFileOf, IsFileWithin}
 use Rattle.flute_journal.specs.Scopes.{is_chosen, chosen}
 use Rattle.flute_journal.proofs.Public.{written_journal}
 use Rattle.flutejoin.specs.Joined.{Choice, InputContent, of_journal, of_file, content_facts, Tells}
 use Rattle.flutejoin.specs.Joined.{TellAll}
-use Rattle.flutejoin.specs.JoinTrees.{Joined, Inputs, none, leaf, node, bytes_of, AreMade, leaf_facts}
+use Rattle.flutejoin.specs.JoinTrees.{Joined, Inputs, none, leaf, node, bytes_of, AreMade}
+use Rattle.flutejoin.specs.JoinTrees.{leaf_facts}
 use Rattle.flutejoin.specs.declared.limits.TheConstants.{MAX_ENTRIES}
-use Rattle.flutejoin.proofs.join_lemmas.Receptions.{IsJournal-from_within, Journal-only, Same-from_journals}
+use Rattle.flutejoin.proofs.join_lemmas.Receptions.{IsJournal-from_within, Journal-only}
+use Rattle.flutejoin.proofs.join_lemmas.Receptions.{Same-from_journals}
 
 -- The values of facts at the addresses of the objects that are taken.
 

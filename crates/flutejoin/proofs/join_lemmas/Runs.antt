@@ -1,6 +1,7 @@
 -- Runs: the journals that were put aside, as streams (specs/Asides).
 use Rattle.std.proofs.Common.{◌≡◌, ℕ, ◌*◌, ◌^◌, ◌<◌, ◌≤◌, List, [], ◌∷◌, ◌++◌, length, Option}
-use Rattle.std.proofs.Common.{Some, None, append-nil, append_assoc, refl, sym, ap, ◌∙◌, subst, arith}
+use Rattle.std.proofs.Common.{Some, None, append-nil, append_assoc, refl, sym, ap, ◌∙◌, subst}
+use Rattle.std.proofs.Common.{arith}
 use Rattle.std.specs.Prelude.{IfSome, OnOk, Result, Ok, Err}
 use Rattle.std.specs.List.{AllByRecursion}
 use Rattle.std.specs.Io.KnownBytes.{Appends}

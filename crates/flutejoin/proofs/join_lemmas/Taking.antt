@@ -26,7 +26,8 @@ pub record HasOneReading (d : List ℕ) : Type 0 where
 pub is_refused-no : (d : List ℕ) → IsPacket d → is_refused d ≡ false
 is_refused-no d p = ap is_none ((packet-iff d p.0).1 p.1)
 
-pub is_refused-yes : (d : List ℕ) (r : Refusal) → HasOneReading d → Applies r d → is_refused d ≡ true
+pub is_refused-yes : (d : List ℕ) (r : Refusal) → HasOneReading d → Applies r d
+    → is_refused d ≡ true
 is_refused-yes d r one applies = go (packet d) refl
   where
     go : (o : Option Content) → packet d ≡ o → is_none o ≡ true
@@ -34,7 +35,8 @@ is_refused-yes d r one applies = go (packet d) refl
     go (Some p) e = absurd (one.some.0 (p, (packet-iff d p).0 e) r applies)
 
 -- where no refusal is the first to apply, none applies
-none_applies : (d : List ℕ) → ((r : Refusal) → ¬ Refuses d r) → (n : ℕ) (r : Refusal) → rank r < n → ¬ Applies r d
+none_applies : (d : List ℕ) → ((r : Refusal) → ¬ Refuses d r) → (n : ℕ) (r : Refusal)
+    → rank r < n → ¬ Applies r d
 none_applies d none zero r below applies = omega arith
 none_applies d none (suc n) r below applies =
     none r (record { applies = applies; first = λ q before. none_applies d none n q (omega arith) })
@@ -46,9 +48,13 @@ is_packet d one none = one.some.1 (λ r. none_applies d none (suc (rank r)) r (o
 abbrev pub TellsRefusals : List ℕ → Result Taken TakeFault → Type 0
 TellsRefusals d result = (r : Refusal) → (result ≡ Err (Datagram r)) ↔ Refuses d r
 
-pub ok_is_packet : (d : List ℕ) (result : Result Taken TakeFault) (t : Taken) → HasOneReading d → TellsRefusals d result → result ≡ Ok t → IsPacket d
-ok_is_packet d result t one tells is = is_packet d one (λ r refuses. let e = (tells r).1 refuses in cc)
+pub ok_is_packet : (d : List ℕ) (result : Result Taken TakeFault) (t : Taken) → HasOneReading d
+    → TellsRefusals d result → result ≡ Ok t → IsPacket d
+ok_is_packet d result t one tells is =
+    is_packet d one (λ r refuses. let e = (tells r).1 refuses in cc)
 
 -- a refused datagram gives nothing
-pub refused_same : (sender : ℕ) (old new : List Fact) (d : List ℕ) (r : Refusal) → Applies r d → new ≡ old → Same new (old ++ facts sender d)
-refused_same sender old new d r applies same = rw (facts-refused sender d r applies, append-nil old, same) (Same-itself old)
+pub refused_same : (sender : ℕ) (old new : List Fact) (d : List ℕ) (r : Refusal) → Applies r d
+    → new ≡ old → Same new (old ++ facts sender d)
+refused_same sender old new d r applies same =
+    rw (facts-refused sender d r applies, append-nil old, same) (Same-itself old)

@@ -1,5 +1,7 @@
 -- Senders in texts (specs/Sender).
-use Rattle.std.proofs.Common.{◌≡◌, ℕ, ◌*◌, ◌==◌, if◌then◌else◌, false, List, [], ◌++◌, length, codes, append_assoc, None, Result, Ok, Err, refl, sym, ap, ◌∙◌, arith}
+use Rattle.std.proofs.Common.{◌≡◌, ℕ, ◌*◌, ◌==◌, if◌then◌else◌, false, List}
+use Rattle.std.proofs.Common.{[], ◌++◌, length, codes, append_assoc, None, Result, Ok, Err}
+use Rattle.std.proofs.Common.{refl, sym, ap, ◌∙◌, arith}
 use Rattle.std.specs.Int.{bytes_high_first}
 use Rattle.hex.specs.Hex.{decode_of, decode_sized, encode_lower}
 use Rattle.hex.specs.declared.error.FromHexError.{FromHexError}
@@ -8,10 +10,13 @@ use Rattle.flutejoin.specs.Lines.{source_words}
 use Rattle.flutejoin.specs.Sender.{sender_named, address_read}
 
 -- bytes that a text has in hexadecimal are decoded into room for them
-fits_room : (text bytes : List ℕ) (n : ℕ) → decode_of text ≡ Ok bytes → length bytes ≡ n → decode_sized text n ≡ Ok bytes
-fits_room text bytes n is len = decode_sized-twice text n ((decode_of-ok text bytes is).2 ∙ ap (λ k. 2 * k) len) ∙ is
+fits_room : (text bytes : List ℕ) (n : ℕ) → decode_of text ≡ Ok bytes → length bytes ≡ n
+    → decode_sized text n ≡ Ok bytes
+fits_room text bytes n is len =
+    decode_sized-twice text n ((decode_of-ok text bytes is).2 ∙ ap (λ k. 2 * k) len) ∙ is
 
-pub no_sender : (text : List ℕ) (long short : FromHexError) → decode_sized text 16 ≡ Err long → decode_sized text 4 ≡ Err short → None ≡ sender_named text
+pub no_sender : (text : List ℕ) (long short : FromHexError) → decode_sized text 16 ≡ Err long
+    → decode_sized text 4 ≡ Err short → None ≡ sender_named text
 no_sender text e f long short = go (decode_of text) refl
   where
     go : (r : Result (List ℕ) FromHexError) → decode_of text ≡ r → None ≡ address_read r
@@ -19,12 +24,14 @@ no_sender text e f long short = go (decode_of text) refl
     go (Ok bytes) is = grind (arith, fits_room, long, short)
 
 -- what is put of a sender that is not 0
-pub source_pieces : (text digits : List ℕ) (sender : ℕ) → (sender == 0) ≡ false → digits ≡ encode_lower (bytes_high_first 16 sender)
+pub source_pieces : (text digits : List ℕ) (sender : ℕ) → (sender == 0) ≡ false
+    → digits ≡ encode_lower (bytes_high_first 16 sender)
     → ((text ++ codes "source ") ++ digits) ++ codes " " ≡ text ++ source_words sender
 source_pieces text digits sender some are =
     regroup text (codes "source ") digits (codes " ")
     ∙ ap (λ (d : List ℕ). text ++ (codes "source " ++ d ++ codes " ")) are
-    ∙ ap (λ b. text ++ (if b then [] else codes "source " ++ encode_lower (bytes_high_first 16 sender) ++ codes " ")) (sym some)
+    ∙ ap (λ b. text ++ (if b then [] else codes "source "
+    ++ encode_lower (bytes_high_first 16 sender) ++ codes " ")) (sym some)
   where
     regroup : (a b c d : List ℕ) → ((a ++ b) ++ c) ++ d ≡ a ++ ((b ++ c) ++ d)
     regroup a b c d = simp append_assoc refl

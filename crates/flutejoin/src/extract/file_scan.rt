@@ -1,6 +1,9 @@
 //! An object that is written to a file as its facts come.
-ghost use Rattle.std.specs.Prelude.{◌≡◌, ◌+◌, ◌-◌, ◌∷◌, ◌++◌, [], List, None, OnOk, IfOk, take, length, Option, if◌then◌else◌, is_ok};
-ghost use Rattle.flute_output.specs.NewFolders.{NamedFile, Places, LeadsTo, Makes, Fills, FolderStays, puts};
+ghost use Rattle.std.specs.Prelude.{◌≡◌, ◌+◌, ◌-◌, ◌∷◌, ◌++◌, [], List};
+ghost use Rattle.std.specs.Prelude.{None, OnOk, IfOk, take, length, Option, if◌then◌else◌};
+ghost use Rattle.std.specs.Prelude.{is_ok};
+ghost use Rattle.flute_output.specs.NewFolders.{NamedFile, Places, LeadsTo, Makes, Fills};
+ghost use Rattle.flute_output.specs.NewFolders.{FolderStays, puts};
 ghost use Rattle.flute_parts.specs.declared.fact.Fact.{Fact as Known};
 ghost use Rattle.flute_parts.specs.declared.fact.Fact.TheVariants.{Info as InfoFact};
 ghost use Rattle.flute_parts.specs.declared.key.Key.{Key as Name};

@@ -1,5 +1,7 @@
 //! Whole objects as files, written as their facts come in the order of their addresses.
-ghost use Rattle.std.specs.Prelude.{◌≡◌, ◌+◌, ◌<◌, ◌≤◌, ◌^◌, ◌∷◌, ◌++◌, [], List, ℕ, Some, None, IfSome, OnOk, IfOk, Option, if◌then◌else◌, is_ok};
+ghost use Rattle.std.specs.Prelude.{◌≡◌, ◌+◌, ◌<◌, ◌≤◌, ◌^◌, ◌∷◌};
+ghost use Rattle.std.specs.Prelude.{◌++◌, [], List, ℕ, Some, None, IfSome, OnOk, IfOk};
+ghost use Rattle.std.specs.Prelude.{Option, if◌then◌else◌, is_ok};
 ghost use Rattle.flute_parts.specs.declared.fact.Fact.{Fact as Known};
 ghost use Rattle.flute_parts.specs.declared.fact.Fact.TheVariants.{Info as InfoFact};
 ghost use Rattle.flute_parts.specs.declared.key.Key.{Key as Name};
@@ -10,7 +12,8 @@ ghost use Rattle.flute_store.specs.Held.{HoldsObject};
 ghost use Rattle.flute_store.specs.Scan.{next_fact};
 ghost use Rattle.flutejoin.specs.Listing.{IsFirstOf};
 ghost use Rattle.flutejoin.specs.ObjectFiles.{Takes, TakesAll, Knows, KnowsSome, CanAdd};
-ghost use Rattle.flutejoin.specs.ObjectFiles.{CanPassAt, HasPassedAt, StandsInto, FileStateIs, Ends};
+ghost use Rattle.flutejoin.specs.ObjectFiles.{CanPassAt, HasPassedAt, StandsInto, FileStateIs};
+ghost use Rattle.flutejoin.specs.ObjectFiles.{Ends};
 
 use crate::extract::file_scan::{FileScan, FileState};
 use crate::gaps::held_lines::status_text;

@@ -1,5 +1,6 @@
 //! An object that is written as what is known of it passes, in the order of a journal.
-ghost use Rattle.std.specs.Prelude.{◌≡◌, ◌+◌, ◌-◌, ℕ, Bool, false, List, [], ◌∷◌, ◌++◌, length, take, Option, IfErr};
+ghost use Rattle.std.specs.Prelude.{◌≡◌, ◌+◌, ◌-◌, ℕ, Bool, false, List, []};
+ghost use Rattle.std.specs.Prelude.{◌∷◌, ◌++◌, length, take, Option, IfErr};
 ghost use Rattle.flute_parts.specs.Addresses.{address};
 ghost use Rattle.flute_parts.specs.Facts.{IsRising};
 ghost use Rattle.flute_parts.specs.declared.fact.Fact.{Fact as Known};
@@ -9,7 +10,8 @@ ghost use Rattle.flute_journal.specs.JournalWriters.{PutsBytes};
 ghost use Rattle.flute_parts.specs.Devices.{times_failed};
 ghost use Rattle.flute_store.specs.Scan.{next_fact};
 ghost use Rattle.flutejoin.specs.Extract.{Extracts};
-ghost use Rattle.flutejoin.specs.ObjectWriters.{WritesNothing, Stands, Scanning, ScansOn, EndsScan, TellsUntouched, FailedBy};
+ghost use Rattle.flutejoin.specs.ObjectWriters.{WritesNothing, Stands, Scanning, ScansOn, EndsScan};
+ghost use Rattle.flutejoin.specs.ObjectWriters.{TellsUntouched, FailedBy};
 
 use crate::command_fault::CommandFault;
 use flute_parts::{Fact, Info, Key, Sink, SymbolId};

@@ -1,5 +1,6 @@
 //! Facts in memory that are added to a journal.
-ghost use Rattle.std.specs.Prelude.{◌≡◌, true, false, ◌+◌, ◌<◌, ◌^◌, List, [], ◌∷◌, OnOk, IfOk, IfErr};
+ghost use Rattle.std.specs.Prelude.{◌≡◌, true, false, ◌+◌, ◌<◌, ◌^◌, List, []};
+ghost use Rattle.std.specs.Prelude.{◌∷◌, OnOk, IfOk, IfErr};
 ghost use Rattle.flute_parts.specs.declared.fact.Fact.{Fact as FactValue};
 ghost use Rattle.flute_parts.specs.Devices.{times_failed};
 ghost use Rattle.flute_journal.specs.Advances.{AreNew};
@@ -9,7 +10,8 @@ ghost use Rattle.flute_journal.specs.JournalStreams.{SameLoans, lent_behaviour};
 ghost use Rattle.flute_journal.specs.Readers.{source_of, limit_of, state_of};
 ghost use Rattle.flute_journal.specs.StreamMerges.{AppendsNoJournal, MergedAll, NoneFails};
 ghost use Rattle.flute_journal.specs.Streams.{IsNew, most_of};
-ghost use Rattle.flute_journal.specs.declared.streams.either.Either.TheVariants.{First as Left, Second as Right};
+ghost use Rattle.flute_journal.specs.declared.streams.either.Either.TheVariants.{First as Left};
+ghost use Rattle.flute_journal.specs.declared.streams.either.Either.TheVariants.{Second as Right};
 ghost use Rattle.flute_journal.specs.declared.readers.reader_state.ReaderState.TheVariants as ReaderState;
 ghost use Rattle.flutejoin.specs.Info.{AddsFacts, InfoFails};
 ghost use Rattle.flutejoin.specs.InfoLists.{IsInMemory, TellsSame};

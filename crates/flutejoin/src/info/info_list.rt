@@ -8,7 +8,8 @@ ghost use Rattle.flutejoin.specs.Info.{AddsFacts, InfoFails};
 ghost use Rattle.flutejoin.specs.InfoLists.{AddsList, AddListFails};
 ghost use Rattle.flutejoin.specs.Limits.{IsCountable, at_most};
 ghost use Rattle.flutejoin.specs.Show.{FailsToRead};
-ghost use Rattle.flutejoin.specs.declared.command_fault.CommandFault.TheVariants.{CannotWrite, Input};
+ghost use Rattle.flutejoin.specs.declared.command_fault.CommandFault.TheVariants.{CannotWrite};
+ghost use Rattle.flutejoin.specs.declared.command_fault.CommandFault.TheVariants.{Input};
 
 use crate::command_fault::CommandFault;
 use crate::info::adding_facts::add_facts;

@@ -1,6 +1,7 @@
 //! A line that contains the information of an object, as `show` prints it.
 ghost use Rattle.std.specs.Prelude.{◌≡◌, ◌↔◌, ℕ, ◌<◌, ◌≤◌, ◌^◌, true, false, List, ◌++◌};
-ghost use Rattle.std.specs.Prelude.{length, slice_index, codes, decimal, IfSome, MatchOption, SomeIff};
+ghost use Rattle.std.specs.Prelude.{length, slice_index, codes, decimal, IfSome, MatchOption};
+ghost use Rattle.std.specs.Prelude.{SomeIff};
 ghost use Rattle.std.specs.Char.{is_ascii_digit};
 ghost use Rattle.std.specs.Int.{bytes_high_first};
 ghost use Rattle.hex.specs.Hex.{encode_lower};

@@ -1,5 +1,7 @@
 //! A list of information: a text of lines, each with that of an object.
-ghost use Rattle.std.specs.Prelude.{◌≡◌, ◌≢◌, ◌↔◌, true, ◌≤◌, ◌<◌, ◌+◌, ◌^◌, List, ℕ, [], ◌∷◌, ◌++◌, length, take};
+ghost use Rattle.std.specs.Prelude.{◌≡◌, ◌≢◌, ◌↔◌, true, ◌≤◌, ◌<◌};
+ghost use Rattle.std.specs.Prelude.{◌+◌, ◌^◌, List, ℕ, [], ◌∷◌, ◌++◌, length};
+ghost use Rattle.std.specs.Prelude.{take};
 ghost use Rattle.std.specs.Prelude.{OnOk, IfOk, IfErr, IfSome, MatchOption, ◌⊎◌};
 ghost use Rattle.std.specs.Io.KnownBytes.{Consumes, IsAtEnd};
 ghost use Rattle.flute_parts.specs.Facts.{Same};
@@ -7,7 +9,8 @@ ghost use Rattle.flute_parts.specs.Information.{Information};
 ghost use Rattle.flute_parts.specs.declared.fact.Fact.{Fact as FactValue};
 ghost use Rattle.flute_parts.specs.declared.key.Key.{Key as KeyValue};
 ghost use Rattle.flute_journal.specs.Streams.{option_list};
-ghost use Rattle.flutejoin.specs.InformationLines.{IsPassedOver, Shows, LineTells, ListTells, ListFails};
+ghost use Rattle.flutejoin.specs.InformationLines.{IsPassedOver, Shows, LineTells, ListTells};
+ghost use Rattle.flutejoin.specs.InformationLines.{ListFails};
 ghost use Rattle.flutejoin.specs.InformationLines.{HoldsList, IsKept, LineFails, TakingFails};
 ghost use Rattle.flutejoin.specs.InformationLines.{numbers_of};
 ghost use Rattle.flutejoin.specs.JoinParts.{NamesOnly};

@@ -2,7 +2,8 @@
 ghost use Rattle.std.specs.Prelude.{◌≡◌, ◌+◌, ◌≤◌, ◌++◌, length};
 ghost use Rattle.std.specs.Option.{option_map};
 ghost use Rattle.flute_parts.specs.Information.{information};
-ghost use Rattle.flutejoin.specs.Lines.{key_words, object_words, information_words, id_words, symbol_words, info_or_none};
+ghost use Rattle.flutejoin.specs.Lines.{key_words, object_words, information_words, id_words};
+ghost use Rattle.flutejoin.specs.Lines.{symbol_words, info_or_none};
 ghost use Rattle.flutejoin.specs.Pieces.{symbol_head};
 
 use crate::lines::text::Text;

@@ -1,4 +1,7 @@
-use Rattle.flute_journal.proofs.{Common.{None}, framing_lemmas.SoFar.{sofar-none, sofar-next, sofar-fault, side-from, whole-at}, framing_lemmas.Framings.{file_sound}}
+use Rattle.flute_journal.proofs.Common.{None}
+use Rattle.flute_journal.proofs.framing_lemmas.SoFar.{sofar-none, sofar-next, sofar-fault}
+use Rattle.flute_journal.proofs.framing_lemmas.SoFar.{side-from, whole-at}
+use Rattle.flute_journal.proofs.framing_lemmas.Framings.{file_sound}
 use Rattle.flute_journal.proofs.laws.a_file_is_read_record_by_record.Goals as goal
 
 pub returns-clause-begins : goal.returns-clause-begins

@@ -1,4 +1,5 @@
-use Rattle.flute_parts.proofs.Readings.{fact_at-none, none-at, fact_at-one, fact_at-two, fact_at-conflict, fact_at-address}
+use Rattle.flute_parts.proofs.Readings.{fact_at-none, none-at, fact_at-one, fact_at-two}
+use Rattle.flute_parts.proofs.Readings.{fact_at-conflict, fact_at-address}
 use Rattle.flute_parts.proofs.laws.facts_agree_or_conflict.Goals as goal
 
 pub returns : goal.returns

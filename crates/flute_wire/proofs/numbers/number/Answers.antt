@@ -5,15 +5,22 @@ use Rattle.flute_wire.proofs.numbers.number.Goals as goal
 
 pub overflow_mul-number : goal.overflow_mul-number
 overflow_mul-number c =
-    let small = below_word c.args.field.now c.loop-rest.rest.now c.loop-rest.number 0 c.requires.short c.loop-rest.invariant c.loop-rest-test.true (omega arith) in
+    let small = below_word c.args.field.now c.loop-rest.rest.now c.loop-rest.number 0
+    c.requires.short c.loop-rest.invariant c.loop-rest-test.true (omega arith) in
     omega (arith, small)
 
 pub overflow_add-number : goal.overflow_add-number
 overflow_add-number c =
-    let small = below_word c.args.field.now c.loop-rest.rest.now c.loop-rest.number c.from.result c.requires.short c.loop-rest.invariant c.loop-rest-test.true (omega (arith, c.from.ensures, c.u16_at.type_inv)) in
+    let small = below_word c.args.field.now c.loop-rest.rest.now c.loop-rest.number c.from.result
+    c.requires.short c.loop-rest.invariant c.loop-rest-test.true
+    (omega (arith, c.from.ensures, c.u16_at.type_inv)) in
     omega (arith, small)
 
 pub loop-rest-preserved : goal.loop-rest-preserved
 loop-rest-preserved c =
-    reads_two c.args.field.now c.loop-rest.rest.now (take (length c.loop-rest.rest.now - 2) (drop 2 c.loop-rest.rest.now)) c.loop-rest.number c.from.result
-    c.requires.short c.loop-rest.invariant c.loop-rest-test.true (omega (arith, c.from.ensures, c.u16_at.type_inv)) (c.from.ensures ∙ c.u16_at.ensures) (take_rest c.loop-rest.rest.now 2)
+    reads_two c.args.field.now c.loop-rest.rest.now
+    (take (length c.loop-rest.rest.now - 2) (drop 2 c.loop-rest.rest.now)) c.loop-rest.number
+    c.from.result
+    c.requires.short c.loop-rest.invariant c.loop-rest-test.true
+    (omega (arith, c.from.ensures, c.u16_at.type_inv)) (c.from.ensures ∙ c.u16_at.ensures)
+    (take_rest c.loop-rest.rest.now 2)

@@ -6,4 +6,5 @@ use Rattle.flute_wire.specs.Writing.{IsWritten}
 use Rattle.flute_wire.proofs.sending.datagrams_of.Given as goal
 
 abbrev pub invariant-loop-place : goal.invariant-loop-place
-invariant-loop-place l = AllZip IsWritten l.datagrams (take l.place (packets_of l.key l.info l.content))
+invariant-loop-place l =
+    AllZip IsWritten l.datagrams (take l.place (packets_of l.key l.info l.content))

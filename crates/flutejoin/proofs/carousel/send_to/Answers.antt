@@ -1,7 +1,8 @@
 -- send_to: what its result says of the packets that were sent.
 use Rattle.std.proofs.Common.{◌∙◌, ap, subst}
 use Rattle.flutejoin.specs.Sending.{ReadFailures}
-use Rattle.flutejoin.proofs.carousel_lemmas.SentObjects.{sent_same, told_sent, told_failed, told_failed_write}
+use Rattle.flutejoin.proofs.carousel_lemmas.SentObjects.{sent_same, told_sent, told_failed}
+use Rattle.flutejoin.proofs.carousel_lemmas.SentObjects.{told_failed_write}
 use Rattle.flutejoin.proofs.carousel_lemmas.SentReads.{told_reads}
 use Rattle.flutejoin.proofs.carousel.send_to.Goals as goal
 

@@ -8,7 +8,8 @@ use Rattle.flute_journal.specs.declared.readers.entry_fields.Before.{Before}
 use Rattle.flute_journal.specs.declared.format.version.Version.TheVariants.{Two}
 use Rattle.flute_journal.proofs.Public.{given-entry, loaded-read, sofar-none, journal_sound}
 use Rattle.flutejoin.specs.declared.limits.TheConstants.{MAX_ENTRIES}
-use Rattle.flutejoin.proofs.extract_lemmas.Extracted.{passing-next, passing-fault, passing-full, passing-end, given-fault, given-end}
+use Rattle.flutejoin.proofs.extract_lemmas.Extracted.{passing-next, passing-fault, passing-full}
+use Rattle.flutejoin.proofs.extract_lemmas.Extracted.{passing-end, given-fault, given-end}
 use Rattle.flutejoin.proofs.extract.read_into.Goals as goal
 
 pub loop-fact-init : goal.loop-fact-init

@@ -11,11 +11,14 @@ use Rattle.flutejoin.specs.Styles.{are_whole, printed}
 use Rattle.flutejoin.specs.Told.{Told}
 use Rattle.flutejoin.specs.declared.command_fault.CommandFault.TheVariants.{Input}
 use Rattle.flutejoin.specs.Limits.{at_most}
-use Rattle.flutejoin.proofs.gaps_lemmas.MovedAside.{counted, if_ok, was_value, was_done, on_any, fails_aside}
+use Rattle.flutejoin.proofs.gaps_lemmas.MovedAside.{counted, if_ok, was_value, was_done, on_any}
+use Rattle.flutejoin.proofs.gaps_lemmas.MovedAside.{fails_aside}
 use Rattle.flutejoin.proofs.Mapped.{read_failed, read_done}
 use Rattle.flutejoin.proofs.Shown.{entry_given, end_given, fault_given, no_read_failure}
-use Rattle.flutejoin.proofs.gaps_lemmas.GapsRead.{entry_rises, can_add, within_read, whole_read, one_more_read}
-use Rattle.flutejoin.proofs.gaps_lemmas.GapsRead.{full_read, fault_read, all_read, read_rises, is_open}
+use Rattle.flutejoin.proofs.gaps_lemmas.GapsRead.{entry_rises, can_add, within_read, whole_read}
+use Rattle.flutejoin.proofs.gaps_lemmas.GapsRead.{one_more_read}
+use Rattle.flutejoin.proofs.gaps_lemmas.GapsRead.{full_read, fault_read, all_read, read_rises}
+use Rattle.flutejoin.proofs.gaps_lemmas.GapsRead.{is_open}
 use Rattle.flutejoin.proofs.gaps_lemmas.GapsRead.{few_read}
 use Rattle.flutejoin.proofs.gaps.put_aside.Goals as goal
 

@@ -8,7 +8,8 @@ use Rattle.flutejoin.specs.JoinFaults.{of_aside}
 use Rattle.flutejoin.proofs.join_lemmas.Held.{all_held, all_over}
 use Rattle.flutejoin.proofs.join_lemmas.Inspections.{finds_wants}
 use Rattle.flutejoin.proofs.join_lemmas.JoinStops.{nothing_appended, not_inspected, one_failed_more}
-use Rattle.flutejoin.proofs.join_lemmas.JoinStops.{none_failed_more, full_together, not_written, joins_to}
+use Rattle.flutejoin.proofs.join_lemmas.JoinStops.{none_failed_more, full_together, not_written}
+use Rattle.flutejoin.proofs.join_lemmas.JoinStops.{joins_to}
 use Rattle.flutejoin.proofs.join.join_to.Goals as goal
 
 not_true : (b : Bool) → not b ≡ true → b ≡ false

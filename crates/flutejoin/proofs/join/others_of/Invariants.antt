@@ -5,4 +5,5 @@ use Rattle.flutejoin.specs.InputStreams.{passed_over}
 use Rattle.flutejoin.proofs.join.others_of.Given as goal
 
 abbrev pub invariant-loop-input : goal.invariant-loop-input
-invariant-loop-input g l = l.others ≡ min (l.fn.of_files + sum_by passed_over (take l.input-index l.inputs)) (2 ^ 64 - 1)
+invariant-loop-input g l =
+    l.others ≡ min (l.fn.of_files + sum_by passed_over (take l.input-index l.inputs)) (2 ^ 64 - 1)

@@ -8,5 +8,7 @@ pub returns-then-address-ne0-clause-text : goal.returns-then-address-ne0-clause-
 returns-then-address-ne0-clause-text c =
     let digits = rw c.unwrap.ensures at c.encode_to_slice.ensures.written in
     rw (c.push-then-address-ne0.ensures.text, c.push_bytes.ensures.text, c.push.ensures.text)
-    (source_pieces c.args.text.now c.encode_to_slice.new.output c.args.sender (grind (arith, c.if-address-ne0.true, c.number-address.ensures.value))
-    (digits ∙ ap encode_lower (c.as_slice.ensures ∙ c.to_be_bytes.ensures ∙ ap (bytes_high_first 16) c.number-address.ensures.value)))
+    (source_pieces c.args.text.now c.encode_to_slice.new.output c.args.sender
+    (grind (arith, c.if-address-ne0.true, c.number-address.ensures.value))
+    (digits ∙ ap encode_lower (c.as_slice.ensures ∙ c.to_be_bytes.ensures
+    ∙ ap (bytes_high_first 16) c.number-address.ensures.value)))

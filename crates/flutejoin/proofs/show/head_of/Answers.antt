@@ -6,17 +6,35 @@ use Rattle.flutejoin.proofs.show.head_of.Goals as goal
 pub returns-in-Info : goal.returns-in-Info
 unfolding fact_head
 returns-in-Info c =
-    rw (c.in-Info.is, c.push_information.ensures.text, c.push.ensures.text, c.push_key.ensures.text, c.new-text.ensures) refl
+    rw (
+      c.in-Info.is,
+      c.push_information.ensures.text,
+      c.push.ensures.text,
+      c.push_key.ensures.text,
+      c.new-text.ensures,
+    ) refl
 
 pub returns-in-InfoConflict : goal.returns-in-InfoConflict
 unfolding fact_head
 returns-in-InfoConflict c =
-    rw (c.in-InfoConflict.is, c.push-in-InfoConflict.ensures.text, c.push_key-in-InfoConflict.ensures.text, c.new-text.ensures) refl
+    rw (
+      c.in-InfoConflict.is,
+      c.push-in-InfoConflict.ensures.text,
+      c.push_key-in-InfoConflict.ensures.text,
+      c.new-text.ensures,
+    ) refl
 
 pub returns-in-Symbol : goal.returns-in-Symbol
 unfolding fact_head
 returns-in-Symbol c =
-    rw (c.in-Symbol.is, c.push_symbol.ensures.text, c.push-in-Symbol.ensures.text, c.push_key-in-Symbol.ensures.text, c.new-text.ensures, c.as_slice.ensures.value) refl
+    rw (
+      c.in-Symbol.is,
+      c.push_symbol.ensures.text,
+      c.push-in-Symbol.ensures.text,
+      c.push_key-in-Symbol.ensures.text,
+      c.new-text.ensures,
+      c.as_slice.ensures.value,
+    ) refl
 
 pub returns-in-SymbolConflict : goal.returns-in-SymbolConflict
 unfolding fact_head

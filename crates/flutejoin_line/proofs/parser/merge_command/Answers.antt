@@ -1,7 +1,8 @@
+use Rattle.std.proofs.Common.{rules}
 use Rattle.flutejoin_line.proofs.Parsing.{arguments_added}
 use Rattle.flutejoin_line.proofs.parser.merge_command.Goals as goal
 
 pub returns : goal.returns
-returns c = arguments_added c.in_ok-arguments.ensures.items
-    (c.output.ensures, (c.force.ensures, (c.input.ensures, (c.input-2.ensures, tt))))
-    c.named.ensures c.in_ok-command.ensures
+returns c =
+    arguments_added c.in_ok-arguments.ensures.items (search rules) c.named.ensures
+    c.in_ok-command.ensures

@@ -6,7 +6,8 @@ use Rattle.flutejoin_replicas.proofs.gaps.gaps_to.Given as goal
 
 abbrev pub invariant-loop-key : goal.invariant-loop-key
 invariant-loop-key g l = record {
-  listed : Listed (object_lines l.shelf) l.initial.keys l.keys (g.W.Sink.written l.initial.sink) (g.W.Sink.written l.sink);
+  listed : Listed (object_lines l.shelf) l.initial.keys l.keys (g.W.Sink.written l.initial.sink)
+      (g.W.Sink.written l.sink);
   failures : g.W.Sink.failures l.sink ≡ g.W.Sink.failures l.initial.sink;
 }
 

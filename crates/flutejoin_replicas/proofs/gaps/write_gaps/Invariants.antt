@@ -6,7 +6,8 @@ use Rattle.flutejoin_replicas.proofs.gaps.write_gaps.Given as goal
 
 abbrev pub invariant-loop-gap : goal.invariant-loop-gap
 invariant-loop-gap g l = record {
-  listed : Listed gap_line l.initial.gaps.gaps l.gaps.gaps (g.W.Sink.written l.initial.sink) (g.W.Sink.written l.sink);
+  listed : Listed gap_line l.initial.gaps.gaps l.gaps.gaps (g.W.Sink.written l.initial.sink)
+      (g.W.Sink.written l.sink);
   failures : g.W.Sink.failures l.sink ≡ g.W.Sink.failures l.initial.sink;
 }
 

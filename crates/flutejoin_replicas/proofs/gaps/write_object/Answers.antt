@@ -39,4 +39,5 @@ returns-in-Err-clause-lines g c =
     subst (λ (o : Option Status). MatchOption o (IsUnheard F key)
     (λ x. TellsStatus F key x)) c.unwrap-status.ensures c.status.ensures in
     object_alone F key c.unwrap-status.result c.in-Err.field-0 (g.W.Sink.written c.args.sink.now)
-    (g.W.Sink.written c.write_status.new.sink) told c.in-Err.ensures c.in_ok-write_status.ensures.line
+    (g.W.Sink.written c.write_status.new.sink) told c.in-Err.ensures
+    c.in_ok-write_status.ensures.line

@@ -5,4 +5,5 @@ use Rattle.flutejoin_replicas.proofs.gaps.write_status.Goals as goal
 pub returns-clause-line : goal.returns-clause-line
 returns-clause-line g c =
     subst (λ (x : List ℕ). Writes (g.W.Sink.written c.args.sink.now)
-    (g.W.Sink.written c.write_words.new.sink) x c.write_words.result) c.status_text.ensures.line c.write_words.ensures.line
+    (g.W.Sink.written c.write_words.new.sink) x c.write_words.result) c.status_text.ensures.line
+    c.write_words.ensures.line

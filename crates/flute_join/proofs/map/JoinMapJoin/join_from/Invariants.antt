@@ -19,5 +19,6 @@ invariant-loop-key g l =
       forbidden : over l.self l.key-iterator → over l.initial.self l.other;
       forbids : over l.initial.self l.other → over l.self l.key-iterator;
       ordered : IsOrdered g.K.Ord.cmp l.key-iterator;
-      each : EachValue g.V.Join.sound l.initial.self → EachValue g.V.Join.sound l.other → EachValue g.V.Join.sound l.self × EachValue g.V.Join.sound l.key-iterator;
+      each : EachValue g.V.Join.sound l.initial.self → EachValue g.V.Join.sound l.other
+          → EachValue g.V.Join.sound l.self × EachValue g.V.Join.sound l.key-iterator;
     }

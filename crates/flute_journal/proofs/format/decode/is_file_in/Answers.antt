@@ -1,5 +1,6 @@
 use Rattle.std.proofs.Common.{rules}
-use Rattle.flute_journal.proofs.Common.{arith, get_or, ap, big_endian, drop, length, length-drop, take_all, ◌≡◌, ◌<◌, ◌-◌, ◌∙◌}
+use Rattle.flute_journal.proofs.Common.{arith, get_or, ap, big_endian, drop, length, length-drop}
+use Rattle.flute_journal.proofs.Common.{take_all, ◌≡◌, ◌<◌, ◌-◌, ◌∙◌}
 use Rattle.std.proofs.lemmas.Bool.{eqb-true}
 use Rattle.flute_journal.proofs.{Numbers.{octets}, format_lemmas.SameFile.{file_named}}
 use Rattle.flute_journal.proofs.format.decode.is_file_in.Goals as goal

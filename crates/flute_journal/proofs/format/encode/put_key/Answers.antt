@@ -1,5 +1,9 @@
 -- put_key: the bytes it puts are those of the key (specs/Format).
-use Rattle.flute_journal.proofs.{Common.{◌≡◌, ℕ, ◌/◌, ◌%◌, ◌^◌, [], ◌∷◌, ◌++◌, List, ap, ◌∙◌, in_bytes, object_bytes}, Numbers.{in_halves}, format_lemmas.Written.{regroup_more, instance_bytes, file_bytes}, format.encode.put_key.Goals.{in-Some, in-None}}
+use Rattle.flute_journal.proofs.Common.{◌≡◌, ℕ, ◌/◌, ◌%◌, ◌^◌, [], ◌∷◌}
+use Rattle.flute_journal.proofs.Common.{◌++◌, List, ap, ◌∙◌, in_bytes, object_bytes}
+use Rattle.flute_journal.proofs.Numbers.{in_halves}
+use Rattle.flute_journal.proofs.format_lemmas.Written.{regroup_more, instance_bytes, file_bytes}
+use Rattle.flute_journal.proofs.format.encode.put_key.Goals.{in-Some, in-None}
 use Rattle.flute_journal.specs.Format.{sender_size}
 use Rattle.flute_journal.proofs.format.encode.put_key.Goals as goal
 
@@ -35,6 +39,7 @@ returns-clause-items c =
       c.sender.ensures,
       c.tsi.ensures.value,
     )
-    (regroup_more head (in_bytes 8 (s / 2 ^ 64)) (in_bytes 8 (s % 2 ^ 64)) (in_bytes 6 k.session.tsi) (tag ∷ []) (in_bytes 6 (n / 2 ^ 64)) (in_bytes 8 (n % 2 ^ 64))
+    (regroup_more head (in_bytes 8 (s / 2 ^ 64)) (in_bytes 8 (s % 2 ^ 64))
+    (in_bytes 6 k.session.tsi) (tag ∷ []) (in_bytes 6 (n / 2 ^ 64)) (in_bytes 8 (n % 2 ^ 64))
     ∙ (λ i. head ++ (in_halves 8 s i ++ (in_bytes 6 k.session.tsi ++ (tag ∷ in_halves 6 n i))))
     ∙ ap (λ (z : List ℕ). head ++ (in_bytes 16 s ++ (in_bytes 6 k.session.tsi ++ z))) object)

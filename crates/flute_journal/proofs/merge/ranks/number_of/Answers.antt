@@ -1,4 +1,5 @@
-use Rattle.flute_journal.proofs.{Common.{◌<◌, arith, sym, ◌∙◌}, merge_lemmas.RankFacts.{rank-info, rank-symbol}}
+use Rattle.flute_journal.proofs.Common.{◌<◌, arith, sym, ◌∙◌}
+use Rattle.flute_journal.proofs.merge_lemmas.RankFacts.{rank-info, rank-symbol}
 use Rattle.flute_journal.proofs.merge.ranks.number_of.Goals as goal
 
 pub returns-in-Info : goal.returns-in-Info

@@ -1,4 +1,5 @@
-use Rattle.flute_journal.proofs.{Common.{arith, sym, ap, ◌∙◌}, merge_lemmas.RankFacts.{rank-info, symbol-rank}}
+use Rattle.flute_journal.proofs.Common.{arith, sym, ap, ◌∙◌}
+use Rattle.flute_journal.proofs.merge_lemmas.RankFacts.{rank-info, symbol-rank}
 use Rattle.flute_journal.specs.Ranks.{part_at}
 use Rattle.flute_journal.proofs.merge.ranks.part_of.Goals as goal
 

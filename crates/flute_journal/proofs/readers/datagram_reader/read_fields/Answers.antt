@@ -1,5 +1,8 @@
 -- read_fields: what was read at the end of the file, over the bound, and after a fault.
-use Rattle.flute_journal.proofs.{Common.{◌≡◌, length, rules, Err, sym, ap, ◌∙◌, subst, err_from_is_err_and, ReadsNext, file_framing}, framing_lemmas.ReadsUpTo.{fault_here}, framing_lemmas.Records.{too_many_records, record_stops, no_record}}
+use Rattle.flute_journal.proofs.Common.{◌≡◌, length, rules, Err, sym, ap, ◌∙◌, subst}
+use Rattle.flute_journal.proofs.Common.{err_from_is_err_and, ReadsNext, file_framing}
+use Rattle.flute_journal.proofs.framing_lemmas.ReadsUpTo.{fault_here}
+use Rattle.flute_journal.proofs.framing_lemmas.Records.{too_many_records, record_stops, no_record}
 use Rattle.flute_journal.proofs.readers.datagram_reader.read_fields.Goals as goal
 
 pub returns-then-is_empty-clause-reads : goal.returns-then-is_empty-clause-reads

@@ -1,4 +1,7 @@
-use Rattle.flute_journal.proofs.{Common.{Err, sym, ap, ◌∙◌, subst, err_from_is_err_and, ReadsFrom, file_framing}, framing_lemmas.Framed.{reads_header}, framing_lemmas.Framings.{file_sound}}
+use Rattle.flute_journal.proofs.Common.{Err, sym, ap, ◌∙◌, subst, err_from_is_err_and}
+use Rattle.flute_journal.proofs.Common.{ReadsFrom, file_framing}
+use Rattle.flute_journal.proofs.framing_lemmas.Framed.{reads_header}
+use Rattle.flute_journal.proofs.framing_lemmas.Framings.{file_sound}
 use Rattle.flute_journal.specs.declared.readers.reader_state.ReaderState.TheVariants.{Header}
 use Rattle.flute_journal.proofs.readers.datagram_reader.read_first.Goals as goal
 

@@ -1,4 +1,8 @@
-use Rattle.flute_journal.proofs.{Common.{ap, sym, ◌∙◌}, readers_lemmas.Calls.{gives_at}, readers.journal_reader.read_at.Goals.{in-Items+then-before-max_entries+in-Ok-None, in-Items+else-before-max_entries, in_default}}
+use Rattle.flute_journal.proofs.Common.{ap, sym, ◌∙◌}
+use Rattle.flute_journal.proofs.readers_lemmas.Calls.{gives_at}
+use Rattle.flute_journal.proofs.readers.journal_reader.read_at.Goals.{in-Items+then-before-max_entries+in-Ok-None}
+use Rattle.flute_journal.proofs.readers.journal_reader.read_at.Goals.{in-Items+else-before-max_entries}
+use Rattle.flute_journal.proofs.readers.journal_reader.read_at.Goals.{in_default}
 use Rattle.flute_journal.proofs.readers.journal_reader.read_at.Goals as goal
 
 pub returns-clause-gives : goal.returns-clause-gives

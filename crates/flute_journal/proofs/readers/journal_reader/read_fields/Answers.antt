@@ -1,4 +1,6 @@
-use Rattle.flute_journal.proofs.{Common.{Items, journal_framing, refl}, framing_lemmas.Framed.{gives}, readers_lemmas.Calls.{reads_entries}}
+use Rattle.flute_journal.proofs.Common.{Items, journal_framing, refl}
+use Rattle.flute_journal.proofs.framing_lemmas.Framed.{gives}
+use Rattle.flute_journal.proofs.readers_lemmas.Calls.{reads_entries}
 use Rattle.flute_journal.proofs.readers.journal_reader.read_fields.Goals as goal
 
 pub returns-in-Header-clause-gives : goal.returns-in-Header-clause-gives

@@ -1,4 +1,7 @@
-use Rattle.flute_journal.proofs.{Common.{Err, Failed, Header, Two, journal_framing, refl}, framing_lemmas.Framed.{reads_header, reads_first, gives}, framing_lemmas.Framings.{journal_sound}, readers_lemmas.Calls.{any_fault}}
+use Rattle.flute_journal.proofs.Common.{Err, Failed, Header, Two, journal_framing, refl}
+use Rattle.flute_journal.proofs.framing_lemmas.Framed.{reads_header, reads_first, gives}
+use Rattle.flute_journal.proofs.framing_lemmas.Framings.{journal_sound}
+use Rattle.flute_journal.proofs.readers_lemmas.Calls.{any_fault}
 use Rattle.flute_journal.proofs.readers.journal_reader.read_first.Goals as goal
 
 pub returns-in-Ok-clause-gives : goal.returns-in-Ok-clause-gives

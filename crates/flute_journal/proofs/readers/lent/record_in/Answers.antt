@@ -1,5 +1,7 @@
 -- record_in: the bytes begin with the record of the datagram it returns.
-use Rattle.flute_journal.proofs.Common.{◌≡◌, rules, ℕ, ◌+◌, ◌^◌, ◌<◌, List, ◌++◌, length, take, sym, ap, ◌∙◌, subst, arith, length-append, AllByRecursion, IsByte}
+use Rattle.flute_journal.proofs.Common.{◌≡◌, rules, ℕ, ◌+◌, ◌^◌, ◌<◌, List}
+use Rattle.flute_journal.proofs.Common.{◌++◌, length, take, sym, ap, ◌∙◌, subst, arith}
+use Rattle.flute_journal.proofs.Common.{length-append, AllByRecursion, IsByte}
 use Rattle.flute_journal.specs.Lent.{BeginsWithRecord}
 use Rattle.flute_journal.specs.Numbers.{in_bytes}
 use Rattle.flute_journal.specs.Records.{record_of}
@@ -8,12 +10,15 @@ use Rattle.flute_journal.proofs.format_lemmas.Decoded.{joined, in_front}
 use Rattle.flute_journal.proofs.readers.lent.record_in.Goals as goal
 
 -- the bytes of a datagram follow their number
-record_begins : (n : ℕ) (number rest datagram : List ℕ) → in_bytes 2 n ≡ number → length number ≡ 2 → datagram ≡ take n rest → length datagram ≡ n → n < 2 ^ 16
+record_begins : (n : ℕ) (number rest datagram : List ℕ) → in_bytes 2 n ≡ number
+    → length number ≡ 2 → datagram ≡ take n rest → length datagram ≡ n → n < 2 ^ 16
     → AllByRecursion IsByte datagram → BeginsWithRecord (number ++ rest) datagram
 record_begins n number rest datagram spelled two is size short octets =
     let begins = in_front number datagram rest n is in
-    let long : length (number ++ datagram) ≡ 2 + length datagram = omega (arith, length-append number datagram, two) in
-    let of_record : number ++ datagram ≡ record_of datagram = ap (λ xs. xs ++ datagram) (sym spelled ∙ ap (in_bytes 2) (sym size)) in
+    let long : length (number ++ datagram) ≡ 2 + length datagram =
+    omega (arith, length-append number datagram, two) in
+    let of_record : number ++ datagram ≡ record_of datagram =
+    ap (λ xs. xs ++ datagram) (sym spelled ∙ ap (in_bytes 2) (sym size)) in
     record {
       valid = record { short = omega (arith, size, short); octets = octets };
       within = omega (arith, begins.0, long);
@@ -31,9 +36,11 @@ returns-clause-begins c =
     let split = c.in-Some.ensures.cases in
     let all : AllByRecursion IsByte bytes = octets bytes (λ i. (c.type_inv.bytes i).fits) in
     let size : length datagram ≡ n = omega (arith, found.3, c.from.ensures) in
-    let is : datagram ≡ take n rest = found.2 ∙ ap (λ n. take n rest) (omega (arith, c.from.ensures)) in
+    let is : datagram ≡ take n rest =
+    found.2 ∙ ap (λ n. take n rest) (omega (arith, c.from.ensures)) in
     let own : AllByRecursion IsByte datagram = grind (arith, octets-take, octets-drop) in
     let kept : datagram ≡ c.in-Ok.datagram = search rules in
     subst (λ xs. BeginsWithRecord xs c.in-Ok.datagram) (sym (joined bytes number rest 2 split))
     (subst (BeginsWithRecord (number ++ rest)) kept
-    (record_begins n number rest datagram c.length_in.ensures.spelled (search rules) is size (search rules) own))
+    (record_begins n number rest datagram c.length_in.ensures.spelled (search rules) is size
+    (search rules) own))

@@ -1,22 +1,32 @@
-use Rattle.flute_journal.proofs.{Common.{◌≡◌, Some, rules, slice_get, flat_map, err_from_is_err_and, AppendsPart-first, file_header, record_of}, writers_lemmas.Sending.{sent-part, sent-all, sent-file}}
+use Rattle.flute_journal.proofs.Common.{◌≡◌, Some, rules, slice_get, flat_map}
+use Rattle.flute_journal.proofs.Common.{err_from_is_err_and, AppendsPart-first, file_header}
+use Rattle.flute_journal.proofs.Common.{record_of}
+use Rattle.flute_journal.proofs.writers_lemmas.Sending.{sent-part, sent-all, sent-file}
 use Rattle.flute_journal.proofs.writers.datagram_file.write_datagrams.Goals as goal
 
 pub returns-in_err-write_all-clause-bytes : goal.returns-in_err-write_all-clause-bytes
 returns-in_err-write_all-clause-bytes g c =
     let e = err_from_is_err_and c.from_residual.result c.from_residual.ensures.1 in
-    rw e.1 (AppendsPart-first (g.W.Sink.written c.args.sink.now) (g.W.Sink.written c.write_all.new.self) file_header (flat_map record_of c.args.datagrams.now) c.in_err-write_all.ensures.bytes)
+    rw e.1 (AppendsPart-first (g.W.Sink.written c.args.sink.now)
+    (g.W.Sink.written c.write_all.new.self) file_header
+    (flat_map record_of c.args.datagrams.now) c.in_err-write_all.ensures.bytes)
 
 pub returns-in_err-write_record-clause-bytes : goal.returns-in_err-write_record-clause-bytes
 returns-in_err-write_record-clause-bytes g c =
-    let e = err_from_is_err_and c.from_residual-in_err-write_record.result c.from_residual-in_err-write_record.ensures.1 in
-    let here : slice_get c.args.datagrams.now c.loop-datagram.place ≡ Some c.in-Some.datagram.now = search rules in
-    rw e.1 (sent-part c.args.datagrams.now c.loop-datagram.place (g.W.Sink.written c.args.sink.now) (g.W.Sink.written c.loop-datagram.sink) (g.W.Sink.written c.write_record.new.sink)
+    let e = err_from_is_err_and c.from_residual-in_err-write_record.result
+    c.from_residual-in_err-write_record.ensures.1 in
+    let here : slice_get c.args.datagrams.now c.loop-datagram.place
+    ≡ Some c.in-Some.datagram.now = search rules in
+    rw e.1 (sent-part c.args.datagrams.now c.loop-datagram.place (g.W.Sink.written c.args.sink.now)
+    (g.W.Sink.written c.loop-datagram.sink) (g.W.Sink.written c.write_record.new.sink)
     c.in-Some.datagram.now c.loop-datagram.invariant.0 here c.in_err-write_record.ensures.bytes)
 
 pub returns-clause-bytes : goal.returns-clause-bytes
 returns-clause-bytes g c =
-    sent-all c.args.datagrams.now c.loop-datagram.place (g.W.Sink.written c.args.sink.now) (g.W.Sink.written c.loop-datagram.sink) c.loop-datagram.invariant.0 (search rules)
+    sent-all c.args.datagrams.now c.loop-datagram.place (g.W.Sink.written c.args.sink.now)
+    (g.W.Sink.written c.loop-datagram.sink) c.loop-datagram.invariant.0 (search rules)
 
 pub returns-clause-file : goal.returns-clause-file
 returns-clause-file g c =
-    sent-file c.args.datagrams.now c.loop-datagram.place (g.W.Sink.written c.args.sink.now) (g.W.Sink.written c.loop-datagram.sink) c.loop-datagram.invariant.0 (search rules)
+    sent-file c.args.datagrams.now c.loop-datagram.place (g.W.Sink.written c.args.sink.now)
+    (g.W.Sink.written c.loop-datagram.sink) c.loop-datagram.invariant.0 (search rules)

@@ -1,4 +1,5 @@
-use Rattle.flute_journal.proofs.Common.{length, rules, err_from_is_err_and, AppendsPart-first, Writes-behind, in_bytes}
+use Rattle.flute_journal.proofs.Common.{length, rules, err_from_is_err_and, AppendsPart-first}
+use Rattle.flute_journal.proofs.Common.{Writes-behind, in_bytes}
 use Rattle.flute_journal.proofs.writers.datagram_file.write_record.Goals as goal
 
 pub returns-in_err-write_all-clause-bytes : goal.returns-in_err-write_all-clause-bytes
@@ -11,5 +12,7 @@ returns-in_err-write_all-clause-bytes g c =
 
 pub returns-clause-bytes : goal.returns-clause-bytes
 returns-clause-bytes g c =
-    Writes-behind (g.W.Sink.written c.args.sink.now) (g.W.Sink.written c.write_all.new.self) (g.W.Sink.written c.write_all-2.new.self)
-    (in_bytes 2 (length c.args.datagram.now)) c.args.datagram.now c.write_all-2.result (search rules) (search rules)
+    Writes-behind (g.W.Sink.written c.args.sink.now) (g.W.Sink.written c.write_all.new.self)
+    (g.W.Sink.written c.write_all-2.new.self)
+    (in_bytes 2 (length c.args.datagram.now)) c.args.datagram.now c.write_all-2.result
+    (search rules) (search rules)

@@ -16,8 +16,10 @@ pub loop-source-preserved : goal.loop-source-preserved
 loop-source-preserved g c =
     let b = journal_behaviour g.R.Source.unread g.R.Source.failures in
     let old = c.loop-source.streams.items in
-    let e = pushed c.push.result c.push.new.self.items old c.new.result (sym c.is_err.ensures.value ∙ c.if-is_err.false) c.push.ensures.items in
-    subst (NewStreams b) (sym e) (one_more b old c.new.result c.loop-source.invariant c.new.ensures.new c.new.ensures.most (omega (arith, c.if-len-ge64.false, c.len.ensures)))
+    let e = pushed c.push.result c.push.new.self.items old c.new.result
+    (sym c.is_err.ensures.value ∙ c.if-is_err.false) c.push.ensures.items in
+    subst (NewStreams b) (sym e) (one_more b old c.new.result c.loop-source.invariant
+    c.new.ensures.new c.new.ensures.most (omega (arith, c.if-len-ge64.false, c.len.ensures)))
 
 pub merge_slice-requires-clause-new : goal.merge_slice-requires-clause-new
 merge_slice-requires-clause-new g c =

@@ -1,4 +1,5 @@
-use Rattle.std.proofs.Common.{ℕ, Bool, true, false, List, ◌++◌, take, drop, Option, Some, None, sym, ap, ◌∙◌, ◌==◌, if◌then◌else◌, append_assoc}
+use Rattle.std.proofs.Common.{ℕ, Bool, true, false, List, ◌++◌, take, drop, Option, Some}
+use Rattle.std.proofs.Common.{None, sym, ap, ◌∙◌, ◌==◌, if◌then◌else◌, append_assoc}
 use Rattle.std.proofs.lemmas.List.{take-append-drop}
 use Rattle.std.specs.Io.Buffered.{reader_buffer, reader_capacity}
 use Rattle.std.specs.Io.KnownBytes.{Consumes, prepend_known}
@@ -6,12 +7,17 @@ use Rattle.flute_parts.proofs.buffered_source.BufferedSourceSource.consume.Goals
 
 -- what a buffer holds is taken from its front
 taken : (none : Bool) (n : ℕ) (buffer : List ℕ) (rest : Option (List ℕ))
-    → Consumes (if none then None else prepend_known buffer rest) (if none then None else prepend_known (drop n buffer) rest) (take n buffer)
+    → Consumes (if none then None else prepend_known buffer rest)
+    (if none then None else prepend_known (drop n buffer) rest) (take n buffer)
 taken true n buffer rest = tt
 taken false n buffer None = tt
-taken false n buffer (Some rest) = ap (λ front. front ++ rest) (sym (take-append-drop n buffer)) ∙ append_assoc (take n buffer) (drop n buffer) rest
+taken false n buffer (Some rest) =
+    ap (λ front. front ++ rest) (sym (take-append-drop n buffer))
+    ∙ append_assoc (take n buffer) (drop n buffer) rest
 
 pub returns-clause-bytes : goal.returns-clause-bytes
 returns-clause-bytes g c =
     rw (c.consume.ensures.buffer, c.consume.ensures.inner, c.consume.ensures.capacity)
-    (taken (reader_capacity c.args.self.now.source.reader == 0) c.args.count (reader_buffer c.args.self.now.source.reader) (g.R.Read.remaining c.args.self.now.source.reader.inner))
+    (taken (reader_capacity c.args.self.now.source.reader == 0) c.args.count
+    (reader_buffer c.args.self.now.source.reader)
+    (g.R.Read.remaining c.args.self.now.source.reader.inner))

@@ -1,5 +1,6 @@
 -- Sink::write_all: its loop over calls of write, and what a failed one has taken.
-use Rattle.std.proofs.Common.{◌≡◌, ℕ, ◌+◌, ◌-◌, ◌<◌, ◌≤◌, List, Option, rules, arith, length, take, take_all, drop, sym, ap, subst}
+use Rattle.std.proofs.Common.{◌≡◌, ℕ, ◌+◌, ◌-◌, ◌<◌, ◌≤◌, List, Option}
+use Rattle.std.proofs.Common.{rules, arith, length, take, take_all, drop, sym, ap, subst}
 use Rattle.std.proofs.lemmas.List.{take-append-drop, length-drop}
 use Rattle.std.proofs.lemmas.Result.{err_from_is_err_and}
 use Rattle.std.specs.Io.KnownBytes.{Appends, Keeps}
@@ -9,31 +10,43 @@ use Rattle.flute_parts.specs.Devices.{AppendsPart}
 use Rattle.flute_parts.proofs.device.Sink.write_all.Goals as goal
 
 -- a failed call leaves the part that was taken before it
-part_of : (old mid new : Option (List ℕ)) (bytes : List ℕ) (n : ℕ) → n < length bytes → Appends old mid (take n bytes) → Keeps mid new → AppendsPart old new bytes
+part_of : (old mid new : Option (List ℕ)) (bytes : List ℕ) (n : ℕ) → n < length bytes
+    → Appends old mid (take n bytes) → Keeps mid new → AppendsPart old new bytes
 part_of old mid new bytes n lt done kept = record {
   part = take n bytes;
   rest = drop n bytes;
   appended = Appends-kept _ _ _ _ done kept;
   whole = sym (take-append-drop n bytes);
-  cut = λ e. absurd (let l : length (drop n bytes) ≡ 0 = ap length e in omega (arith, length-drop n bytes, l));
+  cut = λ e. absurd (let l : length (drop n bytes) ≡ 0 =
+      ap length e in omega (arith, length-drop n bytes, l));
 }
 
 -- n bytes more were taken
-goes_on : (old mid new : Option (List ℕ)) (bytes : List ℕ) (w n : ℕ) → w ≤ length bytes → n ≤ length (take (length bytes - w) (drop w bytes))
-    → Appends old mid (take w bytes) → Appends mid new (take n (take (length bytes - w) (drop w bytes))) → (w + n ≤ length bytes) × Appends old new (take (w + n) bytes)
+goes_on : (old mid new : Option (List ℕ)) (bytes : List ℕ) (w n : ℕ) → w ≤ length bytes
+    → n ≤ length (take (length bytes - w) (drop w bytes))
+    → Appends old mid (take w bytes)
+    → Appends mid new (take n (take (length bytes - w) (drop w bytes)))
+    → (w + n ≤ length bytes) × Appends old new (take (w + n) bytes)
 goes_on old mid new bytes w n le fits done more =
-    let rest : take (length bytes - w) (drop w bytes) ≡ drop w bytes = take_all (length bytes - w) (drop w bytes) (omega (arith, length-drop w bytes)) in
+    let rest : take (length bytes - w) (drop w bytes) ≡ drop w bytes =
+    take_all (length bytes - w) (drop w bytes) (omega (arith, length-drop w bytes)) in
     let fits' : n ≤ length (drop w bytes) = subst (λ (xs : List ℕ). n ≤ length xs) rest fits in
-    let more' : Appends mid new (take n (drop w bytes)) = subst (λ (xs : List ℕ). Appends mid new (take n xs)) rest more in
-    (omega (arith, fits', length-drop w bytes), subst (Appends old new) (sym (take-add w n bytes)) (Appends-trans old mid new _ _ done more'))
+    let more' : Appends mid new (take n (drop w bytes)) =
+    subst (λ (xs : List ℕ). Appends mid new (take n xs)) rest more in (
+      omega (arith, fits', length-drop w bytes),
+      subst (Appends old new) (sym (take-add w n bytes))
+          (Appends-trans old mid new _ _ done more'),
+    )
 
 pub returns-in_err-written-clause-bytes : goal.returns-in_err-written-clause-bytes
 returns-in_err-written-clause-bytes g c =
     let e = err_from_is_err_and c.from_residual.result c.from_residual.ensures.1 in
-    rw e.1 (part_of _ _ _ _ _ (omega arith) c.loop-written.invariant.1 c.in_err-written.ensures.bytes)
+    rw e.1 (part_of _ _ _ _ _ (omega arith) c.loop-written.invariant.1
+    c.in_err-written.ensures.bytes)
 
 pub loop-written-preserved : goal.loop-written-preserved
 loop-written-preserved g c =
     let n = c.loop-written.written in
-    let on = goes_on _ _ _ _ n _ c.loop-written.invariant.0 c.in_ok-written.ensures.bound c.loop-written.invariant.1 c.in_ok-written.ensures.bytes in
+    let on = goes_on _ _ _ _ n _ c.loop-written.invariant.0 c.in_ok-written.ensures.bound
+    c.loop-written.invariant.1 c.in_ok-written.ensures.bytes in
     (on.0, on.1, search rules)

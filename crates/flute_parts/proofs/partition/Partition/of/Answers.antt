@@ -5,7 +5,8 @@ use Rattle.flute_parts.proofs.Split.{IsSplit-none, IsSplit-of}
 use Rattle.flute_parts.proofs.partition.Partition.of.Goals as goal
 
 pub invariant_of-result : goal.invariant_of-result
-invariant_of-result c = IsSplit-none c.args.info.now (sym c.length.ensures.value ∙ c.if-length-eq0.true)
+invariant_of-result c =
+    IsSplit-none c.args.info.now (sym c.length.ensures.value ∙ c.if-length-eq0.true)
 
 pub invariant_of-result-2 : goal.invariant_of-result-2
 invariant_of-result-2 c =
@@ -14,4 +15,5 @@ invariant_of-result-2 c =
     let t : c.div_ceil-symbols.result ≡ symbol_count i = cc in
     let b : n ≡ block_count i = cc in
     let l : 0 < i.transfer_length = omega arith in
-    subst (λ x. IsSplit i x (x % n) (n - x % n) (x / n)) (sym t) (IsSplit-of i n b l (c.length.ensures.valid.parts l))
+    subst (λ x. IsSplit i x (x % n) (n - x % n) (x / n)) (sym t)
+    (IsSplit-of i n b l (c.length.ensures.valid.parts l))

@@ -5,4 +5,5 @@ use Rattle.flute_parts.specs.Partition.{symbol_id}
 use Rattle.flute_parts_tests.proofs.tests.listing.list_block.Given as goal
 
 abbrev pub invariant-loop-esi : goal.invariant-loop-esi
-invariant-loop-esi l = l.found.items ≡ l.initial.found.items ++ map (symbol_id l.sbn) (range_with_len 0 l.esi)
+invariant-loop-esi l =
+    l.found.items ≡ l.initial.found.items ++ map (symbol_id l.sbn) (range_with_len 0 l.esi)

@@ -1,5 +1,6 @@
 -- listed, a test's helper: it lists all ids of a partition.
-use Rattle.std.proofs.Common.{◌≡◌, ℕ, ◌<◌, ◌≤◌, List, [], ◌++◌, length, get_or, drop, flat_map, sym, ap, ◌∙◌, subst, append-nil, arith}
+use Rattle.std.proofs.Common.{◌≡◌, ℕ, ◌<◌, ◌≤◌, List, [], ◌++◌, length}
+use Rattle.std.proofs.Common.{get_or, drop, flat_map, sym, ap, ◌∙◌, subst, append-nil, arith}
 use Rattle.std.specs.List.{enumerate_from}
 use Rattle.std.proofs.Math.Facts.{Fits-of_lt}
 use Rattle.std.proofs.lemmas.List.{drop_all}
@@ -11,7 +12,8 @@ use Rattle.flute_parts_tests.proofs.tests.listing.listed.Goals as goal
 pub overflow_cast-sbn : goal.overflow_cast-sbn
 overflow_cast-sbn c =
     let few = sizes-few c.args.info.now c.in_ok-lengths.ensures.1 in
-    let all : length c.deref-length-items.result.now ≡ length (sizes c.args.info.now) = ap length (c.deref-length-items.ensures.value ∙ c.in_ok-lengths.ensures.0) in
+    let all : length c.deref-length-items.result.now ≡ length (sizes c.args.info.now) =
+    ap length (c.deref-length-items.ensures.value ∙ c.in_ok-lengths.ensures.0) in
     let less : c.loop-sbn.sbn < 65536 = omega arith in
     Fits-of_lt less
 
@@ -27,6 +29,8 @@ returns c =
     let items = c.deref-length-items.result.now in
     let none : drop c.loop-sbn.sbn items ≡ [] = drop_all c.loop-sbn.sbn items (omega arith) in
     sym (append-nil c.loop-sbn.found.items)
-    ∙ ap (λ xs. c.loop-sbn.found.items ++ flat_map block_ids (enumerate_from c.loop-sbn.sbn xs)) (sym none)
+    ∙ ap (λ xs. c.loop-sbn.found.items ++ flat_map block_ids (enumerate_from c.loop-sbn.sbn xs))
+    (sym none)
     ∙ c.loop-sbn.invariant
-    ∙ ap (λ xs. flat_map block_ids (enumerate_from 0 xs)) (c.deref-length-items.ensures.value ∙ c.in_ok-lengths.ensures.0)
+    ∙ ap (λ xs. flat_map block_ids (enumerate_from 0 xs))
+    (c.deref-length-items.ensures.value ∙ c.in_ok-lengths.ensures.0)

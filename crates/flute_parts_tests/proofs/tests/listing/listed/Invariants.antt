@@ -5,4 +5,6 @@ use Rattle.flute_parts.specs.Partition.{block_ids}
 use Rattle.flute_parts_tests.proofs.tests.listing.listed.Given as goal
 
 abbrev pub invariant-loop-sbn : goal.invariant-loop-sbn
-invariant-loop-sbn l = l.found.items ++ flat_map block_ids (enumerate_from l.sbn (drop l.sbn l.length-items)) ≡ flat_map block_ids (enumerate_from 0 l.length-items)
+invariant-loop-sbn l =
+    l.found.items ++ flat_map block_ids (enumerate_from l.sbn (drop l.sbn l.length-items))
+    ≡ flat_map block_ids (enumerate_from 0 l.length-items)

@@ -11,7 +11,8 @@ use Rattle.flutejoin.proofs.carousel_lemmas.SentReads.{reads_back}
 use Rattle.flutejoin.specs.Sending.{ReadFailures, ReadsOf, UnlessRead, SendsPackets, Makes}
 use Rattle.flutejoin.specs.Sending.{packet_with}
 use Rattle.flutejoin.specs.declared.command_fault.CommandFault.{CommandFault}
-use Rattle.flutejoin.proofs.carousel_lemmas.SentSoFar.{SentSoFar, reads_on, left_are, sent_next, fails_at, sent_all}
+use Rattle.flutejoin.proofs.carousel_lemmas.SentSoFar.{SentSoFar, reads_on, left_are, sent_next}
+use Rattle.flutejoin.proofs.carousel_lemmas.SentSoFar.{fails_at, sent_all}
 use Rattle.flutejoin.proofs.carousel_lemmas.SentSoFar.{sent_part, unless_on, sink_fails}
 use Rattle.flutejoin.proofs.carousel.sending.send_symbols.Goals as goal
 

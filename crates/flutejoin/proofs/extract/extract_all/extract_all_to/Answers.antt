@@ -11,8 +11,10 @@ use Rattle.flutejoin.specs.Limits.{at_most}
 use Rattle.flutejoin.proofs.extract_lemmas.FolderSteps.{stays_on}
 use Rattle.flutejoin.proofs.Mapped.{read_failed, read_done}
 use Rattle.flutejoin.proofs.Shown.{entry_given, end_given, fault_given, no_read_failure}
-use Rattle.flutejoin.proofs.extract_lemmas.FilesRead.{if_ok, if_err, entry_rises, within_read, whole_read}
-use Rattle.flutejoin.proofs.extract_lemmas.FilesRead.{more_read, full_read, fault_read, all_read, read_rises}
+use Rattle.flutejoin.proofs.extract_lemmas.FilesRead.{if_ok, if_err, entry_rises, within_read}
+use Rattle.flutejoin.proofs.extract_lemmas.FilesRead.{whole_read}
+use Rattle.flutejoin.proofs.extract_lemmas.FilesRead.{more_read, full_read, fault_read, all_read}
+use Rattle.flutejoin.proofs.extract_lemmas.FilesRead.{read_rises}
 use Rattle.flutejoin.proofs.extract_lemmas.FilesRead.{known_some, few_files, can_pick}
 use Rattle.flutejoin.proofs.extract.extract_all.extract_all_to.Goals as goal
 

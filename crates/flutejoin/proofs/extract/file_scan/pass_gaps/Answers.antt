@@ -1,6 +1,7 @@
 -- pass_gaps: its loop over the gaps before the next symbol.
 use Rattle.std.proofs.Common.{arith}
-use Rattle.flutejoin.proofs.extract_lemmas.FileScans.{gave_nothing, gave_one, gave_then, follows_still}
+use Rattle.flutejoin.proofs.extract_lemmas.FileScans.{gave_nothing, gave_one, gave_then}
+use Rattle.flutejoin.proofs.extract_lemmas.FileScans.{follows_still}
 use Rattle.flutejoin.proofs.extract.file_scan.pass_gaps.Goals as goal
 
 pub loop-gap-init : goal.loop-gap-init

@@ -1,6 +1,8 @@
 -- pass_next: the scan after each kind of turn.
-use Rattle.flutejoin.proofs.extract_lemmas.FileScans.{comes_first, gave_nothing, gave_one, follows_still, gave_gap}
-use Rattle.flutejoin.proofs.extract_lemmas.FileScans.{turned_fitting, turned_passed, turned_end, turned_wanted}
+use Rattle.flutejoin.proofs.extract_lemmas.FileScans.{comes_first, gave_nothing, gave_one}
+use Rattle.flutejoin.proofs.extract_lemmas.FileScans.{follows_still, gave_gap}
+use Rattle.flutejoin.proofs.extract_lemmas.FileScans.{turned_fitting, turned_passed, turned_end}
+use Rattle.flutejoin.proofs.extract_lemmas.FileScans.{turned_wanted}
 use Rattle.flutejoin.proofs.extract_lemmas.FileScans.{after_gaps}
 use Rattle.flutejoin.proofs.extract.file_scan.pass_next.Goals as goal
 

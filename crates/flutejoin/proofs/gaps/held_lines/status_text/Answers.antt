@@ -4,4 +4,10 @@ use Rattle.flutejoin.proofs.gaps.held_lines.status_text.Goals as goal
 
 pub returns-clause-line : goal.returns-clause-line
 unfolding status_line
-returns-clause-line c = rw (c.push_status.ensures.text, c.push.ensures.text, c.push_key.ensures.text, c.new-text.ensures) refl
+returns-clause-line c =
+    rw (
+      c.push_status.ensures.text,
+      c.push.ensures.text,
+      c.push_key.ensures.text,
+      c.new-text.ensures,
+    ) refl

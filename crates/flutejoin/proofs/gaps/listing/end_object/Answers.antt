@@ -3,7 +3,8 @@ use Rattle.std.proofs.Common.{subst, refl, flat_map}
 use Rattle.flutejoin.specs.Listing.{StateIs}
 use Rattle.flutejoin.specs.Styles.{shown_gap}
 use Rattle.flutejoin.specs.declared.gaps.listing.ObjectState.{ObjectState}
-use Rattle.flutejoin.proofs.gaps_lemmas.OpenObjects.{no_information_told, conflict_told, scan_gave, scan_told}
+use Rattle.flutejoin.proofs.gaps_lemmas.OpenObjects.{no_information_told, conflict_told, scan_gave}
+use Rattle.flutejoin.proofs.gaps_lemmas.OpenObjects.{scan_told}
 use Rattle.flutejoin.proofs.gaps.listing.end_object.Goals as goal
 
 pub returns-in-NoInformation-clause-told : goal.returns-in-NoInformation-clause-told

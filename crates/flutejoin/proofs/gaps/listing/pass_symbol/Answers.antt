@@ -6,7 +6,8 @@ use Rattle.flute_store.specs.Scan.{next_fact}
 use Rattle.flutejoin.specs.Listing.{StateIs}
 use Rattle.flutejoin.specs.Styles.{shown_gap}
 use Rattle.flutejoin.specs.declared.gaps.listing.ObjectState.{ObjectState}
-use Rattle.flutejoin.proofs.gaps_lemmas.OpenObjects.{on_ok, passes_none, passes_conflict, passes_scan}
+use Rattle.flutejoin.proofs.gaps_lemmas.OpenObjects.{on_ok, passes_none, passes_conflict}
+use Rattle.flutejoin.proofs.gaps_lemmas.OpenObjects.{passes_scan}
 use Rattle.flutejoin.proofs.gaps_lemmas.OpenObjects.{scan_rising}
 use Rattle.flutejoin.proofs.gaps.listing.pass_symbol.Goals as goal
 

@@ -1,7 +1,8 @@
 -- add_to_stream: it is the journal that stops, if a stream does.
 use Rattle.std.proofs.Common.{◌≡◌, Bool, true, false, not, refl}
 use Rattle.flutejoin.specs.Limits.{at_most}
-use Rattle.flutejoin.proofs.info_lemmas.AddedFacts.{adds_facts, over_with, within_with, first_fails, failed_as}
+use Rattle.flutejoin.proofs.info_lemmas.AddedFacts.{adds_facts, over_with, within_with, first_fails}
+use Rattle.flutejoin.proofs.info_lemmas.AddedFacts.{failed_as}
 use Rattle.flutejoin.proofs.info_lemmas.AddedFacts.{load_failures}
 use Rattle.flutejoin.proofs.info.adding_facts.add_to_stream.Goals as goal
 

@@ -1,7 +1,8 @@
 -- address: the sender of 32 digits, and what follows them.
 use Rattle.std.proofs.Common.{arith, ap, ◌∙◌}
 use Rattle.byteorder.specs.Endian.{big_from}
-use Rattle.flutejoin.proofs.info_lemmas.LineSenders.{long_enough, digits_front, digits_back, digits_decoded}
+use Rattle.flutejoin.proofs.info_lemmas.LineSenders.{long_enough, digits_front, digits_back}
+use Rattle.flutejoin.proofs.info_lemmas.LineSenders.{digits_decoded}
 use Rattle.flutejoin.proofs.info_lemmas.LineSenders.{read_back}
 use Rattle.flutejoin.proofs.info.information_line.address.Goals as goal
 

@@ -1,6 +1,7 @@
 -- information_in: the three numbers of information, and when a text has none.
 use Rattle.std.proofs.Common.{[], refl, ◌∙◌, arith}
-use Rattle.flutejoin.proofs.info_lemmas.LinePieces.{from_block, from_symbol, information_chain, numbers_found}
+use Rattle.flutejoin.proofs.info_lemmas.LinePieces.{from_block, from_symbol, information_chain}
+use Rattle.flutejoin.proofs.info_lemmas.LinePieces.{numbers_found}
 use Rattle.flutejoin.proofs.info.information_line.information_in.Goals as goal
 
 pub returns-in_default : goal.returns-in_default

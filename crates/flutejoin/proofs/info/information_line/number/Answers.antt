@@ -2,7 +2,8 @@
 use Rattle.std.proofs.Common.{◌∙◌, sym, subst, arith}
 use Rattle.std.specs.Str.{IsUtf8}
 use Rattle.std.proofs.lemmas.Fmt.{parse-decimal_wide}
-use Rattle.flutejoin.proofs.info_lemmas.LineNumbers.{DigitsOf, digits_end, number_front, number_back}
+use Rattle.flutejoin.proofs.info_lemmas.LineNumbers.{DigitsOf, digits_end, number_front}
+use Rattle.flutejoin.proofs.info_lemmas.LineNumbers.{number_back}
 use Rattle.flutejoin.proofs.info_lemmas.LineNumbers.{some_digits, utf8_decimal, wide}
 use Rattle.flutejoin.proofs.info.information_line.number.Goals as goal
 

@@ -7,7 +7,8 @@ use Rattle.std.proofs.lemmas.Result.{err_from_is_err_and}
 use Rattle.flutejoin.specs.InformationLines.{ListFails}
 use Rattle.flutejoin.specs.declared.command_fault.CommandFault.TheVariants.{ListLine}
 use Rattle.flutejoin.specs.Limits.{at_most}
-use Rattle.flutejoin.proofs.info_lemmas.ListLines.{ends_failed, ends_names, names_fails, ends_quiet, ends_told}
+use Rattle.flutejoin.proofs.info_lemmas.ListLines.{ends_failed, ends_names, names_fails, ends_quiet}
+use Rattle.flutejoin.proofs.info_lemmas.ListLines.{ends_told}
 use Rattle.flutejoin.proofs.info_lemmas.ListLines.{quiet_fails, read_end, too_many, within}
 use Rattle.flutejoin.proofs.info.information_list.read_list.Goals as goal
 

@@ -4,7 +4,8 @@ use Rattle.std.specs.Prelude.{is_none}
 use Rattle.flute_journal.specs.Scopes.{takes_key}
 use Rattle.flute_wire.specs.Reading.{packet, facts}
 use Rattle.flutejoin.specs.Joined.{choice_of, is_other_packet}
-use Rattle.flutejoin.proofs.extract_lemmas.Chosen.{all_chosen, packet_taken, packet_passed, taken_if, passed_if}
+use Rattle.flutejoin.proofs.extract_lemmas.Chosen.{all_chosen, packet_taken, packet_passed}
+use Rattle.flutejoin.proofs.extract_lemmas.Chosen.{taken_if, passed_if}
 use Rattle.flutejoin.proofs.extract_lemmas.Chosen.{none_other, refused_no_other}
 use Rattle.flutejoin.proofs.join.held_files.is_of_others.Goals as goal
 

@@ -2,7 +2,8 @@
 use Rattle.std.proofs.Common.{◌<◌, ◌∙◌, length, refl, arith}
 use Rattle.std.proofs.lemmas.Option.{slice_get-get_or}
 use Rattle.std.proofs.lemmas.Result.{err_from_is_err_and}
-use Rattle.flutejoin.proofs.join_lemmas.Inspections.{inspected_none, inspected_more, finds_all, inspect_fails}
+use Rattle.flutejoin.proofs.join_lemmas.Inspections.{inspected_none, inspected_more, finds_all}
+use Rattle.flutejoin.proofs.join_lemmas.Inspections.{inspect_fails}
 use Rattle.flutejoin.proofs.join_lemmas.Inspections.{inspect_names, inspect_reads, inspect_failed}
 use Rattle.flutejoin.proofs.join.inspecting.inspect_all.Goals as goal
 

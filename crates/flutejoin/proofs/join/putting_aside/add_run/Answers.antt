@@ -1,5 +1,6 @@
 -- add_run: one run more.
-use Rattle.std.proofs.Common.{◌≡◌, ◌++◌, ◌∷◌, ◌∙◌, ℕ, List, [], Option, Some, cond, is_ok, length, subst, sym, arith}
+use Rattle.std.proofs.Common.{◌≡◌, ◌++◌, ◌∷◌, ◌∙◌, ℕ, List, [], Option}
+use Rattle.std.proofs.Common.{Some, cond, is_ok, length, subst, sym, arith}
 use Rattle.std.specs.Prelude.{IfSome}
 use Rattle.flute_parts.proofs.Public.{Same-append, Same-itself, Same-sym}
 use Rattle.flute_journal.specs.Journal.{IsJournalWithin}

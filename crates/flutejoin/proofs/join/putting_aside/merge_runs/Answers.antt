@@ -7,7 +7,8 @@ use Rattle.flute_journal.specs.OwnedStreams.{owned_behaviour}
 use Rattle.flute_journal.specs.StreamMerges.{all_of, Each}
 use Rattle.flute_journal.specs.Streams.{most_of}
 use Rattle.flutejoin.specs.Asides.{AreRunsOf}
-use Rattle.flutejoin.proofs.join_lemmas.Runs.{all_written, runs_few, runs_new, told_runs, together_on}
+use Rattle.flutejoin.proofs.join_lemmas.Runs.{all_written, runs_few, runs_new, told_runs}
+use Rattle.flutejoin.proofs.join_lemmas.Runs.{together_on}
 use Rattle.flutejoin.proofs.join.putting_aside.merge_runs.Goals as goal
 
 pub merge_slice-requires-clause-new : goal.merge_slice-requires-clause-new

@@ -8,11 +8,14 @@ pub returns-in-None-clause-datagrams : goal.returns-in-None-clause-datagrams
 returns-in-None-clause-datagrams c = λ _ begins. absurd (c.in-None.ensures Datagrams begins)
 
 pub returns-in-None-kind_of-clause-datagrams : goal.returns-in-None-kind_of-clause-datagrams
-returns-in-None-kind_of-clause-datagrams c = λ _ begins. absurd (c.in-None-kind_of.ensures Datagrams begins)
+returns-in-None-kind_of-clause-datagrams c =
+    λ _ begins. absurd (c.in-None-kind_of.ensures Datagrams begins)
 
 pub returns-in-None-kind_of-clause-journal : goal.returns-in-None-kind_of-clause-journal
-returns-in-None-kind_of-clause-journal c = λ _ begins. absurd (c.in-None-kind_of.ensures Journal begins)
+returns-in-None-kind_of-clause-journal c =
+    λ _ begins. absurd (c.in-None-kind_of.ensures Journal begins)
 
 pub returns-in-None-clause-spared : goal.returns-in-None-clause-spared
 returns-in-None-clause-spared c =
-    subst (λ o. IsOverwritten o c.args.first.now) (sym c.in-Journals.is) (c.in-None.ensures Datagrams)
+    subst (λ o. IsOverwritten o c.args.first.now) (sym c.in-Journals.is)
+    (c.in-None.ensures Datagrams)

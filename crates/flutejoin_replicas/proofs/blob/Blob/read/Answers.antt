@@ -1,7 +1,8 @@
 -- An input is kept as it is read.
 use Rattle.std.proofs.Common.{◌≡◌, ◌∙◌, refl, ap, take, arith}
 use Rattle.std.proofs.lemmas.List.{with_items_is, length-take-le}
-use Rattle.flutejoin_replicas.proofs.Blobs.{nothing_kept, end_kept, too_large, piece_kept, piece_of, piece_fits}
+use Rattle.flutejoin_replicas.proofs.Blobs.{nothing_kept, end_kept, too_large, piece_kept, piece_of}
+use Rattle.flutejoin_replicas.proofs.Blobs.{piece_fits}
 use Rattle.flutejoin_replicas.proofs.blob.Blob.read.Goals as goal
 
 pub loop-bytes-init : goal.loop-bytes-init

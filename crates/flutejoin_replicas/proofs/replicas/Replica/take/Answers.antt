@@ -13,14 +13,16 @@ returns-in-Ok-clause-counted g c =
 
 pub returns-in-Ok-clause-within : goal.returns-in-Ok-clause-within
 returns-in-Ok-clause-within g c =
-    ok_within c.args.sender c.args.self.now.store c.args.datagram.now c.in-Ok.is c.in-Ok.ensures.ok c.take.ensures.full
+    ok_within c.args.sender c.args.self.now.store c.args.datagram.now c.in-Ok.is c.in-Ok.ensures.ok
+    c.take.ensures.full
 
 pub returns-in-Err-Datagram-clause-content : goal.returns-in-Err-Datagram-clause-content
 returns-in-Err-Datagram-clause-content g c =
     let refuses =
     (c.take.ensures.refused c.in-Err-Datagram.field-0-0).0
     (c.in-Err-Datagram.is ∙ ap Err c.in-Err-Datagram.field-0-is) in
-    refused_same c.args.sender c.args.self.now.store c.take.new.self c.args.datagram.now c.in-Err-Datagram.field-0-0 refuses.applies c.in-Err-Datagram.ensures.err
+    refused_same c.args.sender c.args.self.now.store c.take.new.self c.args.datagram.now
+    c.in-Err-Datagram.field-0-0 refuses.applies c.in-Err-Datagram.ensures.err
 
 pub returns-in-Err-Datagram-clause-counted : goal.returns-in-Err-Datagram-clause-counted
 returns-in-Err-Datagram-clause-counted g c =
@@ -35,7 +37,8 @@ pub returns-in-Err-Datagram-clause-within : goal.returns-in-Err-Datagram-clause-
 returns-in-Err-Datagram-clause-within g c =
     let is = c.in-Err-Datagram.is ∙ ap Err c.in-Err-Datagram.field-0-is in
     let refuses = (c.take.ensures.refused c.in-Err-Datagram.field-0-0).0 is in
-    refused_within c.args.sender _ refuses.applies c.in-Err-Datagram.ensures.err is c.take.ensures.full
+    refused_within c.args.sender _ refuses.applies c.in-Err-Datagram.ensures.err is
+    c.take.ensures.full
 
 pub returns-in-Err-Full-clause-sure : goal.returns-in-Err-Full-clause-sure
 returns-in-Err-Full-clause-sure g c =

@@ -24,7 +24,8 @@ returns-in_err-from-clause-refused g c =
 pub returns-then-into-from-clause-done : goal.returns-then-into-from-clause-done
 returns-then-into-from-clause-done g c =
     rw (← c.in_ok-into.ensures.ok.0, ← c.in_ok-from.ensures.ok.0, ← c.if-into-from.true)
-    (merged_into_itself (capacity g.row.SESSIONS g.row.OBJECTS g.row.SYMBOLS) _ c.in_ok-into.into c.in_ok-into.ensures.ok.1
+    (merged_into_itself (capacity g.row.SESSIONS g.row.OBJECTS g.row.SYMBOLS) _ c.in_ok-into.into
+    c.in_ok-into.ensures.ok.1
     (inside_at _ _ (capacity g.row.SESSIONS g.row.OBJECTS g.row.SYMBOLS) c.self.view_is
     (placed_at _ _ c.self.view_is c.in_ok-into.ensures.ok.1 c.index.ensures)
     c.keeps_order_and_limits.ensures.within))

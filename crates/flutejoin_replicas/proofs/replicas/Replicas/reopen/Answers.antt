@@ -20,7 +20,8 @@ returns-in_err-place-clause-refused g c =
 
 pub returns-in_default-clause-refused : goal.returns-in_default-clause-refused
 returns-in_default-clause-refused g c =
-    unchanged_refused (capacity g.row.SESSIONS g.row.OBJECTS g.row.SYMBOLS) c.args.self.now _ _ OutOfMemory refl (λ origin _. tt)
+    unchanged_refused (capacity g.row.SESSIONS g.row.OBJECTS g.row.SYMBOLS) c.args.self.now _ _
+    OutOfMemory refl (λ origin _. tt)
 
 pub returns-in_err-store-clause-refused : goal.returns-in_err-store-clause-refused
 returns-in_err-store-clause-refused g c =

@@ -20,19 +20,22 @@ returns-clause-done g c =
     (ok_from_three c.take.result c.take.ensures.content c.take.ensures.counted c.take.ensures.within
     (λ content counted within.
     taken_done _ _ c.take.new.self (capacity g.row.SESSIONS g.row.OBJECTS g.row.SYMBOLS)
-    (placed_at _ _ c.self.view_is c.in_ok-place.ensures.ok.1 c.index_mut-target.ensures.value) content counted within))
+    (placed_at _ _ c.self.view_is c.in_ok-place.ensures.ok.1 c.index_mut-target.ensures.value)
+    content counted within))
 
 pub returns-clause-refused : goal.returns-clause-refused
 returns-clause-refused g c =
     rw (← c.in_ok-place.ensures.ok.0, ← c.as_slice.ensures.bytes, ← c.self.view_is)
     (err_from c.take.result c.take.ensures.fault c.take.ensures.err (λ fault cause same.
     taken_refused (capacity g.row.SESSIONS g.row.OBJECTS g.row.SYMBOLS) _
-    (changed _ _ _ (placed_at _ _ c.self.view_is c.in_ok-place.ensures.ok.1 c.index_mut-target.ensures.value)
+    (changed _ _ _ (placed_at _ _ c.self.view_is c.in_ok-place.ensures.ok.1
+    c.index_mut-target.ensures.value)
     (ap (λ x. x.refused) same))
     (ap (λ x. x.store) same) cause))
 
 pub returns-clause-sure : goal.returns-clause-sure
 returns-clause-sure g c = λ needs.
     c.take.ensures.sure (cells_at c.args.self.now.contents
-    (held_at _ _ c.self.view_is (placed_at _ _ c.self.view_is c.in_ok-place.ensures.ok.1 c.index_mut-target.ensures.value))
+    (held_at _ _ c.self.view_is (placed_at _ _ c.self.view_is c.in_ok-place.ensures.ok.1
+    c.index_mut-target.ensures.value))
     c.in_ok-place.ensures.ok.0 (ap (facts c.args.sender) c.as_slice.ensures.bytes) needs.1)

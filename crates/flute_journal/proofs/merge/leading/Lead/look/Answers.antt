@@ -1,5 +1,6 @@
 -- Lead::look: one stream more: it holds nothing before the next address, or is the one to lead.
-use Rattle.flute_journal.proofs.{Common.{◌≤◌, length, sym, subst, arith, fact_in, Leads}, merge_lemmas.LeadFacts.{lead-new}}
+use Rattle.flute_journal.proofs.Common.{◌≤◌, length, sym, subst, arith, fact_in, Leads}
+use Rattle.flute_journal.proofs.merge_lemmas.LeadFacts.{lead-new}
 use Rattle.flute_journal.proofs.merge.leading.Lead.look.Goals as goal
 
 pub returns : goal.returns
@@ -9,4 +10,6 @@ returns g c = λ below.
     let h = c.loop-other.invariant in
     let all : length streams ≤ c.loop-other.other = omega (arith, h.all, c.loop-other-test.false) in
     subst (λ n. Leads b streams n c.loop-other.self.next) (sym h.number)
-    (lead-new b c.args.number c.loop-other.other streams c.loop-other.self.next (fact_in c.head-head.result) c.requires all c.head-head.ensures h.firsts (c.is_below-self.ensures below))
+    (lead-new b c.args.number c.loop-other.other streams c.loop-other.self.next
+    (fact_in c.head-head.result) c.requires all c.head-head.ensures h.firsts
+    (c.is_below-self.ensures below))

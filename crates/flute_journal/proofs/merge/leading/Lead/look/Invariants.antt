@@ -4,7 +4,8 @@ use Rattle.flute_journal.proofs.merge.leading.Lead.look.Given as goal
 
 abbrev pub invariant-loop-other : goal.invariant-loop-other
 invariant-loop-other g l = record {
-  firsts : FirstsFrom g.G.Stream.Stream.behaviour l.fn.number l.other (g.G.Streams.streams l.fn.streams) l.self.next;
+  firsts : FirstsFrom g.G.Stream.Stream.behaviour l.fn.number l.other
+      (g.G.Streams.streams l.fn.streams) l.self.next;
   number : l.self.number ≡ l.fn.number;
   known : l.self.known ≡ false;
   all : length (g.G.Streams.streams l.fn.streams) ≡ l.other-end;

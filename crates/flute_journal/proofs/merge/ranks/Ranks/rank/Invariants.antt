@@ -1,5 +1,6 @@
 -- Ranks::rank: the first streams are ranked.
-use Rattle.flute_journal.proofs.{Common.{◌≡◌, None, length}, merge_lemmas.RankedStreams.{AreRankedTo}}
+use Rattle.flute_journal.proofs.Common.{◌≡◌, None, length}
+use Rattle.flute_journal.proofs.merge_lemmas.RankedStreams.{AreRankedTo}
 use Rattle.flute_journal.proofs.merge.ranks.Ranks.rank.Given as goal
 
 abbrev pub invariant-loop-number : goal.invariant-loop-number

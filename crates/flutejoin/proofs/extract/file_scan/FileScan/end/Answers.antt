@@ -3,9 +3,11 @@ use Rattle.std.proofs.Common.{Option, None, refl, subst}
 use Rattle.flute_output.specs.NewFolders.{NamedFile, LeadsTo, Fills, keeps}
 use Rattle.flutejoin.specs.ObjectFiles.{PassedAs}
 use Rattle.flutejoin.specs.declared.extract.file_scan.Passed.{Passed}
-use Rattle.flutejoin.proofs.extract_lemmas.FileScans.{gave_all_now, status_told, none_was, none_now, one_now}
+use Rattle.flutejoin.proofs.extract_lemmas.FileScans.{gave_all_now, status_told, none_was, none_now}
+use Rattle.flutejoin.proofs.extract_lemmas.FileScans.{one_now}
 use Rattle.flutejoin.proofs.extract_lemmas.FileScans.{ended_beside, without, with_one}
-use Rattle.flutejoin.proofs.extract_lemmas.FolderSteps.{fills_keeps, fills_leaves, did_stay, keeps_stay}
+use Rattle.flutejoin.proofs.extract_lemmas.FolderSteps.{fills_keeps, fills_leaves, did_stay}
+use Rattle.flutejoin.proofs.extract_lemmas.FolderSteps.{keeps_stay}
 use Rattle.flutejoin.proofs.extract.file_scan.FileScan.end.Goals as goal
 
 pub returns-then-not-self-clause-ended : goal.returns-then-not-self-clause-ended

@@ -8,7 +8,8 @@ use Rattle.flute_store.specs.Scan.{value_of}
 use Rattle.flutejoin.specs.ObjectFiles.{PassedAs}
 use Rattle.flutejoin.specs.declared.extract.file_scan.FileScan.{FileScan}
 use Rattle.flutejoin.specs.declared.extract.file_scan.Passed.{Passed}
-use Rattle.flutejoin.proofs.extract_lemmas.FileScans.{told_rising, scanned_on, still_broken, now_broken, fits_on}
+use Rattle.flutejoin.proofs.extract_lemmas.FileScans.{told_rising, scanned_on, still_broken}
+use Rattle.flutejoin.proofs.extract_lemmas.FileScans.{now_broken, fits_on}
 use Rattle.flutejoin.proofs.extract_lemmas.FileScans.{beside_on, nothing_more}
 use Rattle.flutejoin.proofs.extract_lemmas.FolderSteps.{fills_puts, fills_leaves}
 use Rattle.flutejoin.proofs.gaps_lemmas.OpenObjects.{on_ok}

@@ -5,7 +5,8 @@ use Rattle.std.specs.Io.KnownBytes.{Appends}
 use Rattle.flutejoin.specs.Lines.{line}
 use Rattle.flutejoin.specs.ObjectFiles.{HasTaken}
 use Rattle.flutejoin.specs.declared.extract.object_files.ObjectFile.{ObjectFile}
-use Rattle.flutejoin.proofs.extract_lemmas.FileObjects.{none_closed, one_closed, heard_open, if_written, byte_is}
+use Rattle.flutejoin.proofs.extract_lemmas.FileObjects.{none_closed, one_closed, heard_open}
+use Rattle.flutejoin.proofs.extract_lemmas.FileObjects.{if_written, byte_is}
 use Rattle.flutejoin.proofs.extract.object_files.ObjectFiles.close.Goals as goal
 
 pub returns-in_default-clause-closed : goal.returns-in_default-clause-closed

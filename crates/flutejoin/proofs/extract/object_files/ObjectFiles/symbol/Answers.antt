@@ -9,7 +9,8 @@ use Rattle.flutejoin.specs.Listing.{IsFirstOf}
 use Rattle.flutejoin.specs.ObjectFiles.{HasTaken, Takes, KnowsSome}
 use Rattle.flutejoin.specs.declared.extract.object_files.ObjectFile.{ObjectFile}
 use Rattle.flutejoin.specs.declared.extract.object_files.ObjectFiles.{ObjectFiles}
-use Rattle.flutejoin.proofs.extract_lemmas.FileObjects.{begins_symbol, first_of_others, mine_rising, takes_more}
+use Rattle.flutejoin.proofs.extract_lemmas.FileObjects.{begins_symbol, first_of_others, mine_rising}
+use Rattle.flutejoin.proofs.extract_lemmas.FileObjects.{takes_more}
 use Rattle.flutejoin.proofs.gaps_lemmas.Keys.{equal_keys, other_keys}
 use Rattle.flutejoin.proofs.gaps_lemmas.OpenObjects.{told_key, none_first, on_ok}
 use Rattle.flutejoin.proofs.extract.object_files.ObjectFiles.symbol.Goals as goal
@@ -60,17 +61,18 @@ begin-requires-clause-known g c =
     let r = rising-front F (_ ∷ []) c.requires.next.1 in
     let k = c.requires.next.2 in
     elim c.in_default.branch [
-      | in_default-via-in-Some+else-eq w ↦ subst (λ (x : ObjectFiles). KnowsSome x) (sym w.self-is) (
-        F,
-        r,
-        (
-          k.0,
-          k.1,
-          k.2,
-          subst (λ (x : Option ObjectFile). HasTaken F k.0 k.1 x k.2)
-              w.in-Some.is k.3,
-        ),
-      )
+      | in_default-via-in-Some+else-eq w ↦
+          subst (λ (x : ObjectFiles). KnowsSome x) (sym w.self-is) (
+            F,
+            r,
+            (
+              k.0,
+              k.1,
+              k.2,
+              subst (λ (x : Option ObjectFile). HasTaken F k.0 k.1 x k.2)
+                  w.in-Some.is k.3,
+            ),
+          )
       | in_default-via-in_default w ↦ subst (λ (x : ObjectFiles). KnowsSome x) (sym w.self-is)
           (F, r, k)
     ]

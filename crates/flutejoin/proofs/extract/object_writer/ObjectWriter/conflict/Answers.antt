@@ -11,4 +11,5 @@ returns-in-Nothing-clause-passed c = λ P start now r h. (
 )
 
 pub returns-in_default-clause-passed : goal.returns-in_default-clause-passed
-returns-in_default-clause-passed c = λ P start now r h. information-passes P _ _ _ start now _ c.in_default.not-Nothing refl r h
+returns-in_default-clause-passed c =
+    λ P start now r h. information-passes P _ _ _ start now _ c.in_default.not-Nothing refl r h

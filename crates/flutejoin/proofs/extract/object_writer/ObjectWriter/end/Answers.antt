@@ -7,21 +7,25 @@ use Rattle.flutejoin.specs.ObjectWriters.{HasFound}
 use Rattle.flutejoin.proofs.extract_lemmas.ObjectFacts.{unheard}
 use Rattle.flutejoin.proofs.extract_lemmas.ObjectWriters.{whole-written}
 use Rattle.flutejoin.proofs.extract.object_writer.ObjectWriter.end.Goals as goal
-use Rattle.flutejoin.proofs.extract.object_writer.ObjectWriter.end.Goals.{in-NotWhole, in-Whole+in-Some}
+use Rattle.flutejoin.proofs.extract.object_writer.ObjectWriter.end.Goals.{in-NotWhole}
+use Rattle.flutejoin.proofs.extract.object_writer.ObjectWriter.end.Goals.{in-Whole+in-Some}
 
 pub returns-in-Nothing-clause-extracts : goal.returns-in-Nothing-clause-extracts
 returns-in-Nothing-clause-extracts c = λ P start now r h.
-    let n = subst (HasFound P c.args.self.now.key c.args.self.now.failed start now) c.in-Nothing.is h in
+    let n = subst (HasFound P c.args.self.now.key c.args.self.now.failed start now)
+    c.in-Nothing.is h in
     (unheard c.args.self.now.key P n.0, n.1.same)
 
 pub returns-in-Symbols-clause-extracts : goal.returns-in-Symbols-clause-extracts
 returns-in-Symbols-clause-extracts c = λ P start now r h.
-    let n = subst (HasFound P c.args.self.now.key c.args.self.now.failed start now) c.in-Symbols.is h in
+    let n = subst (HasFound P c.args.self.now.key c.args.self.now.failed start now)
+    c.in-Symbols.is h in
     (n.0 P [] (sym (append-nil P)) r, n.1.same)
 
 pub returns-in-Conflict-clause-extracts : goal.returns-in-Conflict-clause-extracts
 returns-in-Conflict-clause-extracts c = λ P start now r h.
-    let n = subst (HasFound P c.args.self.now.key c.args.self.now.failed start now) c.in-Conflict.is h in
+    let n = subst (HasFound P c.args.self.now.key c.args.self.now.failed start now)
+    c.in-Conflict.is h in
     (n.0 P [] (sym (append-nil P)) r, n.1.same)
 
 pub returns-in-None-2-clause-extracts : goal.returns-in-None-2-clause-extracts
@@ -29,7 +33,8 @@ returns-in-None-2-clause-extracts c = λ P start now r h.
     let key = c.args.self.now.key in
     let failed = c.args.self.now.failed in
     let n = subst (HasFound P key failed start now) c.in-Whole.is h in
-    let w = whole-written P key start now c.in-Whole.object failed c.if-self.false (c.in-None.ensures.ended P key failed start now r n) in
+    let w = whole-written P key start now c.in-Whole.object failed c.if-self.false
+    (c.in-None.ensures.ended P key failed start now r n) in
     subst (λ (n : ℕ). WritesWhole (λ x. x) P key start now n) (sym c.in-None.ensures.size) w
 
 pub returns-clause-extracts : goal.returns-clause-extracts

@@ -3,4 +3,5 @@ use Rattle.flutejoin.proofs.extract_lemmas.ObjectWriters.{information-passes}
 use Rattle.flutejoin.proofs.extract.object_writer.ObjectWriter.information.Goals as goal
 
 pub returns-in_default-clause-passed : goal.returns-in_default-clause-passed
-returns-in_default-clause-passed c = λ P start now r h. information-passes P _ _ _ start now _ c.in_default.not-Nothing refl r h
+returns-in_default-clause-passed c =
+    λ P start now r h. information-passes P _ _ _ start now _ c.in_default.not-Nothing refl r h

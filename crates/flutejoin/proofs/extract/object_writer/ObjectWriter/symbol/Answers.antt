@@ -8,8 +8,14 @@ use Rattle.flutejoin.proofs.extract.object_writer.ObjectWriter.symbol.Goals as g
 pub returns-in-Nothing-clause-passed : goal.returns-in-Nothing-clause-passed
 returns-in-Nothing-clause-passed g c = λ P start r h.
     let key = c.args.self.now.key in
-    let found = subst (HasFound P key c.args.self.now.failed start (g.W.Sink.written c.args.sink.now)) c.in-Nothing.is h in
-    (symbol-told key P (next_fact key (c.args.id, c.args.value)) c.args.id found.0 (told-at key c.args.id c.args.value), found.1)
+    let found = subst (HasFound P key c.args.self.now.failed start
+    (g.W.Sink.written c.args.sink.now)) c.in-Nothing.is h in (
+      symbol-told key P (next_fact key (c.args.id, c.args.value)) c.args.id found.0
+          (told-at key c.args.id c.args.value),
+      found.1,
+    )
 
 pub returns-in_default-clause-passed : goal.returns-in_default-clause-passed
-returns-in_default-clause-passed g c = λ P start r h. symbol-passes P _ _ _ start _ _ c.in_default.not-Nothing c.in_default.not-Whole h
+returns-in_default-clause-passed g c =
+    λ P start r h.
+    symbol-passes P _ _ _ start _ _ c.in_default.not-Nothing c.in_default.not-Whole h

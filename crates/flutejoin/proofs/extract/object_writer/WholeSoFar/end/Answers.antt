@@ -1,4 +1,5 @@
-use Rattle.flutejoin.proofs.extract_lemmas.ObjectWriters.{none-can-come, ended-turn, ended-whole, ended-gap}
+use Rattle.flutejoin.proofs.extract_lemmas.ObjectWriters.{none-can-come, ended-turn, ended-whole}
+use Rattle.flutejoin.proofs.extract_lemmas.ObjectWriters.{ended-gap}
 use Rattle.flutejoin.proofs.extract.object_writer.WholeSoFar.end.Goals as goal
 
 pub returns-in-Gap-clause-ended : goal.returns-in-Gap-clause-ended

@@ -5,7 +5,8 @@ use Rattle.flute_parts.specs.declared.fact.Fact.{Fact}
 use Rattle.flutejoin.specs.Listing.{StateIs}
 use Rattle.flutejoin.specs.declared.gaps.listing.ObjectState.TheVariants.{ConflictingInformation}
 use Rattle.flutejoin.specs.declared.gaps.listing.ObjectState.TheVariants.{OneInformation}
-use Rattle.flutejoin.proofs.gaps_lemmas.OpenObjects.{first_information, begins_scan, begins_conflict}
+use Rattle.flutejoin.proofs.gaps_lemmas.OpenObjects.{first_information, begins_scan}
+use Rattle.flutejoin.proofs.gaps_lemmas.OpenObjects.{begins_conflict}
 use Rattle.flutejoin.proofs.gaps.listing.Listing.add.Goals as goal
 
 pub returns-in-Info-clause-added : goal.returns-in-Info-clause-added

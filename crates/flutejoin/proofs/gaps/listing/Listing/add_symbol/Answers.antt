@@ -8,7 +8,8 @@ use Rattle.flutejoin.specs.Listing.{IsFirstOf, IsOpen, Lists, ListsWith}
 use Rattle.flutejoin.specs.declared.gaps.listing.Listing.{Listing}
 use Rattle.flutejoin.specs.declared.gaps.listing.OpenObject.{OpenObject}
 use Rattle.flutejoin.proofs.gaps_lemmas.Keys.{equal_keys, other_keys}
-use Rattle.flutejoin.proofs.gaps_lemmas.OpenObjects.{told_key, first_of_others, none_first, begins_symbol}
+use Rattle.flutejoin.proofs.gaps_lemmas.OpenObjects.{told_key, first_of_others, none_first}
+use Rattle.flutejoin.proofs.gaps_lemmas.OpenObjects.{begins_symbol}
 use Rattle.flutejoin.proofs.gaps_lemmas.OpenObjects.{mine_rising, one_more_open, on_ok}
 use Rattle.flutejoin.proofs.gaps.listing.Listing.add_symbol.Goals as goal
 use Rattle.flutejoin.proofs.gaps.listing.Listing.add_symbol.Goals.{in_default-via-in-Some+else-eq}

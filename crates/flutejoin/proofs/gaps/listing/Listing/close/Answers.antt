@@ -7,7 +7,8 @@ use Rattle.flutejoin.specs.Told.{told_of}
 use Rattle.flutejoin.specs.declared.gaps.listing.OpenObject.{OpenObject}
 use Rattle.flutejoin.proofs.gaps_lemmas.MovedAside.{closed_known}
 use Rattle.flutejoin.proofs.gaps_lemmas.Closing.{no_stray, none_closed}
-use Rattle.flutejoin.proofs.gaps_lemmas.OpenObjects.{before_short, heard_open, none_open, one_more_closed}
+use Rattle.flutejoin.proofs.gaps_lemmas.OpenObjects.{before_short, heard_open, none_open}
+use Rattle.flutejoin.proofs.gaps_lemmas.OpenObjects.{one_more_closed}
 use Rattle.flutejoin.proofs.gaps_lemmas.Sessions.{few_more}
 use Rattle.flutejoin.proofs.gaps_lemmas.StatusLines.{status_is}
 use Rattle.flutejoin.proofs.gaps.listing.Listing.close.Goals as goal

@@ -8,10 +8,13 @@ loop-i-preserved c =
     let b = c.from-place.result in
     let few : b < 256 = omega (arith, c.from-place.ensures, c.type_inv.bytes c.loop-i.i) in
     let d = c.args.self.now.digits b few in
-    encode_step lower_digits c.args.bytes.now c.loop-i.room c.loop-i.i _ _ (omega arith) (omega (arith, c.requires, c.loop-i.auto.room, c.loop-i-test.true))
+    encode_step lower_digits c.args.bytes.now c.loop-i.room c.loop-i.i _ _ (omega arith)
+    (omega (arith, c.requires, c.loop-i.auto.room, c.loop-i-test.true))
     (d.0 ∙ ap (λ (k : ℕ). slice_index lower_digits (k / 16)) c.from-place.ensures)
-    (d.1 ∙ ap (λ (k : ℕ). slice_index lower_digits (k % 16)) c.from-place.ensures) c.loop-i.invariant
+    (d.1 ∙ ap (λ (k : ℕ). slice_index lower_digits (k % 16)) c.from-place.ensures)
+    c.loop-i.invariant
 
 pub returns : goal.returns
 returns c =
-    encode_done lower_digits c.args.bytes.now c.loop-i.room c.loop-i.i (omega arith) (omega (arith, c.requires, c.loop-i.auto.room)) c.loop-i.invariant
+    encode_done lower_digits c.args.bytes.now c.loop-i.room c.loop-i.i (omega arith)
+    (omega (arith, c.requires, c.loop-i.auto.room)) c.loop-i.invariant

@@ -8,5 +8,10 @@ regroup a w s n l = simp append_assoc refl
 pub returns-clause-text : goal.returns-clause-text
 unfolding count_line
 returns-clause-text c =
-    rw (c.push-3.ensures.text, c.push_number.ensures.text, c.push-2.ensures.text, c.push.ensures.text)
+    rw (
+      c.push-3.ensures.text,
+      c.push_number.ensures.text,
+      c.push-2.ensures.text,
+      c.push.ensures.text,
+    )
     (regroup c.args.self.now c.args.word.now (codes " ") (decimal c.args.count) (codes "\n"))
