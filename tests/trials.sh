@@ -18,8 +18,8 @@ mkdir "$crate" && cp -R trials "$crate/src" && cp crates.txt "$room" || exit 1
 find "$crate/src" -name '*.trial' | while read -r file; do
     mv "$file" "${file%.trial}.rt"
 done
-libraries='flute_join flute_parts flute_output flute_wire flute_store flute_journal flutejoin'
-libraries="$libraries flutejoin_line flutejoin_replicas flutejoin_commands flutejoin_run"
+libraries='flute_join flute_parts flute_output flute_wire flute_store flute_journal flute_streams'
+libraries="$libraries flutejoin flutejoin_line flutejoin_replicas flutejoin_commands flutejoin_run"
 libraries="$libraries flutejoin_memory flute_output_memory"
 echo "flutejoin_trials: $libraries test_vectors" >> "$room/crates.txt"
 

@@ -14,15 +14,15 @@ echo "flutejoin: proving and building the program;" \
 
 # The crates of the program, the lowest first: in this order each is read once, and no pass over all
 # sources comes before.
-libraries='flute_join flute_parts flute_output flute_wire flute_store flute_journal flutejoin'
-libraries="$libraries flutejoin_line flutejoin_commands flutejoin_run"
+libraries='flute_join flute_parts flute_output flute_wire flute_store flute_journal flute_streams'
+libraries="$libraries flutejoin flutejoin_line flutejoin_commands flutejoin_run"
 
 # build CRATE WORD..: builds a crate by these words of rt.
 build() {
     crate=$1
     shift
     step=$((step + 1))
-    echo "flutejoin: $crate ($step of 11)" >&2
+    echo "flutejoin: $crate ($step of 12)" >&2
     if ! (cd "crates/$crate" && rt "$@") >> bin/build.log 2>&1; then
         tail -n 20 bin/build.log >&2
         echo "flutejoin: the build failed; bin/build.log has all of it" >&2

@@ -3,6 +3,5 @@ pub use Rattle.flute_journal.proofs.Numbers.{octets}
 pub use Rattle.flute_journal.proofs.format_lemmas.Decoded.{end_read, info_read}
 pub use Rattle.flute_journal.proofs.format_lemmas.SameFile.{file_named, key_named}
 pub use Rattle.flute_journal.proofs.framing_lemmas.ReadsUpTo.{parsed_fails, parsed_memory}
-pub use Rattle.flute_journal.proofs.merge_lemmas.Finished.{gave_of, stopped_of}
 pub use Rattle.flute_journal.proofs.readers_lemmas.Calls.{entry_wanted, gives_entries}
 pub use Rattle.flute_journal.proofs.readers_lemmas.Calls.{reads_entries}

@@ -5,7 +5,5 @@ mod Numbers
 mod format_lemmas
 mod readers_lemmas
 mod writers_lemmas
-mod merge_lemmas
-mod streams_lemmas
 mod Cited
 pub mod Public

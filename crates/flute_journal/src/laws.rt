@@ -16,7 +16,6 @@ ghost use Rattle.flute_journal.specs.Framing.{Sofar};
 ghost use Rattle.flute_parts.specs.Ranges.{IsByte, IsFact};
 ghost use Rattle.flute_journal.specs.declared.format.version.Version.{Version};
 ghost use Rattle.flute_journal.specs.declared.format.version.Version.TheVariants.{One, Two};
-ghost use Rattle.flute_journal.specs.StreamMerges.{Each, all_of};
 ghost use Rattle.flute_journal.specs.Stores.{BeginsWith, IsJournalOf};
 ghost use Rattle.flute_journal.specs.declared.fault.ReadFault.TheVariants as faults;
 ghost use Rattle.flute_journal.specs.Records.{IsFileOf, IsFileWithin};
@@ -49,14 +48,6 @@ pub fn one_journal_for_one_content()
 pub fn a_journal_has_one_version()
     ensures { (v w : Version) (bs : List ℕ) (F G : List Fact) → JournalIn v bs F → JournalIn w bs G
         → v ≡ w }
-{}
-
-/// Merging what merges wrote is merging all at once: if the facts of each group were joined into
-/// entries, the journal of all these entries is the journal of the facts of all groups.
-pub fn merging_merged_is_merging_all()
-    ensures { (v : Version) (groups joined : List (List Fact)) → Each Collects groups joined
-        → (bytes : List ℕ) → JournalIn v bytes (all_of joined)
-        ↔ JournalIn v bytes (all_of groups) }
 {}
 
 /// No journal is a proper prefix of another, of whatever versions they are.

@@ -3,8 +3,8 @@ use Rattle.std.proofs.Common.{◌≡◌, refl, ◌+◌, ◌*◌, ◌<◌, ◌≤
 use Rattle.std.proofs.Common.{[], ◌∷◌, ◌++◌, length, Result, Ok, Err, arith}
 use Rattle.std.specs.Prelude.{if◌then◌else◌, is_ok}
 use Rattle.std.specs.Result.{is_err}
-use Rattle.flute_journal.specs.Streams.{Behaviour, IsNew, most_of}
-use Rattle.flute_journal.specs.Advances.{AreNew}
+use Rattle.flute_streams.specs.Streams.{Behaviour, IsNew, most_of}
+use Rattle.flute_streams.specs.Advances.{AreNew}
 
 module _ {S : Type 0} (b : Behaviour S) where
   pub record NewStreams (streams : List S) : Type 0 where

@@ -9,6 +9,7 @@ mod streams;
 use flute_journal::*;
 use flute_parts::{Key, ObjectKey, Sender, SessionKey};
 use flute_store::Store;
+use flute_streams::*;
 use std::test::Fail;
 
 /// More than any of the journals here needs.

@@ -5,18 +5,18 @@ use Rattle.std.specs.Prelude.{IfSome, not}
 use Rattle.std.specs.List.{count_by}
 use Rattle.std.proofs.lemmas.List.Sums.{count_by-le-length}
 use Rattle.flute_parts.specs.declared.fact.Fact.{Fact}
-use Rattle.flute_journal.specs.ChosenStreams.{chosen_behaviour, others_of}
+use Rattle.flute_streams.specs.ChosenStreams.{chosen_behaviour, others_of}
 use Rattle.flute_journal.specs.Journal.{IsJournalWithin}
 use Rattle.flute_journal.specs.JournalWriters.{WritesJournal}
-use Rattle.flute_journal.specs.OneStream.{WritesAll, WritesPart}
-use Rattle.flute_journal.specs.OwnedStreams.{owned_behaviour, owned_limit}
-use Rattle.flute_journal.specs.Selections.{left, leaves, selects}
-use Rattle.flute_journal.specs.Streams.{Behaviour}
-use Rattle.flute_journal.specs.declared.choice.selection.AllBut.{AllBut}
+use Rattle.flute_streams.specs.OneStream.{WritesAll, WritesPart}
+use Rattle.flute_streams.specs.OwnedStreams.{owned_behaviour, owned_limit}
+use Rattle.flute_streams.specs.Selections.{left, leaves, selects}
+use Rattle.flute_streams.specs.Streams.{Behaviour}
+use Rattle.flute_streams.specs.declared.choice.selection.AllBut.{AllBut}
 use Rattle.flutejoin.specs.Forget.{Forgets, ForgetsPart, IsForgetful}
 use Rattle.flutejoin.specs.declared.limits.TheConstants.{MAX_ENTRIES}
-use Rattle.flute_journal.specs.declared.streams.chosen.Chosen.{Chosen}
-use Rattle.flute_journal.specs.declared.streams.owned_journal_stream.OwnedJournalStream.{OwnedJournalStream}
+use Rattle.flute_streams.specs.declared.streams.chosen.Chosen.{Chosen}
+use Rattle.flute_streams.specs.declared.streams.owned_journal_stream.OwnedJournalStream.{OwnedJournalStream}
 
 not_not : (b : Bool) → not (not b) ≡ b
 not_not true = refl

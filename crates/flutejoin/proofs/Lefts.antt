@@ -11,9 +11,9 @@ use Rattle.flute_parts.specs.declared.address.Address.{Address}
 use Rattle.flute_parts.specs.declared.fact.Fact.{Fact}
 use Rattle.flute_parts.proofs.Public.{rising_unique}
 use Rattle.flute_journal.specs.Journal.{IsJournalWithin, Journal}
-use Rattle.flute_journal.specs.Selections.{left, leaves, selected_in, selects}
+use Rattle.flute_streams.specs.Selections.{left, leaves, selected_in, selects}
 use Rattle.flute_journal.specs.declared.format.version.Version.TheVariants.{Two}
-use Rattle.flute_journal.specs.declared.choice.selection.Selection.{Selection}
+use Rattle.flute_streams.specs.declared.choice.selection.Selection.{Selection}
 use Rattle.flutejoin.specs.Laws.{Leaves}
 use Rattle.flutejoin.specs.declared.forget.ForgetCounts.{ForgetCounts}
 use Rattle.flutejoin.specs.declared.limits.TheConstants.{MAX_ENTRIES}

@@ -9,8 +9,8 @@ use Rattle.flute_parts.specs.Addresses.{address}
 use Rattle.flute_parts.specs.Facts.{IsRising, StandAfter}
 use Rattle.flute_parts.specs.declared.address.Address.{Address}
 use Rattle.flute_parts.specs.declared.fact.Fact.{Fact}
-use Rattle.flute_journal.specs.Selections.{selects}
-use Rattle.flute_journal.specs.declared.choice.selection.Selection.{Selection}
+use Rattle.flute_streams.specs.Selections.{selects}
+use Rattle.flute_streams.specs.declared.choice.selection.Selection.{Selection}
 use Rattle.flutejoin.specs.Lines.{fact_line}
 use Rattle.flutejoin.specs.Selected.{selected}
 use Rattle.flutejoin.specs.Show.{entry_lines}

@@ -8,7 +8,7 @@ use Rattle.flute_parts.specs.declared.fact.Fact.{Fact}
 use Rattle.flute_parts.specs.declared.key.Key.{Key}
 use Rattle.flute_output.specs.NewFolders.{Places}
 use Rattle.flute_journal.specs.Journal.{IsJournalWithin}
-use Rattle.flute_journal.specs.Sessions.{listed_tsis, takes}
+use Rattle.flute_streams.specs.Sessions.{listed_tsis, takes}
 use Rattle.flutejoin.specs.Gaps.{GapsFail}
 use Rattle.flutejoin.specs.ObjectFiles.{TakesAll, Knows}
 use Rattle.flutejoin.specs.Limits.{Limits, IsOver}

@@ -6,9 +6,9 @@ use Rattle.flute_journal.specs.Framing.{HasFault}
 use Rattle.flute_journal.specs.Journal.{IsJournal, IsJournalWithin, Journal}
 use Rattle.flute_journal.specs.JournalFraming.{journal_framing}
 use Rattle.flute_journal.specs.JournalWriters.{WritesJournal}
-use Rattle.flute_journal.specs.Merges.{IsProperPrefix}
-use Rattle.flute_journal.specs.Selections.{left, selected_in}
-use Rattle.flute_journal.specs.declared.choice.selection.Selection.{Selection}
+use Rattle.flute_journal.specs.Prefixes.{IsProperPrefix}
+use Rattle.flute_streams.specs.Selections.{left, selected_in}
+use Rattle.flute_streams.specs.declared.choice.selection.Selection.{Selection}
 use Rattle.flutejoin.specs.declared.command_fault.CommandFault.{CommandFault}
 use Rattle.flutejoin.specs.declared.command_fault.CommandFault.TheVariants.{Input, CannotWrite}
 use Rattle.flutejoin.specs.declared.forget.ForgetCounts.{ForgetCounts}

@@ -6,7 +6,7 @@ use Rattle.flute_journal.specs.Frame.{AreItems}
 use Rattle.flute_journal.specs.Framing.{read_of}
 use Rattle.flute_journal.specs.Journal.{IsJournalWithin, journal_frame}
 use Rattle.flute_journal.specs.JournalFraming.{journal_framing}
-use Rattle.flute_journal.specs.declared.choice.selection.Selection.{Selection}
+use Rattle.flute_streams.specs.declared.choice.selection.Selection.{Selection}
 use Rattle.flutejoin.specs.declared.limits.TheConstants.{MAX_ENTRIES}
 use Rattle.flutejoin.specs.declared.command_fault.CommandFault.{CommandFault}
 use Rattle.flutejoin.specs.declared.command_fault.CommandFault.TheVariants.{OutOfMemory}

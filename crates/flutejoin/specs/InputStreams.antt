@@ -1,14 +1,14 @@
 -- The inputs of a join as streams, and how often their sources failed.
 use Rattle.std.specs.Prelude.{◌≡◌, ℕ, ◌+◌, List, [], length, slice_get, Option, Some, None}
 use Rattle.flute_parts.specs.declared.fact.Fact.{Fact}
-use Rattle.flute_journal.specs.declared.streams.chosen.Chosen.{Chosen}
+use Rattle.flute_streams.specs.declared.streams.chosen.Chosen.{Chosen}
 use Rattle.flute_journal.specs.declared.fault.LoadFault.{LoadFault}
-use Rattle.flute_journal.specs.declared.streams.owned_journal_stream.OwnedJournalStream.{OwnedJournalStream}
-use Rattle.flute_journal.specs.declared.choice.scope.Scope.{Scope}
-use Rattle.flute_journal.specs.ChosenStreams.{chosen_behaviour}
-use Rattle.flute_journal.specs.OwnedStreams.{owned_behaviour}
-use Rattle.flute_journal.specs.Scopes.{of_scope}
-use Rattle.flute_journal.specs.Streams.{Behaviour}
+use Rattle.flute_streams.specs.declared.streams.owned_journal_stream.OwnedJournalStream.{OwnedJournalStream}
+use Rattle.flute_streams.specs.declared.choice.scope.Scope.{Scope}
+use Rattle.flute_streams.specs.ChosenStreams.{chosen_behaviour}
+use Rattle.flute_streams.specs.OwnedStreams.{owned_behaviour}
+use Rattle.flute_streams.specs.Scopes.{of_scope}
+use Rattle.flute_streams.specs.Streams.{Behaviour}
 use Rattle.flutejoin.specs.declared.join.join_input.JoinInput.{JoinInput}
 use Rattle.flutejoin.specs.declared.join.join_input.JoinInput.TheVariants.{Journal, Datagrams}
 use Rattle.flutejoin.specs.declared.join.join_input.JoinInput.TheVariants.{Unknown}

@@ -5,11 +5,11 @@ use Rattle.std.specs.Prelude.{true, false, if◌then◌else◌, ⊤, ◌⊎◌}
 use Rattle.std.specs.List.{flat_map, count_by, sum_by, AllByRecursion}
 use Rattle.flute_parts.specs.Facts.{Same}
 use Rattle.flute_parts.specs.declared.fact.Fact.{Fact}
-use Rattle.flute_journal.specs.Scopes.{takes_key}
+use Rattle.flute_streams.specs.Scopes.{takes_key}
 use Rattle.flute_journal.specs.Records.{IsFileWithin}
 use Rattle.flute_journal.specs.FileFraming.{file_framing}
 use Rattle.flute_journal.specs.Framing.{HasFault}
-use Rattle.flute_journal.specs.declared.streams.owned_journal_stream.OwnedJournalStream.{OwnedJournalStream}
+use Rattle.flute_streams.specs.declared.streams.owned_journal_stream.OwnedJournalStream.{OwnedJournalStream}
 use Rattle.flutejoin.specs.Asides.{AreRunsOf, AreHeld, IsNewRun}
 use Rattle.flutejoin.specs.Limits.{Limits, IsOver}
 use Rattle.flutejoin.specs.Refused.{is_refused}
@@ -23,12 +23,12 @@ use Rattle.flutejoin.specs.declared.command_fault.CommandFault.TheVariants.{Full
 use Rattle.flutejoin.specs.declared.command_fault.CommandFault.TheVariants.{CannotWrite}
 use Rattle.flutejoin.specs.declared.command_fault.CommandFault.TheVariants.{CannotPutAside}
 use Rattle.flute_journal.specs.JournalWriters.{PutsJournal}
-use Rattle.flute_journal.specs.StreamMerges.{IsWithinLimits}
-use Rattle.flute_journal.specs.Streams.{Behaviour, IsNew}
+use Rattle.flute_streams.specs.StreamMerges.{IsWithinLimits}
+use Rattle.flute_streams.specs.Streams.{Behaviour, IsNew}
 use Rattle.flute_journal.specs.declared.fault.LoadFault.{LoadFault}
-use Rattle.flute_journal.specs.Eithers.{either_behaviour}
-use Rattle.flute_journal.specs.declared.streams.either.Either.{Either}
-use Rattle.flute_journal.specs.declared.merge.all_streams.MergedJournal.{MergedJournal}
+use Rattle.flute_streams.specs.Eithers.{either_behaviour}
+use Rattle.flute_streams.specs.declared.streams.either.Either.{Either}
+use Rattle.flute_streams.specs.declared.merge.all_streams.MergedJournal.{MergedJournal}
 use Rattle.flutejoin.specs.declared.join.join_input.JoinInput.{JoinInput}
 use Rattle.flutejoin.specs.declared.join.join_input.JoinInput.TheVariants.{Journal, Datagrams}
 use Rattle.flutejoin.specs.declared.join.join_input.JoinInput.TheVariants.{Unknown}

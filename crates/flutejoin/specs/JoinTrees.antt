@@ -1,7 +1,7 @@
 -- Joins of what joins wrote.
 use Rattle.std.specs.Prelude.{ℕ, List, [], ◌∷◌, ◌++◌, Some}
 use Rattle.flute_parts.specs.declared.fact.Fact.{Fact}
-use Rattle.flute_journal.specs.Scopes.{chosen}
+use Rattle.flute_streams.specs.Scopes.{chosen}
 use Rattle.flutejoin.specs.Joined.{Choice, InputContent, content_facts, Tells}
 use Rattle.flutejoin.specs.Joining.{JoinsTo}
 use Rattle.flutejoin.specs.declared.join.join_counts.JoinCounts.{JoinCounts}

@@ -7,8 +7,8 @@ use Rattle.flute_wire.specs.Content.{Content}
 use Rattle.flute_wire.specs.Facts.{key_of}
 use Rattle.flute_wire.specs.Reading.{packet, facts}
 use Rattle.flute_journal.specs.Journal.{IsJournalWithin}
-use Rattle.flute_journal.specs.Scopes.{takes_key, chosen, others_in}
-use Rattle.flute_journal.specs.declared.choice.scope.Scope.{Scope}
+use Rattle.flute_streams.specs.Scopes.{takes_key, chosen, others_in}
+use Rattle.flute_streams.specs.declared.choice.scope.Scope.{Scope}
 use Rattle.flute_journal.specs.Records.{IsFileWithin}
 use Rattle.flutejoin.specs.Limits.{Limits, limits_of}
 use Rattle.flutejoin.specs.declared.limits.TheConstants.{MAX_ENTRIES}

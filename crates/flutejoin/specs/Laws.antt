@@ -1,6 +1,6 @@
 -- Journals of which entries were forgotten.
 use Rattle.std.specs.Prelude.{ℕ, List, ◌++◌, Some}
-use Rattle.flute_journal.specs.declared.choice.selection.Selection.{Selection}
+use Rattle.flute_streams.specs.declared.choice.selection.Selection.{Selection}
 use Rattle.flutejoin.specs.Forget.{Forgets}
 use Rattle.flutejoin.specs.declared.forget.ForgetCounts.{ForgetCounts}
 

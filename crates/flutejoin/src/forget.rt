@@ -1,9 +1,9 @@
 //! The command `forget`: entries that are taken out of a journal.
 ghost use Rattle.std.specs.Prelude.{◌≡◌, ◌+◌, IfOk, IfErr};
-ghost use Rattle.flute_journal.specs.ChosenStreams.{chosen_behaviour};
-ghost use Rattle.flute_journal.specs.OwnedStreams.{owned_behaviour, owned_limit};
-ghost use Rattle.flute_journal.specs.Selections.{leaves};
-ghost use Rattle.flute_journal.specs.Streams.{IsNew};
+ghost use Rattle.flute_streams.specs.ChosenStreams.{chosen_behaviour};
+ghost use Rattle.flute_streams.specs.OwnedStreams.{owned_behaviour, owned_limit};
+ghost use Rattle.flute_streams.specs.Selections.{leaves};
+ghost use Rattle.flute_streams.specs.Streams.{IsNew};
 ghost use Rattle.flutejoin.specs.Forget.{Forgets, ForgetsPart, ForgetFails};
 ghost use Rattle.flutejoin.specs.Packet.{write_failures};
 ghost use Rattle.flutejoin.specs.Show.{FailsToRead};
@@ -11,8 +11,8 @@ ghost use Rattle.flutejoin.specs.declared.limits.TheConstants.{MAX_ENTRIES};
 
 use crate::command_fault::{CommandFault, load_fault};
 use crate::limits::MAX_ENTRIES;
-use flute_journal::{AllBut, Chosen, OwnedJournalStream, Selection, StreamsFault, write_stream};
 use flute_parts::{Sink, Source};
+use flute_streams::{AllBut, Chosen, OwnedJournalStream, Selection, StreamsFault, write_stream};
 use std::alloc::Global;
 
 /// A journal, of which what is selected is to be forgotten.

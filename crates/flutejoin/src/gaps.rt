@@ -24,8 +24,9 @@ use crate::command_fault::{CommandFault, at_input};
 use crate::gaps::listing::Listing;
 use crate::limits::MAX_ENTRIES;
 use crate::lines::style::Style;
-use flute_journal::{JournalReader, Selection};
+use flute_journal::JournalReader;
 use flute_parts::{DeviceFault, Fact, Sink, Source, Tally};
+use flute_streams::Selection;
 use std::alloc::Global;
 
 /// Writes how much the selected entries of the journal that the source gives, of at most

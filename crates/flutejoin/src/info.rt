@@ -1,7 +1,7 @@
 //! The command `info`: information that is entered by hand.
 ghost use Rattle.std.specs.Prelude.{◌≡◌, ◌+◌, [], ◌∷◌, OnOk, IfOk, IfErr};
 ghost use Rattle.flute_parts.specs.declared.fact.Fact.TheVariants.{Info as InfoFact};
-ghost use Rattle.flute_journal.specs.StreamMerges.{AppendsNoJournal};
+ghost use Rattle.flute_streams.specs.StreamMerges.{AppendsNoJournal};
 ghost use Rattle.flutejoin.specs.declared.command_fault.CommandFault.TheVariants.{CannotWrite};
 ghost use Rattle.flutejoin.specs.Info.{AddsFacts, InfoFails};
 ghost use Rattle.flutejoin.specs.Limits.{at_most};
@@ -15,8 +15,9 @@ pub(crate) mod information_list;
 use crate::command_fault::CommandFault;
 use crate::info::adding_facts::add_facts;
 use crate::limits::MAX_ENTRIES;
-use flute_journal::{FactStream, JournalReader};
+use flute_journal::JournalReader;
 use flute_parts::{Fact, Info, Key, Sink, Source};
+use flute_streams::FactStream;
 use std::alloc::Global;
 
 /// Writes the journal of all that a journal contains, of at most 16,777,216 entries, and the

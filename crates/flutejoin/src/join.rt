@@ -4,11 +4,11 @@ ghost use Rattle.std.specs.Prelude.{flat_map, min, sum_by, None, OnOk, IfOk, IfE
 ghost use Rattle.std.specs.List.{AllByRecursion};
 ghost use Rattle.flute_parts.specs.Devices.{times_failed};
 ghost use Rattle.flute_parts.specs.declared.fact.Fact.{Fact};
-ghost use Rattle.flute_journal.specs.Advances.{AreNew};
-ghost use Rattle.flute_journal.specs.Chains.{chained, taken};
-ghost use Rattle.flute_journal.specs.FirstFaults.{FirstFault};
-ghost use Rattle.flute_journal.specs.StreamMerges.{EndsMerged, AppendsNoJournal, NoneFails};
-ghost use Rattle.flute_journal.specs.Streams.{most_of};
+ghost use Rattle.flute_streams.specs.Advances.{AreNew};
+ghost use Rattle.flute_streams.specs.Chains.{chained, taken};
+ghost use Rattle.flute_streams.specs.FirstFaults.{FirstFault};
+ghost use Rattle.flute_streams.specs.StreamMerges.{EndsMerged, AppendsNoJournal, NoneFails};
+ghost use Rattle.flute_streams.specs.Streams.{most_of};
 ghost use Rattle.flute_journal.specs.declared.fault.ReadFault.TheVariants.{Read};
 ghost use Rattle.flutejoin.specs.declared.command_fault.CommandFault.TheVariants.{Input};
 ghost use Rattle.flutejoin.specs.declared.command_fault.CommandFault.TheVariants.{OutOfMemory};
@@ -41,11 +41,11 @@ use crate::join::inspecting::inspect_all;
 use crate::join::join_counts::JoinCounts;
 use crate::join::join_input::JoinInput;
 use crate::nothing::Nothing;
-use flute_journal::{
-    Chained, InputFault, MergedJournal, OwnedJournalStream, Scope, Stream, WalkStream, join_streams,
-};
 use flute_parts::{Sender, Sink, Source};
 use flute_store::Store;
+use flute_streams::{
+    Chained, InputFault, MergedJournal, OwnedJournalStream, Scope, Stream, WalkStream, join_streams,
+};
 use std::alloc::Global;
 
 /// Writes the journal of all that the inputs contain of these objects, each a journal or a

@@ -7,7 +7,7 @@ ghost use Rattle.flute_journal.specs.Stores.{IsJournalOf};
 ghost use Rattle.flutejoin.specs.Laws.{Leaves};
 ghost use Rattle.flutejoin.specs.Joined.{Choice, InputContent, TellAll, content_facts};
 ghost use Rattle.flutejoin.specs.JoinTrees.{Joined, Inputs, AreMade, bytes_of, leaf_facts};
-ghost use Rattle.flute_journal.specs.declared.choice.selection.Selection.{Selection as Selecting};
+ghost use Rattle.flute_streams.specs.declared.choice.selection.Selection.{Selection as Selecting};
 ghost use Rattle.flutejoin.specs.declared.forget.ForgetCounts.{ForgetCounts as Counts};
 ghost use Rattle.flutejoin.specs.declared.limits.TheConstants.{MAX_ENTRIES};
 

@@ -1,14 +1,14 @@
 //! The command `merge`: two journals, merged as streams.
 ghost use Rattle.std.specs.Prelude.{◌≡◌, ◌+◌, IfOk, IfErr, OnErr};
-ghost use Rattle.flute_journal.specs.Merges.{Merged, StopsShort};
+ghost use Rattle.flute_streams.specs.Merges.{Merged, StopsShort};
 ghost use Rattle.flutejoin.specs.Merge.{MergeFails, FirstInputFails, SecondInputFails};
 ghost use Rattle.flutejoin.specs.declared.limits.TheConstants.{MAX_ENTRIES};
 ghost use Rattle.flutejoin.specs.Packet.{write_failures};
 
 use crate::command_fault::CommandFault;
 use crate::limits::MAX_ENTRIES;
-use flute_journal::{MergeFault, merge_streams};
 use flute_parts::{Sink, Source};
+use flute_streams::{MergeFault, merge_streams};
 use std::alloc::Global;
 
 /// Writes the journal of all that two journals contain, of at most 16,777,216 entries each, and

@@ -14,8 +14,9 @@ use crate::lines::fact_lines::{push_information, push_key, push_symbol, push_sym
 use crate::lines::hex_digits::HexDigits;
 use crate::lines::report_lines::{write_count, write_line};
 use crate::lines::text::Text;
-use flute_journal::{JournalReader, Selection};
+use flute_journal::JournalReader;
 use flute_parts::{DeviceFault, Fact, Sink, Source};
+use flute_streams::Selection;
 use std::alloc::Global;
 
 /// Writes what is selected of the journal that the source gives: a line for each entry as it is

@@ -4,7 +4,7 @@ use Rattle.std.proofs.Common.{Result, Ok, Err, IfErr, inl, inr, refl, sym, ap, s
 use Rattle.std.specs.Prelude.{slice_get, Bool, OnOk, IsSome, IfSome}
 use Rattle.std.specs.List.{AllZip}
 use Rattle.std.proofs.lemmas.Option.{same_Some}
-use Rattle.flute_journal.specs.declared.choice.scope.Scope.{Scope}
+use Rattle.flute_streams.specs.declared.choice.scope.Scope.{Scope}
 use Rattle.flutejoin.specs.JoinFaults.{NamesOneOf}
 use Rattle.flutejoin.specs.JoinInputs.{AreInputs, IsInput}
 use Rattle.flutejoin.specs.declared.join.join_input.JoinInput.{JoinInput}

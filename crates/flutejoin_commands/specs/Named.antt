@@ -3,8 +3,8 @@ use Rattle.std.specs.Prelude.{◌≡◌, ◌⊎◌, ◌+◌, ◌<◌, ℕ, List,
 use Rattle.std.specs.Prelude.{Some, IfSome}
 use Rattle.std.specs.List.{AllZip}
 use Rattle.flute_journal.specs.declared.fault.ReadFault.TheVariants.{Read}
-use Rattle.flute_journal.specs.declared.choice.scope.Scope.{Scope}
-use Rattle.flute_journal.specs.declared.choice.selection.Selection.{Selection}
+use Rattle.flute_streams.specs.declared.choice.scope.Scope.{Scope}
+use Rattle.flute_streams.specs.declared.choice.selection.Selection.{Selection}
 use Rattle.flute_parts.specs.Information.{Information}
 use Rattle.flute_parts.specs.declared.key.Key.{Key}
 use Rattle.flutejoin.specs.Forget.{ForgetFails}

@@ -1,7 +1,7 @@
 -- What the commands that leave no file print, and why they fail, stated of their inputs' names.
 use Rattle.std.specs.Prelude.{◌≡◌, ◌≢◌, ◌⊎◌, ℕ, Bool, true, false, List, [], ◌∷◌, Option}
 use Rattle.std.specs.Io.KnownBytes.{Appends, IsAtEnd}
-use Rattle.flute_journal.specs.declared.choice.selection.Selection.{Selection}
+use Rattle.flute_streams.specs.declared.choice.selection.Selection.{Selection}
 use Rattle.flute_output.specs.NewFolders.{Places}
 use Rattle.flutejoin.specs.Gaps.{ListsJournal, GapsFail}
 use Rattle.flutejoin.specs.Limits.{Limits}

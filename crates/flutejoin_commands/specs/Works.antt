@@ -7,10 +7,10 @@ use Rattle.flute_parts.specs.Information.{Information}
 use Rattle.flute_parts.specs.declared.fact.Fact.{Fact}
 use Rattle.flute_parts.specs.declared.fact.Fact.TheVariants.{Info}
 use Rattle.flute_parts.specs.declared.key.Key.{Key}
-use Rattle.flute_journal.specs.Merges.{Merged}
-use Rattle.flute_journal.specs.Scopes.{is_all}
-use Rattle.flute_journal.specs.declared.choice.scope.Scope.{Scope}
-use Rattle.flute_journal.specs.declared.choice.selection.Selection.{Selection}
+use Rattle.flute_streams.specs.Merges.{Merged}
+use Rattle.flute_streams.specs.Scopes.{is_all}
+use Rattle.flute_streams.specs.declared.choice.scope.Scope.{Scope}
+use Rattle.flute_streams.specs.declared.choice.selection.Selection.{Selection}
 use Rattle.flutejoin.specs.Carousel.{SendFails, SendsInput}
 use Rattle.flutejoin.specs.Extract.{AnswersFrom, Extracts}
 use Rattle.flutejoin.specs.Forget.{Forgets}

@@ -25,8 +25,8 @@ use crate::merging::MergeWork;
 use crate::outlet::Outlet;
 use crate::sending::SendWork;
 use crate::world::World;
-use flute_journal::{Scope, Selection};
 use flute_parts::{Info, Key, Sender, Sink};
+use flute_streams::{Scope, Selection};
 use flutejoin::{Asides, CommandFault, Overwrites, forget_input, is_too_large, put_aside};
 use std::alloc::Global;
 

@@ -13,9 +13,9 @@ ghost use Rattle.flutejoin_commands.specs.Works.{JoinsAll, JoinAllFails, join_li
 use crate::nothing::{Nothing, fault_or};
 use crate::output_command::write_into;
 use crate::work::Work;
-use flute_journal::Scope;
 use flute_output::Folder;
 use flute_parts::{Sender, Sink, Source};
+use flute_streams::Scope;
 use flutejoin::{
     ANY_OBJECTS, ANY_SESSIONS, ANY_SYMBOLS, Asides, CommandFault, JoinCounts, JoinInput,
     MAX_ENTRIES, MAX_OBJECTS, MAX_SESSIONS, MAX_SYMBOLS, Text, join_to,

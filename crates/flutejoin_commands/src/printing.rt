@@ -13,8 +13,8 @@ ghost use Rattle.flutejoin.specs.Styles.{are_whole, passes_check, printed};
 ghost use Rattle.flutejoin_commands.specs.Prints.{FailsToFlush, IfPrinted, IsHandedOn};
 
 use crate::report::Report;
-use flute_journal::Selection;
 use flute_parts::{Sink, Source};
+use flute_streams::Selection;
 use flutejoin::{
     ANY_OBJECTS, ANY_SESSIONS, ANY_SYMBOLS, Aside, CommandFault, MAX_OBJECTS, MAX_SESSIONS,
     MAX_SYMBOLS, Style, gaps_from, packet_to, show_to,

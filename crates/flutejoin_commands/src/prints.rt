@@ -11,7 +11,7 @@ use crate::opening::open_input;
 use crate::printing::{gaps_on, packet_on, show_on};
 use crate::report::Report;
 use crate::world::World;
-use flute_journal::Selection;
+use flute_streams::Selection;
 use flutejoin::{Asides, CommandFault, Picked, Style};
 use std::alloc::Global;
 

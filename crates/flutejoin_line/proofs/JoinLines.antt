@@ -4,7 +4,7 @@ use Rattle.std.proofs.Common.{codes}
 use Rattle.std.specs.Prelude.{Some, is_some}
 use Rattle.std.proofs.lemmas.List.{length-map}
 use Rattle.clap.specs.Walk.{Row}
-use Rattle.flute_journal.specs.declared.choice.scope.Scope.{Scope}
+use Rattle.flute_streams.specs.declared.choice.scope.Scope.{Scope}
 use Rattle.flutejoin_line.specs.CommandLine.{AreJoinNumbers, IsJoinFault, IsManyInputs}
 use Rattle.flutejoin_line.specs.Options.{HasSessions, HasSource, IsBadNumber, are_sessions, words}
 use Rattle.flutejoin_line.specs.Scoping.{AreScopeNumbers, IsScope}

@@ -10,10 +10,10 @@ use Rattle.clap.specs.Values.{kind_of}
 use Rattle.clap.specs.Walk.{Row, first_of}
 use Rattle.clap.specs.declared.error.Error.{Error}
 use Rattle.clap.specs.declared.error.kind.ErrorKind.TheVariants as kind
-use Rattle.flute_journal.specs.Selections.{is_everything}
-use Rattle.flute_journal.specs.Sessions.{listed_tsis}
-use Rattle.flute_journal.specs.declared.choice.scope.Scope.{Scope}
-use Rattle.flute_journal.specs.declared.choice.selection.Selection.{Selection}
+use Rattle.flute_streams.specs.Selections.{is_everything}
+use Rattle.flute_streams.specs.Sessions.{listed_tsis}
+use Rattle.flute_streams.specs.declared.choice.scope.Scope.{Scope}
+use Rattle.flute_streams.specs.declared.choice.selection.Selection.{Selection}
 use Rattle.flutejoin_line.specs.Options.{HasObject, HasSessions, HasSource, IsFlag, IsFormFault}
 use Rattle.flutejoin_line.specs.Options.{IsKey}
 use Rattle.flutejoin_line.specs.Options.{IsNumber, IsSourceIf, IsZero, all_form, are_sessions}

@@ -1,8 +1,8 @@
 -- Which objects the options of a join take.
 use Rattle.std.specs.Prelude.{◌≡◌, ◌⊎◌, ℕ, false, List, Some, None, codes}
 use Rattle.clap.specs.Walk.{Row}
-use Rattle.flute_journal.specs.Sessions.{listed_tsis}
-use Rattle.flute_journal.specs.declared.choice.scope.Scope.{Scope}
+use Rattle.flute_streams.specs.Sessions.{listed_tsis}
+use Rattle.flute_streams.specs.declared.choice.scope.Scope.{Scope}
 use Rattle.flutejoin_line.specs.Options.{HasSessions, IsFlag, are_sessions, first_wrong, words}
 use Rattle.flutejoin_line.specs.Selecting.{NamesObject, object_options}
 

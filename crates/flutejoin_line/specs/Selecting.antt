@@ -5,9 +5,9 @@ use Rattle.std.specs.List.{after_first, before_first}
 use Rattle.clap.specs.Walk.{Row, first_of}
 use Rattle.flute_parts.specs.declared.object_key.ObjectName.{ObjectName}
 use Rattle.flute_parts.specs.declared.symbol_id.SymbolId.{SymbolId}
-use Rattle.flute_journal.specs.Selections.{is_everything}
-use Rattle.flute_journal.specs.Sessions.{listed_tsis}
-use Rattle.flute_journal.specs.declared.choice.selection.Selection.{Selection}
+use Rattle.flute_streams.specs.Selections.{is_everything}
+use Rattle.flute_streams.specs.Sessions.{listed_tsis}
+use Rattle.flute_streams.specs.declared.choice.selection.Selection.{Selection}
 use Rattle.flutejoin_line.specs.Options.{HasSessions, HasSource, IsFlag, IsInstance}
 use Rattle.flutejoin_line.specs.Options.{IsSourceIf, IsToi, are_sessions, first_wrong, number_in}
 use Rattle.flutejoin_line.specs.Options.{object_by}

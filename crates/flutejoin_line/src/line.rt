@@ -21,8 +21,8 @@ use crate::sizes::memory;
 use crate::words::{flag, text};
 use clap::ArgMatches;
 use clap::error::ErrorKind;
-use flute_journal::{Scope, Selection, Sessions};
 use flute_parts::{Key, Sender};
+use flute_streams::{Scope, Selection, Sessions};
 use flutejoin::{CommandFault, MAX_INPUTS, Style};
 use std::alloc::Global;
 

@@ -5,7 +5,7 @@ ghost use Rattle.std.specs.Prelude.{is_some, map};
 ghost use Rattle.std.specs.Char.{is_ascii_digit};
 ghost use Rattle.std.specs.List.{list_all};
 ghost use Rattle.clap.specs.Walk.{first_of};
-ghost use Rattle.flute_journal.specs.Sessions.{listed_tsis};
+ghost use Rattle.flute_streams.specs.Sessions.{listed_tsis};
 ghost use Rattle.flutejoin_line.specs.Options.{AreNumbers, HasSessions, HasSource, IsBadNumber};
 ghost use Rattle.flutejoin_line.specs.Options.{IsInstance, IsNumber, IsSourceIf, IsToi};
 ghost use Rattle.flutejoin_line.specs.Options.{are_sessions};
@@ -13,8 +13,8 @@ ghost use Rattle.flutejoin_line.specs.Options.{found_rows, has_number, is_below,
 
 use crate::words::{text, word};
 use clap::ArgMatches;
-use flute_journal::Sessions;
 use flute_parts::Sender;
+use flute_streams::Sessions;
 use flutejoin::{CommandFault, sender_in};
 
 /// The sessions of `--tsi`, or all if it is left out.

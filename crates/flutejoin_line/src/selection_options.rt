@@ -9,8 +9,8 @@ use crate::numbers::{decimal, sessions, source_if};
 use crate::object_numbers::ObjectNumbers;
 use crate::words::{flag, word};
 use clap::ArgMatches;
-use flute_journal::{Scope, Selection};
 use flute_parts::SymbolId;
+use flute_streams::{Scope, Selection};
 use flutejoin::CommandFault;
 
 /// What `--source`, `--tsi`, `--toi` and `--fdt`, `--symbol`, `--info` and `--conflicts` select.

@@ -7,8 +7,9 @@ ghost use Rattle.flutejoin_replicas.specs.Memory.{Joins, in_memory, MemoryFails}
 use crate::blob::Blob;
 use crate::no_asides::NoAsides;
 use flute_journal::laws::{a_journal_has_one_content, a_journal_within_a_bound_is_one};
-use flute_journal::{ReadFault, Scope, read_store};
+use flute_journal::{ReadFault, read_store};
 use flute_parts::{MemorySink, MemorySource, Sender, Sink};
+use flute_streams::Scope;
 use flutejoin::{
     CommandFault, JoinCounts, JoinInput, Joined, JoinedShelf, MAX_OBJECTS, MAX_SESSIONS,
     MAX_SYMBOLS, join_to,

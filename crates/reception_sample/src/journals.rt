@@ -1,9 +1,10 @@
 //! The journals of two stations are written, merged and read.
 
 use anyhow::Result;
-use flute_journal::{merge_streams, read_store, write_store};
+use flute_journal::{read_store, write_store};
 use flute_parts::{MemorySink, MemorySource};
 use flute_store::Shelf;
+use flute_streams::merge_streams;
 use std::alloc::Global;
 
 /// How many entries a journal may have here.

@@ -21,7 +21,7 @@ use Rattle.flute_journal.proofs.Common.{version_fault, version_in, zero, ℕ, �
 use Rattle.flute_journal.proofs.Common.{◌∙◌, ◌∷◌, ◌≡◌, ◌≤◌}
 use Rattle.flute_journal.proofs.Numbers.{octets-drop, number-below, octets-take, spelled}
 use Rattle.flute_journal.proofs.Numbers.{spelled_pair}
-use Rattle.flute_journal.proofs.merge_lemmas.MergeRising.{Rises, rising-rises, rises-rising}
+use Rattle.flute_journal.proofs.format_lemmas.Rising.{Rises, rising-rises, rises-rising}
 use Rattle.flute_journal.proofs.framing_lemmas.Decisions.{Next, at_end, at_item}
 use Rattle.flute_journal.proofs.format_lemmas.Parts.{body_comes, key_spelled, info_spelled}
 use Rattle.std.proofs.Common.{◌||◌}

@@ -13,10 +13,10 @@ use Rattle.flute_journal.proofs.Common.{next_fault, none-some, refl, rest_bytes,
 use Rattle.flute_journal.proofs.Common.{same_Some, spelling_in, subst, sym, symbol_address}
 use Rattle.flute_journal.proofs.Common.{counted_bytes, true, ℕ, ◌++◌, ◌<◌, ◌^◌, ◌∙◌, ◌∷◌, ◌≡◌, ◌≤◌}
 use Rattle.flute_journal.proofs.framing_lemmas.Sequences.{one_stop, stop_at_bound}
-use Rattle.flute_journal.proofs.merge_lemmas.MergeBytes.{without_end-both, journal_parts}
+use Rattle.flute_journal.proofs.format_lemmas.Prefixes.{without_end-both, journal_parts}
 use Rattle.flute_journal.proofs.Each.{all_split}
 use Rattle.flute_journal.proofs.Numbers.{number-in_bytes}
-use Rattle.flute_journal.proofs.merge_lemmas.MergeRising.{Rises, rising-rises}
+use Rattle.flute_journal.proofs.format_lemmas.Rising.{Rises, rising-rises}
 use Rattle.flute_journal.proofs.format_lemmas.Entries.{length_fits, entry_injective, not_end}
 use Rattle.flute_journal.proofs.format_lemmas.Entries.{header-injective}
 use Rattle.flute_journal.proofs.format_lemmas.Parts.{id_comes, order_passes, symbol_comes}

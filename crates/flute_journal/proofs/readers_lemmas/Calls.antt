@@ -6,7 +6,7 @@ use Rattle.flute_journal.proofs.Common.{StaysWithin, Version, entry_in, is_open,
 use Rattle.flute_journal.proofs.Common.{place_at, state_after, next_fault, refl, subst, sym, true}
 use Rattle.flute_journal.proofs.Common.{[], ℕ, ◌<◌, ◌≡◌}
 use Rattle.flute_journal.proofs.framing_lemmas.Framed.{gives, reads_on}
-use Rattle.flute_journal.proofs.merge_lemmas.MergeBytes.{within_nil}
+use Rattle.flute_journal.proofs.format_lemmas.Prefixes.{within_nil}
 use Rattle.flute_journal.proofs.framing_lemmas.Passes.{entry-passes}
 use Rattle.flute_journal.proofs.framing_lemmas.ReadsUpTo.{asks_seen}
 use Rattle.std.specs.Prelude.{⊤}

@@ -10,7 +10,7 @@ use Rattle.flute_journal.proofs.Common.{count_at, end, err_from_is_err_and, with
 use Rattle.flute_journal.proofs.Common.{more_objects, more_sessions, more_symbols, refl, refused}
 use Rattle.flute_journal.proofs.Common.{session, spelling_in, subst, sym, ℕ, ◌++◌, ◌∙◌, ◌∷◌, ◌≡◌}
 use Rattle.flute_journal.proofs.Common.{journal_frame}
-use Rattle.flute_journal.proofs.merge_lemmas.MergeBytes.{within_nil}
+use Rattle.flute_journal.proofs.format_lemmas.Prefixes.{within_nil}
 use Rattle.flute_journal.proofs.framing_lemmas.SoFar.{AtEnd, read_some, side-from, open_after}
 use Rattle.flute_journal.proofs.framing_lemmas.SoFar.{sofar-none, sofar-next}
 use Rattle.flute_journal.proofs.framing_lemmas.Framings.{journal_sound}

@@ -14,12 +14,12 @@ use Rattle.flute_journal.proofs.framing_lemmas.SoFar.{stops_at, stops_by}
 use Rattle.flute_journal.proofs.framing_lemmas.Framings.{journal_sound}
 use Rattle.flute_journal.proofs.format_lemmas.Parts.{entry_within-short}
 use Rattle.flute_journal.proofs.Each.{all_split}
-use Rattle.flute_journal.proofs.merge_lemmas.MergeBytes.{without_end_in-snoc, within_entry}
-use Rattle.flute_journal.proofs.merge_lemmas.MergeBytes.{within_end, within_nil}
-use Rattle.flute_journal.proofs.merge_lemmas.MergeBytes.{without_end-of_spelling}
-use Rattle.flute_journal.proofs.merge_lemmas.MergeRising.{Rises-second, Rises, rising-rises}
+use Rattle.flute_journal.proofs.format_lemmas.Prefixes.{without_end_in-snoc, within_entry}
+use Rattle.flute_journal.proofs.format_lemmas.Prefixes.{within_end, within_nil}
+use Rattle.flute_journal.proofs.format_lemmas.Prefixes.{without_end-of_spelling}
+use Rattle.flute_journal.proofs.format_lemmas.Rising.{Rises-second, Rises, rising-rises}
 use Rattle.flute_journal.specs.Whole.{in_header as part_in_header, after_entries as part_after}
-use Rattle.flute_journal.specs.Merges.{in_header, after_entries}
+use Rattle.flute_journal.specs.Prefixes.{in_header, after_entries}
 use Rattle.flute_journal.specs.declared.fault.ReadFault.TheVariants as faults
 
 -- no entry is held back before the next one

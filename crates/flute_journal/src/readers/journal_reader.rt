@@ -105,11 +105,7 @@ impl<'a, R: Source> JournalReader<'a, R> {
     ///
     /// Those of `next`.
     #[inline(always)]
-    pub(crate) fn next_into(
-        &mut self,
-        alloc: Global,
-        held: &mut Option<Fact>,
-    ) -> Result<(), ReadFault>
+    pub fn next_into(&mut self, alloc: Global, held: &mut Option<Fact>) -> Result<(), ReadFault>
         ensures source { (source_of self.new).ghost_name ≡ (source_of self.old).ghost_name }
         ensures limit { limit_of self.new ≡ limit_of self.old }
         ensures gives { Gives journal_framing (limit_of self.old) (state_of self.old)
@@ -127,7 +123,7 @@ impl<'a, R: Source> JournalReader<'a, R> {
 /// Puts the next entry of a journal whose reader has this state in place of the one that is held,
 /// as `next_into` does.
 #[inline(always)]
-pub(crate) fn read_into<R: Source>(
+pub fn read_into<R: Source>(
     alloc: Global,
     source: &mut R,
     max_entries: u64,

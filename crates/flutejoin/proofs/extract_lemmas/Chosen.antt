@@ -8,7 +8,7 @@ use Rattle.flute_parts.specs.declared.key.Key.{Key}
 use Rattle.flute_parts.specs.declared.symbol_id.SymbolId.{SymbolId}
 use Rattle.flute_wire.specs.Content.{Content}
 use Rattle.flute_wire.specs.Facts.{key_of, info_facts, symbol_facts, facts_of}
-use Rattle.flute_journal.specs.Scopes.{chosen}
+use Rattle.flute_streams.specs.Scopes.{chosen}
 use Rattle.flutejoin.specs.Joined.{Choice, is_other_packet}
 
 module _ (takes : Key → Bool) where

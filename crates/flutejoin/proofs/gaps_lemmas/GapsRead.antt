@@ -15,9 +15,9 @@ use Rattle.flute_journal.specs.declared.readers.entry_fields.Before.{Before}
 use Rattle.flute_journal.specs.declared.readers.reader_state.ReaderState.TheVariants.{Header}
 use Rattle.flute_journal.specs.Framing.{GivesItem, GivesEnd, GivesFault, Sofar}
 use Rattle.flute_journal.specs.JournalFraming.{journal_framing}
-use Rattle.flute_journal.specs.Selections.{selects}
+use Rattle.flute_streams.specs.Selections.{selects}
 use Rattle.flute_journal.specs.declared.format.version.Version.TheVariants.{Two}
-use Rattle.flute_journal.specs.declared.choice.selection.Selection.{Selection}
+use Rattle.flute_streams.specs.declared.choice.selection.Selection.{Selection}
 use Rattle.flute_journal.proofs.Public.{loaded-over, side-from, journal_sound, sofar-next}
 use Rattle.flute_journal.proofs.Public.{sofar-none, sofar-stops}
 use Rattle.flutejoin.specs.Gaps.{ListsJournal, ReadsWithin}

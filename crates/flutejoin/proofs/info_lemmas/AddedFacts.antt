@@ -11,20 +11,20 @@ use Rattle.flute_journal.specs.Journal.{IsJournalWithin}
 use Rattle.flute_journal.specs.JournalFraming.{journal_framing}
 use Rattle.flute_journal.specs.JournalWriters.{PutsJournal, WritesJournal}
 use Rattle.flute_journal.specs.Readers.{source_of, limit_of}
-use Rattle.flute_journal.specs.Streams.{Behaviour}
-use Rattle.flute_journal.specs.Eithers.{either_behaviour}
-use Rattle.flute_journal.specs.FirstFaults.{FirstFault, IsStopOf}
-use Rattle.flute_journal.specs.JournalStreams.{FailsBy, lent_behaviour}
-use Rattle.flute_journal.specs.StreamMerges.{all_of, Each, IsWithinLimits, MergedAll}
+use Rattle.flute_streams.specs.Streams.{Behaviour}
+use Rattle.flute_streams.specs.Eithers.{either_behaviour}
+use Rattle.flute_streams.specs.FirstFaults.{FirstFault, IsStopOf}
+use Rattle.flute_streams.specs.JournalStreams.{FailsBy, lent_behaviour}
+use Rattle.flute_streams.specs.StreamMerges.{all_of, Each, IsWithinLimits, MergedAll}
 use Rattle.flute_journal.specs.Framing.{HasFault}
-use Rattle.flute_journal.specs.declared.streams.either.Either.{Either}
-use Rattle.flute_journal.specs.declared.streams.either.Either.TheVariants.{First, Second}
+use Rattle.flute_streams.specs.declared.streams.either.Either.{Either}
+use Rattle.flute_streams.specs.declared.streams.either.Either.TheVariants.{First, Second}
 use Rattle.flute_journal.specs.declared.fault.LoadFault.{LoadFault}
 use Rattle.flute_journal.specs.declared.fault.LoadFault.TheVariants as load
 use Rattle.flute_journal.specs.declared.fault.ReadFault.TheVariants as read
-use Rattle.flute_journal.specs.declared.streams.journal_stream.LentStream.{LentStream}
-use Rattle.flute_journal.specs.declared.merge.all_streams.MergedJournal.{MergedJournal}
-use Rattle.flute_journal.specs.declared.merge.streams_fault.InputFault.{InputFault}
+use Rattle.flute_streams.specs.declared.streams.journal_stream.LentStream.{LentStream}
+use Rattle.flute_streams.specs.declared.merge.all_streams.MergedJournal.{MergedJournal}
+use Rattle.flute_streams.specs.declared.merge.streams_fault.InputFault.{InputFault}
 use Rattle.flutejoin.specs.declared.command_fault.CommandFault.{CommandFault}
 use Rattle.flutejoin.specs.declared.command_fault.CommandFault.TheVariants.{Full, CannotWrite}
 use Rattle.flutejoin.specs.declared.command_fault.CommandFault.TheVariants.{Input}

@@ -17,7 +17,7 @@ use Rattle.flute_parts.proofs.Public.{Below-from_Same, Over-below, Same-append, 
 use Rattle.flute_parts.proofs.Public.{Same-swap, Same-trans}
 use Rattle.flutejoin.specs.declared.command_fault.CommandFault.{CommandFault}
 use Rattle.flutejoin.specs.declared.command_fault.CommandFault.TheVariants.{Full, Input}
-use Rattle.flute_journal.specs.declared.streams.owned_journal_stream.OwnedJournalStream.{OwnedJournalStream}
+use Rattle.flute_streams.specs.declared.streams.owned_journal_stream.OwnedJournalStream.{OwnedJournalStream}
 use Rattle.flutejoin.specs.Asides.{AreHeld, AreRunsOf, HoldTogether, IsRunOf}
 use Rattle.flutejoin.specs.declared.join.held_files.HeldFiles.{HeldFiles}
 use Rattle.flutejoin.specs.Joined.{Choice, facts_by, is_of_others}

@@ -3,7 +3,7 @@ use Rattle.std.proofs.Common.{◌≡◌, ℕ, List, ◌++◌, Option, Some, None
 use Rattle.std.specs.Prelude.{OnOk, IfErr, IfSome}
 use Rattle.flute_parts.specs.declared.fact.Fact.{Fact}
 use Rattle.flute_journal.specs.Kinds.{IsNeither}
-use Rattle.flute_journal.specs.Streams.{Behaviour, Gave, GoesOn, Stopped, StopsAt, option_list}
+use Rattle.flute_streams.specs.Streams.{Behaviour, Gave, GoesOn, Stopped, StopsAt, option_list}
 use Rattle.flute_journal.specs.declared.fault.LoadFault.{LoadFault}
 use Rattle.flutejoin.specs.Begins.{Begins}
 use Rattle.flutejoin.specs.declared.join.join_input.JoinInput.{JoinInput}

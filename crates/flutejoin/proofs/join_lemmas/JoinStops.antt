@@ -13,25 +13,25 @@ use Rattle.flute_parts.proofs.Public.{Over-below, Same-append, Same-itself, Same
 use Rattle.flute_journal.specs.Format.{spelling_in}
 use Rattle.flute_journal.specs.declared.format.version.Version.{Version}
 use Rattle.flute_journal.proofs.Public.{journal_parts}
-use Rattle.flute_journal.specs.Chains.{chained, taken}
+use Rattle.flute_streams.specs.Chains.{chained, taken}
 use Rattle.flute_journal.specs.JournalFraming.{journal_framing}
 use Rattle.flute_journal.specs.JournalWriters.{PutsJournal}
 use Rattle.flute_journal.specs.Kinds.{HasKind, IsNeither}
-use Rattle.flute_journal.specs.Scopes.{is_chosen}
-use Rattle.flute_journal.specs.Streams.{Behaviour}
-use Rattle.flute_journal.specs.FirstFaults.{FirstFault, IsStopOf, TellBefore}
-use Rattle.flute_journal.specs.StreamMerges.{IsWithinLimits, NoneFails, AppendsNoJournal}
-use Rattle.flute_journal.specs.StreamMerges.{AppendsPartOf}
+use Rattle.flute_streams.specs.Scopes.{is_chosen}
+use Rattle.flute_streams.specs.Streams.{Behaviour}
+use Rattle.flute_streams.specs.FirstFaults.{FirstFault, IsStopOf, TellBefore}
+use Rattle.flute_streams.specs.StreamMerges.{IsWithinLimits, NoneFails, AppendsNoJournal}
+use Rattle.flute_streams.specs.StreamMerges.{AppendsPartOf}
 use Rattle.flute_journal.specs.Framing.{HasFault}
-use Rattle.flute_journal.specs.declared.streams.either.Either.{Either}
-use Rattle.flute_journal.specs.declared.streams.either.Either.TheVariants.{First, Second}
+use Rattle.flute_streams.specs.declared.streams.either.Either.{Either}
+use Rattle.flute_streams.specs.declared.streams.either.Either.TheVariants.{First, Second}
 use Rattle.flute_journal.specs.declared.fault.LoadFault.{LoadFault}
 use Rattle.flute_journal.specs.declared.fault.LoadFault.TheVariants as load
 use Rattle.flute_journal.specs.declared.fault.ReadFault.{ReadFault}
 use Rattle.flute_journal.specs.declared.fault.ReadFault.TheVariants.{Read}
 use Rattle.flute_journal.specs.declared.kind.Kind.TheVariants as kinds
-use Rattle.flute_journal.specs.declared.merge.all_streams.MergedJournal.{MergedJournal}
-use Rattle.flute_journal.specs.declared.merge.streams_fault.InputFault.{InputFault}
+use Rattle.flute_streams.specs.declared.merge.all_streams.MergedJournal.{MergedJournal}
+use Rattle.flute_streams.specs.declared.merge.streams_fault.InputFault.{InputFault}
 use Rattle.flutejoin.specs.declared.command_fault.CommandFault.{CommandFault}
 use Rattle.flutejoin.specs.declared.command_fault.CommandFault.TheVariants.{Input, Full}
 use Rattle.flutejoin.specs.declared.command_fault.CommandFault.TheVariants.{OutOfMemory}

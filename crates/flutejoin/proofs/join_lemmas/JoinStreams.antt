@@ -10,18 +10,18 @@ use Rattle.flute_parts.specs.Facts.{Same}
 use Rattle.flute_parts.specs.declared.fact.Fact.{Fact}
 use Rattle.flute_parts.proofs.Public.{Below-from_Same, Over-below, Same-append, Same-itself}
 use Rattle.flute_parts.proofs.Public.{Same-swap, Same-trans}
-use Rattle.flute_journal.proofs.Public.{taken_all}
-use Rattle.flute_journal.specs.Advances.{AreNew}
-use Rattle.flute_journal.specs.Chains.{chained, taken}
-use Rattle.flute_journal.specs.FirstFaults.{TellBefore}
+use Rattle.flute_streams.proofs.Public.{taken_all}
+use Rattle.flute_streams.specs.Advances.{AreNew}
+use Rattle.flute_streams.specs.Chains.{chained, taken}
+use Rattle.flute_streams.specs.FirstFaults.{TellBefore}
 use Rattle.flute_journal.specs.Journal.{IsJournalWithin}
 use Rattle.flute_journal.specs.JournalWriters.{PutsJournal}
-use Rattle.flute_journal.specs.Scopes.{takes_key, is_chosen, chosen, others_in}
-use Rattle.flute_journal.specs.StreamMerges.{all_of, EachSince, EndsMerged, IsWithinLimits}
-use Rattle.flute_journal.specs.Streams.{Behaviour, IsNew, most_of}
-use Rattle.flute_journal.specs.declared.merge.all_streams.MergedJournal.{MergedJournal}
-use Rattle.flute_journal.specs.declared.streams.either.Either.{Either}
-use Rattle.flute_journal.specs.declared.streams.either.Either.TheVariants.{Second}
+use Rattle.flute_streams.specs.Scopes.{takes_key, is_chosen, chosen, others_in}
+use Rattle.flute_streams.specs.StreamMerges.{all_of, EachSince, EndsMerged, IsWithinLimits}
+use Rattle.flute_streams.specs.Streams.{Behaviour, IsNew, most_of}
+use Rattle.flute_streams.specs.declared.merge.all_streams.MergedJournal.{MergedJournal}
+use Rattle.flute_streams.specs.declared.streams.either.Either.{Either}
+use Rattle.flute_streams.specs.declared.streams.either.Either.TheVariants.{Second}
 use Rattle.flutejoin.specs.declared.join.join_input.JoinInput.{JoinInput}
 use Rattle.flutejoin.specs.declared.join.join_input.JoinInput.TheVariants.{Journal, Datagrams}
 use Rattle.flutejoin.specs.declared.join.join_input.JoinInput.TheVariants.{Unknown}

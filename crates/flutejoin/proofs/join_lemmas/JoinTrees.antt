@@ -16,7 +16,7 @@ use Rattle.flute_parts.proofs.Public.{alone, fact_at-cons, fact_at-elsewhere, fa
 use Rattle.flute_parts.proofs.Public.{Same-append, Same-itself, Same-sym, Same-trans}
 use Rattle.flute_journal.specs.Journal.{IsJournal, IsJournalWithin, Journal}
 use Rattle.flute_journal.specs.Records.{IsFileOf, IsFileWithin}
-use Rattle.flute_journal.specs.Scopes.{is_chosen, chosen}
+use Rattle.flute_streams.specs.Scopes.{is_chosen, chosen}
 use Rattle.flute_journal.proofs.Public.{written_journal}
 use Rattle.flutejoin.specs.Joined.{Choice, InputContent, of_journal, of_file, content_facts, Tells}
 use Rattle.flutejoin.specs.Joined.{TellAll}

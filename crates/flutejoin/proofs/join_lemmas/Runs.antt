@@ -9,14 +9,14 @@ use Rattle.flute_parts.specs.Facts.{Same}
 use Rattle.flute_parts.specs.declared.fact.Fact.{Fact}
 use Rattle.flute_parts.proofs.Public.{rising_unique, Same-append, Same-itself}
 use Rattle.flute_parts.proofs.Public.{Same-sym, Same-trans}
-use Rattle.flute_journal.specs.Advances.{AreNew}
+use Rattle.flute_streams.specs.Advances.{AreNew}
 use Rattle.flute_journal.specs.Journal.{IsFactIn, IsJournalWithin, Journal}
-use Rattle.flute_journal.specs.OwnedStreams.{owned_behaviour, owned_limit}
-use Rattle.flute_journal.specs.StreamMerges.{all_of, Each}
-use Rattle.flute_journal.specs.Listed.{listed_behaviour}
-use Rattle.flute_journal.specs.Streams.{Behaviour, IsNew, most_of, option_list}
+use Rattle.flute_streams.specs.OwnedStreams.{owned_behaviour, owned_limit}
+use Rattle.flute_streams.specs.StreamMerges.{all_of, Each}
+use Rattle.flute_streams.specs.Listed.{listed_behaviour}
+use Rattle.flute_streams.specs.Streams.{Behaviour, IsNew, most_of, option_list}
 use Rattle.flute_journal.specs.declared.format.version.Version.TheVariants.{Two}
-use Rattle.flute_journal.specs.declared.streams.owned_journal_stream.OwnedJournalStream.{OwnedJournalStream}
+use Rattle.flute_streams.specs.declared.streams.owned_journal_stream.OwnedJournalStream.{OwnedJournalStream}
 use Rattle.flute_journal.proofs.Public.{journal_parts}
 use Rattle.flutejoin.specs.Asides.{AreRunsOf, HoldTogether, IsNewRun, IsRunOf}
 use Rattle.flutejoin.specs.JoinParts.{IsHeld, Ends}

@@ -2,8 +2,8 @@
 ghost use Rattle.std.specs.Prelude.{◌≡◌};
 ghost use Rattle.flutejoin.specs.ExtractAll.{is_picked};
 
-use flute_journal::Sessions;
 use flute_parts::{Key, Sender};
+use flute_streams::Sessions;
 
 /// The objects of one sender, or of all, and of some sessions.
 #[derive(Clone, Copy, Debug)]

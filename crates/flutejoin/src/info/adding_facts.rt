@@ -3,15 +3,15 @@ ghost use Rattle.std.specs.Prelude.{◌≡◌, true, false, ◌+◌, ◌<◌, �
 ghost use Rattle.std.specs.Prelude.{◌∷◌, OnOk, IfOk, IfErr};
 ghost use Rattle.flute_parts.specs.declared.fact.Fact.{Fact as FactValue};
 ghost use Rattle.flute_parts.specs.Devices.{times_failed};
-ghost use Rattle.flute_journal.specs.Advances.{AreNew};
-ghost use Rattle.flute_journal.specs.Eithers.{either_behaviour};
-ghost use Rattle.flute_journal.specs.FirstFaults.{FirstFault};
-ghost use Rattle.flute_journal.specs.JournalStreams.{SameLoans, lent_behaviour};
+ghost use Rattle.flute_streams.specs.Advances.{AreNew};
+ghost use Rattle.flute_streams.specs.Eithers.{either_behaviour};
+ghost use Rattle.flute_streams.specs.FirstFaults.{FirstFault};
+ghost use Rattle.flute_streams.specs.JournalStreams.{SameLoans, lent_behaviour};
 ghost use Rattle.flute_journal.specs.Readers.{source_of, limit_of, state_of};
-ghost use Rattle.flute_journal.specs.StreamMerges.{AppendsNoJournal, MergedAll, NoneFails};
-ghost use Rattle.flute_journal.specs.Streams.{IsNew, most_of};
-ghost use Rattle.flute_journal.specs.declared.streams.either.Either.TheVariants.{First as Left};
-ghost use Rattle.flute_journal.specs.declared.streams.either.Either.TheVariants.{Second as Right};
+ghost use Rattle.flute_streams.specs.StreamMerges.{AppendsNoJournal, MergedAll, NoneFails};
+ghost use Rattle.flute_streams.specs.Streams.{IsNew, most_of};
+ghost use Rattle.flute_streams.specs.declared.streams.either.Either.TheVariants.{First as Left};
+ghost use Rattle.flute_streams.specs.declared.streams.either.Either.TheVariants.{Second as Right};
 ghost use Rattle.flute_journal.specs.declared.readers.reader_state.ReaderState.TheVariants as ReaderState;
 ghost use Rattle.flutejoin.specs.Info.{AddsFacts, InfoFails};
 ghost use Rattle.flutejoin.specs.InfoLists.{IsInMemory, TellsSame};
@@ -21,10 +21,9 @@ ghost use Rattle.flutejoin.specs.declared.command_fault.CommandFault.TheVariants
 ghost use Rattle.flutejoin.specs.declared.limits.TheConstants.{MAX_ENTRIES};
 
 use crate::command_fault::{CommandFault, load_fault};
-use flute_journal::{
-    Chained, InputFault, JournalReader, LentStream, MergedJournal, Stream, join_streams,
-};
+use flute_journal::JournalReader;
 use flute_parts::{Sink, Source};
+use flute_streams::{Chained, InputFault, LentStream, MergedJournal, Stream, join_streams};
 use std::alloc::Global;
 
 /// Writes the journal of all that a new reader gives and of the facts of a new stream, and returns
@@ -118,7 +117,7 @@ fn add_to_stream<
 }
 
 // Joins two streams.
-#[tactic(auto, unfolding(flute_journal::specs::Chains::taken))]
+#[tactic(auto, unfolding(flute_streams::specs::Chains::taken))]
 fn join_two<
     const SESSIONS: u32,
     const OBJECTS: u32,

@@ -2,7 +2,7 @@
 ghost use Rattle.std.specs.Prelude.{◌≡◌, ◌+◌, List, OnOk, IfOk, IfErr};
 ghost use Rattle.flute_parts.specs.Facts.{Same};
 ghost use Rattle.flute_parts.specs.declared.fact.Fact.{Fact as FactValue};
-ghost use Rattle.flute_journal.specs.StreamMerges.{AppendsNoJournal};
+ghost use Rattle.flute_streams.specs.StreamMerges.{AppendsNoJournal};
 ghost use Rattle.flute_journal.specs.declared.fault.ReadFault.TheVariants.{Read};
 ghost use Rattle.flutejoin.specs.Info.{AddsFacts, InfoFails};
 ghost use Rattle.flutejoin.specs.InfoLists.{AddsList, AddListFails};
@@ -15,9 +15,10 @@ use crate::command_fault::CommandFault;
 use crate::info::adding_facts::add_facts;
 use crate::info::information_list::read_list;
 use crate::limits::MAX_ENTRIES;
-use flute_journal::{JournalReader, WalkStream};
+use flute_journal::JournalReader;
 use flute_parts::{Sink, Source};
 use flute_store::Store;
+use flute_streams::WalkStream;
 use std::alloc::Global;
 
 /// Writes the journal of all that a journal contains, of at most 16,777,216 entries, and the

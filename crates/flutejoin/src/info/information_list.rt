@@ -8,7 +8,7 @@ ghost use Rattle.flute_parts.specs.Facts.{Same};
 ghost use Rattle.flute_parts.specs.Information.{Information};
 ghost use Rattle.flute_parts.specs.declared.fact.Fact.{Fact as FactValue};
 ghost use Rattle.flute_parts.specs.declared.key.Key.{Key as KeyValue};
-ghost use Rattle.flute_journal.specs.Streams.{option_list};
+ghost use Rattle.flute_streams.specs.Streams.{option_list};
 ghost use Rattle.flutejoin.specs.InformationLines.{IsPassedOver, Shows, LineTells, ListTells};
 ghost use Rattle.flutejoin.specs.InformationLines.{ListFails};
 ghost use Rattle.flutejoin.specs.InformationLines.{HoldsList, IsKept, LineFails, TakingFails};

@@ -3,7 +3,7 @@ ghost use Rattle.std.specs.Prelude.{◌≡◌, true, ◌≤◌, ◌<◌, ◌^◌
 ghost use Rattle.std.specs.Prelude.{OnOk, IfOk, IfErr};
 ghost use Rattle.std.specs.List.{AllByRecursion};
 ghost use Rattle.flute_journal.specs.declared.fault.ReadFault.TheVariants.{Read};
-ghost use Rattle.flute_journal.specs.Streams.{IsNew};
+ghost use Rattle.flute_streams.specs.Streams.{IsNew};
 ghost use Rattle.flutejoin.specs.declared.command_fault.CommandFault.TheVariants.{Input};
 ghost use Rattle.flutejoin.specs.declared.command_fault.CommandFault.TheVariants.{CannotWrite};
 ghost use Rattle.flutejoin.specs.declared.limits.TheConstants.{MAX_ENTRIES};
@@ -24,8 +24,8 @@ use crate::command_fault::CommandFault;
 use crate::join::held_files::HeldFiles;
 use crate::join::join_input::{JoinInput, JournalInput};
 use crate::limits::MAX_ENTRIES;
-use flute_journal::Scope;
 use flute_parts::{Sender, Source};
+use flute_streams::Scope;
 use std::alloc::Global;
 
 /// Reads the datagram files among inputs, in their order, and holds their facts of these

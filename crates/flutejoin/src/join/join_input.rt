@@ -6,10 +6,9 @@ ghost use Rattle.flutejoin.specs.InputStreams.{passed_over};
 
 use crate::join::peeked_source::PeekedSource;
 use crate::limits::MAX_ENTRIES;
-use flute_journal::{
-    Chosen, Kind, LoadFault, OwnedJournalStream, ReadFault, Scope, Stream, kind_of,
-};
+use flute_journal::{Kind, LoadFault, ReadFault, kind_of};
 use flute_parts::{FactRef, Source};
+use flute_streams::{Chosen, OwnedJournalStream, Scope, Stream};
 use std::alloc::Global;
 
 /// A journal of which some objects are taken.

@@ -10,9 +10,10 @@ ghost use Rattle.flutejoin.specs.Limits.{IsCountable};
 
 use crate::aside::Asides;
 use crate::command_fault::CommandFault;
-use flute_journal::{OwnedJournalStream, merge_slice, write_store};
+use flute_journal::write_store;
 use flute_parts::Source;
 use flute_store::Store;
+use flute_streams::{OwnedJournalStream, merge_slice};
 use std::alloc::Global;
 
 /// How many runs there may be. Before there are more, they are merged into one.

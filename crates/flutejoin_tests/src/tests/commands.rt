@@ -1,8 +1,8 @@
 //! What commands write.
 
 use super::*;
-use flute_journal::Selection;
 use flute_parts::{Info, MemorySink, MemorySource, SymbolId};
+use flute_streams::Selection;
 use flutejoin::{
     CommandFault, MAX_OBJECTS, MAX_SESSIONS, MAX_SYMBOLS, MemoryAside, Style, extract_to,
     forget_input, forget_to, gaps_from, info_to, merge_to, packet_to, sender_of, show_to,

@@ -1,8 +1,8 @@
 //! What inputs give when joined, in memory and as they are read.
 
 use super::*;
-use flute_journal::Scope;
 use flute_parts::{MemorySink, MemorySource};
+use flute_streams::Scope;
 use flutejoin::{
     JoinCounts, JoinInput, MAX_INPUTS, MAX_OBJECTS, MAX_SESSIONS, MAX_SYMBOLS, join_to,
 };

@@ -1,4 +1,4 @@
-use Rattle.flute_journal.proofs.merge_lemmas.MergeBytes.{same_journal}
+use Rattle.flute_journal.proofs.format_lemmas.Prefixes.{same_journal}
 use Rattle.flute_journal.proofs.laws.a_journal_has_one_version.Goals as goal
 
 pub returns : goal.returns

@@ -1,5 +1,5 @@
 use Rattle.flute_journal.proofs.Common.{arith}
-use Rattle.flute_journal.proofs.merge_lemmas.MergeBytes.{journal_parts}
+use Rattle.flute_journal.proofs.format_lemmas.Prefixes.{journal_parts}
 use Rattle.flute_journal.proofs.framing_lemmas.Passes.{beyond}
 use Rattle.flute_journal.proofs.laws.a_journal_stops_at_the_bound.Goals as goal
 

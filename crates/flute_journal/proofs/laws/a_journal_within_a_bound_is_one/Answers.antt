@@ -1,6 +1,6 @@
 use Rattle.flute_journal.proofs.Common.{arith}
 use Rattle.flute_journal.proofs.format_lemmas.Entries.{facts_of}
-use Rattle.flute_journal.proofs.merge_lemmas.MergeBytes.{parts_journal}
+use Rattle.flute_journal.proofs.format_lemmas.Prefixes.{parts_journal}
 use Rattle.flute_journal.proofs.laws.a_journal_within_a_bound_is_one.Goals as goal
 
 pub returns : goal.returns

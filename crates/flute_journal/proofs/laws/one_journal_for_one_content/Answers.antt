@@ -1,6 +1,6 @@
 use Rattle.flute_journal.proofs.Common.{sym, ap, ◌∙◌, subst, JournalIn, spelling_in}
 use Rattle.flute_journal.proofs.Common.{rising_unique}
-use Rattle.flute_journal.proofs.merge_lemmas.MergeBytes.{same_journal, journal_parts}
+use Rattle.flute_journal.proofs.format_lemmas.Prefixes.{same_journal, journal_parts}
 use Rattle.flute_journal.proofs.laws.one_journal_for_one_content.Goals as goal
 
 pub returns : goal.returns

@@ -1,7 +1,7 @@
 -- add_selected: a selected fact is added, and any other is passed over.
 use Rattle.std.proofs.Common.{◌≡◌, ◌∙◌, List, true, false, ap, sym, subst, arith}
 use Rattle.flute_parts.specs.declared.fact.Fact.{Fact}
-use Rattle.flute_journal.specs.Selections.{selects}
+use Rattle.flute_streams.specs.Selections.{selects}
 use Rattle.std.specs.Prelude.{OnOk}
 use Rattle.flutejoin.specs.Listing.{Lists}
 use Rattle.flutejoin.specs.Selected.{selected}

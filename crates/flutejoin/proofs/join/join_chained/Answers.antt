@@ -1,9 +1,9 @@
 -- join_chained: what the streams became is what their sources became.
 use Rattle.std.proofs.Common.{◌≡◌, List, [], ◌∷◌, sym, subst}
 use Rattle.std.specs.Prelude.{IfErr, IfOk}
-use Rattle.flute_journal.specs.Chains.{chained, taken}
-use Rattle.flute_journal.specs.FirstFaults.{FirstFault}
-use Rattle.flute_journal.specs.StreamMerges.{EndsMerged}
+use Rattle.flute_streams.specs.Chains.{chained, taken}
+use Rattle.flute_streams.specs.FirstFaults.{FirstFault}
+use Rattle.flute_streams.specs.StreamMerges.{EndsMerged}
 use Rattle.flutejoin.specs.declared.join.join_input.JoinInput.{JoinInput}
 use Rattle.flutejoin.specs.JoinParts.{joined_behaviour}
 use Rattle.flutejoin.proofs.join_lemmas.JoinStops.{no_journal_of_part}

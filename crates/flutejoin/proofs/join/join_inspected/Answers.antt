@@ -1,8 +1,8 @@
 -- join_inspected: what is held is a run, or the facts of a store.
 use Rattle.std.proofs.Common.{Option, ◌∙◌, inl, inr, subst}
 use Rattle.std.specs.Prelude.{IfSome}
-use Rattle.flute_journal.specs.Streams.{fact_in}
-use Rattle.flute_journal.specs.declared.streams.owned_journal_stream.OwnedJournalStream.{OwnedJournalStream}
+use Rattle.flute_streams.specs.Streams.{fact_in}
+use Rattle.flute_streams.specs.declared.streams.owned_journal_stream.OwnedJournalStream.{OwnedJournalStream}
 use Rattle.flutejoin.specs.Asides.{AreHeld, IsNewRun}
 use Rattle.flutejoin.specs.JoinFaults.{WantsAside}
 use Rattle.flutejoin.proofs.join_lemmas.Runs.{run_ends, walk_ends}

@@ -4,7 +4,7 @@ use Rattle.std.specs.Io.KnownBytes.{Appends}
 use Rattle.std.proofs.KnownBytes.{Appends-nil}
 use Rattle.std.proofs.lemmas.Result.{err_from_is_err_and}
 use Rattle.flute_parts.specs.Devices.{AppendsPart}
-use Rattle.flute_journal.specs.Selections.{selects}
+use Rattle.flute_streams.specs.Selections.{selects}
 use Rattle.flutejoin.proofs.SelectedFacts.{just_line}
 use Rattle.flutejoin.proofs.show.write_selected.Goals as goal
 

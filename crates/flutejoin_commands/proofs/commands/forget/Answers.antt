@@ -1,7 +1,7 @@
 -- forget: the output and the faults, stated of the input's name.
 use Rattle.std.proofs.Common.{IfErr, List, ℕ, Option, subst, sym}
 use Rattle.std.specs.Prelude.{OnOk}
-use Rattle.flute_journal.specs.declared.choice.selection.Selection.{Selection}
+use Rattle.flute_streams.specs.declared.choice.selection.Selection.{Selection}
 use Rattle.flutejoin.specs.Forget.{ForgetFails}
 use Rattle.flutejoin_commands.specs.Files.{HasBytes}
 use Rattle.flutejoin_commands.specs.Named.{ForgetsInName, ForgetInNameFails}

@@ -1,6 +1,6 @@
 -- sessions_of: what holds in its loop.
 use Rattle.std.proofs.Common.{◌^◌, map, take}
-use Rattle.flute_journal.specs.Sessions.{listed_tsis}
+use Rattle.flute_streams.specs.Sessions.{listed_tsis}
 use Rattle.flutejoin_line.specs.Options.{AreNumbers}
 use Rattle.flutejoin_line.proofs.numbers.sessions_of.Given as goal
 

@@ -1,6 +1,6 @@
 -- selection: the faults of the options that select.
 use Rattle.std.proofs.Common.{subst, sym}
-use Rattle.flute_journal.specs.Sessions.{listed_tsis}
+use Rattle.flute_streams.specs.Sessions.{listed_tsis}
 use Rattle.flutejoin_line.specs.Options.{found_rows}
 use Rattle.flutejoin_line.specs.Selecting.{IsSelectionFault}
 use Rattle.flutejoin_line.proofs.Options.{handed_on}

@@ -1,9 +1,9 @@
 -- merge_journals: nothing was read of the streams.
 use Rattle.std.proofs.Common.{◌<◌, ◌^◌, List, subst, sym, ◌∙◌, arith}
-use Rattle.flute_journal.specs.Streams.{most_of}
-use Rattle.flute_journal.specs.Advances.{AreNew}
-use Rattle.flute_journal.specs.JournalStreams.{journal_behaviour}
-use Rattle.flute_journal.specs.declared.streams.journal_stream.JournalStream.{JournalStream}
+use Rattle.flute_streams.specs.Streams.{most_of}
+use Rattle.flute_streams.specs.Advances.{AreNew}
+use Rattle.flute_streams.specs.JournalStreams.{journal_behaviour}
+use Rattle.flute_streams.specs.declared.streams.journal_stream.JournalStream.{JournalStream}
 use Rattle.flute_journal_tests.proofs.NewStreams.{NewStreams, none_yet, one_more, pushed}
 use Rattle.flute_journal_tests.proofs.tests.many.merge_journals.Goals as goal
 

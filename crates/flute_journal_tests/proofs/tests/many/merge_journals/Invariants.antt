@@ -1,5 +1,5 @@
 -- merge_journals: nothing was read of the streams so far.
-use Rattle.flute_journal.specs.JournalStreams.{journal_behaviour}
+use Rattle.flute_streams.specs.JournalStreams.{journal_behaviour}
 use Rattle.flute_journal_tests.proofs.NewStreams.{NewStreams}
 use Rattle.flute_journal_tests.proofs.tests.many.merge_journals.Given as goal
 

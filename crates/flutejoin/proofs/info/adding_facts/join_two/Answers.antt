@@ -1,11 +1,11 @@
 -- join_two: the fault is that of the first stream that has one.
 use Rattle.std.proofs.Common.{rules, ◌≡◌, [], ◌∷◌, subst}
 use Rattle.std.specs.Prelude.{IfErr}
-use Rattle.flute_journal.specs.Chains.{taken}
-use Rattle.flute_journal.specs.Eithers.{either_behaviour}
-use Rattle.flute_journal.specs.FirstFaults.{FirstFault}
-use Rattle.flute_journal.specs.declared.streams.either.Either.TheVariants.{First as Left}
-use Rattle.flute_journal.specs.declared.streams.either.Either.TheVariants.{Second as Right}
+use Rattle.flute_streams.specs.Chains.{taken}
+use Rattle.flute_streams.specs.Eithers.{either_behaviour}
+use Rattle.flute_streams.specs.FirstFaults.{FirstFault}
+use Rattle.flute_streams.specs.declared.streams.either.Either.TheVariants.{First as Left}
+use Rattle.flute_streams.specs.declared.streams.either.Either.TheVariants.{Second as Right}
 use Rattle.flutejoin.proofs.info.adding_facts.join_two.Goals as goal
 
 pub returns-clause-first : goal.returns-clause-first

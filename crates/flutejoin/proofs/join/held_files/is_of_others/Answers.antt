@@ -1,7 +1,7 @@
 -- is_of_others: a packet is of one object.
 use Rattle.std.proofs.Common.{sym, ap, ◌∙◌, not}
 use Rattle.std.specs.Prelude.{is_none}
-use Rattle.flute_journal.specs.Scopes.{takes_key}
+use Rattle.flute_streams.specs.Scopes.{takes_key}
 use Rattle.flute_wire.specs.Reading.{packet, facts}
 use Rattle.flutejoin.specs.Joined.{choice_of, is_other_packet}
 use Rattle.flutejoin.proofs.extract_lemmas.Chosen.{all_chosen, packet_taken, packet_passed}

@@ -1,11 +1,11 @@
 -- merge_runs: runs are merged as streams.
 use Rattle.std.proofs.Common.{◌≡◌, ◌<◌, ◌^◌, [], Some, refl, subst, sym, arith}
 use Rattle.std.specs.Io.KnownBytes.{Appends}
-use Rattle.flute_journal.specs.Advances.{AreNew}
+use Rattle.flute_streams.specs.Advances.{AreNew}
 use Rattle.flute_journal.specs.JournalWriters.{PutsJournal}
-use Rattle.flute_journal.specs.OwnedStreams.{owned_behaviour}
-use Rattle.flute_journal.specs.StreamMerges.{all_of, Each}
-use Rattle.flute_journal.specs.Streams.{most_of}
+use Rattle.flute_streams.specs.OwnedStreams.{owned_behaviour}
+use Rattle.flute_streams.specs.StreamMerges.{all_of, Each}
+use Rattle.flute_streams.specs.Streams.{most_of}
 use Rattle.flutejoin.specs.Asides.{AreRunsOf}
 use Rattle.flutejoin.proofs.join_lemmas.Runs.{all_written, runs_few, runs_new, told_runs}
 use Rattle.flutejoin.proofs.join_lemmas.Runs.{together_on}

@@ -1,7 +1,7 @@
 -- take_line: the fact that the line contains is put into the store.
 use Rattle.std.proofs.Common.{[], ◌∷◌, refl, sym, ap, subst, ◌∙◌, Err}
 use Rattle.std.proofs.lemmas.Result.{err_from_is_err_and}
-use Rattle.flute_journal.specs.Streams.{option_list}
+use Rattle.flute_streams.specs.Streams.{option_list}
 use Rattle.flutejoin.specs.InformationLines.{IsKept, LineTells, of_line, no_room}
 use Rattle.flutejoin.proofs.info.information_list.InformationList.take_line.Goals as goal
 

@@ -1,0 +1,172 @@
+-- Journals as bytes: whole entries at the front of one (specs/Prefixes).
+use Rattle.flute_journal.proofs.Common.{AllByRecursion, Collects, Fact, IsFact, IsFactIn, IsWithin}
+use Rattle.flute_journal.proofs.Common.{IsJournal, Journal, JournalIn, List, One, Same, Two}
+use Rattle.flute_journal.proofs.Common.{Version, [], ap, append-nil, append_assoc, end, entry}
+use Rattle.flute_journal.proofs.Common.{entry_in, fact_at, flat_map, flat_map_more, without_end}
+use Rattle.flute_journal.proofs.Common.{without_end_in, header, header_in, in_bytes, length, refl}
+use Rattle.flute_journal.proofs.Common.{spelling, spelling_in, subst, sym, written_up_to, ℕ, ◌++◌}
+use Rattle.flute_journal.proofs.Common.{◌<◌, ◌^◌, ◌∙◌, ◌∷◌, ◌≡◌}
+use Rattle.flute_journal.proofs.framing_lemmas.Sequences.{GoesOn, begins}
+use Rattle.std.proofs.{lemmas.List.{append_cancel_left}, lemmas.List.Concat.{flat_map-append}}
+use Rattle.flute_journal.proofs.format_lemmas.Entries.{entry_injective, not_end, header-injective}
+use Rattle.flute_journal.proofs.format_lemmas.Entries.{facts_two}
+
+pub without_end-append : (es fs : List Fact)
+    → without_end (es ++ fs) ≡ without_end es ++ flat_map entry fs
+without_end-append es fs =
+    ap (λ (x : List ℕ). header ++ x) (flat_map-append entry es fs)
+    ∙ sym (append_assoc header (flat_map entry es) (flat_map entry fs))
+
+pub without_end_in-snoc : (v : Version) (es : List Fact) (f : Fact)
+    → without_end_in v es ++ entry_in v f ≡ without_end_in v (es ++ f ∷ [])
+without_end_in-snoc v es f = flat_map_more (entry_in v) (header_in v) es f
+
+pub without_end-snoc : (es : List Fact) (f : Fact)
+    → without_end es ++ entry f ≡ without_end (es ++ f ∷ [])
+without_end-snoc es f = without_end_in-snoc Two es f
+
+pub written-snoc : (es : List Fact) (f : Fact)
+    → without_end (es ++ f ∷ []) ≡ written_up_to (es ++ f ∷ [])
+written-snoc [] f = refl
+written-snoc (e ∷ es) f = refl
+
+-- If two journals begin with the same bytes, they have one version; where the first ends after
+-- its own entries, these are the first entries of the second.
+pub without_end-both : (v w : Version) (fs es : List Fact) (x t : List ℕ)
+    → AllByRecursion (IsFactIn v) fs → AllByRecursion (IsFactIn w) es
+    → ((f : Fact) (y : List ℕ) → t ≡ entry_in v f ++ y → ⊥)
+    → without_end_in v fs ++ x ≡ without_end_in w es ++ t → (v ≡ w) × GoesOn (entry_in v) fs es x t
+without_end-both v w fs es x t p q none e =
+    let h = header-injective v w (flat_map (entry_in v) fs ++ x) (flat_map (entry_in w) es ++ t)
+    (sym (append_assoc (header_in v) (flat_map (entry_in v) fs) x) ∙ e
+    ∙ append_assoc (header_in w) (flat_map (entry_in w) es) t) in (
+      h.0,
+      begins (entry_in v) (IsFactIn v) (entry_injective v) fs es x t none p
+          (subst (λ (z : Version). AllByRecursion (IsFactIn z) es) (sym h.0) q)
+          (subst (λ (z : Version). flat_map (entry_in v) fs ++ x ≡ flat_map (entry_in z) es ++ t)
+          (sym h.0) h.1),
+    )
+
+pub without_end-of_spelling : (v w : Version) (fs es : List Fact) (x y : List ℕ)
+    → AllByRecursion (IsFactIn v) fs → AllByRecursion (IsFactIn w) es
+    → without_end_in v fs ++ x ≡ spelling_in w es ++ y
+    → (v ≡ w) × GoesOn (entry_in v) fs es x (end (length es) ++ y)
+without_end-of_spelling v w fs es x y p q e =
+    without_end-both v w fs es x (end (length es) ++ y) p q
+    (λ f z. not_end v f (in_bytes 8 (length es) ++ y) z)
+    (e ∙ append_assoc (without_end_in w es) (end (length es)) y)
+
+by_rest : (v : Version) (fs es rest : List Fact) (x y : List ℕ) → es ≡ fs ++ rest
+    → end (length fs) ++ x ≡ flat_map (entry_in v) rest ++ (end (length es) ++ y) → es ≡ fs
+by_rest v fs es [] x y s t = s ∙ append-nil fs
+by_rest v fs es (f ∷ rest) x y s t =
+    absurd (not_end v f (in_bytes 8 (length fs) ++ x)
+    (flat_map (entry_in v) rest ++ (end (length es) ++ y))
+    (t ∙ append_assoc (entry_in v f) (flat_map (entry_in v) rest) (end (length es) ++ y)))
+
+-- a journal is read in one way, whatever follows it
+pub spelling-injective : (v w : Version) (fs es : List Fact) (x y : List ℕ)
+    → AllByRecursion (IsFactIn v) fs → AllByRecursion (IsFactIn w) es
+    → spelling_in v fs ++ x ≡ spelling_in w es ++ y
+    → (v ≡ w) × (es ≡ fs) × (x ≡ y)
+spelling-injective v w fs es x y p q e =
+    let r = without_end-of_spelling v w fs es (end (length fs) ++ x) y p q
+    (sym (append_assoc (without_end_in v fs) (end (length fs)) x) ∙ e) in
+    let one = by_rest v fs es r.1.more x y r.1.items r.1.bytes in (
+      r.0,
+      one,
+      append_cancel_left (spelling_in v fs) x y
+          (e ∙ (λ i. spelling_in (sym r.0 i) (one i) ++ y)),
+    )
+
+-- Journals of whatever version.
+
+pub record JournalParts (version : Version) (bytes : List ℕ) (facts : List Fact) : Type 0 where
+  pub entries : List Fact
+  pub collects : Collects facts entries
+  pub small : length entries < 2 ^ 64
+  pub bytes_are : bytes ≡ spelling_in version entries
+  pub valid : AllByRecursion (IsFactIn version) entries
+
+pub journal_parts : (v : Version) (bytes : List ℕ) (facts : List Fact) → JournalIn v bytes facts
+    → JournalParts v bytes facts
+journal_parts One bytes facts j =
+    record { entries = j.0; collects = j.1; small = j.2; bytes_are = j.3; valid = j.4 }
+journal_parts Two bytes facts j =
+    record {
+      entries = j.0;
+      collects = j.1;
+      small = j.2;
+      bytes_are = j.3;
+      valid =
+          facts_two j.0 j.1.valid;
+    }
+
+pub parts_journal : (v : Version) (bytes : List ℕ) (facts : List Fact)
+    → JournalParts v bytes facts → JournalIn v bytes facts
+parts_journal One bytes facts j = (j.entries, j.collects, j.small, j.bytes_are, j.valid)
+parts_journal Two bytes facts j = (j.entries, j.collects, j.small, j.bytes_are)
+
+pub written_journal : (bytes : List ℕ) (facts : List Fact) → Journal bytes facts
+    → IsJournal bytes facts
+written_journal bytes facts j = (Two, j)
+
+-- a journal has one version, and its facts have one value at each address
+pub same_journal : (v w : Version) (bytes : List ℕ) (F G : List Fact) → JournalIn v bytes F
+    → JournalIn w bytes G → (v ≡ w) × Same F G
+same_journal v w bytes F G first second =
+    let j = journal_parts v bytes F first in
+    let k = journal_parts w bytes G second in
+    let one = spelling-injective v w j.entries k.entries [] [] j.valid k.valid
+    (append-nil (spelling_in v j.entries) ∙ sym j.bytes_are ∙ k.bytes_are
+    ∙ sym (append-nil (spelling_in w k.entries))) in (
+      one.0,
+      record {
+        each =
+            λ a. j.collects.same.each a ∙ ap (λ z. fact_at z a) (sym one.1)
+            ∙ sym (k.collects.same.each a);
+      },
+    )
+
+-- A front of a journal that is no journal: it ends within its last entries or its end.
+
+right_nil : (a b : List ℕ) → [] ≡ a ++ b → [] ≡ b
+right_nil [] b e = e
+right_nil (x ∷ a) b e = absurd cc
+
+end_some : (n : ℕ) (y : List ℕ) → [] ≡ end n ++ y → ⊥
+end_some n y e = cc
+
+-- whole entries and a part of the next are no journal
+pub no_end : (M : List Fact) (bs more : List ℕ) → AllByRecursion IsFact M
+    → bs ++ more ≡ without_end M → (facts : List Fact) → IsJournal bs facts → ⊥
+no_end M bs more all e facts (v, journal) =
+    let j = journal_parts v bs facts journal in
+    let f = without_end-of_spelling Two v M j.entries [] more (facts_two M all) j.valid
+    (append-nil (without_end M) ∙ sym e ∙ ap (λ (x : List ℕ). x ++ more) j.bytes_are) in
+    end_some (length j.entries) more (right_nil (flat_map entry f.1.more)
+    (end (length j.entries) ++ more) f.1.bytes)
+
+-- nor are they and a part of the end
+pub no_whole_end : (M : List Fact) (bs more : List ℕ) → AllByRecursion IsFact M
+    → (more ≡ [] → ⊥) → bs ++ more ≡ spelling M → (facts : List Fact)
+    → IsJournal bs facts → ⊥
+no_whole_end M bs more all s e facts (v, journal) =
+    let j = journal_parts v bs facts journal in
+    let f = spelling-injective v Two j.entries M more [] j.valid (facts_two M all)
+    (sym (ap (λ (x : List ℕ). x ++ more) j.bytes_are) ∙ e
+    ∙ sym (append-nil (spelling M))) in
+    s f.2
+
+-- Bytes with nothing after a whole entry (specs/Input: IsWithin).
+
+pub within_entry : (v : Version) (f : Fact) → IsFactIn v f
+    → IsWithin (entry_in v) (IsFactIn v) (entry_in v f)
+within_entry v f p g more w e =
+    sym ((entry_injective v f g [] more p w (append-nil (entry_in v f) ∙ e)).1)
+
+pub within_end : (v : Version) (n : ℕ) → IsWithin (entry_in v) (IsFactIn v) (end n)
+within_end v n g more w e = absurd (not_end v g (in_bytes 8 n) more e)
+
+pub within_nil : (v : Version) → IsWithin (entry_in v) (IsFactIn v) []
+within_nil v g more w e = absurd (let h : [] ≡ entry_in v g ++ more = e in cc)

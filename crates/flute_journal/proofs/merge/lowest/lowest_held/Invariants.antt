@@ -1,8 +1,0 @@
--- lowest_held: the lowest of the first streams.
-use Rattle.flute_journal.proofs.Common.{take, fact_in, heads, IsLowest}
-use Rattle.flute_journal.proofs.merge.lowest.lowest_held.Given as goal
-
-abbrev pub invariant-loop-number : goal.invariant-loop-number
-invariant-loop-number g l =
-    IsLowest (heads g.G.Stream.Stream.behaviour (take l.number (g.G.Streams.streams l.streams)))
-    (fact_in l.lowest)

@@ -1,0 +1,5 @@
+mod Common
+mod streams_lemmas
+mod merge_lemmas
+mod Cited
+pub mod Public

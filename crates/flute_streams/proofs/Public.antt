@@ -1,0 +1,2 @@
+-- What the proofs of the crates above may cite. Declares nothing.
+pub use Rattle.flute_streams.proofs.streams_lemmas.Chaining.{taken_all}

@@ -1,0 +1,251 @@
+-- merge_into: each exit follows by a lemma on the state of the merge before it.
+use Rattle.flute_streams.proofs.Common.{◌≢◌, ℕ, [], true, Some, sym, subst, arith, fact_of}
+use Rattle.flute_streams.proofs.Common.{header, entry, end, GoOnAt, StopsIn, IsCounted}
+use Rattle.flute_journal.proofs.Public.{puts-part, left_out}
+use Rattle.flute_streams.proofs.merge_lemmas.Finished.{cut_journal}
+use Rattle.flute_streams.proofs.merge_lemmas.StreamStates.{stop_first, stop_header, state_turn}
+use Rattle.flute_streams.proofs.merge_lemmas.StreamStates.{turn-falls, sized-lowest, few-joined}
+use Rattle.flute_streams.proofs.merge_lemmas.StreamStates.{no_failure, stop_entry, stop_input}
+use Rattle.flute_streams.proofs.merge_lemmas.StreamStates.{stop_end, finished}
+use Rattle.flute_streams.proofs.merge.all_streams.merge_into.Goals as goal
+
+pub returns-in-Err-clause-short : goal.returns-in-Err-clause-short
+returns-in-Err-clause-short g c =
+    (stop_first g.G.Stream.Stream.behaviour c.args.patient (g.G.Streams.streams c.args.streams.now)
+    (g.G.Streams.streams c.advance_at.new.streams)
+    (g.W.Sink.written c.args.writer.now.sink.now) c.in-Err.fault c.requires.new
+    c.in-Err.ensures.stops).0.short
+
+pub returns-in-Err-clause-reads_ahead : goal.returns-in-Err-clause-reads_ahead
+returns-in-Err-clause-reads_ahead g c =
+    (stop_first g.G.Stream.Stream.behaviour c.args.patient (g.G.Streams.streams c.args.streams.now)
+    (g.G.Streams.streams c.advance_at.new.streams)
+    (g.W.Sink.written c.args.writer.now.sink.now) c.in-Err.fault c.requires.new
+    c.in-Err.ensures.stops).0.reads_ahead
+
+pub returns-in-Err-clause-fault : goal.returns-in-Err-clause-fault
+returns-in-Err-clause-fault g c =
+    (stop_first g.G.Stream.Stream.behaviour c.args.patient (g.G.Streams.streams c.args.streams.now)
+    (g.G.Streams.streams c.advance_at.new.streams)
+    (g.W.Sink.written c.args.writer.now.sink.now) c.in-Err.fault c.requires.new
+    c.in-Err.ensures.stops).0.names
+
+pub returns-in-Err-clause-can_go_on : goal.returns-in-Err-clause-can_go_on
+returns-in-Err-clause-can_go_on g c =
+    (stop_first g.G.Stream.Stream.behaviour c.args.patient (g.G.Streams.streams c.args.streams.now)
+    (g.G.Streams.streams c.advance_at.new.streams)
+    (g.W.Sink.written c.args.writer.now.sink.now) c.in-Err.fault c.requires.new
+    c.in-Err.ensures.stops).0.can_go_on
+
+pub returns-in-Err-clause-failures : goal.returns-in-Err-clause-failures
+returns-in-Err-clause-failures g c =
+    (stop_first g.G.Stream.Stream.behaviour c.args.patient (g.G.Streams.streams c.args.streams.now)
+    (g.G.Streams.streams c.advance_at.new.streams)
+    (g.W.Sink.written c.args.writer.now.sink.now) c.in-Err.fault c.requires.new
+    c.in-Err.ensures.stops).1
+
+pub returns-then-stops-clause-short : goal.returns-then-stops-clause-short
+returns-then-stops-clause-short g c =
+    (stop_header g.G.Stream.Stream.behaviour c.args.patient (g.G.Streams.streams c.args.streams.now)
+    (g.G.Streams.streams c.advance_at.new.streams) _ _ c.requires.new c.in_default.ensures.go_on
+    (puts-part c.args.writer.now.failed c.header.new.self.failed _ _ header c.requires.good
+    (c.stops.ensures.stops c.if-stops.true).0 c.header.ensures.puts)).0.short
+
+pub returns-then-stops-clause-reads_ahead : goal.returns-then-stops-clause-reads_ahead
+returns-then-stops-clause-reads_ahead g c =
+    (stop_header g.G.Stream.Stream.behaviour c.args.patient (g.G.Streams.streams c.args.streams.now)
+    (g.G.Streams.streams c.advance_at.new.streams) _ _ c.requires.new c.in_default.ensures.go_on
+    (puts-part c.args.writer.now.failed c.header.new.self.failed _ _ header c.requires.good
+    (c.stops.ensures.stops c.if-stops.true).0 c.header.ensures.puts)).0.reads_ahead
+
+pub returns-then-stops-clause-failures : goal.returns-then-stops-clause-failures
+returns-then-stops-clause-failures g c =
+    (stop_header g.G.Stream.Stream.behaviour c.args.patient (g.G.Streams.streams c.args.streams.now)
+    (g.G.Streams.streams c.advance_at.new.streams) _ _ c.requires.new c.in_default.ensures.go_on
+    (puts-part c.args.writer.now.failed c.header.new.self.failed _ _ header c.requires.good
+    (c.stops.ensures.stops c.if-stops.true).0 c.header.ensures.puts)).1
+
+pub entry-requires : goal.entry-requires
+entry-requires g c =
+    record {
+      sized = sized-lowest g.G.Stream.Stream.behaviour c.loop-fact.invariant.state
+          (fact_of c.in-Some.fact) c.in-Some.ensures.lowest;
+    }
+
+pub returns-then-stops-2-clause-short : goal.returns-then-stops-2-clause-short
+returns-then-stops-2-clause-short g c =
+    (stop_entry g.G.Stream.Stream.behaviour c.loop-fact.invariant.state
+    (fact_of c.in-Some.fact) c.in-Some.ensures.lowest c.entry.ensures.valid c.args.patient _
+    (c.loop-fact.invariant.eager (c.stops-in-Some.ensures.stops c.if-stops-2.true).1)
+    (puts-part c.loop-fact.writer.failed c.entry.new.self.failed _ _
+    (entry (fact_of c.in-Some.fact)) (c.loop-fact.invariant.eager
+    (c.stops-in-Some.ensures.stops c.if-stops-2.true).1)
+    (c.stops-in-Some.ensures.stops c.if-stops-2.true).0 c.entry.ensures.puts.puts)).short
+
+pub returns-then-stops-2-clause-reads_ahead : goal.returns-then-stops-2-clause-reads_ahead
+returns-then-stops-2-clause-reads_ahead g c =
+    (stop_entry g.G.Stream.Stream.behaviour c.loop-fact.invariant.state
+    (fact_of c.in-Some.fact) c.in-Some.ensures.lowest c.entry.ensures.valid c.args.patient _
+    (c.loop-fact.invariant.eager (c.stops-in-Some.ensures.stops c.if-stops-2.true).1)
+    (puts-part c.loop-fact.writer.failed c.entry.new.self.failed _ _
+    (entry (fact_of c.in-Some.fact)) (c.loop-fact.invariant.eager
+    (c.stops-in-Some.ensures.stops c.if-stops-2.true).1)
+    (c.stops-in-Some.ensures.stops c.if-stops-2.true).0 c.entry.ensures.puts.puts)).reads_ahead
+
+pub returns-then-stops-2-clause-failures : goal.returns-then-stops-2-clause-failures
+returns-then-stops-2-clause-failures g c =
+    no_failure g.G.Stream.Stream.behaviour c.loop-fact.invariant.state
+
+pub returns-in-Err-advance-clause-short : goal.returns-in-Err-advance-clause-short
+returns-in-Err-advance-clause-short g c =
+    (stop_input g.G.Stream.Stream.behaviour c.loop-fact.invariant.state
+    (fact_of c.in-Some.fact) c.in-Some.ensures.lowest c.entry.ensures.valid c.args.patient
+    c.entry.new.self.failed (g.G.Streams.streams c.advance.new.streams) _ c.in-Err-advance.fault
+    c.entry.ensures.puts.puts (c.stops-in-Some.ensures.goes_on c.if-stops-2.false)
+    (subst (λ a. StopsIn g.G.Stream.Stream.behaviour (Some a)
+    (g.G.Streams.streams c.loop-fact.streams)
+    (g.G.Streams.streams c.advance.new.streams) c.in-Err-advance.fault) c.address-place.ensures
+    c.in-Err-advance.ensures.stops)).0.short
+
+pub returns-in-Err-advance-clause-reads_ahead : goal.returns-in-Err-advance-clause-reads_ahead
+returns-in-Err-advance-clause-reads_ahead g c =
+    (stop_input g.G.Stream.Stream.behaviour c.loop-fact.invariant.state
+    (fact_of c.in-Some.fact) c.in-Some.ensures.lowest c.entry.ensures.valid c.args.patient
+    c.entry.new.self.failed (g.G.Streams.streams c.advance.new.streams) _ c.in-Err-advance.fault
+    c.entry.ensures.puts.puts (c.stops-in-Some.ensures.goes_on c.if-stops-2.false)
+    (subst (λ a. StopsIn g.G.Stream.Stream.behaviour (Some a)
+    (g.G.Streams.streams c.loop-fact.streams)
+    (g.G.Streams.streams c.advance.new.streams) c.in-Err-advance.fault) c.address-place.ensures
+    c.in-Err-advance.ensures.stops)).0.reads_ahead
+
+pub returns-in-Err-advance-clause-fault : goal.returns-in-Err-advance-clause-fault
+returns-in-Err-advance-clause-fault g c =
+    (stop_input g.G.Stream.Stream.behaviour c.loop-fact.invariant.state
+    (fact_of c.in-Some.fact) c.in-Some.ensures.lowest c.entry.ensures.valid c.args.patient
+    c.entry.new.self.failed (g.G.Streams.streams c.advance.new.streams) _ c.in-Err-advance.fault
+    c.entry.ensures.puts.puts (c.stops-in-Some.ensures.goes_on c.if-stops-2.false)
+    (subst (λ a. StopsIn g.G.Stream.Stream.behaviour (Some a)
+    (g.G.Streams.streams c.loop-fact.streams)
+    (g.G.Streams.streams c.advance.new.streams) c.in-Err-advance.fault) c.address-place.ensures
+    c.in-Err-advance.ensures.stops)).0.names
+
+pub returns-in-Err-advance-clause-can_go_on : goal.returns-in-Err-advance-clause-can_go_on
+returns-in-Err-advance-clause-can_go_on g c =
+    (stop_input g.G.Stream.Stream.behaviour c.loop-fact.invariant.state
+    (fact_of c.in-Some.fact) c.in-Some.ensures.lowest c.entry.ensures.valid c.args.patient
+    c.entry.new.self.failed (g.G.Streams.streams c.advance.new.streams) _ c.in-Err-advance.fault
+    c.entry.ensures.puts.puts (c.stops-in-Some.ensures.goes_on c.if-stops-2.false)
+    (subst (λ a. StopsIn g.G.Stream.Stream.behaviour (Some a)
+    (g.G.Streams.streams c.loop-fact.streams)
+    (g.G.Streams.streams c.advance.new.streams) c.in-Err-advance.fault) c.address-place.ensures
+    c.in-Err-advance.ensures.stops)).0.can_go_on
+
+pub returns-in-Err-advance-clause-failures : goal.returns-in-Err-advance-clause-failures
+returns-in-Err-advance-clause-failures g c =
+    (stop_input g.G.Stream.Stream.behaviour c.loop-fact.invariant.state
+    (fact_of c.in-Some.fact) c.in-Some.ensures.lowest c.entry.ensures.valid c.args.patient
+    c.entry.new.self.failed (g.G.Streams.streams c.advance.new.streams) _ c.in-Err-advance.fault
+    c.entry.ensures.puts.puts (c.stops-in-Some.ensures.goes_on c.if-stops-2.false)
+    (subst (λ a. StopsIn g.G.Stream.Stream.behaviour (Some a)
+    (g.G.Streams.streams c.loop-fact.streams)
+    (g.G.Streams.streams c.advance.new.streams) c.in-Err-advance.fault) c.address-place.ensures
+    c.in-Err-advance.ensures.stops)).1
+
+pub overflow_add-entries : goal.overflow_add-entries
+overflow_add-entries g c =
+    let next = state_turn g.G.Stream.Stream.behaviour c.loop-fact.invariant.state
+    (fact_of c.in-Some.fact) c.in-Some.ensures.lowest c.entry.ensures.valid
+    c.entry.new.self.failed (IsCounted g.row.SESSIONS g.row.OBJECTS g.row.SYMBOLS
+    c.count_place-within.new.tally c.count_place-within.result)
+    (g.G.Streams.streams c.advance.new.streams) _
+    (λ F r k. c.count_place-within.ensures F (fact_of c.in-Some.fact)
+    (sym c.address-place.ensures) r k) c.entry.ensures.puts.puts
+    (subst (λ a. GoOnAt g.G.Stream.Stream.behaviour (Some a)
+    (g.G.Streams.streams c.loop-fact.streams) (g.G.Streams.streams c.advance.new.streams))
+    c.address-place.ensures c.in_default-advance.ensures.go_on) in
+    omega (arith, few-joined g.G.Stream.Stream.behaviour next, c.requires.few)
+
+pub loop-fact-smaller : goal.loop-fact-smaller
+loop-fact-smaller g c =
+    turn-falls g.G.Stream.Stream.behaviour c.loop-fact.invariant.state
+    (fact_of c.in-Some.fact) c.in-Some.ensures.lowest (g.G.Streams.streams c.advance.new.streams)
+    (subst (λ a. GoOnAt g.G.Stream.Stream.behaviour (Some a)
+    (g.G.Streams.streams c.loop-fact.streams) (g.G.Streams.streams c.advance.new.streams))
+    c.address-place.ensures c.in_default-advance.ensures.go_on)
+
+pub returns-then-stops-3-clause-short : goal.returns-then-stops-3-clause-short
+returns-then-stops-3-clause-short g c =
+    (stop_end g.G.Stream.Stream.behaviour c.loop-fact.invariant.state
+    c.in_default-lowest.ensures.lowest c.args.patient _
+    (c.loop-fact.invariant.eager (c.stops-2.ensures.stops c.if-stops-3.true).1)
+    (puts-part c.loop-fact.writer.failed c.end.new.self.failed _ _ (end c.loop-fact.entries)
+    (c.loop-fact.invariant.eager (c.stops-2.ensures.stops c.if-stops-3.true).1)
+    (c.stops-2.ensures.stops c.if-stops-3.true).0 c.end.ensures.puts)).short
+
+pub returns-then-stops-3-clause-reads_ahead : goal.returns-then-stops-3-clause-reads_ahead
+returns-then-stops-3-clause-reads_ahead g c =
+    (stop_end g.G.Stream.Stream.behaviour c.loop-fact.invariant.state
+    c.in_default-lowest.ensures.lowest c.args.patient _
+    (c.loop-fact.invariant.eager (c.stops-2.ensures.stops c.if-stops-3.true).1)
+    (puts-part c.loop-fact.writer.failed c.end.new.self.failed _ _ (end c.loop-fact.entries)
+    (c.loop-fact.invariant.eager (c.stops-2.ensures.stops c.if-stops-3.true).1)
+    (c.stops-2.ensures.stops c.if-stops-3.true).0 c.end.ensures.puts)).reads_ahead
+
+pub returns-then-stops-3-clause-failures : goal.returns-then-stops-3-clause-failures
+returns-then-stops-3-clause-failures g c =
+    no_failure g.G.Stream.Stream.behaviour c.loop-fact.invariant.state
+
+pub returns-clause-merged : goal.returns-clause-merged
+returns-clause-merged g c =
+    (finished g.G.Stream.Stream.behaviour g.row.SESSIONS g.row.OBJECTS g.row.SYMBOLS
+    c.loop-fact.tally c.loop-fact.within c.end.new.self.failed c.loop-fact.invariant.state _
+    c.requires.few c.in_default-lowest.ensures.lowest c.end.ensures.puts).merged
+
+pub returns-clause-ended : goal.returns-clause-ended
+returns-clause-ended g c =
+    finished g.G.Stream.Stream.behaviour g.row.SESSIONS g.row.OBJECTS g.row.SYMBOLS
+    c.loop-fact.tally c.loop-fact.within c.end.new.self.failed c.loop-fact.invariant.state _
+    c.requires.few c.in_default-lowest.ensures.lowest c.end.ensures.puts
+
+pub returns-clause-failures : goal.returns-clause-failures
+returns-clause-failures g c = no_failure g.G.Stream.Stream.behaviour c.loop-fact.invariant.state
+
+pub returns-clause-cut : goal.returns-clause-cut
+returns-clause-cut g c = λ e.
+    let m = (finished g.G.Stream.Stream.behaviour g.row.SESSIONS g.row.OBJECTS g.row.SYMBOLS
+    c.loop-fact.tally c.loop-fact.within c.end.new.self.failed c.loop-fact.invariant.state _
+    c.requires.few c.in_default-lowest.ensures.lowest c.end.ensures.puts).merged in
+    cut_journal _ _ _ _ c.end.new.self.failed e m.puts
+
+-- after a failed write the end was not written
+
+some_end : (n : ℕ) → end n ≢ []
+some_end n e = cc
+
+pub returns-then-not-within-clause-merged : goal.returns-then-not-within-clause-merged
+returns-then-not-within-clause-merged g c =
+    (finished g.G.Stream.Stream.behaviour g.row.SESSIONS g.row.OBJECTS g.row.SYMBOLS
+    c.loop-fact.tally c.loop-fact.within true c.loop-fact.invariant.state _ c.requires.few
+    c.in_default-lowest.ensures.lowest
+    (left_out c.loop-fact.writer.failed _ (end c.loop-fact.entries)
+    (some_end c.loop-fact.entries))).merged
+
+pub returns-then-not-within-clause-ended : goal.returns-then-not-within-clause-ended
+returns-then-not-within-clause-ended g c =
+    finished g.G.Stream.Stream.behaviour g.row.SESSIONS g.row.OBJECTS g.row.SYMBOLS
+    c.loop-fact.tally c.loop-fact.within true c.loop-fact.invariant.state _ c.requires.few
+    c.in_default-lowest.ensures.lowest
+    (left_out c.loop-fact.writer.failed _ (end c.loop-fact.entries) (some_end c.loop-fact.entries))
+
+pub returns-then-not-within-clause-failures : goal.returns-then-not-within-clause-failures
+returns-then-not-within-clause-failures g c =
+    no_failure g.G.Stream.Stream.behaviour c.loop-fact.invariant.state
+
+pub returns-then-not-within-clause-cut : goal.returns-then-not-within-clause-cut
+returns-then-not-within-clause-cut g c = λ e.
+    let m = (finished g.G.Stream.Stream.behaviour g.row.SESSIONS g.row.OBJECTS g.row.SYMBOLS
+    c.loop-fact.tally c.loop-fact.within true c.loop-fact.invariant.state _ c.requires.few
+    c.in_default-lowest.ensures.lowest
+    (left_out c.loop-fact.writer.failed _ (end c.loop-fact.entries)
+    (some_end c.loop-fact.entries))).merged in
+    cut_journal _ _ _ _ true e m.puts

@@ -1,0 +1,15 @@
+-- Lead::look: one stream more: it holds nothing before the next address, or is the one to lead.
+use Rattle.flute_streams.proofs.Common.{◌≤◌, length, sym, subst, arith, fact_in, Leads}
+use Rattle.flute_streams.proofs.merge_lemmas.LeadFacts.{lead-new}
+use Rattle.flute_streams.proofs.merge.leading.Lead.look.Goals as goal
+
+pub returns : goal.returns
+returns g c = λ below.
+    let b = g.G.Stream.Stream.behaviour in
+    let streams = g.G.Streams.streams c.args.streams.now in
+    let h = c.loop-other.invariant in
+    let all : length streams ≤ c.loop-other.other = omega (arith, h.all, c.loop-other-test.false) in
+    subst (λ n. Leads b streams n c.loop-other.self.next) (sym h.number)
+    (lead-new b c.args.number c.loop-other.other streams c.loop-other.self.next
+    (fact_in c.head-head.result) c.requires all c.head-head.ensures h.firsts
+    (c.is_below-self.ensures below))

@@ -1,0 +1,213 @@
+-- Lemmas on Lowest (specs/Lowest): the lowest address of facts and its value, fact by fact.
+use Rattle.flute_streams.proofs.Common.{Bool, Info, InfoConflict, Symbol, SymbolConflict, SymbolId}
+use Rattle.flute_streams.proofs.Common.{bytes_eq, ◌&&◌, Address, AllByRecursion, Behaviour}
+use Rattle.flute_streams.proofs.Common.{Equal}
+use Rattle.flute_streams.proofs.Common.{Fact, Greater, IsNotBefore, Key, Less, List, Lowest, Option}
+use Rattle.flute_streams.proofs.Common.{Ordering, Part, Some, StandAfter, [], address, address_cmp}
+use Rattle.flute_streams.proofs.Common.{address_itself, address_same, address_total, alone-at}
+use Rattle.flute_streams.proofs.Common.{alone-elsewhere, ap, append-nil, append_assoc, arith}
+use Rattle.flute_streams.proofs.Common.{conflict_at, conflict_in, fact_at, fact_at-after}
+use Rattle.flute_streams.proofs.Common.{fact_at-append, fact_same, false, get_or}
+use Rattle.flute_streams.proofs.Common.{get_or_from_slice_get, heads, is_eq, is_lt, joined}
+use Rattle.flute_streams.proofs.Common.{joined-apart, joined-none, joined-same, length, option_list}
+use Rattle.flute_streams.proofs.Common.{refl, rules, same_fact, slice_get, subst, sym, take}
+use Rattle.flute_streams.proofs.Common.{take_more, true, ℕ, ◌++◌, ◌+◌, ◌<◌, ◌∙◌}
+use Rattle.flute_streams.proofs.Common.{◌∷◌, ◌≡◌, ◌≢◌}
+use Rattle.flute_journal.proofs.Public.{all_append, all_map}
+use Rattle.flute_streams.proofs.merge_lemmas.GoingOn.{item_at}
+use Rattle.flute_parts.specs.{
+  Equality.{key_itself, symbol_id_itself},
+  Facts.{same_information},
+  Order.{same_key, same_symbol_id},
+}
+use Rattle.flute_parts.specs.declared.address.Part.TheVariants.{Info as InfoPart}
+use Rattle.flute_parts.specs.declared.address.Part.TheVariants.{Symbol as SymbolPart}
+
+-- The order of addresses.
+
+-- the first of two is not above the second
+abbrev pub IsUpTo : Ordering → Type 0
+IsUpTo o = o ≢ Greater
+
+pub up_to_less : (o : Ordering) → o ≡ Less → IsUpTo o
+up_to_less o e h = cc
+
+pub up_to-trans : (a b c : Address) (o p : Ordering) → address_cmp a b ≡ o
+    → address_cmp b c ≡ p → IsUpTo o → IsUpTo p → IsUpTo (address_cmp a c)
+up_to-trans a b c Less Less e f h k = up_to_less (address_cmp a c) (address_total.trans a b c e f)
+up_to-trans a b c Less Equal e f h k =
+    up_to_less (address_cmp a c) (subst (λ x. address_cmp a x ≡ Less)
+    (address_same b c (ap is_eq f)) e)
+up_to-trans a b c Equal p e f h k =
+    subst (λ x. IsUpTo (address_cmp x c)) (sym (address_same a b (ap is_eq e)))
+    (subst IsUpTo (sym f) k)
+up_to-trans a b c Less Greater e f h k = absurd (k refl)
+up_to-trans a b c Greater p e f h k = absurd (h refl)
+
+pub up_to_itself : (a : Address) → IsUpTo (address_cmp a a)
+up_to_itself a e = let h : is_eq (address_cmp a a) ≡ true = address_itself a in absurd cc
+
+-- the second is not above the first, where the first isn't below it
+pub up_to_turned : (a b : Address) (o : Ordering) → address_cmp a b ≡ o → is_lt o ≡ false
+    → IsUpTo (address_cmp b a)
+up_to_turned a b Less e h = absurd cc
+up_to_turned a b Equal e h = λ k. let r = address_total.antisymm b a in absurd cc
+up_to_turned a b Greater e h = λ k. let r = address_total.antisymm b a in absurd cc
+
+-- what is held, stream by stream
+
+pub heads-append : {S : Type 0} (b : Behaviour S) (xs ys : List S)
+    → heads b (xs ++ ys) ≡ heads b xs ++ heads b ys
+heads-append b [] ys = refl
+heads-append b (x ∷ xs) ys =
+    cc (heads-append b xs ys, append_assoc (option_list (b.held x)) (heads b xs) (heads b ys))
+
+-- what is held by one stream more
+pub heads-more : {S : Type 0} (b : Behaviour S) (xs : List S) (k : ℕ) (o : Option Fact)
+    → k < length xs → ((x : S) → slice_get xs k ≡ Some x → o ≡ b.held x)
+    → heads b (take (k + 1) xs) ≡ heads b (take k xs) ++ option_list o
+heads-more b xs k o within held =
+    let x = item_at xs k within in
+    ap (heads b) (take_more xs k x.0 within)
+    ∙ heads-append b (take k xs) (get_or xs k x.0 ∷ [])
+    ∙ ap (λ s. heads b (take k xs) ++ (option_list (b.held s) ++ []))
+    (get_or_from_slice_get xs k x.0 x.0 x.1)
+    ∙ ap (λ l. heads b (take k xs) ++ l) (append-nil (option_list (b.held x.0)))
+    ∙ ap (λ p. heads b (take k xs) ++ option_list p) (sym (held x.0 x.1))
+
+pub less_up_to : (a b c : Address) (o : Ordering) → address_cmp a b ≡ Less
+    → address_cmp b c ≡ o → IsUpTo o → address_cmp a c ≡ Less
+less_up_to a b c Less l e h = address_total.trans a b c l e
+less_up_to a b c Equal l e h = subst (λ x. address_cmp a x ≡ Less) (address_same b c (ap is_eq e)) l
+less_up_to a b c Greater l e h = absurd (h refl)
+
+stand_after : (a b : Address) (facts : List Fact) → address_cmp a b ≡ Less
+    → AllByRecursion (IsNotBefore b) facts → StandAfter a facts
+stand_after a b [] less h = tt
+stand_after a b (f ∷ facts) less h = (
+  less_up_to a b (address f) (address_cmp b (address f)) less refl h.0,
+  stand_after a b facts less h.1,
+)
+
+conflict-part : (key : Key) (part : Part)
+    → address (conflict_in key part) ≡ record { key = key; part = part }
+conflict-part key InfoPart = refl
+conflict-part key (SymbolPart id) = refl
+
+pub conflict-place : (a : Address) → address (conflict_at a) ≡ a
+conflict-place a = conflict-part a.key a.part
+
+-- the value at the lowest address, with one more fact
+
+-- the fact alone is the lowest
+pub lowest_alone : (facts : List Fact) (f : Fact) → facts ≡ [] → Lowest (facts ++ f ∷ []) f
+lowest_alone facts f none =
+    subst (λ (x : List Fact). Lowest (x ++ f ∷ []) f) (sym none)
+    (record { comes = alone-at f (address f) refl; first = (up_to_itself (address f), tt) })
+
+-- that fact is below the others, and becomes the lowest
+pub lowest_turns : (facts : List Fact) (f g : Fact) → Lowest facts g
+    → address_cmp (address f) (address g) ≡ Less → Lowest (facts ++ f ∷ []) f
+lowest_turns facts f g h less =
+    search (
+      rules,
+      stand_after,
+      fact_at-append,
+      joined,
+      fact_at-after,
+      alone-at,
+      all_append,
+      all_map,
+      up_to-trans,
+      up_to_less,
+      up_to_itself,
+    )
+
+-- that fact is above the lowest, which remains
+pub lowest_stays : (facts : List Fact) (f g : Fact) → Lowest facts g
+    → address_cmp (address f) (address g) ≡ Greater → Lowest (facts ++ f ∷ []) g
+lowest_stays facts f g h greater =
+    let a = address g in
+    record {
+      comes = fact_at-append facts (f ∷ []) a
+          ∙ ap (joined a (fact_at facts a)) (alone-elsewhere f a (ap is_eq greater))
+          ∙ joined-none a (fact_at facts a) ∙ h.comes;
+      first = all_append (IsNotBefore a) facts (f ∷ []) h.first
+          (up_to_turned (address f) a Greater greater refl, tt);
+    }
+
+-- a fact at the lowest address is joined with its value
+with_more : (facts : List Fact) (f g : Fact) → Lowest facts g → address f ≡ address g
+    → fact_at (facts ++ f ∷ []) (address g) ≡ joined (address g) (Some g) (Some f)
+with_more facts f g h e = grind (arith, fact_at-append, joined, alone-at)
+
+first_more : (facts : List Fact) (f g : Fact) → Lowest facts g → address f ≡ address g
+    → AllByRecursion (IsNotBefore (address g)) (facts ++ f ∷ [])
+first_more facts f g h e =
+    all_append (IsNotBefore (address g)) facts (f ∷ []) h.first
+    (subst (λ x. IsUpTo (address_cmp (address g) x)) (sym e) (up_to_itself (address g)), tt)
+
+-- that fact has the same value, which remains
+pub lowest_same : (facts : List Fact) (f g : Fact) → Lowest facts g
+    → address_cmp (address f) (address g) ≡ Equal → same_fact g f ≡ true
+    → Lowest (facts ++ f ∷ []) g
+lowest_same facts f g h equal same =
+    let e = address_same (address f) (address g) (ap is_eq equal) in
+    record {
+      comes = with_more facts f g h e
+          ∙ ap Some (joined-same (address g) g f (fact_same g f same));
+      first =
+          first_more facts f g h e;
+    }
+
+-- that fact has another value: the result is a conflict
+pub lowest_apart : (facts : List Fact) (f g : Fact) → Lowest facts g
+    → address_cmp (address f) (address g) ≡ Equal → same_fact g f ≡ false
+    → Lowest (facts ++ f ∷ []) (conflict_at (address f))
+lowest_apart facts f g h equal apart =
+    let e = address_same (address f) (address g) (ap is_eq equal) in
+    let is : address (conflict_at (address f)) ≡ address g = conflict-place (address f) ∙ e in
+    record {
+      comes = ap (fact_at (facts ++ f ∷ [])) is ∙ with_more facts f g h e
+          ∙ ap Some (joined-apart (address g) g f apart ∙ ap conflict_at (sym e));
+      first = subst (λ x. AllByRecursion (IsNotBefore x) (facts ++ f ∷ [])) (sym is)
+          (first_more facts f g h e);
+    }
+
+-- the value of two facts at one address
+
+-- two facts of one address have the same value
+abbrev pub same_value : Fact → Fact → Bool
+same_value (Info k i) (Info l j) = same_information i j
+same_value (InfoConflict k) (InfoConflict l) = true
+same_value (Symbol k i b) (Symbol l j c) = bytes_eq b c
+same_value (SymbolConflict k i) (SymbolConflict l j) = true
+same_value _ _ = false
+
+and_first : (a b : Bool) → a ≡ true → (a && b) ≡ b
+and_first a b h = ap (λ x. x && b) h
+
+key_alike : (k l : Key) → k ≡ l → same_key k l ≡ true
+key_alike k l e = subst (λ x. same_key k x ≡ true) e (key_itself k)
+
+id_alike : (i j : SymbolId) → SymbolPart i ≡ SymbolPart j → same_symbol_id i j ≡ true
+id_alike i j e =
+    let p : i ≡ j = cc in
+    subst (λ x. same_symbol_id i x ≡ true) p (symbol_id_itself i)
+
+same_keys : (f g : Fact) → address f ≡ address g → same_key (address f).key (address g).key ≡ true
+same_keys f g e = key_alike (address f).key (address g).key (ap (λ a. a.key) e)
+
+pub same_at : (f g : Fact) → address f ≡ address g → same_fact f g ≡ same_value f g
+same_at (Info k i) (Info l j) e =
+    and_first (same_key k l) (same_information i j) (same_keys (Info k i) (Info l j) e)
+same_at (InfoConflict k) (InfoConflict l) e = same_keys (InfoConflict k) (InfoConflict l) e
+same_at (Symbol k i b) (Symbol l j c) e =
+    and_first (same_key k l) (same_symbol_id i j && bytes_eq b c)
+    (same_keys (Symbol k i b) (Symbol l j c) e)
+    ∙ and_first (same_symbol_id i j) (bytes_eq b c) (id_alike i j (ap (λ a. a.part) e))
+same_at (SymbolConflict k i) (SymbolConflict l j) e =
+    and_first (same_key k l) (same_symbol_id i j)
+    (same_keys (SymbolConflict k i) (SymbolConflict l j) e)
+    ∙ id_alike i j (ap (λ a. a.part) e)
+same_at f g e = refl

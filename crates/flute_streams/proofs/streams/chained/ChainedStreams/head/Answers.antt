@@ -1,0 +1,13 @@
+use Rattle.flute_streams.proofs.streams_lemmas.Chaining.{far, other_held}
+use Rattle.flute_streams.proofs.streams.chained.ChainedStreams.head.Goals as goal
+
+pub head-requires-else-number-eq0 : goal.head-requires-else-number-eq0
+head-requires-else-number-eq0 g c =
+    far g.A.Stream.behaviour g.G.Stream.Stream.behaviour c.args.self.now.first.now
+    (g.G.Streams.streams c.args.self.now.others) c.args.number c.requires c.if-number-eq0.false
+
+pub returns-else-number-eq0 : goal.returns-else-number-eq0
+returns-else-number-eq0 g c =
+    other_held g.A.Stream.behaviour g.G.Stream.Stream.behaviour c.args.self.now.first.now
+    (g.G.Streams.streams c.args.self.now.others) c.args.number c.requires c.if-number-eq0.false _
+    c.head-else-number-eq0.ensures

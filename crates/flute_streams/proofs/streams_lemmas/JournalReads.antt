@@ -1,0 +1,311 @@
+-- JournalStream: reading on in a journal advances the stream (specs/JournalStreams).
+use Rattle.flute_streams.proofs.Common.{journal_framing, Behaviour, Bool, Consumes-kept, Continues}
+use Rattle.flute_streams.proofs.Common.{Ended, Items, Err, Fact, Failed, FailsIf, FailsSince, Gives}
+use Rattle.flute_streams.proofs.Common.{GivesEnd, GivesFault, GoesOn, HasFault, Header, IfSome}
+use Rattle.flute_streams.proofs.Common.{IsFactIn, IsJournalOfAll, IsJournalWithin, IsRising}
+use Rattle.flute_streams.proofs.Common.{IsSized, IsTrue, Keeps, LentStream, List, LoadFault, None}
+use Rattle.flute_streams.proofs.Common.{Ok, Option, ReadAt, ReadFault, ReadWhole, ReadsEntries}
+use Rattle.flute_streams.proofs.Common.{SameLoans, Sofar, Some, ReaderState, Before, StopsAt, []}
+use Rattle.flute_streams.proofs.Common.{ap, append-nil, arith, count_at, false, inl, inr, is_open}
+use Rattle.flute_streams.proofs.Common.{journal_behaviour, length, limit_of, option_list, refl}
+use Rattle.flute_streams.proofs.Common.{room, source_of, spelling_in, state_of, subst, sym, true}
+use Rattle.flute_streams.proofs.Common.{unread_of, ℕ, ◌++◌, ◌+◌, ◌-◌, ◌∙◌}
+use Rattle.flute_streams.proofs.Common.{◌∷◌, ◌≡◌, ◌≤◌}
+use Rattle.flute_journal.proofs.Public.{ahead-sofar, reads-side, reads-sofar, reads-fault, AtEnd}
+use Rattle.flute_journal.proofs.Public.{whole-at, side-from, open_after, sofar-fault, journal_sound}
+use Rattle.flute_journal.proofs.Public.{one_given, all_split, fact_sized, spelling-injective}
+use Rattle.flute_journal.specs.declared.fault.LoadFault.TheVariants as load
+use Rattle.flute_streams.specs.declared.streams.journal_stream.JournalStream.{JournalStream}
+
+-- what was read, once the next entry or the end was
+abbrev Read : ℕ → Option (List ℕ) → Option (List ℕ) → ReaderState Before → List Fact → Option Fact
+    → Type 0
+Read limit u w state F (Some f) = Sofar journal_framing limit u w state (F ++ f ∷ [])
+Read limit u w state F None = ReadWhole limit u w F × (state ≡ Ended)
+
+-- what was read up to an entry or to the end
+whole_at : (limit : ℕ) (u w : Option (List ℕ)) (F : List Fact) → AtEnd journal_framing limit u w F
+    → ReadWhole limit u w F
+whole_at limit u w F s = record {
+  are_items = s.are_items;
+  whole = whole-at journal_sound limit u w F s;
+  read = reads-side limit u w Ended F None s;
+}
+
+whole_kept : (limit : ℕ) (u v w : Option (List ℕ)) (F : List Fact) → ReadWhole limit u v F
+    → Keeps v w → ReadWhole limit u w F
+whole_kept limit u v w F r k = record {
+  are_items = r.are_items;
+  whole = r.whole;
+  read = record {
+    version = r.read.version;
+    valid = r.read.valid;
+    bytes = r.read.bytes;
+    read =
+        Consumes-kept u v w r.read.bytes r.read.read k;
+    ends = r.read.ends;
+  };
+}
+
+read_from : (limit : ℕ) (u v w : Option (List ℕ)) (old new : ReaderState Before) (es : List Fact)
+    (o : Option Fact) → Sofar journal_framing limit u v old es
+    → Gives journal_framing limit old new v w (Ok o)
+    → Read limit u w new es o
+read_from limit u v w old new es (Some f) s g =
+    side-from journal_sound limit u v w old new es (Some f) s g
+read_from limit u v w old new es None s g =
+    (whole_at limit u w es (side-from journal_sound limit u v w old new es None s g), g.ended)
+
+-- after the end, the next call gives the end again
+end_again : (limit : ℕ) (u v w : Option (List ℕ)) (new : ReaderState Before) (F : List Fact)
+    (held : Option Fact) → ReadWhole limit u v F → held ≡ None
+    → GivesEnd journal_framing Ended new v w
+    → Read limit u w new (F ++ option_list held) None
+end_again limit u v w new F held r n g =
+    let k : Keeps v w = elim g.bytes [ inl a ↦ a.1 | inr a ↦ absurd (let o = a.0 in cc) ] in (
+      subst (ReadWhole limit u w)
+          (sym (ap (λ (h : Option Fact). F ++ option_list h) n ∙ append-nil F))
+          (whole_kept limit u v w F r k),
+      g.ended,
+    )
+
+-- the next call reads one entry more, or the end
+read_on : (limit : ℕ) (u v w : Option (List ℕ)) (old new : ReaderState Before) (F : List Fact)
+    (held o : Option Fact) → ReadAt limit u v old F held
+    → Gives journal_framing limit old new v w (Ok o)
+    → Read limit u w new (F ++ option_list held) o
+read_on limit u v w Header new F held o r g =
+    read_from limit u v w Header new (F ++ option_list held) o r g
+read_on limit u v w (Items place) new F held o r g =
+    read_from limit u v w (Items place) new (F ++ option_list held) o r g
+read_on limit u v w (Failed f) new F held o r g = absurd r
+read_on limit u v w Ended new F held (Some f) r g = absurd (let e = g.open_before in cc)
+read_on limit u v w Ended new F held None r g = end_again limit u v w new F held r.0 r.1 g
+
+read_open : (limit : ℕ) (u w : Option (List ℕ)) (state : ReaderState Before) (F : List Fact)
+    (f : Fact) → IsTrue (is_open state) → Sofar journal_framing limit u w state (F ++ f ∷ [])
+    → ReadAt limit u w state F (Some f)
+read_open limit u w Header F f o s = s
+read_open limit u w (Items place) F f o s = s
+read_open limit u w Ended F f o s = absurd cc
+read_open limit u w (Failed g) F f o s = absurd cc
+
+-- what was read, in whatever state the reader is
+read_at : (limit : ℕ) (u w : Option (List ℕ)) (state : ReaderState Before) (F : List Fact)
+    (o : Option Fact) → Read limit u w state F o → ReadAt limit u w state F o
+read_at limit u w state F (Some f) r =
+    read_open limit u w state F f (open_after limit u w state (F ++ f ∷ []) r) r
+read_at limit u w state F None r = subst (λ x. ReadAt limit u w x F None) (sym r.1) (r.0, refl)
+
+-- What follows of the stream's clauses: reads, rises, ends, contains, and is sized.
+
+reads_of : (limit : ℕ) (u w : Option (List ℕ)) (state : ReaderState Before) (F : List Fact)
+    (o : Option Fact) → Read limit u w state F o → ReadsEntries u w F
+reads_of limit u w state F (Some f) r = reads-side limit u w state F (Some f) r
+reads_of limit u w state F None r = r.0.read
+
+reads_with : (limit : ℕ) (u w : Option (List ℕ)) (state : ReaderState Before) (F : List Fact)
+    (o : Option Fact) → Read limit u w state F o → ReadsEntries u w (F ++ option_list o)
+reads_with limit u w state F (Some f) r = reads-sofar limit u w state (F ++ f ∷ []) r
+reads_with limit u w state F None r = subst (ReadsEntries u w) (sym (append-nil F)) r.0.read
+
+rising_of : (limit : ℕ) (u w : Option (List ℕ)) (state : ReaderState Before) (F : List Fact)
+    (o : Option Fact) → Read limit u w state F o → IsRising (F ++ option_list o)
+rising_of limit u w state F o r = grind (arith, append-nil)
+
+ended_of : (limit : ℕ) (u w : Option (List ℕ)) (state : ReaderState Before) (F : List Fact)
+    (o : Option Fact) → Read limit u w state F o → o ≡ None
+    → IfSome u (λ xs. IsJournalWithin limit xs F)
+ended_of limit u w state F o r e = grind (arith)
+
+-- a journal has no entries but those that were read to its end
+only_entries : (limit : ℕ) (u : Option (List ℕ)) (F K : List Fact)
+    → IfSome u (λ xs. IsJournalWithin limit xs F) → IsJournalOfAll u K → K ≡ F
+only_entries limit None F K h k = absurd (let e = k.bytes_are in cc)
+only_entries limit (Some xs) F K h k =
+    let v = h.are_items.told in
+    let w = k.version in
+    let e : xs ≡ spelling_in w K = (let q = k.bytes_are in cc) in
+    (spelling-injective v w F K [] [] h.are_items.valid k.valid
+    (append-nil (spelling_in v F) ∙ sym h.bytes_are ∙ e ∙ sym (append-nil (spelling_in w K)))).1
+
+known_of : (limit : ℕ) (u w : Option (List ℕ)) (state : ReaderState Before) (F : List Fact)
+    (o : Option Fact) → Read limit u w state F o → (K : List Fact) → IsJournalOfAll u K
+    → Continues K (F ++ option_list o) o
+known_of limit u w state F (Some f) r K k =
+    let a = ahead-sofar limit u w state (F ++ f ∷ []) r k.version K k.valid k.rising k.bytes_are in
+    record { rest = a.0; is = a.1; rising = k.rising; ended = λ e. absurd (let h = e in cc) }
+known_of limit u w state F None r K k =
+    record {
+      rest = [];
+      is =
+          only_entries limit u F K r.0.whole k ∙ sym (append-nil F) ∙ sym (append-nil (F ++ []));
+      rising = k.rising;
+      ended = λ e. refl;
+    }
+
+-- within the limit a reader that is open may give one fact more
+room_open : (limit : ℕ) (state : ReaderState Before) → IsTrue (is_open state)
+    → room limit state ≡ limit - count_at journal_framing state
+room_open limit Header o = omega arith
+room_open limit (Items place) o = refl
+room_open limit Ended o = absurd cc
+room_open limit (Failed f) o = absurd cc
+
+pub fewer : (limit n : ℕ) (v w : Option (List ℕ)) (old new : ReaderState Before) (o : Option Fact)
+    → Gives journal_framing limit old new v w (Ok o)
+    → (length (option_list o) + room limit new) + n ≤ n + room limit old
+fewer limit n v w old new (Some f) g = grind (arith, room_open, one_given journal_sound)
+fewer limit n v w old new None g = let e = ap (room limit) g.ended in omega (arith, e)
+
+sized_of : (limit : ℕ) (u w : Option (List ℕ)) (state : ReaderState Before) (F : List Fact)
+    (o : Option Fact) → Read limit u w state F o → IfSome o IsSized
+sized_of limit u w state F (Some f) r =
+    fact_sized f (all_split (IsFactIn r.are_items.told) F (f ∷ []) r.are_items.valid).1.0.0
+sized_of limit u w state F None r = tt
+
+-- what a stream has given by these reads
+pub record GivesOn (limit : ℕ) (u w : Option (List ℕ)) (state : ReaderState Before) (G : List Fact)
+    (held : Option Fact) : Type 0 where
+  pub read : ReadAt limit u w state G held
+  pub reads : ReadsEntries u w G
+  pub reads_held : ReadsEntries u w (G ++ option_list held)
+  pub rising : IsRising (G ++ option_list held)
+  pub sized : IfSome held IsSized
+  pub ended : held ≡ None → IfSome u (λ bytes. IsJournalWithin limit bytes G)
+  pub known : (K : List Fact) → IsJournalOfAll u K → Continues K (G ++ option_list held) held
+
+-- the state after a call that gave an entry or the end
+pub gives_on : (limit limit' : ℕ) (u v w : Option (List ℕ)) (old new : ReaderState Before)
+    (F : List Fact) (held o : Option Fact) → limit' ≡ limit → ReadAt limit u v old F held
+    → Gives journal_framing limit' old new v w (Ok o)
+    → GivesOn limit u w new (F ++ option_list held) o
+gives_on limit limit' u v w old new F held o same p g =
+    let G = F ++ option_list held in
+    let r = read_on limit u v w old new F held o p
+    (subst (λ x. Gives journal_framing x old new v w (Ok o)) same g) in
+    record {
+      read = read_at limit u w new G o r;
+      reads = reads_of limit u w new G o r;
+      reads_held = reads_with limit u w new G o r;
+      rising = rising_of limit u w new G o r;
+      sized = sized_of limit u w new G o r;
+      ended = ended_of limit u w new G o r;
+      known = known_of limit u w new G o r;
+    }
+
+-- A call that stops at a fault.
+
+fault_at : (limit : ℕ) (u v w : Option (List ℕ)) (old new : ReaderState Before) (F : List Fact)
+    (held : Option Fact) (f : ReadFault) → ReadAt limit u v old F held
+    → GivesFault journal_framing limit old new v w f
+    → ReadsEntries u w (F ++ option_list held) × HasFault journal_framing limit u f × IsTrue
+    (is_open old)
+fault_at limit u v w Header new F held f r g = (
+  reads-fault limit u v w Header new _ f r g,
+  sofar-fault journal_sound limit u v w Header new _
+      f r g,
+  refl,
+)
+fault_at limit u v w (Items place) new F held f r g = (
+  reads-fault limit u v w (Items place) new _ f r g,
+  sofar-fault journal_sound limit u v w
+      (Items place) new _ f r g,
+  refl,
+)
+fault_at limit u v w (Failed h) new F held f r g = absurd r
+fault_at limit u v w Ended new F held f r g = grind (arith)
+
+pub stops_on : (limit limit' : ℕ) (u v w : Option (List ℕ)) (old new : ReaderState Before)
+    (F : List Fact) (held : Option Fact) (f : ReadFault) → limit' ≡ limit
+    → ReadAt limit u v old F held
+    → Gives journal_framing limit' old new v w (Err f)
+    → ReadsEntries u w (F ++ option_list held) × HasFault journal_framing limit u f × IsTrue
+    (is_open old)
+stops_on limit limit' u v w old new F held f same p g =
+    fault_at limit u v w old new F held f p
+    (subst (λ x. Gives journal_framing x old new v w (Err f)) same g)
+
+-- a call that gave an entry or the end had no failure
+pub never : (b : Bool) (x y : ℕ) (o : Option Fact) → FailsIf {T = Option Fact} b x y (Ok o) → y ≡ x
+never true x y o h = h
+never false x y o h = h
+
+module _ {R : Type 0} (unread : R → Option (List ℕ)) (failures : R → ℕ) where
+  abbrev b : Behaviour (JournalStream R)
+  b = journal_behaviour unread failures
+
+  -- the failures of one source add up
+  since : (s t u : JournalStream R) (fault : Option LoadFault) → FailsSince unread failures s t None
+      → FailsSince unread failures t u fault → FailsSince unread failures s u fault
+  since s t u fault h k = grind (arith)
+
+  -- the stream is advanced, or stops, as the trait's clauses say (specs/Streams)
+  pub stream_goes_on : (s t : JournalStream R) → FailsSince unread failures s t None
+      → limit_of t.reader ≡ limit_of s.reader
+      → Gives journal_framing (limit_of s.reader) (state_of s.reader) (state_of t.reader)
+      (unread_of unread failures s) (unread_of unread failures t) (Ok t.held) → GoesOn b s t
+  stream_goes_on s t same limit g = record {
+    gave = λ start F p.
+        let r = gives_on (limit_of start.reader) (limit_of s.reader)
+        (unread_of unread failures start) (unread_of unread failures s)
+        (unread_of unread failures t) (state_of s.reader) (state_of t.reader) F s.held t.held
+        p.same_limit p.read g in
+        let fails = since start s t None p.fails same in
+        record {
+          passes = record { fails = fails; same_limit = limit ∙ p.same_limit; read = r.read };
+          reads = r.reads;
+          reads_held = r.reads_held;
+          fails = fails;
+          rising = r.rising;
+          sized = r.sized;
+          ended = r.ended;
+          ends = r.ended;
+          known = r.known;
+        };
+    fewer = grind (arith);
+  }
+
+  pub stream_stops : (s t : JournalStream R) (f : ReadFault)
+      → (IsTrue (is_open (state_of s.reader)) → FailsSince unread failures s t (Some (load.Read f)))
+      → Gives journal_framing (limit_of s.reader) (state_of s.reader) (state_of t.reader)
+      (unread_of unread failures s) (unread_of unread failures t) (Err f)
+      → StopsAt b s t (load.Read f)
+  stream_stops s t f same g = λ start F p.
+      let h = stops_on (limit_of start.reader) (limit_of s.reader) (unread_of unread failures start)
+      (unread_of unread failures s) (unread_of unread failures t) (state_of s.reader)
+      (state_of t.reader) F s.held f p.same_limit p.read g in
+      record {
+        reads = h.0;
+        fails = since start s t (Some (load.Read f)) p.fails (same h.2);
+        stops =
+            h.1;
+      }
+
+  pub none_failed : (s t : JournalStream R)
+      → (source_of t.reader).ghost_name ≡ (source_of s.reader).ghost_name
+      → FailsIf (is_open (state_of s.reader)) (failures (source_of s.reader).now)
+      (failures (source_of t.reader).now) (Ok t.held) → FailsSince unread failures s t None
+  none_failed s t e h =
+      record {
+        same_source = e;
+        failed_as =
+            never (is_open (state_of s.reader)) (failures (source_of s.reader).now)
+            (failures (source_of t.reader).now) t.held h;
+      }
+
+  pub one_failed : (s t : JournalStream R) (f : ReadFault)
+      → (source_of t.reader).ghost_name ≡ (source_of s.reader).ghost_name
+      → FailsIf {T = Option Fact} (is_open (state_of s.reader)) (failures (source_of s.reader).now)
+      (failures (source_of t.reader).now) (Err f) → IsTrue (is_open (state_of s.reader))
+      → FailsSince unread failures s t (Some (load.Read f))
+  one_failed s t f e h o = grind (arith)
+
+-- the same reader and held entry are still lent
+pub loans : {R : Type 0} (s t : LentStream R) → SameLoans s t → (start : LentStream R)
+    → SameLoans start s → SameLoans start t
+loans s t same start h =
+    record {
+      same_reader = same.same_reader ∙ h.same_reader;
+      same_held = same.same_held ∙ h.same_held;
+    }

@@ -1,0 +1,11 @@
+-- One fact as a stream.
+use Rattle.std.specs.List.{AllByRecursion}
+use Rattle.flute_store.specs.Walk.{IsSized}
+use Rattle.flute_streams.specs.declared.streams.fact_stream.FactStream.{FactStream}
+use Rattle.flute_streams.specs.Streams.{Behaviour, option_list}
+use Rattle.flute_streams.specs.Listed.{listed_behaviour}
+
+abbrev pub fact_behaviour : Behaviour FactStream
+fact_behaviour =
+    listed_behaviour (λ s. s.held) (λ s. option_list s.next)
+    (λ s. AllByRecursion IsSized (option_list s.next))

@@ -1,0 +1,69 @@
+-- Facts that are selected by their addresses and kinds.
+use Rattle.std.specs.Prelude.{ℕ, Bool, true, false, not, ◌&&◌, ◌||◌, ◌==◌, Option, Some, None}
+use Rattle.std.specs.Prelude.{List, filter, is_some}
+use Rattle.std.specs.List.{count_by}
+use Rattle.flute_parts.specs.Addresses.{address}
+use Rattle.flute_parts.specs.declared.address.Part.{Part}
+use Rattle.flute_parts.specs.declared.address.Part.TheVariants.{Info as InfoPart, Symbol}
+use Rattle.flute_parts.specs.declared.fact.Fact.{Fact}
+use Rattle.flute_parts.specs.declared.fact.Fact.TheVariants.{InfoConflict, SymbolConflict}
+use Rattle.flute_parts.specs.declared.key.Key.{Key}
+use Rattle.flute_parts.specs.declared.symbol_id.SymbolId.{SymbolId}
+use Rattle.flute_streams.specs.Scopes.{is_all, takes_key}
+use Rattle.flute_streams.specs.declared.choice.selection.Selection.{Selection}
+
+-- it is this one, or any is meant
+abbrev pub selects_sender : Option ℕ → ℕ → Bool
+selects_sender None sender = true
+selects_sender (Some one) sender = sender == one
+
+abbrev pub selects_symbol : Option SymbolId → Part → Bool
+selects_symbol None part = true
+selects_symbol (Some one) InfoPart = false
+selects_symbol (Some one) (Symbol id) = one.sbn == id.sbn && one.esi == id.esi
+
+-- it is the information, or any part is meant
+abbrev pub is_info : Part → Bool
+is_info InfoPart = true
+is_info (Symbol id) = false
+
+abbrev pub selects_info : Bool → Part → Bool
+selects_info info part = not info || is_info part
+
+-- whether a fact is a conflict: its address has two different values
+abbrev pub is_conflict : Fact → Bool
+is_conflict (InfoConflict key) = true
+is_conflict (SymbolConflict key id) = true
+is_conflict fact = false
+
+-- it is a conflict, or any fact is meant
+abbrev pub selects_kind : Bool → Fact → Bool
+selects_kind conflicts fact = not conflicts || is_conflict fact
+
+-- the object is of the sender that is meant, and is taken
+abbrev pub selects_key : Selection → Key → Bool
+selects_key s key = selects_sender s.sender key.session.sender && takes_key s.scope key
+
+-- the fact is selected: its object, its part of that, and its kind are meant
+abbrev pub selects : Selection → Fact → Bool
+selects s fact =
+    selects_key s (address fact).key && selects_symbol s.symbol (address fact).part
+    && selects_info s.info (address fact).part && selects_kind s.conflicts fact
+
+-- nothing narrows it
+abbrev pub is_everything : Selection → Bool
+is_everything s =
+    not (is_some s.sender) && is_all s.scope && not (is_some s.symbol) && not s.info
+    && not s.conflicts
+
+-- a fact is not selected
+abbrev pub leaves : Selection → Fact → Bool
+leaves s fact = not (selects s fact)
+
+-- the facts that are left once those that are selected are taken out
+abbrev pub left : Selection → List Fact → List Fact
+left s facts = filter (leaves s) facts
+
+-- how many are selected
+abbrev pub selected_in : Selection → List Fact → ℕ
+selected_in s facts = count_by (selects s) facts

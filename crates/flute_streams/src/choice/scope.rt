@@ -1,0 +1,78 @@
+//! The objects that are taken.
+ghost use Rattle.std.specs.Prelude.{◌≡◌, true};
+ghost use Rattle.flute_parts.specs.declared.key.Key.{Key as Name};
+ghost use Rattle.flute_streams.specs.Scopes.{is_all, of_scope, takes_key, takes_kind, takes_object};
+
+use crate::choice::Choice;
+use crate::choice::sessions::Sessions;
+use flute_parts::{FactRef, Key, ObjectKey};
+
+/// Which objects are taken. Each field narrows the others.
+#[derive(Clone, Copy, Debug, PartialEq, Eq)]
+pub struct Scope {
+    /// Those of these sessions.
+    pub sessions: Sessions,
+    /// This object of each of them, or any.
+    pub object: Option<ObjectKey>,
+    /// Files alone, and no FDT Instances, which have the TOI 0 (RFC 6726, section 3.4).
+    pub files: bool,
+}
+
+impl Scope {
+    /// All objects.
+    pub fn all() -> Scope
+        ensures { (key : Name) → takes_key result key ≡ true }
+    {
+        Scope {
+            sessions: Sessions::all(),
+            object: None,
+            files: false,
+        }
+    }
+
+    /// Whether no field narrows it: all objects are taken.
+    pub fn is_all(&self) -> bool
+        ensures value { result ≡ is_all self.now }
+        ensures all { result ≡ true → (key : Name) → takes_key self.now key ≡ true }
+    {
+        self.sessions.is_all() && self.object.is_none() && !self.files
+    }
+
+    /// Whether the object is taken.
+    #[inline(always)]
+    pub fn takes(&self, key: &Key) -> bool
+        ensures { result ≡ takes_key self.now key.now }
+    {
+        self.sessions.takes(key.session.tsi())
+            && self.has_object(&key.object)
+            && self.has_kind(&key.object)
+    }
+
+    #[inline(always)]
+    fn has_object(&self, object: &ObjectKey) -> bool
+        ensures { result ≡ takes_object self.now.object object.now }
+    {
+        match self.object {
+            Some(one) => one == *object,
+            None => true,
+        }
+    }
+
+    // Whether objects that are FDT Instances, or files, as this one may be taken.
+    #[inline(always)]
+    fn has_kind(&self, object: &ObjectKey) -> bool
+        ensures { result ≡ takes_kind self.now.files object.now }
+    {
+        !self.files || object.instance().is_none()
+    }
+}
+
+/// The facts of these objects are taken.
+impl Choice for Scope {
+    ghost takes = { of_scope };
+
+    #[inline(always)]
+    fn takes_fact(&self, fact: &FactRef<'_>) -> bool {
+        self.is_all() || self.takes(&fact.address().key)
+    }
+}

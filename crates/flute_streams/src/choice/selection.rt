@@ -1,0 +1,130 @@
+//! Facts that are selected by their addresses and kinds.
+ghost use Rattle.std.specs.Prelude.{◌≡◌, true};
+ghost use Rattle.flute_parts.specs.Addresses.{fact_of};
+ghost use Rattle.flute_parts.specs.declared.fact.Fact.{Fact};
+ghost use Rattle.flute_streams.specs.Selections.{is_everything, selects, selects_key, selects_kind};
+ghost use Rattle.flute_streams.specs.Selections.{selects_info, selects_symbol};
+
+use crate::choice::Choice;
+use crate::choice::scope::Scope;
+use flute_parts::{FactRef, Key, Part, Sender, SymbolId};
+
+/// Which facts are selected. Each field narrows the others.
+#[derive(Clone, Copy, Debug, PartialEq, Eq)]
+pub struct Selection {
+    /// Those of this sender, or of any.
+    pub sender: Option<Sender>,
+    /// Those of these objects.
+    pub scope: Scope,
+    /// Only this symbol of objects.
+    pub symbol: Option<SymbolId>,
+    /// Only the information of objects.
+    pub info: bool,
+    /// Only conflicts, of symbols and of information.
+    pub conflicts: bool,
+}
+
+impl Selection {
+    /// All facts.
+    pub fn all() -> Selection
+        ensures { (fact : Fact) → selects result fact ≡ true }
+    {
+        Selection {
+            sender: None,
+            scope: Scope::all(),
+            symbol: None,
+            info: false,
+            conflicts: false,
+        }
+    }
+
+    /// Whether no field narrows it: all facts are selected.
+    pub fn is_all(&self) -> bool
+        ensures { result ≡ is_everything self.now }
+    {
+        self.sender.is_none()
+            && self.scope.is_all()
+            && self.symbol.is_none()
+            && !self.info
+            && !self.conflicts
+    }
+
+    /// Whether the fact is selected.
+    #[inline(always)]
+    pub fn selects(&self, fact: &FactRef<'_>) -> bool
+        ensures { result ≡ selects self.now (fact_of fact.now) }
+    {
+        let address = fact.address();
+        self.has_key(&address.key)
+            && self.has_symbol(&address.part)
+            && self.has_info(&address.part)
+            && self.has_kind(fact)
+    }
+
+    // Whether facts of the object may be selected.
+    #[inline(always)]
+    fn has_key(&self, key: &Key) -> bool
+        ensures { result ≡ selects_key self.now key.now }
+    {
+        let is_sender = match self.sender {
+            Some(sender) => key.session.sender() == sender,
+            None => true,
+        };
+        is_sender && self.scope.takes(key)
+    }
+
+    // Whether facts of this part may be.
+    #[inline(always)]
+    fn has_symbol(&self, part: &Part) -> bool
+        ensures { result ≡ selects_symbol self.now.symbol part.now }
+    {
+        match (self.symbol, *part) {
+            (None, _) => true,
+            (Some(one), Part::Symbol(id)) => one.sbn == id.sbn && one.esi == id.esi,
+            (Some(_), Part::Info) => false,
+        }
+    }
+
+    #[inline(always)]
+    fn has_info(&self, part: &Part) -> bool
+        ensures { result ≡ selects_info self.now.info part.now }
+    {
+        !self.info || matches!(part, Part::Info)
+    }
+
+    #[inline(always)]
+    fn has_kind(&self, fact: &FactRef<'_>) -> bool
+        ensures { result ≡ selects_kind self.now.conflicts (fact_of fact.now) }
+    {
+        !self.conflicts
+            || matches!(
+                fact,
+                FactRef::InfoConflict { .. } | FactRef::SymbolConflict { .. }
+            )
+    }
+}
+
+/// What is selected is taken.
+impl Choice for Selection {
+    ghost takes = { selects };
+
+    #[inline(always)]
+    fn takes_fact(&self, fact: &FactRef<'_>) -> bool {
+        self.selects(fact)
+    }
+}
+
+/// What is selected is left out, and all else is taken.
+#[derive(Clone, Copy, Debug)]
+pub struct AllBut(pub Selection);
+
+impl Choice for AllBut {
+    ghost use Rattle.flute_streams.specs.Selections.{leaves};
+
+    ghost takes = { λ rest. leaves rest.0 };
+
+    #[inline(always)]
+    fn takes_fact(&self, fact: &FactRef<'_>) -> bool {
+        !self.0.selects(fact)
+    }
+}

@@ -1,0 +1,55 @@
+//! The first of several streams that has a fault, once their merge has stopped at one.
+ghost use Rattle.std.specs.Prelude.{◌≡◌, ◌≢◌, ◌<◌, ℕ, Some, List, length, OnOk, IfErr, slice_get};
+ghost use Rattle.flute_parts.specs.declared.fact.Fact.{Fact};
+ghost use Rattle.flute_streams.specs.Streams.{Gave};
+ghost use Rattle.flute_streams.specs.StreamMerges.{GaveBefore};
+ghost use Rattle.flute_streams.specs.FirstFaults.{HasStopped, TellBefore, IsStopOf};
+
+use crate::merge::streams_fault::InputFault;
+use crate::streams::Streams;
+use flute_journal::LoadFault;
+use std::alloc::Global;
+
+/// The fault of the first stream, in their order, that has one, once a merge of them has stopped at
+/// this fault. Those before the one that stopped are read to their ends, until one of them stops.
+pub fn first_fault<G: Streams>(alloc: Global, streams: &mut G, stopped: InputFault) -> InputFault
+    requires { stopped.number < length (G.streams streams.old) }
+    ensures stopped { (start : List G.Stream)
+        → GaveBefore G.Stream.behaviour stopped.number start (G.streams streams.old)
+        → HasStopped G.Stream.behaviour start (G.streams streams.old) stopped
+        → HasStopped G.Stream.behaviour start (G.streams streams.new) result }
+    ensures first { (start : List G.Stream)
+        → GaveBefore G.Stream.behaviour stopped.number start (G.streams streams.old)
+        → TellBefore G.Stream.behaviour result.number start }
+    ensures names { G.names streams.new ≡ G.names streams.old }
+{
+    for number in 0..stopped.number {
+        if let Err(fault) = finish(alloc, streams, number) {
+            return InputFault { number, fault };
+        }
+    }
+    stopped
+}
+
+// Reads the stream with this number to its end.
+#[tactic(auto, using(crate::proofs::merge_lemmas::Finished::reads_on))]
+fn finish<G: Streams>(alloc: Global, streams: &mut G, number: usize) -> Result<(), LoadFault>
+    requires { number < length (G.streams streams.old) }
+    ensures as_many { length (G.streams streams.new) ≡ length (G.streams streams.old) }
+    ensures others { (k : ℕ) → k ≢ number
+        → slice_get (G.streams streams.new) k ≡ slice_get (G.streams streams.old) k }
+    ensures told { OnOk result ((start s : G.Stream) (F : List Fact)
+        → slice_get (G.streams streams.old) number ≡ Some s
+        → Gave G.Stream.behaviour start s F
+        → (told : List Fact) × G.Stream.behaviour.tells start told) }
+    ensures stops { IfErr result (λ fault. (start s : G.Stream) (F : List Fact)
+        → slice_get (G.streams streams.old) number ≡ Some s
+        → Gave G.Stream.behaviour start s F
+        → IsStopOf G.Stream.behaviour start number (G.streams streams.new) fault) }
+    ensures names { G.names streams.new ≡ G.names streams.old }
+{
+    while streams.head(number).is_some() {
+        streams.advance(number, alloc)?;
+    }
+    Ok(())
+}

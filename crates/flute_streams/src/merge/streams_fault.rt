@@ -1,0 +1,36 @@
+//! Why streams could not be merged.
+
+use flute_journal::LoadFault;
+use thiserror::Error;
+
+/// The fault of one of several inputs.
+#[derive(Clone, Copy, Debug, PartialEq, Eq, Error)]
+#[error("{number} {fault}")]
+pub struct InputFault {
+    /// The number of the input, from 0.
+    pub number: usize,
+    /// Why it was read no further.
+    pub fault: LoadFault,
+}
+
+/// Why streams could not be merged.
+#[derive(Clone, Copy, Debug, PartialEq, Eq, Error)]
+pub enum StreamsFault {
+    /// One of them stopped.
+    #[error("{0}")]
+    Input(InputFault),
+    /// The sink failed.
+    #[error("Write")]
+    Write,
+}
+
+impl From<InputFault> for StreamsFault {
+    ghost use Rattle.std.specs.Prelude.{◌≡◌};
+    ghost use Rattle.flute_streams.specs.declared.merge.streams_fault.StreamsFault.TheVariants.{Input};
+
+    ghost from_gives = { λ why fault. fault ≡ Input why };
+
+    fn from(why: InputFault) -> StreamsFault {
+        StreamsFault::Input(why)
+    }
+}

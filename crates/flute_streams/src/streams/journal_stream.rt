@@ -1,0 +1,81 @@
+//! A journal as a stream.
+ghost use Rattle.std.specs.Prelude.{◌≡◌, None};
+ghost use Rattle.flute_journal.specs.Readers.{source_of, limit_of, state_of};
+ghost use Rattle.flute_streams.specs.Streams.{IsNew};
+ghost use Rattle.flute_streams.specs.JournalStreams.{journal_behaviour, lent_behaviour};
+ghost use Rattle.flute_journal.specs.declared.readers.reader_state.ReaderState.TheVariants as ReaderState;
+
+use crate::streams::stream::Stream;
+use flute_journal::{JournalReader, LoadFault};
+use flute_parts::{Fact, FactRef, Source};
+use std::alloc::Global;
+
+/// A journal that is read entry by entry, of which one entry is held.
+#[derive(Debug, Drop)]
+pub struct JournalStream<'a, R> {
+    pub reader: JournalReader<'a, R>,
+    pub held: Option<Fact>,
+}
+
+impl<'a, R: Source> JournalStream<'a, R> {
+    /// The stream of the journal that the source holds, which may have at most `max_entries`
+    /// entries. It takes no memory, and reads nothing yet.
+    pub fn new(source: &'a mut R, max_entries: u64) -> JournalStream<'a, R>
+        ensures source { (source_of result.reader).ghost_name ≡ source.entry.ghost_name }
+        ensures unread { (source_of result.reader).now ≡ source.old }
+        ensures limit { limit_of result.reader ≡ max_entries }
+        ensures state { state_of result.reader ≡ ReaderState.Header }
+        ensures held { result.held ≡ None }
+        ensures new { IsNew (journal_behaviour R.unread R.failures) result }
+        ensures most { (journal_behaviour R.unread R.failures).most result ≡ max_entries }
+    {
+        JournalStream {
+            reader: JournalReader::new(source, max_entries),
+            held: None,
+        }
+    }
+}
+
+impl<'a, R: Source> Stream for JournalStream<'a, R> {
+    ghost behaviour = { journal_behaviour R.unread R.failures };
+
+    #[inline(always)]
+    fn head(&self) -> Option<FactRef<'_>> {
+        match &self.held {
+            Some(fact) => Some(fact.as_ref()),
+            None => None,
+        }
+    }
+
+    #[inline(always)]
+    fn advance(&mut self, alloc: Global) -> Result<(), LoadFault> {
+        self.reader.next_into(alloc, &mut self.held)?;
+        Ok(())
+    }
+}
+
+/// The stream of a journal whose reader, and the place for the entry that is held, are lent to it.
+#[derive(Debug, Drop)]
+pub struct LentStream<'r, 'a, R> {
+    pub reader: &'r mut JournalReader<'a, R>,
+    pub held: &'r mut Option<Fact>,
+}
+
+impl<'r, 'a, R: Source> Stream for LentStream<'r, 'a, R> {
+    ghost behaviour = { lent_behaviour R.unread R.failures };
+
+    #[inline(always)]
+    fn head(&self) -> Option<FactRef<'_>> {
+        let held = &*self.held;
+        match held {
+            Some(fact) => Some(fact.as_ref()),
+            None => None,
+        }
+    }
+
+    #[inline(always)]
+    fn advance(&mut self, alloc: Global) -> Result<(), LoadFault> {
+        self.reader.next_into(alloc, self.held)?;
+        Ok(())
+    }
+}

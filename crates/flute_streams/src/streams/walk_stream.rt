@@ -1,0 +1,61 @@
+//! The facts of a store as a stream.
+ghost use Rattle.std.specs.Prelude.{◌≡◌, None, length};
+ghost use Rattle.flute_parts.specs.Addresses.{fact_of};
+ghost use Rattle.flute_parts.specs.Facts.{IsRising};
+ghost use Rattle.flute_streams.specs.Streams.{fact_in, IsNew};
+ghost use Rattle.flute_streams.specs.Listed.{listed_behaviour};
+
+use crate::streams::stream::Stream;
+use flute_journal::LoadFault;
+use flute_parts::FactRef;
+use flute_store::{HasObjects, Walk};
+use std::alloc::Global;
+
+/// The stream of the facts of a store in memory.
+#[derive(Drop)]
+pub struct WalkStream<'a, S: HasObjects + 'a> {
+    walk: Walk<'a, S>,
+    held: Option<FactRef<'a>>,
+}
+
+impl<'a, S: HasObjects + 'a> WalkStream<'a, S> {
+    /// The stream of what a walk over a store has left. It takes no memory.
+    pub fn new(walk: Walk<'a, S>) -> WalkStream<'a, S>
+        requires { IsRising walk }
+        ensures new { IsNew (listed_behaviour (λ s. fact_in s.held) (λ s. s.walk)
+            (λ _. Unit {0})) result }
+        ensures facts { result.walk ≡ walk.entry }
+        ensures most { (listed_behaviour (λ s. fact_in s.held) (λ s. s.walk)
+            (λ _. Unit {0})).most result ≡ length walk.entry }
+    {
+        WalkStream { walk, held: None }
+    }
+}
+
+impl<'a, S: HasObjects + 'a> Stream for WalkStream<'a, S> {
+    ghost behaviour = { listed_behaviour (λ s. fact_in s.held) (λ s. s.walk) (λ _. Unit {0}) };
+
+    fn head(&self) -> Option<FactRef<'_>> {
+        match &self.held {
+            Some(fact) => Some(copied(fact)),
+            None => None,
+        }
+    }
+
+    fn advance(&mut self, _alloc: Global) -> Result<(), LoadFault> {
+        self.held = self.walk.next();
+        Ok(())
+    }
+}
+
+// The same fact again.
+fn copied<'a>(fact: &FactRef<'a>) -> FactRef<'a>
+    ensures { fact_of result ≡ fact_of fact.now }
+{
+    match *fact {
+        FactRef::Info { key, info } => FactRef::Info { key, info },
+        FactRef::InfoConflict { key } => FactRef::InfoConflict { key },
+        FactRef::Symbol { key, id, bytes } => FactRef::Symbol { key, id, bytes },
+        FactRef::SymbolConflict { key, id } => FactRef::SymbolConflict { key, id },
+    }
+}
