@@ -39,7 +39,7 @@ pub enum Kind {
 }
 
 /// What an entry says up to the bytes of its symbol.
-#[derive(Debug, Drop)]
+#[derive(Drop)]
 pub enum EntryHead {
     /// All of it.
     Whole(Fact),

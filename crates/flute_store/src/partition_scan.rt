@@ -15,7 +15,7 @@ use flute_parts::{Info, Partition, SymbolId};
 use std::cmp::Ordering;
 
 /// What comes next on a walk.
-#[derive(Clone, Copy, Debug)]
+#[derive(Clone, Copy)]
 pub enum Upcoming {
     /// There is no block left.
     End,

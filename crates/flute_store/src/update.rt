@@ -16,7 +16,7 @@ use flute_wire::Packet;
 use std::alloc::Global;
 
 /// An update of a symbol: its bytes, or that there were two values.
-#[derive(Debug, Drop)]
+#[derive(Drop)]
 pub enum SymbolUpdate<'a> {
     Borrowed(&'a [u8]),
     Owned(Bytes),
@@ -24,7 +24,7 @@ pub enum SymbolUpdate<'a> {
 }
 
 /// An update of an object: of its transmission information, of one of its symbols, or of both.
-#[derive(Debug, Drop)]
+#[derive(Drop)]
 pub struct Update<'a> {
     pub info: Cell<Info>,
     pub symbol: Option<(SymbolId, SymbolUpdate<'a>)>,

@@ -21,7 +21,7 @@ pub const EXT_FDT: u8 = 192;
 const EXT_CENC: u8 = 193;
 
 /// One extension: its type HET and the bytes after that, the length HEL included if there is one.
-#[derive(Clone, Copy, Debug)]
+#[derive(Clone, Copy)]
 pub struct Extension<'a> {
     het: u8,
     body: &'a [u8],
@@ -48,7 +48,7 @@ fn split_extension(bytes: &[u8]) -> Option<(Extension<'_>, &[u8])>
 }
 
 /// How often an extension of one type is in a header, with its body if it is there once.
-#[derive(Clone, Copy, Debug)]
+#[derive(Clone, Copy)]
 pub enum Occurrence<'a> {
     Absent,
     Once(&'a [u8]),
@@ -92,7 +92,7 @@ impl<'a> Occurrence<'a> {
 
 /// The bodies of the extensions that FLUTE reads: what follows their type.
 /// All others are skipped.
-#[derive(Clone, Copy, Debug)]
+#[derive(Clone, Copy)]
 pub struct Known<'a> {
     pub fti: Option<&'a [u8]>,
     pub fdt: Option<&'a [u8]>,

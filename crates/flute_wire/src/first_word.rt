@@ -4,7 +4,7 @@ use std::marker::Model;
 
 /// The first 32-bit word of an LCT header, which gives the lengths of the header's fields (RFC
 /// 5651, section 5.1).
-#[derive(Debug, Drop)]
+#[derive(Drop)]
 pub struct FirstWord {
     bits: u32,
 }

@@ -11,7 +11,7 @@ use crate::numbers::{number_of_48_bits, number_of_112_bits, u32_at};
 use crate::refusal::Refusal;
 
 /// What is in the header, and what follows it.
-#[derive(Debug, Drop)]
+#[derive(Drop)]
 pub struct Header<'a> {
     /// The Transport Session Identifier, below 2^48.
     pub tsi: u64,

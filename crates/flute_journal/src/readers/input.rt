@@ -16,7 +16,7 @@ use std::alloc::Global;
 
 /// What was read of a source up to some number of bytes: so many, or fewer at the end of the input
 /// or if the source failed.
-#[derive(Clone, Copy, Debug)]
+#[derive(Clone, Copy)]
 pub struct ReadUpTo<'b> {
     /// The bytes.
     pub bytes: &'b [u8],

@@ -9,7 +9,7 @@ use flute_parts::{Address, FactRef};
 use std::alloc::Global;
 
 /// Which streams were advanced.
-#[derive(Clone, Copy, Debug)]
+#[derive(Clone, Copy)]
 pub struct Advanced {
     /// How many.
     pub count: usize,

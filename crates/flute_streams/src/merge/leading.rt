@@ -20,7 +20,7 @@ use flute_parts::{Address, FactRef, Sink};
 use std::alloc::Global;
 
 /// The stream that leads: it holds a fact below those of all others.
-#[derive(Clone, Copy, Debug)]
+#[derive(Clone, Copy)]
 pub struct Lead {
     /// Whether one is known to lead.
     known: bool,

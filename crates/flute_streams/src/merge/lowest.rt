@@ -34,7 +34,7 @@ pub fn lowest_held<G: Streams>(streams: &G) -> Option<FactRef<'_>>
 }
 
 /// How the value of facts at the lowest of their addresses changes by one fact more.
-#[derive(Clone, Copy, Debug)]
+#[derive(Clone, Copy)]
 pub enum Change {
     /// It is below them, or is the first.
     Lower,

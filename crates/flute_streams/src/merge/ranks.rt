@@ -46,7 +46,7 @@ const BEHIND: u64 = u64::MAX;
 /// The ranks of streams: where each stands among the parts of one object, in their order. A rank is
 /// compared at a fraction of the cost of the address that a stream holds, and a block of streams
 /// that stand behind an address is passed over at once.
-#[derive(Debug, Drop)]
+#[derive(Drop)]
 pub struct Ranks {
     /// The object. None if the streams have no ranks.
     key: Option<Key>,
