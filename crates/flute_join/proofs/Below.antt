@@ -30,10 +30,10 @@ module _ {M : Type 0} {join : M → M → M} (laws : IsJoin join) where
       ∙ laws.associative between old other ∙ q
 
 -- what holds of the value at `Ok` and of the one at `Err`
-pub by_outcome : {T E M : Type 0} (P : M → Type 0) (old new joined : M) (r : Result T E)
+pub by_outcome : {T E M : Type 0} (P : M → Type 0) {old new joined : M} (r : Result T E)
     → OnOk r (new ≡ joined) → OnErr r (new ≡ old) → P joined → P old → P new
-by_outcome P old new joined (Ok x) ok err a b = subst P (sym ok) a
-by_outcome P old new joined (Err x) ok err a b = subst P (sym err) b
+by_outcome P (Ok x) ok err a b = subst P (sym ok) a
+by_outcome P (Err x) ok err a b = subst P (sym err) b
 
 pub ok_is_not_err : {T E : Type 0} (x : T) (e : E) → Ok x ≡ Err e → ⊥
 ok_is_not_err x e p = cc

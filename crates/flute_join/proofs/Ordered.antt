@@ -47,16 +47,16 @@ module _ {K X : Type 0} (cmp : K → K → Ordering) (join : X → X → X) wher
     all_keys (e ∷ es) fs s t = keys_past e es s.0 s.1 (λ gs u. all_keys es gs s.1 u) fs t
 
   module _ (P : X → Type 0) (kept : (v w : X) → P v → P w → P (join v w)) where
-    values_first : (e f : K × X) (es fs : List (K × X)) (r : Ordering) → cmp e.0 f.0 ≡ r
+    values_first : {e f : K × X} (es fs : List (K × X)) (r : Ordering) → cmp e.0 f.0 ≡ r
         → P e.1 → P f.1
         → EachValue P (map_join cmp join es (f ∷ fs)) → EachValue P (map_join cmp join es fs)
         → EachValue P (map_join cmp join (e ∷ es) fs)
         → EachValue P (map_join cmp join (e ∷ es) (f ∷ fs))
-    values_first e f es fs Less l p q a b c =
+    values_first {e = e} {f = f} es fs Less l p q a b c =
         subst (EachValue P) (sym (first_less cmp join e f es fs l)) (p, a)
-    values_first e f es fs Equal l p q a b c =
+    values_first {e = e} {f = f} es fs Equal l p q a b c =
         subst (EachValue P) (sym (first_equal cmp join e f es fs l)) (kept e.1 f.1 p q, b)
-    values_first e f es fs Greater l p q a b c =
+    values_first {e = e} {f = f} es fs Greater l p q a b c =
         subst (EachValue P) (sym (first_greater cmp join e f es fs l)) (q, c)
 
     values_past : (e : K × X) (es : List (K × X)) → P e.1 → EachValue P es
@@ -65,7 +65,7 @@ module _ {K X : Type 0} (cmp : K → K → Ordering) (join : X → X → X) wher
         → EachValue P (map_join cmp join (e ∷ es) fs)
     values_past e es p s ih [] t = subst (EachValue P) (sym (join_nothing cmp join (e ∷ es))) (p, s)
     values_past e es p s ih (f ∷ fs) t =
-        values_first e f es fs (cmp e.0 f.0) refl p t.0 (ih (f ∷ fs) t) (ih fs t.1)
+        values_first es fs (cmp e.0 f.0) refl p t.0 (ih (f ∷ fs) t) (ih fs t.1)
         (values_past e es p s ih fs t.1)
 
     pub EachValue-map_join : (es fs : List (K × X)) → EachValue P es → EachValue P fs

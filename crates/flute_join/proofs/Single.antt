@@ -26,21 +26,21 @@ none_from_IsNone (Some x) n = cc
 module _ {K X : Type 0} {cmp : K → K → Ordering} (order : IsTotalOrder cmp)
     {join : X → X → X} (laws : IsJoin join) where
   -- at a key that es has
-  single_held_at : (e : K × X) (es : List (K × X)) (k : K) (v w : X) (r : Ordering)
+  single_held_at : (e : K × X) (es : List (K × X)) {k : K} {v : X} (w : X) (r : Ordering)
       → cmp e.0 k ≡ r → IsOrdered cmp (e ∷ es) → value_at cmp (e ∷ es) k ≡ Some v
       → (value_at cmp es k ≡ Some v
       → map_join cmp join es ((k, w) ∷ []) ≡ set_value (is_at (cmp k)) es (join v w))
       → map_join cmp join (e ∷ es) ((k, w) ∷ []) ≡ set_value (is_at (cmp k)) (e ∷ es) (join v w)
   unfolding map_join join_entry
-  single_held_at e es k v w Less p s f ih =
+  single_held_at e es {k = k} w Less p s f ih =
       let t : cmp k e.0 ≡ Greater = order.antisymm k e.0 ∙ ap ordering_reverse p in
       rw (p, t) (ap (λ l. e ∷ l) (ih (rw t at f)))
-  single_held_at e es k v w Equal p s f ih =
+  single_held_at e es {k = k} {v = v} w Equal p s f ih =
       let t : cmp k e.0 ≡ Equal = order.antisymm k e.0 ∙ ap ordering_reverse p in
       let held : e.1 ≡ v = ap (λ o. unwrap_or o v) (rw t at f) in
       rw (p, t) (ap (λ x. (e.0, join x w) ∷ map_join cmp join es []) held
       ∙ ap (λ l. (e.0, join v w) ∷ l) (join_nothing cmp join es))
-  single_held_at e es k v w Greater p s f ih =
+  single_held_at e es {k = k} {v = v} w Greater p s f ih =
       let t : cmp k e.0 ≡ Less = order.antisymm k e.0 ∙ ap ordering_reverse p in
       let n : value_at cmp (e ∷ es) k ≡ None =
       lookup-none (is_at (cmp k)) (e ∷ es) (none_below_head order k e es s t) in
@@ -52,7 +52,7 @@ module _ {K X : Type 0} {cmp : K → K → Ordering} (order : IsTotalOrder cmp)
   unfolding map_join join_entry
   single_held [] k v w s f = absurd (none-some v f)
   single_held (e ∷ es) k v w s f =
-      single_held_at e es k v w (cmp e.0 k) refl s f
+      single_held_at e es w (cmp e.0 k) refl s f
       (single_held es k v w (sorted_tail cmp e.0 (keys_of es) s))
 
   -- at a key that es lacks

@@ -32,20 +32,20 @@ module _ {K X : Type 0} {cmp : K → K → Ordering} (order : IsTotalOrder cmp) 
       (over : (e f : K × X) (es fs : List (K × X)) → e.0 ≡ f.0 → IsBelow join e.1 f.1
       → IsBelow (map_join cmp join) es fs → Q es fs → Q (e ∷ es) (f ∷ fs))
       (skip : (e f : K × X) (es fs : List (K × X)) → Q (e ∷ es) fs → Q (e ∷ es) (f ∷ fs)) where
-    below_first : (e f : K × X) (es fs : List (K × X)) (r : Ordering) → cmp e.0 f.0 ≡ r
+    below_first : {e f : K × X} {es fs : List (K × X)} (r : Ordering) → cmp e.0 f.0 ≡ r
         → IsBelow (map_join cmp join) (e ∷ es) (f ∷ fs)
         → (IsBelow (map_join cmp join) es fs → Q es fs)
         → (IsBelow (map_join cmp join) (e ∷ es) fs → Q (e ∷ es) fs)
         → Q (e ∷ es) (f ∷ fs)
-    below_first e f es fs Less l b outer inner =
+    below_first {e = e} {f = f} {es = es} {fs = fs} Less l b outer inner =
         let same : e ≡ f = ap (head_or f) (sym (first_less cmp join e f es fs l) ∙ b) in
         absurd (not_less_equal (sym l ∙ ap (λ x. cmp x.0 f.0) same ∙ tied_itself order f.0))
-    below_first e f es fs Equal l b outer inner =
+    below_first {e = e} {f = f} {es = es} {fs = fs} Equal l b outer inner =
         let whole = sym (first_equal cmp join e f es fs l) ∙ b in
         let same : (e.0, join e.1 f.1) ≡ f = ap (head_or f) whole in
         over e f es fs (ap (λ x. x.0) same) (ap (λ x. x.1) same) (ap tail_of whole)
         (outer (ap tail_of whole))
-    below_first e f es fs Greater l b outer inner =
+    below_first {e = e} {f = f} {es = es} {fs = fs} Greater l b outer inner =
         skip e f es fs (inner (ap tail_of (sym (first_greater cmp join e f es fs l) ∙ b)))
 
     below_past : (e : K × X) (es : List (K × X))
@@ -53,7 +53,7 @@ module _ {K X : Type 0} {cmp : K → K → Ordering} (order : IsTotalOrder cmp) 
         → (fs : List (K × X)) → IsBelow (map_join cmp join) (e ∷ es) fs → Q (e ∷ es) fs
     below_past e es ih [] b = absurd (not_cons_nil e es (sym (join_nothing cmp join (e ∷ es)) ∙ b))
     below_past e es ih (f ∷ fs) b =
-        below_first e f es fs (cmp e.0 f.0) refl b (ih fs) (below_past e es ih fs)
+        below_first (cmp e.0 f.0) refl b (ih fs) (below_past e es ih fs)
 
     pub below_induction : (es fs : List (K × X)) → IsBelow (map_join cmp join) es fs → Q es fs
     below_induction [] fs b = none fs

@@ -27,10 +27,10 @@ block n a s = map (symbol_id n) (range_with_len a s)
 
 -- one block, followed by others
 
-block-hit : (n a s k j e p : ℕ) (rest : List SymbolId) → j < s → a + j ≡ e → k + j ≡ p
+block-hit : (n a s k j : ℕ) {e p : ℕ} (rest : List SymbolId) → j < s → a + j ≡ e → k + j ≡ p
     → position_from (same_symbol_id (symbol_id n e)) k (block n a s ++ rest) ≡ Some p
-block-hit n a zero k j e p rest h f g = absurd (omega arith)
-block-hit n a (suc s) k j e p rest h f g =
+block-hit n a zero k j rest h f g = absurd (omega arith)
+block-hit n a (suc s) k j {e = e} {p = p} rest h f g =
     elim (cases_Bool (same_symbol_id (symbol_id n e) (symbol_id n a))) [
       | inl t ↦
           let q : e ≡ a =
@@ -48,41 +48,42 @@ block-hit n a (suc s) k j e p rest h f g =
           ] in
           ap (λ b. cond b (Some k) (position_from (same_symbol_id (symbol_id n e)) (k + 1)
           (block n (a + 1) s ++ rest))) t
-          ∙ block-hit n (a + 1) s (k + 1) (j - 1) e p rest (omega arith) (omega arith) (omega arith)
+          ∙ block-hit n (a + 1) s (k + 1) (j - 1) rest (omega arith) (omega arith) (omega arith)
     ]
   where
     cases_zero : (j : ℕ) → (j ≡ 0) ⊎ (0 < j)
     cases_zero zero = inl refl
     cases_zero (suc j) = inr (omega arith)
 
-block-miss : (id : SymbolId) (n a s k p : ℕ) (rest : List SymbolId)
+block-miss : (id : SymbolId) (n a s k : ℕ) {p : ℕ} (rest : List SymbolId)
     → ((e : ℕ) → a ≤ e → e < a + s → id ≡ symbol_id n e → ⊥) → k + s ≡ p
     → position_from (same_symbol_id id) k (block n a s ++ rest)
     ≡ position_from (same_symbol_id id) p rest
-block-miss id n a zero k p rest h g =
+block-miss id n a zero k rest h g =
     ap (λ x. position_from (same_symbol_id id) x rest) (omega arith)
-block-miss id n a (suc s) k p rest h g = elim (cases_Bool (same_symbol_id id (symbol_id n a))) [
-  | inl t ↦ absurd (h a (omega arith) (omega arith) (symbol_id_same id (symbol_id n a) t))
-  | inr t ↦
-      ap (λ b. cond b (Some k) (position_from (same_symbol_id id) (k + 1)
-      (block n (a + 1) s ++ rest))) t
-      ∙ block-miss id n (a + 1) s (k + 1) p rest
-      (λ e l u q. h e (omega (arith, l)) (omega (arith, u)) q) (omega arith)
-]
+block-miss id n a (suc s) k {p = p} rest h g =
+    elim (cases_Bool (same_symbol_id id (symbol_id n a))) [
+      | inl t ↦ absurd (h a (omega arith) (omega arith) (symbol_id_same id (symbol_id n a) t))
+      | inr t ↦
+          ap (λ b. cond b (Some k) (position_from (same_symbol_id id) (k + 1)
+          (block n (a + 1) s ++ rest))) t
+          ∙ block-miss id n (a + 1) s (k + 1) rest
+          (λ e l u q. h e (omega (arith, l)) (omega (arith, u)) q) (omega arith)
+    ]
 
 -- the place of an id is after all ids of the blocks before its own
-pub place-hit : (sizes : List ℕ) (n m j k q p : ℕ) → m < length sizes → j < get_or sizes m 0
+pub place-hit : (sizes : List ℕ) (n m j k : ℕ) {q p : ℕ} → m < length sizes → j < get_or sizes m 0
     → n + m ≡ q → k + (total (take m sizes) + j) ≡ p
     → position_from (same_symbol_id (symbol_id q j)) k (listing n sizes) ≡ Some p
-place-hit [] n m j k q p h l f g = absurd (omega arith)
-place-hit (s ∷ sizes) n zero j k q p h l f g =
+place-hit [] n m j k h l f g = absurd (omega arith)
+place-hit (s ∷ sizes) n zero j k {q = q} {p = p} h l f g =
     let e : q ≡ n = omega arith in
     ap (λ x. position_from (same_symbol_id (symbol_id x j)) k (listing n (s ∷ sizes))) e
-    ∙ block-hit n 0 s k j j p (listing (n + 1) sizes) l (omega arith) (omega arith)
-place-hit (s ∷ sizes) n (suc m) j k q p h l f g =
-    block-miss (symbol_id q j) n 0 s k (k + s) (listing (n + 1) sizes)
+    ∙ block-hit n 0 s k j (listing (n + 1) sizes) l (omega arith) (omega arith)
+place-hit (s ∷ sizes) n (suc m) j k {q = q} {p = p} h l f g =
+    block-miss (symbol_id q j) n 0 s k (listing (n + 1) sizes)
     (λ e _ _ x. let y : q ≡ n = ap (λ (i : SymbolId). i.sbn) x in omega arith) refl
-    ∙ place-hit sizes (n + 1) m j (k + s) q p (omega arith) l (omega arith) (omega arith)
+    ∙ place-hit sizes (n + 1) m j (k + s) (omega arith) l (omega arith) (omega arith)
 
 -- an id beyond its block, or of no block, has no place
 pub place-miss : (sizes : List ℕ) (id : SymbolId) (n k : ℕ)
@@ -90,7 +91,7 @@ pub place-miss : (sizes : List ℕ) (id : SymbolId) (n k : ℕ)
     → position_from (same_symbol_id id) k (listing n sizes) ≡ None
 place-miss [] id n k h = refl
 place-miss (s ∷ sizes) id n k h =
-    block-miss id n 0 s k (k + s) (listing (n + 1) sizes) (λ e _ u x.
+    block-miss id n 0 s k (listing (n + 1) sizes) (λ e _ u x.
     let y : id.sbn ≡ n = ap (λ (i : SymbolId). i.sbn) x in
     let z : id.esi ≡ e = ap (λ (i : SymbolId). i.esi) x in
     let w : s ≤ id.esi = h 0 (omega arith) (omega arith) in
@@ -116,21 +117,21 @@ block-at n a zero j e h f = absurd (omega arith)
 block-at n a (suc s) zero e h f = ap (λ x. Some (symbol_id n x)) (omega arith)
 block-at n a (suc s) (suc j) e h f = block-at n (a + 1) s j e (omega arith) (omega arith)
 
-pub listing-at : (sizes : List ℕ) (n m j q p : ℕ) → m < length sizes → j < get_or sizes m 0
+pub listing-at : (sizes : List ℕ) (n m j : ℕ) {q p : ℕ} → m < length sizes → j < get_or sizes m 0
     → n + m ≡ q → total (take m sizes) + j ≡ p
     → slice_get (listing n sizes) p ≡ Some (symbol_id q j)
-listing-at [] n m j q p h l f g = absurd (omega arith)
-listing-at (s ∷ sizes) n zero j q p h l f g =
+listing-at [] n m j h l f g = absurd (omega arith)
+listing-at (s ∷ sizes) n zero j {p = p} h l f g =
     let len = length-map-range_with_len (symbol_id n) 0 s in
     let e : p ≡ j = omega arith in
     ap (slice_get (listing n (s ∷ sizes))) e
     ∙ slice_get-left (block n 0 s) (listing (n + 1) sizes) j (omega arith)
     ∙ block-at n 0 s j j l (omega arith)
     ∙ ap (λ x. Some (symbol_id x j)) (omega arith)
-listing-at (s ∷ sizes) n (suc m) j q p h l f g =
+listing-at (s ∷ sizes) n (suc m) j {q = q} {p = p} h l f g =
     let len = length-map-range_with_len (symbol_id n) 0 s in
     slice_get-right (block n 0 s) (listing (n + 1) sizes) (total (take m sizes) + j) p (omega arith)
-    ∙ listing-at sizes (n + 1) m j q (total (take m sizes) + j) (omega arith) l (omega arith) refl
+    ∙ listing-at sizes (n + 1) m j (omega arith) l (omega arith) refl
 
 pub length-listing : (n : ℕ) (sizes : List ℕ) → length (listing n sizes) ≡ total sizes
 length-listing n [] = refl
@@ -238,7 +239,7 @@ pub listed-as : (sizes : List ℕ) (k : ℕ) (id : SymbolId)
     × (total (take id.sbn sizes) + id.esi ≡ k)
 listed-as sizes k id e =
     let c = cover sizes k (listed-within sizes 0 k id e) in
-    let f = listing-at sizes 0 c.0 c.1 c.0 k c.2 c.3 (omega arith) c.4 in
+    let f = listing-at sizes 0 c.0 c.1 c.2 c.3 (omega arith) c.4 in
     let g : Some (symbol_id c.0 c.1) ≡ Some id = sym f ∙ e in
     let h : symbol_id c.0 c.1 ≡ id = cc in
     subst (λ (x : SymbolId). (x.sbn < length sizes) × (x.esi < get_or sizes x.sbn 0)
@@ -250,7 +251,7 @@ pub place-of_listed : (sizes : List ℕ) (k : ℕ) (id : SymbolId)
 place-of_listed sizes k id e =
     let a = listed-as sizes k id e in
     let b = a.2 in
-    place-hit sizes 0 id.sbn id.esi 0 id.sbn k a.0 a.1 (omega arith) (omega arith)
+    place-hit sizes 0 id.sbn id.esi 0 a.0 a.1 (omega arith) (omega arith)
 
 pub listed-of_place : (id : SymbolId) (xs : List SymbolId) (k r : ℕ)
     → position_from (same_symbol_id id) k xs ≡ Some r
@@ -279,7 +280,7 @@ pub next-in_block : (sizes : List ℕ) (k : ℕ) (id : SymbolId)
 next-in_block sizes k id e h =
     let a = listed-as sizes k id e in
     let b = a.2 in
-    listing-at sizes 0 id.sbn (id.esi + 1) id.sbn (k + 1) a.0 h (omega arith) (omega arith)
+    listing-at sizes 0 id.sbn (id.esi + 1) a.0 h (omega arith) (omega arith)
 
 total-take_less : (sizes : List ℕ) (m n : ℕ) → m < n → m < length sizes
     → total (take m sizes) + get_or sizes m 0 ≤ total (take n sizes)

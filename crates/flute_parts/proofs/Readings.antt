@@ -67,10 +67,10 @@ conflict_stays : (a : Address) (y : Option Fact)
 conflict_stays a None = refl
 conflict_stays a (Some g) = ap Some (joined-conflict_left a g)
 
-pub fact_at-two : (F : List Fact) (a : Address) (f g : Fact) → Contains F f → Contains F g
+pub fact_at-two : (F : List Fact) {a : Address} {f g : Fact} → Contains F f → Contains F g
     → address f ≡ a → address g ≡ a → (f ≡ g → ⊥)
     → fact_at F a ≡ Some (conflict_at a)
-fact_at-two F a f g m n p q h =
+fact_at-two F {a = a} {f = f} {g = g} m n p q h =
     let apart : same_fact f g ≡ false = elim (cases_Bool (same_fact f g)) [
       | inl e ↦ absurd (h (fact_same f g e))
       | inr e ↦ e

@@ -137,7 +137,7 @@ module _ (i : Information) (symbols large small length' : ℕ)
       let size : get_or (sizes i) n 0 ≡ length' + 1 =
       ap (λ xs. get_or xs n 0) s.split ∙ size-large large (length' + 1) small length' n h in
       let b = before-first n (omega arith) in
-      listing-at (sizes i) 0 n j n k (omega arith) (omega arith) (omega arith) (omega arith)
+      listing-at (sizes i) 0 n j (omega arith) (omega arith) (omega arith) (omega arith)
 
   pub at-second : (n j k : ℕ) → large ≤ n → n < large + small → j < length'
       → large * (length' + 1) + ((n - large) * length' + j) ≡ k
@@ -149,7 +149,7 @@ module _ (i : Information) (symbols large small length' : ℕ)
       ap (λ xs. get_or xs n 0) s.split
       ∙ size-small large (length' + 1) small length' n h m in
       let b = before-second n h (omega arith) in
-      listing-at (sizes i) 0 n j n k (omega arith) (omega arith) (omega arith) (omega arith)
+      listing-at (sizes i) 0 n j (omega arith) (omega arith) (omega arith) (omega arith)
 
   -- the id at each place
   pub place-first : (k : ℕ) → k < large * (length' + 1)
@@ -206,7 +206,7 @@ pub place-in : (i : Information) (id : SymbolId) (k : ℕ) → id.esi < get_or (
     → total (take id.sbn (sizes i)) + id.esi ≡ k → place i id ≡ Some k
 unfolding place ids
 place-in i id k h e =
-    place-hit (sizes i) 0 id.sbn id.esi 0 id.sbn k (inside (sizes i) id.sbn (omega arith)) h
+    place-hit (sizes i) 0 id.sbn id.esi 0 (inside (sizes i) id.sbn (omega arith)) h
     (omega arith) (omega arith)
   where
     inside : (xs : List ℕ) (n : ℕ) → 0 < get_or xs n 0 → n < length xs

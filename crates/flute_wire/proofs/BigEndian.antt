@@ -85,10 +85,10 @@ below_word field rest n x short h some small =
     below_bytes (65536 * n + x) (length field - length rest + 2) 16
     (two_fit field rest n x short h some small) (omega arith)
 
-pub reads_two : (field rest after : List ℕ) (n x : ℕ) → length field ≤ 14
+pub reads_two : {field rest after : List ℕ} {n x : ℕ} → length field ≤ 14
     → HasRead field rest n → 2 ≤ length rest → x < 65536 → x ≡ big_endian (take 2 rest)
     → after ≡ drop 2 rest → HasRead field after (65536 * n + x)
-reads_two field rest after n x short h some small is at =
+reads_two {field = field} {rest = rest} {after = after} {n = n} {x = x} short h some small is at =
     let len : length after ≡ length rest - 2 = ap length at ∙ length-drop 2 rest in
     let within = h.within in
     let even = h.even in

@@ -91,7 +91,7 @@ some_packet d h =
           } in
           let passes : PassesUpTo 9 d = λ r lt a. h r a in (
             content_at d fti fdt,
-            spells d fti fdt cenc passes f
+            spells passes f
                 (fti_taken fti (λ a. h FtiLength (es, x, a))
                 (λ fault a. h (Information fault) (es, x, a)))
                 (λ zero. fdt_taken (bodies ext_fdt es)

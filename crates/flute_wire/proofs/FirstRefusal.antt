@@ -241,10 +241,10 @@ not_here : (d : List ℕ) (fdt : Option (List ℕ)) (es : List HeaderExtension)
 not_here d fdt es x is c =
     none_found fdt (bodies ext_fdt es) is (carried d es x (λ es. bodies ext_fdt es ≡ []) c)
 
-pub refuses_fdt : (d : List ℕ) (toi : ℕ) (fti fdt cenc : Option (List ℕ)) → toi ≡ toi_in d
+pub refuses_fdt : {d : List ℕ} {toi : ℕ} {fti fdt cenc : Option (List ℕ)} → toi ≡ toi_in d
     → PassesUpTo 13 d → Finds (extension_area d) fti fdt cenc → (r : Refusal)
     → RefusesFdt toi fdt r → Refuses d r
-refuses_fdt d toi fti fdt cenc is before f NoInstance h =
+refuses_fdt {fdt = fdt} is before f NoInstance h =
     record {
       applies = (
         sym is ∙ h.0,
@@ -256,7 +256,7 @@ refuses_fdt d toi fti fdt cenc is before f NoInstance h =
       );
       first = before;
     }
-refuses_fdt d toi fti fdt cenc is before f FluteVersion h =
+refuses_fdt {d = d} {fdt = fdt} is before f FluteVersion h =
     record {
       applies = (
         sym is ∙ h.0,
@@ -267,12 +267,12 @@ refuses_fdt d toi fti fdt cenc is before f FluteVersion h =
           some_is fdt (λ body. fdt_version body ≡ 2 → ⊥) h.1
           (not_here d fdt f.extensions f.spelled f.fdt_is a.1));
     }
-refuses_fdt d toi fti fdt cenc is before f _ h = absurd h
+refuses_fdt is before f _ h = absurd h
 
-pub passes_fdt : (d : List ℕ) (toi : ℕ) (fti fdt cenc : Option (List ℕ)) → toi ≡ toi_in d
+pub passes_fdt : {d : List ℕ} {toi : ℕ} {fti fdt cenc : Option (List ℕ)} → toi ≡ toi_in d
     → PassesUpTo 13 d → Finds (extension_area d) fti fdt cenc
     → (toi ≡ 0 → IsSomeAnd fdt (λ body. fdt_version body ≡ 2)) → PassesUpTo 15 d
-passes_fdt d toi fti fdt cenc is before f taken =
+passes_fdt {d = d} {fdt = fdt} is before f taken =
     let fourteen = passes_more 13 d NoInstance refl (λ e. absurd (omega arith)) before (λ a.
     some_is fdt (λ body. fdt_version body ≡ 2) (taken (is ∙ a.0))
     (not_here d fdt f.extensions f.spelled f.fdt_is a.1)) in

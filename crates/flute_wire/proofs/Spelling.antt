@@ -147,7 +147,7 @@ content_at d fti fdt = record {
   symbol = tail_symbol (after_header d);
 }
 
-pub spells : (d : List ℕ) (fti fdt cenc : Option (List ℕ)) → PassesUpTo 9 d
+pub spells : {d : List ℕ} {fti fdt cenc : Option (List ℕ)} → PassesUpTo 9 d
     → Finds (extension_area d) fti fdt cenc
     → IfSome fti (λ body. (length body ≡ 15) × (info_fault (fti_information body) ≡ None))
     → (toi_in d ≡ 0 → IsSomeAnd fdt (λ body. fdt_version body ≡ 2))
@@ -155,7 +155,7 @@ pub spells : (d : List ℕ) (fti fdt cenc : Option (List ℕ)) → PassesUpTo 9 
     → (after_header d ≡ []) ⊎ (4 ≤ length (after_header d))
     → Spells d (content_at d fti fdt)
 unfolding parts_of content_at
-spells d fti fdt cenc p f one two three four =
+spells {d = d} {fti = fti} {fdt = fdt} {cenc = cenc} p f one two three four =
     let w = is_whole d p in
     let fti_at : first (bodies ext_fti f.extensions) ≡ fti =
     first_found fti (bodies ext_fti f.extensions) f.fti_is in
@@ -189,14 +189,14 @@ spells d fti fdt cenc p f one two three four =
       rw (fti_at, fdt_at) refl,
     )
 
-pub spells_content : (d tail : List ℕ) (fti fdt : Option (List ℕ)) (c : Content)
+pub spells_content : {d tail : List ℕ} (fti fdt : Option (List ℕ)) (c : Content)
     → Spells d (content_at d fti fdt) → tail ≡ after_header d
     → c.tsi ≡ tsi_in d → c.toi ≡ toi_in d
     → c.instance ≡ cond (eqb c.toi 0) (option_map fdt_instance fdt) None
     → c.info ≡ option_map fti_information fti → c.symbol ≡ tail_symbol tail
     → Spells d c
 unfolding content_at
-spells_content d tail fti fdt c s is one two three four five =
+spells_content {d = d} fti fdt c s is one two three four five =
     let same : c ≡ content_at d fti fdt =
     same_content c (content_at d fti fdt) one two
     (three ∙ ap (λ (n : ℕ). cond (eqb n 0) (option_map fdt_instance fdt) None) two) four

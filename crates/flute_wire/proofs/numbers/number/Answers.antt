@@ -18,9 +18,7 @@ overflow_add-number c =
 
 pub loop-rest-preserved : goal.loop-rest-preserved
 loop-rest-preserved c =
-    reads_two c.args.field.now c.loop-rest.rest.now
-    (take (length c.loop-rest.rest.now - 2) (drop 2 c.loop-rest.rest.now)) c.loop-rest.number
-    c.from.result
+    reads_two
     c.requires.short c.loop-rest.invariant c.loop-rest-test.true
     (omega (arith, c.from.ensures, c.u16_at.type_inv)) (c.from.ensures ∙ c.u16_at.ensures)
     (take_rest c.loop-rest.rest.now 2)

@@ -44,9 +44,8 @@ returns-in_err-instance-clause-refused c =
     passes_fti c.args.datagram.now (option_copied c.in_ok-known.known.fti)
     (option_copied c.in_ok-known.known.fdt)
     (option_copied c.in_ok-known.known.cenc) eleven f c.in_ok-info.ensures.taken in
-    rw (p.1, p.2) (refuses_fdt c.args.datagram.now c.in_ok-header.header.toi
-    (option_copied c.in_ok-known.known.fti) (option_copied c.in_ok-known.known.fdt)
-    (option_copied c.in_ok-known.known.cenc) c.in_ok-header.ensures.toi thirteen f
+    rw (p.1, p.2) (refuses_fdt
+    c.in_ok-header.ensures.toi thirteen f
     c.in_err-instance.field-0.0 c.in_err-instance.ensures.refused)
 
 pub returns-in_err-check_encoding-clause-refused : goal.returns-in_err-check_encoding-clause-refused
@@ -66,9 +65,8 @@ returns-in_err-check_encoding-clause-refused c =
     (option_copied c.in_ok-known.known.fdt)
     (option_copied c.in_ok-known.known.cenc) eleven f c.in_ok-info.ensures.taken in
     let fifteen =
-    passes_fdt c.args.datagram.now c.in_ok-header.header.toi
-    (option_copied c.in_ok-known.known.fti) (option_copied c.in_ok-known.known.fdt)
-    (option_copied c.in_ok-known.known.cenc) c.in_ok-header.ensures.toi thirteen f
+    passes_fdt
+    c.in_ok-header.ensures.toi thirteen f
     c.in_ok-instance.ensures.taken in
     rw (p.1, p.2, c.in_err-check_encoding.ensures.refusal)
     (refuses_cenc c.args.datagram.now (option_copied c.in_ok-known.known.fti)
@@ -92,9 +90,8 @@ returns-in_err-symbol-clause-refused c =
     (option_copied c.in_ok-known.known.fdt)
     (option_copied c.in_ok-known.known.cenc) eleven f c.in_ok-info.ensures.taken in
     let fifteen =
-    passes_fdt c.args.datagram.now c.in_ok-header.header.toi
-    (option_copied c.in_ok-known.known.fti) (option_copied c.in_ok-known.known.fdt)
-    (option_copied c.in_ok-known.known.cenc) c.in_ok-header.ensures.toi thirteen f
+    passes_fdt
+    c.in_ok-header.ensures.toi thirteen f
     c.in_ok-instance.ensures.taken in
     let sixteen =
     passes_cenc c.args.datagram.now (option_copied c.in_ok-known.known.fti)
@@ -110,15 +107,14 @@ returns-clause-spelled c =
     (option_copied c.in_ok-known.known.fti) (option_copied c.in_ok-known.known.fdt)
     (option_copied c.in_ok-known.known.cenc) c.in_ok-header.ensures.extensions
     c.in_ok-known.ensures.found in
-    let s = spells c.args.datagram.now (option_copied c.in_ok-known.known.fti)
-    (option_copied c.in_ok-known.known.fdt)
-    (option_copied c.in_ok-known.known.cenc) c.in_ok-header.ensures.passes f
+    let s = spells
+    c.in_ok-header.ensures.passes f
     c.in_ok-info.ensures.taken (λ zero.
     c.in_ok-instance.ensures.taken (c.in_ok-header.ensures.toi ∙ zero))
     c.in_ok-check_encoding.ensures.plain
     (subst (λ (t : List ℕ). (t ≡ []) ⊎ (4 ≤ length t)) c.in_ok-header.ensures.tail
     c.in_ok-symbol.ensures.taken) in
-    spells_content c.args.datagram.now c.in_ok-header.header.tail.now
+    spells_content
     (option_copied c.in_ok-known.known.fti)
     (option_copied c.in_ok-known.known.fdt) c.new.result s
     c.in_ok-header.ensures.tail

@@ -75,7 +75,7 @@ returns-clause-above_old g c =
     let laws = map_join_laws g.met.K.Ord.total g.met.K.Place.same_where_equal
     g.met.V.Join.join_laws in
     let es = c.args.self.now in
-    by_outcome (IsBelow (map_join g.K.Ord.cmp g.V.Join.joined) es) es c.insert.new.self _
+    by_outcome (IsBelow (map_join g.K.Ord.cmp g.V.Join.joined) es)
     c.insert.result (returns-clause-ok g c) c.insert.ensures.err (below_join laws es _)
     (below_self laws es)
 
@@ -85,8 +85,8 @@ returns-clause-below_join g c =
     g.met.V.Join.join_laws in
     let es = c.args.self.now in
     let joined = map_join g.K.Ord.cmp g.V.Join.joined es ((c.args.key, c.args.value.now) ∷ []) in
-    by_outcome (λ m. IsBelow (map_join g.K.Ord.cmp g.V.Join.joined) m joined) es c.insert.new.self
-    joined c.insert.result (returns-clause-ok g c) c.insert.ensures.err (below_self laws joined)
+    by_outcome (λ m. IsBelow (map_join g.K.Ord.cmp g.V.Join.joined) m joined)
+    c.insert.result (returns-clause-ok g c) c.insert.ensures.err (below_self laws joined)
     (below_join laws es _)
 
 pub returns-clause-within : goal.returns-clause-within
