@@ -54,8 +54,9 @@ impl Bytes {
         if let Some(fault) = fault_of(octets) {
             return Err(fault);
         }
-        match octets.to_vec(alloc) {
-            Ok(octets) => Ok(Bytes { octets }),
+        let mut copy = Vec::new(alloc);
+        match copy.extend_from_slice(octets) {
+            Ok(()) => Ok(Bytes { octets: copy }),
             Err(_) => Err(BytesFault::OutOfMemory),
         }
     }

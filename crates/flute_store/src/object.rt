@@ -54,6 +54,7 @@ impl<const SYMBOLS: u32> Join for Object<SYMBOLS> {
 }
 
 // Joins an update of a symbol. After a refusal the symbols are unchanged.
+#[inline(always)]
 fn join_symbol<const SYMBOLS: u32>(
     symbols: &mut JoinMap<SymbolId, HeldSymbol, SYMBOLS>,
     alloc: Global,
@@ -82,6 +83,7 @@ fn join_symbol<const SYMBOLS: u32>(
 }
 
 // Joins an update of a symbol, if there is one. After a refusal the symbols are unchanged.
+#[inline(always)]
 fn join_symbols<const SYMBOLS: u32>(
     symbols: &mut JoinMap<SymbolId, HeldSymbol, SYMBOLS>,
     alloc: Global,
@@ -120,6 +122,7 @@ impl<const SYMBOLS: u32> Object<SYMBOLS> {
     }
 
     /// Joins an update of the object. After a refusal it is unchanged.
+    #[inline(always)]
     pub fn join_update(&mut self, alloc: Global, update: Update<'_>) -> Result<(), JoinRefusal>
         requires symbols { AreSymbols SYMBOLS self.old.symbols }
         requires update { IsUpdate update }

@@ -29,6 +29,7 @@ pub type Sessions<const SESSIONS: u32, const OBJECTS: u32, const SYMBOLS: u32> =
 
 /// Joins an update of an object into a session. `Full` comes before any memory is asked for.
 /// After a refusal the session is unchanged.
+#[inline(always)]
 pub fn join_object<const OBJECTS: u32, const SYMBOLS: u32>(
     objects: &mut Objects<OBJECTS, SYMBOLS>,
     alloc: Global,
@@ -58,6 +59,7 @@ pub fn join_object<const OBJECTS: u32, const SYMBOLS: u32>(
 
 /// Joins an update of an object into the sessions. `Full` comes before any memory is asked for.
 /// After a refusal they are unchanged.
+#[inline(always)]
 pub fn join_session<const SESSIONS: u32, const OBJECTS: u32, const SYMBOLS: u32>(
     sessions: &mut Sessions<SESSIONS, OBJECTS, SYMBOLS>,
     alloc: Global,

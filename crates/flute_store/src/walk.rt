@@ -68,8 +68,8 @@ impl<'a> Iterator for ObjectWalk<'a> {
     ghost remaining = { item_count (λ rest. rest) };
 
     fn next(&mut self) -> Option<FactRef<'a>> {
-        if let Some(fact) = self.info.take() {
-            return Some(fact);
+        if self.info.is_some() {
+            return self.info.take();
         }
         let (id, held) = self.symbols.next()?;
         match held.value() {
