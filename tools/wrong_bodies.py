@@ -39,6 +39,7 @@ import shutil
 import subprocess
 import sys
 import tempfile
+import threading
 from concurrent.futures import ThreadPoolExecutor
 from pathlib import Path
 from typing import Iterable, Optional
@@ -230,8 +231,6 @@ def tried(name: str, options: argparse.Namespace) -> tuple[int, int, int]:
 
     Returns how many were refused, how many were unfit, and how many failed.
     """
-    if options.process:
-        wait_for(libraries_of(name)[1], options.process)
     with tempfile.TemporaryDirectory(prefix="wrong-bodies-") as room:
         take_kept(name, f"{room}/kept")
         crate = Crate(room, name, edits_of(name, options))
@@ -241,6 +240,38 @@ def tried(name: str, options: argparse.Namespace) -> tuple[int, int, int]:
     crate.told.append(f"{name}: {len(crate.bodies)} wrong bodies in {crate.checks} checks")
     print("\n".join(crate.told), flush=True)
     return crate.refused, crate.unfit, crate.failed
+
+
+def first_of(crates: list[str], process: Optional[int]) -> str:
+    """The crate that begins next. If this process builds the libraries meanwhile, it is the highest
+    of those that may begin, since the checks of a high crate take longest."""
+    if not process:
+        return crates[0]
+    while True:
+        ready = [it for it in crates if are_built(libraries_of(it)[1])]
+        if ready:
+            return ready[-1]
+        wait_for(libraries_of(crates[0])[1], process)
+
+
+def all_tried(crates: list[str], options: argparse.Namespace) -> list[tuple[int, int, int]]:
+    """Tries the wrong bodies of these crates, of as many side by side as there are processors."""
+    left, turn = [*crates], threading.Lock()
+
+    def work() -> list[tuple[int, int, int]]:
+        found: list[tuple[int, int, int]] = []
+        while True:
+            with turn:
+                if not left:
+                    return found
+                name = first_of(left, options.process)
+                left.remove(name)
+            found.append(tried(name, options))
+
+    workers = len(os.sched_getaffinity(0))
+    with ThreadPoolExecutor(workers) as pool:
+        works = [pool.submit(work) for _ in range(workers)]
+        return [it for one in works for it in one.result()]
 
 
 def each_alone(names: list[str], options: argparse.Namespace) -> int:
@@ -306,7 +337,6 @@ def main(words: list[str]) -> int:
         return each_alone(options.crates, options)
     needed = {below for it in options.crates for below in libraries_of(it)[1]}
     if options.process:
-        # Those that may begin first.
         crates = [it for it in listed_libraries() if it in options.crates]
     else:
         if not are_built(needed):
@@ -315,8 +345,7 @@ def main(words: list[str]) -> int:
         # The longest first.
         crates = sorted(options.crates, key=size_of, reverse=True)
     try:
-        with ThreadPoolExecutor(len(os.sched_getaffinity(0))) as pool:
-            found = [*pool.map(lambda it: tried(it, options), crates)]
+        found = all_tried(crates, options)
     except ValueError as fault:
         print(f"wrong_bodies.py: {fault}", file=sys.stderr)
         return 2
