@@ -6,7 +6,7 @@ mod reading;
 mod stores;
 mod streams;
 
-use flute_journal::*;
+use flute_journal::{laws, *};
 use flute_parts::{Key, ObjectKey, Sender, SessionKey};
 use flute_store::Store;
 use flute_streams::*;
@@ -31,7 +31,7 @@ fn laws_can_be_called() {
     laws::every_fact_has_an_entry();
     laws::one_journal_for_one_content();
     laws::a_journal_has_one_version();
-    laws::merging_merged_is_merging_all();
+    flute_streams::laws::merging_merged_is_merging_all();
     laws::no_journal_begins_another();
     laws::a_journal_has_one_content();
     laws::a_journal_within_a_bound_is_one();
