@@ -331,21 +331,28 @@ def options_of(words: list[str]) -> argparse.Namespace:
     return options
 
 
+def in_order(options: argparse.Namespace) -> list[str]:
+    """The crates whose wrong bodies are tried: as they are built meanwhile, else the longest
+    first."""
+    if options.process:
+        return [it for it in listed_libraries() if it in options.crates]
+    needed = {below for it in options.crates for below in libraries_of(it)[1]}
+    if not are_built(needed):
+        # (a check of the program builds all libraries below it)
+        subprocess.run(["rt", "check"], cwd=crate_folder("flutejoin_cli"), check=True)
+    return sorted(options.crates, key=size_of, reverse=True)
+
+
 def main(words: list[str]) -> int:
     options = options_of(words)
     if options.alone:
         return each_alone(options.crates, options)
-    needed = {below for it in options.crates for below in libraries_of(it)[1]}
-    if options.process:
-        crates = [it for it in listed_libraries() if it in options.crates]
-    else:
-        if not are_built(needed):
-            # (a check of the program builds all libraries below it)
-            subprocess.run(["rt", "check"], cwd=crate_folder("flutejoin_cli"), check=True)
-        # The longest first.
-        crates = sorted(options.crates, key=size_of, reverse=True)
     try:
-        found = all_tried(crates, options)
+        # A body whose text is gone is told before anything is proved.
+        for name in options.crates:
+            for edit in edits_of(name, options):
+                Body(name, edit)
+        found = all_tried(in_order(options), options)
     except ValueError as fault:
         print(f"wrong_bodies.py: {fault}", file=sys.stderr)
         return 2

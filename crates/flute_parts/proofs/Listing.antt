@@ -27,7 +27,8 @@ block n a s = map (symbol_id n) (range_with_len a s)
 
 -- one block, followed by others
 
-block-hit : (n a s k j : ℕ) {e p : ℕ} (rest : List SymbolId) → j < s → a + j ≡ e → k + j ≡ p
+block-hit : (n a s k j : ℕ) {e p : ℕ} (rest : List SymbolId) → j < s → a + j ≡ e
+    → k + j ≡ p
     → position_from (same_symbol_id (symbol_id n e)) k (block n a s ++ rest) ≡ Some p
 block-hit n a zero k j rest h f g = absurd (omega arith)
 block-hit n a (suc s) k j {e = e} {p = p} rest h f g =
@@ -72,8 +73,8 @@ block-miss id n a (suc s) k {p = p} rest h g =
     ]
 
 -- the place of an id is after all ids of the blocks before its own
-pub place-hit : (sizes : List ℕ) (n m j k : ℕ) {q p : ℕ} → m < length sizes → j < get_or sizes m 0
-    → n + m ≡ q → k + (total (take m sizes) + j) ≡ p
+pub place-hit : (sizes : List ℕ) (n m j k : ℕ) {q p : ℕ} → m < length sizes
+    → j < get_or sizes m 0 → n + m ≡ q → k + (total (take m sizes) + j) ≡ p
     → position_from (same_symbol_id (symbol_id q j)) k (listing n sizes) ≡ Some p
 place-hit [] n m j k h l f g = absurd (omega arith)
 place-hit (s ∷ sizes) n zero j k {q = q} {p = p} h l f g =
@@ -112,13 +113,14 @@ slice_get-right [] ys k p h = ap (slice_get ys) (omega arith)
 slice_get-right (x ∷ xs) ys k zero h = absurd (omega arith)
 slice_get-right (x ∷ xs) ys k (suc p) h = slice_get-right xs ys k p (omega arith)
 
-block-at : (n a s j e : ℕ) → j < s → a + j ≡ e → slice_get (block n a s) j ≡ Some (symbol_id n e)
+block-at : (n a s j e : ℕ) → j < s → a + j ≡ e
+    → slice_get (block n a s) j ≡ Some (symbol_id n e)
 block-at n a zero j e h f = absurd (omega arith)
 block-at n a (suc s) zero e h f = ap (λ x. Some (symbol_id n x)) (omega arith)
 block-at n a (suc s) (suc j) e h f = block-at n (a + 1) s j e (omega arith) (omega arith)
 
-pub listing-at : (sizes : List ℕ) (n m j : ℕ) {q p : ℕ} → m < length sizes → j < get_or sizes m 0
-    → n + m ≡ q → total (take m sizes) + j ≡ p
+pub listing-at : (sizes : List ℕ) (n m j : ℕ) {q p : ℕ} → m < length sizes
+    → j < get_or sizes m 0 → n + m ≡ q → total (take m sizes) + j ≡ p
     → slice_get (listing n sizes) p ≡ Some (symbol_id q j)
 listing-at [] n m j h l f g = absurd (omega arith)
 listing-at (s ∷ sizes) n zero j {p = p} h l f g =
@@ -157,7 +159,8 @@ length-split large x small y =
       length-replicate small y,
     )
 
-pub size-large : (large x small y m : ℕ) → m < large → get_or (split large x small y) m 0 ≡ x
+pub size-large : (large x small y m : ℕ) → m < large
+    → get_or (split large x small y) m 0 ≡ x
 size-large zero x small y m h = absurd (omega arith)
 size-large (suc large) x small y zero h = refl
 size-large (suc large) x small y (suc m) h = size-large large x small y m (omega arith)
@@ -179,7 +182,8 @@ size-alone_none zero y m h = refl
 size-alone_none (suc small) y zero h = absurd (omega arith)
 size-alone_none (suc small) y (suc m) h = size-alone_none small y m (omega arith)
 
-pub size-none : (large x small y m : ℕ) → large + small ≤ m → get_or (split large x small y) m 0 ≡ 0
+pub size-none : (large x small y m : ℕ) → large + small ≤ m
+    → get_or (split large x small y) m 0 ≡ 0
 size-none zero x small y m h = size-alone_none small y m (omega arith)
 size-none (suc large) x small y zero h = absurd (omega arith)
 size-none (suc large) x small y (suc m) h = size-none large x small y m (omega arith)
@@ -209,7 +213,8 @@ total-alone : (small y : ℕ) → total (replicate small y) ≡ small * y
 total-alone zero y = omega arith
 total-alone (suc small) y = omega (arith, total-alone small y)
 
-pub total-split : (large x small y : ℕ) → total (split large x small y) ≡ large * x + small * y
+pub total-split : (large x small y : ℕ)
+    → total (split large x small y) ≡ large * x + small * y
 total-split zero x small y = omega (arith, total-alone small y)
 total-split (suc large) x small y = omega (arith, total-split large x small y)
 

@@ -120,8 +120,12 @@ impl<'a, R: Source> JournalReader<'a, R> {
     }
 }
 
-/// Puts the next entry of a journal whose reader has this state in place of the one that is held,
-/// as `next_into` does.
+/// Puts the next entry of a journal in place of the one that is held, as `next_into` does, for who
+/// keeps the source and the reader's state. This is `ReaderState::Header` before the first call.
+///
+/// # Errors
+///
+/// Those of `JournalReader::next`.
 #[inline(always)]
 pub fn read_into<R: Source>(
     alloc: Global,

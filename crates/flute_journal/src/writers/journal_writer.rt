@@ -54,7 +54,7 @@ impl<'a, W: Sink> JournalWriter<'a, W> {
         self.put(symbol_value(fact));
     }
 
-    /// Writes the end of a journal of so many entries.
+    /// Writes the end of a journal of so many entries, which the caller counts.
     pub fn end(&mut self, count: u64)
         ensures { Puts W.written W.failures (end count) self.old self.new }
     {

@@ -46,7 +46,8 @@ named_all P (f ∷ fs) a g h e = elim (cases_Bool (same_address (address f) a)) 
 
 -- The limits of a store, and the tally that counts against them.
 
-pub over_more : (F : List Fact) (f : Fact) (s o y : ℕ) → Over F s o y → Over (F ++ f ∷ []) s o y
+pub over_more : (F : List Fact) (f : Fact) (s o y : ℕ) → Over F s o y
+    → Over (F ++ f ∷ []) s o y
 over_more F f s o y h = Over-below F (F ++ f ∷ []) s o y (Below-more F (f ∷ [])) h
 
 pub counted : (s o y : ℕ) (tally : Tally s o y) (b : Bool) (F : List Fact)
@@ -210,7 +211,8 @@ module _ {S : Type 0} (b : Behaviour S) where
         ap (most_of b) state.starts_are in
         omega (arith, e, state.count_is, state.few, most-given last state.runs state.went)
 
-    moved : (P : List S → List S → Type 0) → P (starts state.runs) (nows state.runs) → P old now
+    moved : (P : List S → List S → Type 0) → P (starts state.runs) (nows state.runs)
+        → P old now
     moved P h = subst (λ l. P l now) state.starts_are
         (subst (P (starts state.runs)) state.nows_are h)
 

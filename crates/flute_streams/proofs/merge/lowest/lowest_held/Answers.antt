@@ -25,12 +25,14 @@ loop-number-preserved g c =
     let next : IsLowest (before ++ option_list (fact_in c.head.result))
     (fact_in c.match-head.lowest) = elim c.match-head.branch [
       | in-Some+in-Lower w ↦
-          let R : Option Fact → Type 0 = λ o. IsLowest (before ++ fact_of w.in-Some.fact ∷ []) o in
+          let R : Option Fact → Type 0 =
+          λ o. IsLowest (before ++ fact_of w.in-Some.fact ∷ []) o in
           subst Q (sym (ap fact_in w.in-Some.is))
           (subst R (ap (changed (fact_in c.loop-number.lowest) (fact_of w.in-Some.fact))
           w.in-Lower.is ∙ sym (ap fact_in w.lowest-is)) (w.change_by.ensures before held))
       | in-Some+in-Conflict w ↦
-          let R : Option Fact → Type 0 = λ o. IsLowest (before ++ fact_of w.in-Some.fact ∷ []) o in
+          let R : Option Fact → Type 0 =
+          λ o. IsLowest (before ++ fact_of w.in-Some.fact ∷ []) o in
           let is = ap (changed (fact_in c.loop-number.lowest) (fact_of w.in-Some.fact))
           w.in-Conflict.is in
           let conflict = ap Some (w.conflict_at.ensures ∙ ap conflict_at w.address.ensures) in
@@ -38,7 +40,8 @@ loop-number-preserved g c =
           (subst R (is ∙ sym conflict ∙ sym (ap fact_in w.lowest-is))
           (w.change_by.ensures before held))
       | in-Some+in-Nothing w ↦
-          let R : Option Fact → Type 0 = λ o. IsLowest (before ++ fact_of w.in-Some.fact ∷ []) o in
+          let R : Option Fact → Type 0 =
+          λ o. IsLowest (before ++ fact_of w.in-Some.fact ∷ []) o in
           subst Q (sym (ap fact_in w.in-Some.is))
           (subst R (ap (changed (fact_in c.loop-number.lowest) (fact_of w.in-Some.fact))
           w.in-Nothing.is ∙ sym (ap fact_in w.lowest-is)) (w.change_by.ensures before held))
