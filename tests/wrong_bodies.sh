@@ -46,51 +46,30 @@ told() {
 # Each check begins with what this one keeps.
 (cd crates/flute_join && rt check > "$room/told" 2>&1) || { cat "$room/told"; exit 1; }
 
-# A wrong body, and one of a function that a third one calls, which is wrong too.
+# A wrong body, one of a function that a third one calls, bodies over a function that change its
+# result, and two edits of it: all in one check.
 edit wrong/never_equal src/cell.rt '*held != value,' '*held != *held,'
 edit wrong/not_inserted src/map.rt 'self.insert(key, value)' 'Ok(())'
 edit wrong/never_full src/map.rt 'self.entries.len() as u32' '0'
+over wrong/not_so src/map.rt 'pub fn is_empty(&self) -> bool' '!self.is_empty()'
+over wrong/always src/map.rt 'pub fn is_empty(&self) -> bool' 'self.is_empty() || true'
+edit wrong/ever src/map.rt 'self.entries.is_empty()' 'true'
+edit wrong/never src/map.rt 'self.entries.is_empty()' 'false'
 try wrong 0
-told 'three are refused' '^wrong bodies: 3 refused, 0 unfit, 0 failed$'
-
-# A body that means the same, one that does not compile, and a wrong one with them.
-edit mixed/means_the_same src/cell.rt 'Cell::Conflict => return,' '_ => return,'
-edit mixed/does_not_compile src/cell.rt 'matches!(self, Cell::Conflict)' 'Nothing::at_all(self)'
-edit mixed/never_full src/map.rt 'self.entries.len() as u32' '0'
-try mixed 1
-told 'the same is proved' '^flute_join/means_the_same: FAILED'
-told 'what does not compile is not refused' '^flute_join/does_not_compile: FAILED'
-told 'the wrong one is refused' '^flute_join/never_full: refused'
-told 'one of three is refused' '^wrong bodies: 1 refused, 0 unfit, 2 failed$'
-
-# A body that means the same under another name, which the written proof does not know.
-edit renamed/copied_is_fresh src/map.rt 'let mut copied = JoinMap::new(alloc);' \
-    'let mut fresh = JoinMap::new(alloc);'
-printf 'old: %s\nnew: %s\n' 'copied.add_new(*key' 'fresh.add_new(*key' 'Ok(copied)' 'Ok(fresh)' \
-    >> "$room/renamed/copied_is_fresh.edit"
-try renamed 1
-told 'a proof that does not fit shows nothing' '^wrong bodies: 0 refused, 1 unfit, 0 failed$'
-
-# A body that calls its function and changes nothing, and one that changes the result.
-over over/calls_alone src/cell.rt 'pub fn is_conflict(&self) -> bool' 'self.is_conflict()'
-over over/the_other_answer src/map.rt 'pub fn is_empty(&self) -> bool' '!self.is_empty()'
-try over 1
-told 'what calls its function is proved by the clauses' \
-    '^flute_join/calls_alone: FAILED: still proved: .*::Cell::wrong_is_conflict_calls_alone$'
-told 'another answer than its is refused' '^flute_join/the_other_answer: refused'
-told 'one of two is refused' '^wrong bodies: 1 refused, 0 unfit, 1 failed$'
-
-# Two over one function, and two edits of it, are tried in one check.
-over several/not_so src/map.rt 'pub fn is_empty(&self) -> bool' '!self.is_empty()'
-over several/always src/map.rt 'pub fn is_empty(&self) -> bool' 'self.is_empty() || true'
-edit several/ever src/map.rt 'self.entries.is_empty()' 'true'
-edit several/never src/map.rt 'self.entries.is_empty()' 'false'
-try several 0
-told 'the first over it is refused' '^flute_join/not_so: refused: .*wrong_is_empty_not_so$'
+told 'the first over a function is refused' '^flute_join/not_so: refused: .*wrong_is_empty_not_so$'
 told 'the second over it is refused' '^flute_join/always: refused: .*wrong_is_empty_always$'
 told 'the first edit is of it' '^flute_join/ever: refused: .*::JoinMap::is_empty$'
 told 'the second edit is of a copy' '^flute_join/never: refused: .*::wrong_is_empty_never$'
-told 'all in one check' '^flute_join: 4 wrong bodies in 1 checks$'
+told 'all in one check' '^flute_join: 7 wrong bodies in 1 checks$'
+told 'all are refused' '^wrong bodies: 7 refused, 0 unfit, 0 failed$'
+
+# A body that does not compile, and a wrong one with it.
+edit mixed/does_not_compile src/cell.rt 'matches!(self, Cell::Conflict)' 'Nothing::at_all(self)'
+edit mixed/never_full src/map.rt 'self.entries.len() as u32' '0'
+try mixed 1
+told 'what does not compile is not refused' '^flute_join/does_not_compile: FAILED'
+told 'the wrong one is refused' '^flute_join/never_full: refused'
+told 'one of two is refused' '^wrong bodies: 1 refused, 0 unfit, 1 failed$'
 
 # Two edits of a function with a written proof: the second is of a copy, with that proof. So are
 # second edits that mean the same, with such a proof and without.
@@ -107,6 +86,13 @@ edit copies/trait_a_back src/cell.rt 'Cell::Absent => *self = Cell::One(value.co
     'Cell::Absent | Cell::Conflict => *self = Cell::One(value.copy(alloc)?),'
 edit copies/trait_b_first src/cell.rt '                _ => *self = Cell::Conflict,' \
     '                _ => {}'
+# A body that means the same under another name, which the written proof does not know, and one that
+# calls its function and changes nothing.
+edit copies/copied_is_fresh src/map.rt 'let mut copied = JoinMap::new(alloc);' \
+    'let mut fresh = JoinMap::new(alloc);'
+printf 'old: %s\nnew: %s\n' 'copied.add_new(*key' 'fresh.add_new(*key' 'Ok(copied)' 'Ok(fresh)' \
+    >> "$room/copies/copied_is_fresh.edit"
+over copies/calls_alone src/cell.rt 'pub fn is_conflict(&self) -> bool' 'self.is_conflict()'
 try copies 1
 told 'the copy with a written proof' \
     '^flute_join/at_b_copied_twice: refused: .*::wrong_join_at_at_b_copied_twice$'
@@ -115,8 +101,11 @@ told 'a copy with a written proof that is proved' \
 told 'a copy that is proved' \
     '^flute_join/put_b_means_the_same: FAILED: still proved: .*::wrong_put_put_b_means_the_same$'
 told 'the method of a trait' '^flute_join/trait_b_first: refused: .*::CellJoin::join_from$'
-told 'five of seven are refused' '^wrong bodies: 5 refused, 0 unfit, 2 failed$'
-told 'the method of a trait waits' '^flute_join: 7 wrong bodies in 2 checks$'
+told 'a proof that does not fit shows nothing' '^flute_join/copied_is_fresh: UNFIT'
+told 'what calls its function is proved by the clauses' \
+    '^flute_join/calls_alone: FAILED: still proved: .*::Cell::wrong_is_conflict_calls_alone$'
+told 'five of nine are refused' '^wrong bodies: 5 refused, 1 unfit, 3 failed$'
+told 'the method of a trait waits' '^flute_join: 9 wrong bodies in 2 checks$'
 
 # An edit outside functions is tried alone, with the function that it names.
 edit outside/a_comment src/cell.rt '//! A cell: nothing, one value, or a conflict.' '//! A cell.'
