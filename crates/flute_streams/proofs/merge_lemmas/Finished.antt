@@ -46,9 +46,9 @@ module _ {S : Type 0} (b : Behaviour S) where
       → slice_get new j ≡ slice_get now j
   others_on k j now new after e n = ap (λ l. slice_get l j) e ∙ set_elsewhere b now k j after n
 
-  pub read-more : (k : ℕ) (old now new : List S) → ReadOn k old now
+  pub read-more : {k : ℕ} {old now new : List S} → ReadOn k old now
       → Advances b k now new (Ok tt) → ReadOn k old new
-  read-more k old now new r a = record {
+  read-more {k = k} {now = now} {new = new} r a = record {
     as_many = ap length a.now ∙ length-set now k a.after ∙ r.as_many;
     others = λ j n. others_on k j now new a.after a.now n ∙ r.others j n;
     gave = λ start s F e g.
@@ -85,11 +85,11 @@ module _ {S : Type 0} (b : Behaviour S) where
       one None e = absurd cc
       one (Some f) e = refl
 
-  pub read_stops : (k : ℕ) (old now new : List S) (f : LoadFault) → ReadOn k old now
+  pub read_stops : {k : ℕ} {old now new : List S} {f : LoadFault} → ReadOn k old now
       → Advances b k now new (Err f) → (start s : S) (F : List Fact)
       → slice_get old k ≡ Some s → Gave b start s F
       → IsStopOf b start k new f
-  read_stops k old now new f r a start s F e g =
+  read_stops {k = k} {now = now} r a start s F e g =
       let h = r.gave start s F e g in
       let same = same_Some h.stream a.before (sym h.is ∙ a.was) in
       let on = a.stops start h.given (subst (λ x. b.passes start x h.given) same h.gave.passes) in
@@ -102,11 +102,11 @@ module _ {S : Type 0} (b : Behaviour S) where
         fails = on.fails;
       }
 
-  pub read-told : (k : ℕ) (old now : List S) (o : Option Fact) → ReadOn k old now
+  pub read-told : {k : ℕ} {old now : List S} {o : Option Fact} → ReadOn k old now
       → ((s : S) → slice_get now k ≡ Some s → o ≡ b.held s) → o ≡ None
       → (start s : S) (F : List Fact)
       → slice_get old k ≡ Some s → Gave b start s F → (told : List Fact) × b.tells start told
-  read-told k old now o r held none start s F e g =
+  read-told r held none start s F e g =
       let h = r.gave start s F e g in
       (h.given, h.gave.ended (sym (held h.stream h.is) ∙ none))
 
@@ -156,12 +156,12 @@ module _ {S : Type 0} (b : Behaviour S) where
   one_more : (k : ℕ) → suc k ≡ k + 1
   one_more k = omega arith
 
-  pub reached-more : (n k : ℕ) (old now new : List S) → k < n → Reached n k old now
+  pub reached-more : {n k : ℕ} {old now new : List S} → k < n → Reached n k old now
       → length new ≡ length now
       → ((j : ℕ) → j ≢ k → slice_get new j ≡ slice_get now j)
       → ((start s : S) (F : List Fact) → slice_get now k ≡ Some s → Gave b start s F
       → (told : List Fact) × b.tells start told) → Reached n (k + 1) old new
-  reached-more n k old now new l r len others told = record {
+  reached-more {n = n} {k = k} {old = old} l r len others told = record {
     as_many = len ∙ r.as_many;
     behind = λ j p. others j (λ e. absurd (omega (arith, p, e))) ∙ r.behind j (omega (arith, p));
     told = λ start g.
@@ -171,12 +171,13 @@ module _ {S : Type 0} (b : Behaviour S) where
         (told a.new a.stream a.given (r.behind k (omega arith) ∙ a.is) a.gave));
   }
 
-  pub reached-stop : (n k : ℕ) (old now new : List S) (f : LoadFault) → k < n → Reached n k old now
+  pub reached-stop : {n k : ℕ} {old now new : List S} {f : LoadFault} → k < n
+      → Reached n k old now
       → ((start s : S) (F : List Fact) → slice_get now k ≡ Some s → Gave b start s F
       → IsStopOf b start k new f)
       → (start : List S) → GaveBefore b n start old
       → HasStopped b start new (record { number = k; fault = f })
-  reached-stop n k old now new f l r stops start g =
+  reached-stop {n = n} {k = k} {old = old} {new = new} l r stops start g =
       let a = gave_at n k start old g l in
       record {
         new = a.new;

@@ -22,6 +22,12 @@ module _ {S : Type 0} (b : Behaviour S) (place : Option Address) where
     pub done : GoOnAt b place (take k old) (take k now)
     pub rest : drop k now ≡ drop k old
 
+  -- no stream from number k on, before number n, holds that address
+  abbrev pub NoneAt : ℕ → ℕ → List S → Type 0
+  NoneAt k n streams =
+      (j : ℕ) (s : S) → k ≤ j → j < n → slice_get streams j ≡ Some s
+      → place_of (b.held s) ≢ place
+
   pub none_went : (old : List S) → WentSoFar 0 old old
   none_went old = record { done = tt; rest = refl }
 
@@ -60,9 +66,9 @@ module _ {S : Type 0} (b : Behaviour S) (place : Option Address) where
       )
 
   -- stream k holds another address: it stays
-  pub one_stays : (k : ℕ) (old now : List S) (x : S) → WentSoFar k old now
+  pub one_stays : {k : ℕ} {old now : List S} {x : S} → WentSoFar k old now
       → slice_get now k ≡ Some x → place_of (b.held x) ≢ place → WentSoFar (k + 1) old now
-  one_stays k old now x w is n = record {
+  one_stays {k = k} {old = old} {now = now} {x = x} w is n = record {
     done =
         subst (λ l. GoOnAt b place l (take (k + 1) now)) (sym (old_more k old now x w.rest is))
         (subst (λ l. GoOnAt b place (take k old ++ x ∷ []) l)
@@ -74,27 +80,26 @@ module _ {S : Type 0} (b : Behaviour S) (place : Option Address) where
 
   -- stream k holds that address, and is advanced
   -- none of those up to m stands there
-  pub more_stay : (n k m : ℕ) (old now : List S) → m ≡ k + n → m ≤ length now
-      → ((j : ℕ) (s : S) → k ≤ j → j < m → slice_get now j ≡ Some s
-      → place_of (b.held s) ≢ place) → WentSoFar k old now → WentSoFar m old now
-  more_stay zero k m old now e within apart w =
+  pub more_stay : (n : ℕ) {k m : ℕ} {old now : List S} → m ≡ k + n → m ≤ length now
+      → NoneAt k m now → WentSoFar k old now → WentSoFar m old now
+  more_stay zero {k = k} {m = m} {old = old} {now = now} e within apart w =
       let same : k ≡ m = omega (arith, e) in
       subst (λ j. WentSoFar j old now) same w
-  more_stay (suc n) k m old now e within apart w =
+  more_stay (suc n) {k = k} {m = m} {old = old} {now = now} e within apart w =
       let j = k + n in
       let l : j < m = omega (arith, e) in
       let x = item_at now j (omega (arith, l, within)) in
       let before =
-      more_stay n k j old now refl (omega (arith, l, within))
+      more_stay n refl (omega (arith, l, within))
       (λ i s p q g. apart i s p (omega (arith, l, q)) g) w in
       let same : j + 1 ≡ m = omega (arith, e) in
       subst (λ i. WentSoFar i old now) same
-      (one_stays j old now x.0 before x.1 (apart j x.0 (omega arith) l x.1))
+      (one_stays before x.1 (apart j x.0 (omega arith) l x.1))
 
-  pub one_goes : (k : ℕ) (old now new : List S) → WentSoFar k old now
+  pub one_goes : {k : ℕ} {old now new : List S} → WentSoFar k old now
       → (a : Advances b k now new (Ok tt)) → place_of (b.held a.before) ≡ place
       → WentSoFar (k + 1) old new
-  one_goes k old now new w a p =
+  one_goes {k = k} {old = old} {now = now} w a p =
       let x = a.before in
       let h : k < length now = slice_get_within now k x a.was in
       subst (WentSoFar (k + 1) old) (sym a.now) (record {
@@ -108,18 +113,18 @@ module _ {S : Type 0} (b : Behaviour S) (place : Option Address) where
             ∙ (as_it_was k old now x w.rest a.was).1;
       })
 
-  stop_at : (xs ys zs : List S) (x y : S) (f : LoadFault) → GoOnAt b place xs ys
+  stop_at : (xs ys zs : List S) (x : S) {y : S} {f : LoadFault} → GoOnAt b place xs ys
       → place_of (b.held x) ≡ place → StopsAt b x y f
       → StopAt b place (length xs) f ((xs ++ x ∷ []) ++ zs) ((ys ++ y ∷ []) ++ zs)
-  stop_at [] [] zs x y f h p s = (p, s, refl)
-  stop_at (w ∷ xs) (z ∷ ys) zs x y f h p s = (h.0, stop_at xs ys zs x y f h.1 p s)
-  stop_at xs ys zs x y f h p s = absurd h
+  stop_at [] [] zs x h p s = (p, s, refl)
+  stop_at (w ∷ xs) (z ∷ ys) zs x h p s = (h.0, stop_at xs ys zs x h.1 p s)
+  stop_at xs ys zs x h p s = absurd h
 
   -- stream k holds that address, and stops at a fault
-  pub one_stops : (k : ℕ) (old now new : List S) (f : LoadFault) → WentSoFar k old now
+  pub one_stops : {k : ℕ} {old now new : List S} {f : LoadFault} → WentSoFar k old now
       → (a : Advances b k now new (Err f)) → place_of (b.held a.before) ≡ place
       → StopAt b place k f old new
-  one_stops k old now new f w a p =
+  one_stops {k = k} {old = old} {now = now} {new = new} {f = f} w a p =
       let x = a.before in
       let y = a.after in
       let h : k < length now = slice_get_within now k x a.was in
@@ -138,7 +143,7 @@ module _ {S : Type 0} (b : Behaviour S) (place : Option Address) where
       subst (λ m. StopAt b place m f old new) n
       (subst (λ l. StopAt b place (length (take k old)) f l new) was
       (subst (λ l. StopAt b place (length (take k old)) f ((take k old ++ x ∷ []) ++ zs) l) is
-      (stop_at (take k old) (take k now) zs x y f w.done p a.stops)))
+      (stop_at (take k old) (take k now) zs x w.done p a.stops)))
 
   -- after the last stream all were advanced
   pub all_went : (k : ℕ) (old now : List S) → WentSoFar k old now → length now ≤ k

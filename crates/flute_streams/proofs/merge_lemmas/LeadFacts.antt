@@ -28,7 +28,7 @@ lower-first None p (Some f) h = absurd h
 lower-first (Some a) p (Some f) h = elim (cases_Bool (is_lt (address_cmp a p))) [
   | inl e ↦ subst (λ t. IsNotBefore (if t then a else p) f) (sym e) h
   | inr e ↦ subst (λ t. IsNotBefore (if t then a else p) f) (sym e)
-      (up_to-trans p a (address f) (address_cmp p a) (address_cmp a (address f)) refl refl
+      (up_to-trans p a (address f) refl refl
       (up_to_turned a p (address_cmp a p) refl e) h)
 ]
 
@@ -210,29 +210,29 @@ module _ {S : Type 0} (b : Behaviour S) where
   OthersElsewhere a k streams =
       (j : ℕ) (s : S) → slice_get streams j ≡ Some s → j ≢ k → place_of (b.held s) ≢ a
 
-  goes : (a : Option Address) (k : ℕ) (streams : List S) (x y : S)
+  goes : {a : Option Address} (k : ℕ) (streams : List S) {x y : S}
       → slice_get streams k ≡ Some x → place_of (b.held x) ≡ a → GoesOn b x y
       → OthersElsewhere a k streams → GoOnAt b a streams (set streams k y)
-  goes a k [] x y e p g h = absurd cc
-  goes a zero (s ∷ streams) x y e p g h =
+  goes k [] e p g h = absurd cc
+  goes {a = a} zero (s ∷ streams) {x = x} {y = y} e p g h =
       let q = same_Some s x e in (
         inl (ap (λ t. place_of (b.held t)) q ∙ p, subst (λ t. GoesOn b t y) (sym q) g),
         all_stay a streams (λ j t i. h (suc j) t i (zero_apart j)),
       )
-  goes a (suc k) (s ∷ streams) x y e p g h = (
+  goes (suc k) (s ∷ streams) e p g h = (
     inr (h 0 s refl (apart_zero k), refl),
-    goes a k streams x y e p g (λ j t i n. h (suc j) t i (λ q. n (suc_is j k q))),
+    goes k streams e p g (λ j t i n. h (suc j) t i (λ q. n (suc_is j k q))),
   )
 
-  stops : (a : Option Address) (k : ℕ) (f : LoadFault) (streams : List S) (x y : S)
+  stops : {a : Option Address} (k : ℕ) {f : LoadFault} (streams : List S) {x : S} (y : S)
       → slice_get streams k ≡ Some x → place_of (b.held x) ≡ a → StopsAt b x y f
       → OthersElsewhere a k streams
       → StopAt b a k f streams (set streams k y)
-  stops a k f [] x y e p g h = absurd cc
-  stops a zero f (s ∷ streams) x y e p g h = grind (arith, same_Some)
-  stops a (suc k) f (s ∷ streams) x y e p g h = (
+  stops k [] y e p g h = absurd cc
+  stops zero (s ∷ streams) y e p g h = grind (arith, same_Some)
+  stops (suc k) (s ∷ streams) y e p g h = (
     inr (h 0 s refl (apart_zero k), refl),
-    stops a k f streams x y e p g (λ j t i n. h (suc j) t i (λ q. n (suc_is j k q))),
+    stops k streams y e p g (λ j t i n. h (suc j) t i (λ q. n (suc_is j k q))),
   )
 
   elsewhere : (streams : List S) (number : ℕ) (next : Option Address) (a : Address)
@@ -248,21 +248,21 @@ module _ {S : Type 0} (b : Behaviour S) where
           (over_place g (b.held s) (over g next (b.held s)
           (subst (λ x. IsBelowNext x next) e l.below) (l.others j s i n)))
 
-  pub lead-goes : (streams new : List S) (number : ℕ) (next : Option Address) (a : Address)
+  pub lead-goes : {streams new : List S} {number : ℕ} {next : Option Address} (a : Address)
       → Leads b streams number next → StandsAt b (Some a) streams number
       → Advances b number streams new (Ok tt) → GoOnAt b (Some a) streams new
-  lead-goes streams new number next a l at v =
+  lead-goes {streams = streams} {number = number} {next = next} a l at v =
       subst (λ x. GoOnAt b (Some a) streams x) (sym v.now)
-      (goes (Some a) number streams v.before v.after v.was (at v.before v.was) v.goes_on
+      (goes number streams v.was (at v.before v.was) v.goes_on
       (elsewhere streams number next a l at))
 
-  pub lead-stops : (streams new : List S) (number : ℕ) (next : Option Address) (a : Address)
-      (f : LoadFault) → Leads b streams number next → StandsAt b (Some a) streams number
+  pub lead-stops : {streams new : List S} {number : ℕ} {next : Option Address} (a : Address)
+      {f : LoadFault} → Leads b streams number next → StandsAt b (Some a) streams number
       → Advances b number streams new (Err f)
       → StopAt b (Some a) number f streams new
-  lead-stops streams new number next a f l at v =
+  lead-stops {streams = streams} {number = number} {next = next} a {f = f} l at v =
       subst (λ x. StopAt b (Some a) number f streams x) (sym v.now)
-      (stops (Some a) number f streams v.before v.after v.was (at v.before v.was) v.stops
+      (stops number streams v.after v.was (at v.before v.was) v.stops
       (elsewhere streams number next a l at))
 
   pub set_here : (streams : List S) (k : ℕ) (x y : S) → slice_get streams k ≡ Some x
@@ -279,11 +279,11 @@ module _ {S : Type 0} (b : Behaviour S) where
   set_elsewhere (s ∷ streams) k j y n = refl
 
   -- it still leads, where what it holds is below the next address
-  pub still-leads : (streams new : List S) (number : ℕ) (next : Option Address) (o : Option Fact)
+  pub still-leads : {streams new : List S} {number : ℕ} {next : Option Address} {o : Option Fact}
       → Leads b streams number next → Advances b number streams new (Ok tt)
       → ((s : S) → slice_get new number ≡ Some s → o ≡ b.held s) → IsBelowNext o next
       → Leads b new number next
-  still-leads streams new number next o l v held below = grind (arith, set_here, set_elsewhere)
+  still-leads l v held below = grind (arith, set_here, set_elsewhere)
 
 -- one stream more was looked at, or the one that leads was passed over
 pub ruleset firsts = (firsts_more, firsts_passed)

@@ -32,17 +32,18 @@ IsUpTo o = o ≢ Greater
 pub up_to_less : (o : Ordering) → o ≡ Less → IsUpTo o
 up_to_less o e h = cc
 
-pub up_to-trans : (a b c : Address) (o p : Ordering) → address_cmp a b ≡ o
+pub up_to-trans : (a b c : Address) {o p : Ordering} → address_cmp a b ≡ o
     → address_cmp b c ≡ p → IsUpTo o → IsUpTo p → IsUpTo (address_cmp a c)
-up_to-trans a b c Less Less e f h k = up_to_less (address_cmp a c) (address_total.trans a b c e f)
-up_to-trans a b c Less Equal e f h k =
+up_to-trans a b c {o = Less} {p = Less} e f h k =
+    up_to_less (address_cmp a c) (address_total.trans a b c e f)
+up_to-trans a b c {o = Less} {p = Equal} e f h k =
     up_to_less (address_cmp a c) (subst (λ x. address_cmp a x ≡ Less)
     (address_same b c (ap is_eq f)) e)
-up_to-trans a b c Equal p e f h k =
+up_to-trans a b c {o = Equal} e f h k =
     subst (λ x. IsUpTo (address_cmp x c)) (sym (address_same a b (ap is_eq e)))
     (subst IsUpTo (sym f) k)
-up_to-trans a b c Less Greater e f h k = absurd (k refl)
-up_to-trans a b c Greater p e f h k = absurd (h refl)
+up_to-trans a b c {o = Less} {p = Greater} e f h k = absurd (k refl)
+up_to-trans a b c {o = Greater} e f h k = absurd (h refl)
 
 pub up_to_itself : (a : Address) → IsUpTo (address_cmp a a)
 up_to_itself a e = let h : is_eq (address_cmp a a) ≡ true = address_itself a in absurd cc

@@ -222,11 +222,11 @@ module _ (a : Address) (facts : List Fact) where
   }
 
   -- what is held at a higher rank changes nothing
-  pub comes-behind : (v : Option Fact) (key : Key) (rank higher : ℕ) (o : Option Fact)
+  pub comes-behind : {v : Option Fact} (key : Key) (rank higher : ℕ) (o : Option Fact)
       → a ≡ place_at_rank key rank → rank < higher → HoldsFrom key higher o
       → ComesTo a facts v → ComesTo a (facts ++ option_list o) v
-  comes-behind v key rank higher None e l from h =
+  comes-behind {v = v} key rank higher None e l from h =
       subst (λ (x : List Fact). ComesTo a x v) (sym (append-nil facts)) h
-  comes-behind v key rank higher (Some f) e l from h =
+  comes-behind {v = v} key rank higher (Some f) e l from h =
       let less = behind a key rank higher f e l from in
       comes-elsewhere v f (apart a f less) (up_to_less (address_cmp a (address f)) less) h

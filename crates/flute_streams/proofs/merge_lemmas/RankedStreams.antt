@@ -6,7 +6,8 @@ use Rattle.flute_streams.proofs.Common.{inl, inr, ◌⊎◌, sym, ap, ◌∙◌}
 use Rattle.flute_streams.proofs.Common.{subst, arith, cases_Bool, eqb, eqb-false, eqb-true}
 use Rattle.flute_streams.proofs.Common.{slice_get, slice_get_within, same_Some, Address, Fact}
 use Rattle.flute_streams.proofs.Common.{option_list, Behaviour, Advances, heads, place_of}
-use Rattle.flute_streams.proofs.merge_lemmas.GoingOn.{WentSoFar, all_went, item_at, more_stay}
+use Rattle.flute_streams.proofs.merge_lemmas.GoingOn.{NoneAt, WentSoFar, all_went, item_at}
+use Rattle.flute_streams.proofs.merge_lemmas.GoingOn.{more_stay}
 use Rattle.flute_streams.proofs.merge_lemmas.LeadFacts.{set_elsewhere}
 use Rattle.flute_streams.proofs.merge_lemmas.LowestFacts.{heads-more}
 use Rattle.flute_streams.proofs.merge_lemmas.RankFacts.{comes-behind, elsewhere}
@@ -78,12 +79,10 @@ module _ {S : Type 0} (b : Behaviour S) (key : Key) where
   }
 
   -- those that have higher ranks stand elsewhere
-  pub passed_elsewhere : (a : Address) (rank k n : ℕ) {known : Bool} {streams : List S}
+  pub passed_elsewhere : {a : Address} (rank k n : ℕ) {known : Bool} {streams : List S}
       {ranks : List ℕ} → a ≡ place_at_rank key rank → AreAbove rank k n ranks
-      → AreRankedFrom k known streams ranks
-      → (j : ℕ) (s : S) → k ≤ j → j < n → slice_get streams j ≡ Some s
-      → place_of (b.held s) ≢ Some a
-  passed_elsewhere a rank k n {ranks = ranks} at above h j s l r i =
+      → AreRankedFrom k known streams ranks → NoneAt b (Some a) k n streams
+  passed_elsewhere {a = a} rank k n {ranks = ranks} at above h j s l r i =
       elsewhere a key rank (slice_index ranks j) (b.held s) at (above j l r)
       (h.from j s (inl l) i)
 
@@ -93,9 +92,9 @@ module _ {S : Type 0} (b : Behaviour S) (key : Key) where
       → AreRankedFrom k known now ranks → k ≤ n → length now ≡ n
       → WentSoFar b (Some a) k old now → GoOnAt b (Some a) old now
   went_all a {rank = rank} {k = k} {n = n} {old = old} {now = now} at above h few all went =
-      let apart = passed_elsewhere a rank k n at above h in
+      let apart = passed_elsewhere rank k n at above h in
       let more =
-      more_stay b (Some a) (n - k) k n old now (omega (arith, few)) (omega (arith, all)) apart
+      more_stay b (Some a) (n - k) (omega (arith, few)) (omega (arith, all)) apart
       went in
       all_went b (Some a) n old now more (omega (arith, all))
 
@@ -161,7 +160,7 @@ module _ {S : Type 0} (b : Behaviour S) (streams : List S) (a : Address) where
       comes_passed k n (omega (arith, within)) at (λ i p q. above i p (omega (arith, q))) ranked
       h in
       let behind =
-      comes-behind a (heads b (take j streams)) v key rank (slice_index ranks j) (b.held x.0) at
+      comes-behind a (heads b (take j streams)) key rank (slice_index ranks j) (b.held x.0) at
       (above j (omega arith) (omega arith)) (ranked.from j x.0 x.1) before in
       let same : j + 1 ≡ k + suc n = omega arith in
       subst (λ i. ComesTo a (heads b (take i streams)) v) same

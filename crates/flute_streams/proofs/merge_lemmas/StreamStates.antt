@@ -33,7 +33,8 @@ use Rattle.flute_streams.proofs.merge_lemmas.StreamTurns.{given_length, fewer_al
 use Rattle.flute_streams.proofs.merge_lemmas.StreamTurns.{taken_same, taken_some, lowest-sized}
 use Rattle.flute_streams.proofs.merge_lemmas.StreamStops.{reads_now, none_fails, ended_whole}
 use Rattle.flute_streams.proofs.merge_lemmas.StreamStops.{StoppedAll, stopped_all, short_header}
-use Rattle.flute_streams.proofs.merge_lemmas.StreamStops.{short_entry, short_end, told_whole}
+use Rattle.flute_streams.proofs.merge_lemmas.StreamStops.{HoldFrom, short_entry, short_end}
+use Rattle.flute_streams.proofs.merge_lemmas.StreamStops.{told_whole}
 
 -- what holds of the addresses of all facts holds of an address that has a value
 named_all : (P : Address → Type 0) (fs : List Fact) (a : Address) (g : Fact)
@@ -56,11 +57,11 @@ pub counted : (s o y : ℕ) (tally : Tally s o y) (b : Bool) (F : List Fact)
 counted s o y tally true F h k = h refl
 counted s o y tally false F h k = k refl
 
-within_same : (s o y : ℕ) (tally : Tally s o y) (within : Bool) (F G : List Fact) → Same F G
-    → IsCounted s o y tally within G → IsWithinLimits s o y F within
-within_same s o y tally true F G e h =
+within_same : {s o y : ℕ} (tally : Tally s o y) (within : Bool) {F : List Fact} (G : List Fact)
+    → Same F G → IsCounted s o y tally within G → IsWithinLimits s o y F within
+within_same {s = s} {o = o} {y = y} tally true {F = F} G e h =
     λ k. h.within (Over-below F G s o y (Below-from_Same F G e) k)
-within_same s o y tally false F G e h =
+within_same {s = s} {o = o} {y = y} tally false {F = F} G e h =
     Over-below G F s o y (Below-from_Same G F (Same-sym F G e)) h
 
 module _ {S : Type 0} (b : Behaviour S) where
@@ -73,22 +74,22 @@ module _ {S : Type 0} (b : Behaviour S) where
     pub can_go_on : CanGoOn b old new fault
 
   -- a write failed after these entries
-  at_write : (patient : Bool) (old now : List S) (w w' : Option (List ℕ))
-      (read : List (List Fact)) (entries : List Fact) (bytes : List ℕ)
+  at_write : {patient : Bool} {old now : List S} {w w' : Option (List ℕ)}
+      (read : List (List Fact)) {entries : List Fact} {bytes : List ℕ}
       → AppendsPartOf b old w w' → EachSince b.reads old now read
       → Collects (all_of read) entries → Appends w w' bytes → IsCutAfter entries bytes
       → Stopping patient old now w w' Write
-  at_write patient old now w w' read entries bytes short reads c a begins = search rules
+  at_write read short reads c a begins = search rules
 
   -- an input stopped after these entries
-  at_input : (patient : Bool) (p : Option Address) (runs : List (Run S)) (new : List S)
-      (w w' : Option (List ℕ)) (fault : InputFault) (entries : List Fact)
+  at_input : {patient : Bool} {p : Option Address} {runs : List (Run S)} {new : List S}
+      {w w' : Option (List ℕ)} {fault : InputFault} {entries : List Fact}
       → StoppedAll b p fault.number fault.fault runs new
       → AppendsPartOf b (starts runs) w w' → Collects (all_of (givens_at b p runs)) entries
       → (patient ≡ false → Appends w w' (written_up_to entries))
       → Stopping patient (starts runs) new w w' (Input fault)
       × OneFails b fault.number fault.fault (starts runs) new
-  at_input patient p runs new w w' fault entries s short c a = grind (arith, givens_at)
+  at_input s short c a = grind (arith, givens_at)
 
   none_collects : Collects [] []
   none_collects = record { valid = tt; rising = tt; same = Same-itself [] }
@@ -104,8 +105,8 @@ module _ {S : Type 0} (b : Behaviour S) where
       (subst (λ (l : List S). StopsIn b None l new fault) (sym (new_nows b old)) h) in
       subst (λ (l : List S). Stopping patient l new w w (Input fault)
       × OneFails b fault.number fault.fault l new) (new_starts b old)
-      (at_input patient None (new_runs b old) new w w fault [] s
-      (short_header b (starts (new_runs b old)) w w [] header (Appends-nil w) refl)
+      (at_input s
+      (short_header b [] header (Appends-nil w) refl)
       (subst (λ (l : List Fact). Collects l []) (sym (new_givens b old)) none_collects)
       (λ p. Appends-nil w))
 
@@ -129,11 +130,11 @@ module _ {S : Type 0} (b : Behaviour S) where
       turn b None (new_runs b old) now (new_stays b old n)
       (subst (λ (l : List S). GoOnAt b None l now) (sym (new_nows b old)) h)
 
-  pub state_start : (failed : Bool) (Also : List Fact → Type 0) (old now : List S)
-      (w w' : Option (List ℕ)) → Also [] → AreNew b old → GoOnAt b None old now
+  pub state_start : {failed : Bool} {Also : List Fact → Type 0} {old now : List S}
+      {w w' : Option (List ℕ)} → Also [] → AreNew b old → GoOnAt b None old now
       → Written failed w w' header
       → State failed Also old now w w' 0
-  state_start failed Also old now w w' also n h a =
+  state_start {old = old} {now = now} also n h a =
       let t = first_turn old now n h in
       let e : all_of (givens t.next) ≡ [] = ap all_of t.givens_are ∙ new_givens b old in
       record {
@@ -155,10 +156,10 @@ module _ {S : Type 0} (b : Behaviour S) where
   stays place (r ∷ runs) w = grind (arith, stays place runs w.1)
 
   -- a failed write of the header
-  pub stop_header : (patient : Bool) (old now : List S) (w w' : Option (List ℕ)) → AreNew b old
+  pub stop_header : (patient : Bool) (old now : List S) {w w' : Option (List ℕ)} → AreNew b old
       → GoOnAt b None old now → AppendsPart w w' header
       → Stopping patient old now w w' Write × NoneFails b old now
-  stop_header patient old now w w' n h a =
+  stop_header patient old now {w = w} {w' = w'} n h a =
       let t = first_turn old now n h in
       let e : all_of (givens t.next) ≡ [] = ap all_of t.givens_are ∙ new_givens b old in
       let s = stays None t.next t.went in
@@ -166,8 +167,8 @@ module _ {S : Type 0} (b : Behaviour S) where
       let Q : List S → Type 0 =
       λ l. Stopping patient (starts t.next) l w w' Write × NoneFails b (starts t.next) l in
       subst P (t.starts_are ∙ new_starts b old) (subst Q t.nows_are (
-        at_write patient (starts t.next) (nows t.next) w w' (givens t.next) [] a.part
-            (short_header b (starts t.next) w w' a.part a.rest a.appended (sym a.whole))
+        at_write (givens t.next)
+            (short_header b a.part a.rest a.appended (sym a.whole))
             (reads_now b None t.next s)
             (subst (λ (l : List Fact). Collects l []) (sym e) none_collects) a.appended
             (cut_header refl (a.rest, a.cut, sym a.whole)),
@@ -216,11 +217,11 @@ module _ {S : Type 0} (b : Behaviour S) where
     moved P h = subst (λ l. P l now) state.starts_are
         (subst (P (starts state.runs)) state.nows_are h)
 
-    stopped_here : (patient : Bool) (w'' : Option (List ℕ)) (bytes : List ℕ)
+    stopped_here : (patient : Bool) {w'' : Option (List ℕ)} {bytes : List ℕ}
         → Appends w w'' bytes → IsCutAfter state.joined bytes
         → AppendsPartOf b (starts state.runs) w w''
         → Stopping patient old now w w'' Write
-    stopped_here patient w'' bytes a begins short =
+    stopped_here patient a begins short =
         grind (arith, moved, at_write, starts, nows, givens, reads_now, stays)
 
     pub no_failure : NoneFails b old now
@@ -228,7 +229,7 @@ module _ {S : Type 0} (b : Behaviour S) where
         moved (NoneFails b) (none_fails b last state.runs (stays last state.runs state.went))
 
     -- A turn at the lowest address g.
-    module _ (g : Fact) (lowest : Lowest (heads b now) g) where
+    module _ {g : Fact} (lowest : Lowest (heads b now) g) where
       low : Lowest (heads b (nows state.runs)) g
       low = subst (λ (l : List S). Lowest (heads b l) g) (sym state.nows_are) lowest
 
@@ -245,6 +246,9 @@ module _ {S : Type 0} (b : Behaviour S) where
       rising_next =
           rises-rising (state.joined ++ g ∷ [])
           (rises_more None state.joined g (rising-rises state.joined state.collects.rising) above)
+
+      from_next : HoldFrom b last (address g) state.runs
+      from_next = record { went = state.went; none_before = low.first }
 
       next_stays : AllByRecursion (Stays b (Some (address g))) state.runs
       next_stays = went_stays b last (address g) state.runs state.went low.first
@@ -306,17 +310,16 @@ module _ {S : Type 0} (b : Behaviour S) where
             }
 
         -- the write of its entry failed, or after it an input stopped
-        pub stop_entry : (patient : Bool) (w'' : Option (List ℕ)) → failed ≡ false
+        pub stop_entry : (patient : Bool) {w'' : Option (List ℕ)} → failed ≡ false
             → AppendsPart w' w'' (entry g) → Stopping patient old now w w'' Write
-        stop_entry patient w'' good a =
+        stop_entry patient {w'' = w''} good a =
             let bs : List ℕ = without_end state.joined ++ a.part in
             let appended : Appends w w'' bs =
             Appends-trans w w' w'' (without_end state.joined) a.part
             (whole_yet good) a.appended in
-            stopped_here patient w'' bs appended
+            stopped_here patient appended
             (cut_entry g valid a.part (a.rest, a.cut, sym a.whole) refl)
-            (short_entry b last state.runs state.joined g w w'' bs a.rest state.went low.first
-            collects_next appended
+            (short_entry b state.joined g bs a.rest from_next collects_next appended
             (append_assoc (without_end state.joined) a.part a.rest
             ∙ ap (λ (l : List ℕ). without_end state.joined ++ l) (sym a.whole)
             ∙ without_end-snoc state.joined g))
@@ -334,10 +337,9 @@ module _ {S : Type 0} (b : Behaviour S) where
             let part = written-part next w w'' bs (next_bytes next w'' a) in
             subst (λ (l : List S). Stopping patient l new w w'' (Input fault)
             × OneFails b fault.number fault.fault l new) state.starts_are
-            (at_input patient (Some (address g)) state.runs new w w'' fault
-            (state.joined ++ g ∷ []) s
-            (short_entry b last state.runs state.joined g w w'' part.bytes part.more state.went
-            low.first collects_next part.appended part.whole) collects_next
+            (at_input s
+            (short_entry b state.joined g part.bytes part.more from_next collects_next part.appended
+            part.whole) collects_next
             (λ p. subst (Appends w w'') (written-snoc state.joined g)
             (written-whole next w w'' bs (eager p) (next_bytes next w'' a))))
 
@@ -352,17 +354,17 @@ module _ {S : Type 0} (b : Behaviour S) where
       none_left : heads b (nows state.runs) ≡ []
       none_left = ap (heads b) state.nows_are ∙ none
 
-      pub stop_end : (patient : Bool) (w'' : Option (List ℕ)) → failed ≡ false
+      pub stop_end : (patient : Bool) {w'' : Option (List ℕ)} → failed ≡ false
           → AppendsPart w' w'' (end count) → Stopping patient old now w w'' Write
-      stop_end patient w'' good a =
+      stop_end patient {w'' = w''} good a =
           let bs : List ℕ = without_end state.joined ++ a.part in
           let appended : Appends w w'' bs =
           Appends-trans w w' w'' (without_end state.joined) a.part
           (whole_yet good) a.appended in
-          stopped_here patient w'' bs appended
+          stopped_here patient appended
           (cut_end a.part (a.rest, a.cut, sym a.whole ∙ ap end state.count_is) refl)
-          (short_end b last state.runs state.joined w w'' bs a.rest state.went none_left
-          state.collects appended a.cut
+          (short_end b bs (record { went = state.went; none = none_left }) state.collects appended
+          a.cut
           (append_assoc (without_end state.joined) a.part a.rest
           ∙ ap (λ (l : List ℕ). without_end state.joined ++ l) (sym a.whole)
           ∙ ap (λ n. without_end state.joined ++ end n) state.count_is))
@@ -386,21 +388,21 @@ module _ {S : Type 0} (b : Behaviour S) where
           rising_unique j.0 state.joined j.1.rising state.collects.rising same in
           subst (Written next w w'') (sym (j.3 ∙ ap spelling one)) (whole next w'' a)
 
-  pub finished : (s o y : ℕ) (tally : Tally s o y) (within next : Bool) {failed : Bool}
+  pub finished : {s o y : ℕ} (tally : Tally s o y) (within next : Bool) {failed : Bool}
       {old now : List S} {w w' : Option (List ℕ)} {count : ℕ}
       → (state : State failed (IsCounted s o y tally within) old now w w' count)
       → (w'' : Option (List ℕ)) → most_of b old < 2 ^ 64 → heads b now ≡ []
       → PutsBytes failed next w' w'' (end count)
       → EndsMerged b old now s o y (record { entries = count; within = within; cut = next }) w w''
-  finished s o y tally within next {failed} {old} {now} {w} {w'} {count} state w'' few none a =
+  finished {s = s} {o = o} {y = y} tally within next {failed} {old} {now} {w} {w'} {count} state w''
+      few none a =
       moved state (λ (l m : List S). EndsMerged b l m s o y
       (record { entries = count; within = within; cut = next }) w w'') (record {
         merged = record {
           told = givens state.runs;
           tell = told_whole b (last_of None state.joined) state.runs state.went
               (none_left state none);
-          limits = within_same s o y tally within
-              (all_of (givens state.runs)) state.joined state.collects.same state.also;
+          limits = within_same tally within state.joined state.collects.same state.also;
           puts = record {
             bytes = spelling state.joined;
             journal = (

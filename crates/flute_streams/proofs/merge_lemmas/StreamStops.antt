@@ -141,15 +141,22 @@ module _ {S : Type 0} (b : Behaviour S) where
         })
   ]
 
+  -- streams that went on to a place hold nothing before an address
+  pub record HoldFrom (place : Option Address) (a : Address) (runs : List (Run S)) : Type 0 where
+    pub went : AllByRecursion (Went b place) runs
+    pub none_before : AllByRecursion (IsNotBefore a) (heads b (nows runs))
+
   -- up to an address, all facts have the values of those that were given there
-  known_at : (place : Option Address) (a z : Address) (runs : List (Run S))
-      (known : List (List Fact)) → AllByRecursion (Went b place) runs
-      → AllByRecursion (IsNotBefore a) (heads b (nows runs))
+  known_at : {place : Option Address} {a : Address} (z : Address) (runs : List (Run S))
+      (known : List (List Fact)) → HoldFrom place a runs
       → is_after (Some a) z ≡ false → Each b.knows (starts runs) known
       → fact_at (all_of known) z ≡ fact_at (all_of (givens_at b (Some a) runs)) z
-  known_at place a z [] [] w n h k = refl
-  known_at place a z (r ∷ runs) (K ∷ known) w n h k =
-      let both = all_split (IsNotBefore a) (option_list (b.held r.now)) (heads b (nows runs)) n in
+  known_at z [] [] from h k = refl
+  known_at {place = place} {a = a} z (r ∷ runs) (K ∷ known) from h k =
+      let w = from.went in
+      let both = all_split (IsNotBefore a) (option_list (b.held r.now)) (heads b (nows runs))
+      from.none_before in
+      let rest : HoldFrom place a runs = record { went = w.1; none_before = both.1 } in
       let F = r.given ++ given_at (Some a) (b.held r.now) in
       let c = above_held a r.given K (b.held r.now) (w.0.gave.known K k.0)
       (λ e. above_other a (b.held r.now) e both.0) in
@@ -157,9 +164,9 @@ module _ {S : Type 0} (b : Behaviour S) where
       ∙ ap (λ (l : List Fact). joined z (fact_at l z) (fact_at (all_of known) z)) c.is
       ∙ ap (λ x. joined z x (fact_at (all_of known) z))
       (fact_at-second_none F c.rest z (rising-none (Some a) c.rest z c.rises h))
-      ∙ ap (joined z (fact_at F z)) (known_at place a z runs known w.1 both.1 h k.1)
+      ∙ ap (joined z (fact_at F z)) (known_at z runs known rest h k.1)
       ∙ sym (fact_at-append F (all_of (givens_at b (Some a) runs)) z)
-  known_at place a z runs known w n h k = absurd k
+  known_at z runs known from h k = absurd k
 
   -- and all of them, once nothing is held
   only : (F K : List Fact) (held : Option Fact) → held ≡ None
@@ -215,12 +222,12 @@ module _ {S : Type 0} (b : Behaviour S) where
       )
 
   -- a part of the header and of entries that begin those of all facts
-  short : (inputs : List S) (w w' : Option (List ℕ)) (bs more : List ℕ) (M : List Fact)
+  short : {inputs : List S} {w w' : Option (List ℕ)} (bs more : List ℕ) (M : List Fact)
       → AllByRecursion IsFact M → Appends w w' bs → bs ++ more ≡ without_end M
       → ((known : List (List Fact)) → Each b.knows inputs known → (E : List Fact)
       → Collects (all_of known) E → (rest : List Fact) × (E ≡ M ++ rest))
       → AppendsPartOf b inputs w w'
-  short inputs w w' bs more M v a e h = record {
+  short bs more M v a e h = record {
     bytes = bs;
     appended = a;
     no_journal = no_end M bs more v e;
@@ -233,40 +240,42 @@ module _ {S : Type 0} (b : Behaviour S) where
         );
   }
 
-  pub short_header : (inputs : List S) (w w' : Option (List ℕ)) (bs more : List ℕ)
+  pub short_header : {inputs : List S} {w w' : Option (List ℕ)} (bs more : List ℕ)
       → Appends w w' bs → bs ++ more ≡ header → AppendsPartOf b inputs w w'
-  short_header inputs w w' bs more a e =
-      short inputs w w' bs more [] tt a e (λ known k E c. (E, refl))
+  short_header bs more a e = short bs more [] tt a e (λ known k E c. (E, refl))
 
-  pub short_entry : (place : Option Address) (runs : List (Run S)) (M : List Fact) (g : Fact)
-      (w w' : Option (List ℕ)) (bs more : List ℕ) → AllByRecursion (Went b place) runs
-      → AllByRecursion (IsNotBefore (address g)) (heads b (nows runs))
+  pub short_entry : {place : Option Address} {runs : List (Run S)} (M : List Fact) (g : Fact)
+      {w w' : Option (List ℕ)} (bs more : List ℕ) → HoldFrom place (address g) runs
       → Collects (all_of (givens_at b (Some (address g)) runs)) (M ++ g ∷ [])
       → Appends w w' bs → bs ++ more ≡ without_end (M ++ g ∷ [])
       → AppendsPartOf b (starts runs) w w'
-  short_entry place runs M g w w' bs more went n c a e =
-      short (starts runs) w w' bs more (M ++ g ∷ []) c.valid a e (λ known k E d.
+  short_entry {runs = runs} M g bs more from c a e =
+      short bs more (M ++ g ∷ []) c.valid a e (λ known k E d.
       rising-prefix None (M ++ g ∷ []) E (rising-rises (M ++ g ∷ []) c.rising)
       (rising-rises E d.rising) (λ z h.
       sym (c.same.each z)
-      ∙ sym (known_at place (address g) z runs known went n
+      ∙ sym (known_at z runs known from
       (subst (λ x. is_after x z ≡ false) (last_of-snoc None M g) h) k)
       ∙ d.same.each z))
 
-  pub short_end : (place : Option Address) (runs : List (Run S)) (M : List Fact)
-      (w w' : Option (List ℕ)) (bs more : List ℕ) → AllByRecursion (Went b place) runs
-      → heads b (nows runs) ≡ []
+  -- streams that went on to a place hold nothing
+  pub record HoldNone (place : Option Address) (runs : List (Run S)) : Type 0 where
+    pub went : AllByRecursion (Went b place) runs
+    pub none : heads b (nows runs) ≡ []
+
+  pub short_end : {place : Option Address} {runs : List (Run S)} {M : List Fact}
+      {w w' : Option (List ℕ)} (bs : List ℕ) {more : List ℕ} → HoldNone place runs
       → Collects (all_of (givens runs)) M → Appends w w' bs → more ≢ []
       → bs ++ more ≡ spelling M → AppendsPartOf b (starts runs) w w'
-  short_end place runs M w w' bs more went n c a s e = record {
+  short_end {place = place} {runs = runs} {M = M} bs {more = more} all c a s e = record {
     bytes = bs;
     appended = a;
     no_journal = no_whole_end M bs more c.valid s e;
     prefix = λ known k whole j.
-        let all = all_of (givens runs) in
+        let given = all_of (givens runs) in
         let same = subst (λ (l : List Fact). Same l j.0)
-        (known_whole place runs known went n k) j.1.same in
+        (known_whole place runs known all.went all.none k) j.1.same in
         let one = rising_unique M j.0 c.rising j.1.rising
-        (Same-trans M all j.0 (Same-sym all M c.same) same) in
+        (Same-trans M given j.0 (Same-sym given M c.same) same) in
         (more, s, e ∙ ap spelling one ∙ sym j.3);
   }

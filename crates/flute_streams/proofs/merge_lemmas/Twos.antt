@@ -82,11 +82,11 @@ module _ {A B : Type 0} (ua : A → Option (List ℕ)) (fa : A → ℕ)
         }
     each_two P (F ∷ G ∷ H ∷ or_failed) h = absurd h.1.1
 
-    pub merged_two : (x o y : ℕ) (joined : MergedJournal) (w w' : Option (List ℕ))
+    pub merged_two : {x o y : ℕ} {joined : MergedJournal} {w w' : Option (List ℕ)}
         → limit_of t.reader.now ≡ limit_of s.reader.now → joined.cut ≡ false
         → MergedAll both inputs x o y joined w w'
         → Merged (limit_of s.reader.now) joined.entries u v w w'
-    merged_two x o y joined w w' same done m =
+    merged_two {joined = joined} {w = w} {w' = w'} same done m =
         let t = each_two both.tells m.told m.tell in
         record {
           first_entries = t.first;
@@ -119,8 +119,9 @@ module _ {A B : Type 0} (ua : A → Option (List ℕ)) (fa : A → ℕ)
     journal_of es fs whole F G p q j = grind (arith, append-nil, same_entries)
 
     -- what was appended by a merge that stopped is no journal, and a prefix if both are journals
-    short_two : (w w' : Option (List ℕ)) → AppendsPartOf both inputs w w' → StopsShort u v w w'
-    short_two w w' p = record {
+    short_two : {w w' : Option (List ℕ)} → AppendsPartOf both inputs w w'
+        → StopsShort u v w w'
+    short_two p = record {
       bytes = p.bytes;
       appended = p.appended;
       no_journal = p.no_journal;
@@ -149,10 +150,10 @@ module _ {A B : Type 0} (ua : A → Option (List ℕ)) (fa : A → ℕ)
     }
 
     -- what was read of both, and what was appended
-    keeps_two : (w w' : Option (List ℕ)) (fault : StreamsFault) (merge : MergeFault)
+    keeps_two : {w w' : Option (List ℕ)} {fault : StreamsFault} (merge : MergeFault)
         → IsFaultOfTwo fault merge → ReadsAhead both inputs after w w' fault
         → KeepsUp u (unread_of ua fa (lent s')) v (unread_of ub fb (lent t')) w w' merge
-    keeps_two w w' fault merge is r =
+    keeps_two {fault = fault} merge is r =
         let two = since_two both.reads r.read r.reads in
         record {
           first_entries = two.first;
@@ -204,16 +205,16 @@ module _ {A B : Type 0} (ua : A → Option (List ℕ)) (fa : A → ℕ)
     reading_two Write n = tt
     reading_two (Input fault) n = reading_of n.0 fault.number fault.fault n.2
 
-    pub stopped_two : (w w' : Option (List ℕ)) (fault : StreamsFault) (merge : MergeFault)
+    pub stopped_two : {w w' : Option (List ℕ)} {fault : StreamsFault} {merge : MergeFault}
         → IsFaultOfTwo fault merge → limit_of t.reader.now ≡ limit_of s.reader.now
         → AppendsPartOf both inputs w w' → ReadsAhead both inputs after w w' fault
         → NamesInput both inputs fault
         → MergeGives (limit_of s.reader.now) u (unread_of ua fa (lent s')) v
         (unread_of ub fb (lent t')) w w' (Err merge)
-    stopped_two w w' fault merge is same p r n =
+    stopped_two {fault = fault} {merge = merge} is same p r n =
         record {
-          short = short_two w w' p;
-          keeps_up = keeps_two w w' fault merge is r;
+          short = short_two p;
+          keeps_up = keeps_two merge is r;
           names =
               names_two fault merge is same n;
         }

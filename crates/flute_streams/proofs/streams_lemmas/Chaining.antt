@@ -88,7 +88,7 @@ module _ {A B : Type 0} (a : Behaviour A) (b : Behaviour B) (x : A) (ys : List B
       → Advances b (n - 1) ys zs r
       → Advances (either_behaviour a b) n (chained x (taken ys)) (chained x (taken zs)) r
   other_advances zs r v =
-      second_at a b v.before v.after n (chained x (taken ys)) (chained x (taken zs)) r
+      second_at a b v.after r
       (stands v.before v.was)
       (ap (λ l. chained x (taken l)) v.now ∙ ap (chained x) (taken_set ys (n - 1) v.after below)
       ∙ ap (λ l. First x ∷ l) (seconds_set A B (taken ys) (n - 1) v.after)

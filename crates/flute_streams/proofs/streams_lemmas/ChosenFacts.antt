@@ -112,11 +112,11 @@ module _ {C : Type 0} (takes : C → Fact → Bool) (s : C) where
       counts = λ small. omega arith;
     }
 
-    pub counts_other : (old now next : S) (before counted more : ℕ)
+    pub counts_other : {old now next : S} {before counted more : ℕ}
         → CountsPassed old now before counted → is_passed_over takes s (b.held now) ≡ true
         → GoesOn b now next → more ≡ min (counted + 1) (2 ^ 64 - 1)
         → CountsPassed old next before more
-    counts_other old now next before counted more h o g m =
+    counts_other {old = old} {now = now} {next = next} {counted = counted} h o g m =
         let passed = h.passes.passed in
         let given : List Fact → List Fact = λ all. all ++ option_list (b.held old) in
         record {
@@ -293,8 +293,9 @@ module _ {C : Type 0} (takes : C → Fact → Bool) (s : C) where
         h.passes o g
 
 -- whether a stream's head is passed over is whether the fact that it holds is
-pub answered : {C : Type 0} (takes : C → Fact → Bool) (s z : C) (head held : Option Fact)
-    (result is : Bool) → head ≡ held → result ≡ is_passed_over takes z head → z ≡ s → result ≡ is
-    → is_passed_over takes s held ≡ is
-answered takes s z head held result is h r e i = subst (λ x. is_passed_over takes x held ≡ is) e
+pub answered : {C : Type 0} (takes : C → Fact → Bool) {s z : C} {head held : Option Fact}
+    {result is : Bool} → head ≡ held → result ≡ is_passed_over takes z head → z ≡ s
+    → result ≡ is → is_passed_over takes s held ≡ is
+answered takes {z = z} {held = held} {is = is} h r e i =
+    subst (λ x. is_passed_over takes x held ≡ is) e
     (subst (λ o. is_passed_over takes z o ≡ is) h (sym r ∙ i))

@@ -46,10 +46,11 @@ module _ {A B : Type 0} (a : Behaviour A) (b : Behaviour B) where
   }
 
   -- the stream at a place, of the one kind or of the other, was advanced
-  first_at : (x y : A) (n : ℕ) (old new : List (Either A B)) (r : Result (Unit {0}) LoadFault)
-      → slice_get old n ≡ Some (First x) → new ≡ slice_set old n (First y)
+  first_at : {x : A} (y : A) {n : ℕ} {old new : List (Either A B)}
+      (r : Result (Unit {0}) LoadFault) → slice_get old n ≡ Some (First x)
+      → new ≡ slice_set old n (First y)
       → OnOk r (GoesOn a x y) → IfErr r (StopsAt a x y) → Advances e n old new r
-  first_at x y n old new (Ok t) w m g s = record {
+  first_at {x = x} y (Ok t) w m g s = record {
     before = First x;
     after = First y;
     was = w;
@@ -58,7 +59,7 @@ module _ {A B : Type 0} (a : Behaviour A) (b : Behaviour B) where
     goes_on = record { gave = first_on x y g; fewer = g.fewer };
     stops = tt;
   }
-  first_at x y n old new (Err f) w m g s = record {
+  first_at {x = x} y (Err f) w m g s = record {
     before = First x;
     after = First y;
     was =
@@ -68,10 +69,11 @@ module _ {A B : Type 0} (a : Behaviour A) (b : Behaviour B) where
     stops = first_stops x y f s;
   }
 
-  pub second_at : (x y : B) (n : ℕ) (old new : List (Either A B)) (r : Result (Unit {0}) LoadFault)
-      → slice_get old n ≡ Some (Second x) → new ≡ slice_set old n (Second y)
+  pub second_at : {x : B} (y : B) {n : ℕ} {old new : List (Either A B)}
+      (r : Result (Unit {0}) LoadFault) → slice_get old n ≡ Some (Second x)
+      → new ≡ slice_set old n (Second y)
       → OnOk r (GoesOn b x y) → IfErr r (StopsAt b x y) → Advances e n old new r
-  second_at x y n old new (Ok t) w m g s = record {
+  second_at {x = x} y (Ok t) w m g s = record {
     before = Second x;
     after = Second y;
     was =
@@ -80,7 +82,7 @@ module _ {A B : Type 0} (a : Behaviour A) (b : Behaviour B) where
     goes_on = record { gave = second_on x y g; fewer = g.fewer };
     stops = tt;
   }
-  second_at x y n old new (Err f) w m g s = record {
+  second_at {x = x} y (Err f) w m g s = record {
     before = Second x;
     after = Second y;
     was =
@@ -94,6 +96,6 @@ module _ {A B : Type 0} (a : Behaviour A) (b : Behaviour B) where
       (r : Result (Unit {0}) LoadFault) → n ≡ 0 → OnOk r (GoesOn a x y) → IfErr r (StopsAt a x y)
       → Advances e n (First x ∷ others) (First y ∷ others) r
   first_advances x y others n r h g s =
-      first_at x y n (First x ∷ others) (First y ∷ others) r
+      first_at y r
       (ap (slice_get (First x ∷ others)) h)
       (sym (ap (λ k. slice_set (First x ∷ others) k (First y)) h)) g s

@@ -5,6 +5,7 @@ use Rattle.flute_streams.proofs.Common.{GivesEnd, GivesFault, GoesOn, HasFault, 
 use Rattle.flute_streams.proofs.Common.{IsFactIn, IsJournalOfAll, IsJournalWithin, IsRising}
 use Rattle.flute_streams.proofs.Common.{IsSized, IsTrue, Keeps, LentStream, List, LoadFault, None}
 use Rattle.flute_streams.proofs.Common.{Ok, Option, ReadAt, ReadFault, ReadWhole, ReadsEntries}
+use Rattle.flute_streams.proofs.Common.{Result}
 use Rattle.flute_streams.proofs.Common.{SameLoans, Sofar, Some, ReaderState, Before, StopsAt, []}
 use Rattle.flute_streams.proofs.Common.{ap, append-nil, arith, count_at, false, inl, inr, is_open}
 use Rattle.flute_streams.proofs.Common.{journal_behaviour, length, limit_of, option_list, refl}
@@ -47,21 +48,28 @@ whole_kept limit u v w F r k = record {
   };
 }
 
-read_from : (limit : ℕ) (u v w : Option (List ℕ)) (old new : ReaderState Before) (es : List Fact)
-    (o : Option Fact) → Sofar journal_framing limit u v old es
-    → Gives journal_framing limit old new v w (Ok o)
+-- a reader that gave these entries, after which one is held, was called again
+pub record IsCalled (limit own : ℕ) (u v w : Option (List ℕ)) (old new : ReaderState Before)
+    (F : List Fact) (held : Option Fact) (result : Result (Option Fact) ReadFault) : Type 0 where
+  pub same_limit : own ≡ limit
+  pub read : ReadAt limit u v old F held
+  pub gives : Gives journal_framing own old new v w result
+
+read_from : {limit : ℕ} {u v : Option (List ℕ)} (w : Option (List ℕ))
+    {old : ReaderState Before} (new : ReaderState Before) {es : List Fact} (o : Option Fact)
+    → Sofar journal_framing limit u v old es → Gives journal_framing limit old new v w (Ok o)
     → Read limit u w new es o
-read_from limit u v w old new es (Some f) s g =
+read_from {limit = limit} {u = u} {v = v} w {old = old} new {es = es} (Some f) s g =
     side-from journal_sound limit u v w old new es (Some f) s g
-read_from limit u v w old new es None s g =
+read_from {limit = limit} {u = u} {v = v} w {old = old} new {es = es} None s g =
     (whole_at limit u w es (side-from journal_sound limit u v w old new es None s g), g.ended)
 
 -- after the end, the next call gives the end again
-end_again : (limit : ℕ) (u v w : Option (List ℕ)) (new : ReaderState Before) (F : List Fact)
-    (held : Option Fact) → ReadWhole limit u v F → held ≡ None
+end_again : {limit : ℕ} {u v w : Option (List ℕ)} {new : ReaderState Before} {F : List Fact}
+    {held : Option Fact} → ReadWhole limit u v F → held ≡ None
     → GivesEnd journal_framing Ended new v w
     → Read limit u w new (F ++ option_list held) None
-end_again limit u v w new F held r n g =
+end_again {limit = limit} {u = u} {v = v} {w = w} {F = F} r n g =
     let k : Keeps v w = elim g.bytes [ inl a ↦ a.1 | inr a ↦ absurd (let o = a.0 in cc) ] in (
       subst (ReadWhole limit u w)
           (sym (ap (λ (h : Option Fact). F ++ option_list h) n ∙ append-nil F))
@@ -70,17 +78,15 @@ end_again limit u v w new F held r n g =
     )
 
 -- the next call reads one entry more, or the end
-read_on : (limit : ℕ) (u v w : Option (List ℕ)) (old new : ReaderState Before) (F : List Fact)
-    (held o : Option Fact) → ReadAt limit u v old F held
-    → Gives journal_framing limit old new v w (Ok o)
+read_on : {limit : ℕ} {u v : Option (List ℕ)} (w : Option (List ℕ))
+    (old new : ReaderState Before) {F : List Fact} {held : Option Fact} (o : Option Fact)
+    → IsCalled limit limit u v w old new F held (Ok o)
     → Read limit u w new (F ++ option_list held) o
-read_on limit u v w Header new F held o r g =
-    read_from limit u v w Header new (F ++ option_list held) o r g
-read_on limit u v w (Items place) new F held o r g =
-    read_from limit u v w (Items place) new (F ++ option_list held) o r g
-read_on limit u v w (Failed f) new F held o r g = absurd r
-read_on limit u v w Ended new F held (Some f) r g = absurd (let e = g.open_before in cc)
-read_on limit u v w Ended new F held None r g = end_again limit u v w new F held r.0 r.1 g
+read_on w Header new o c = read_from w new o c.read c.gives
+read_on w (Items place) new o c = read_from w new o c.read c.gives
+read_on w (Failed f) new o c = absurd c.read
+read_on w Ended new (Some f) c = absurd (let g = c.gives in let e = g.open_before in cc)
+read_on w Ended new None c = end_again c.read.0 c.read.1 c.gives
 
 read_open : (limit : ℕ) (u w : Option (List ℕ)) (state : ReaderState Before) (F : List Fact)
     (f : Fact) → IsTrue (is_open state) → Sofar journal_framing limit u w state (F ++ f ∷ [])
@@ -129,13 +135,14 @@ only_entries limit (Some xs) F K h k =
     (spelling-injective v w F K [] [] h.are_items.valid k.valid
     (append-nil (spelling_in v F) ∙ sym h.bytes_are ∙ e ∙ sym (append-nil (spelling_in w K)))).1
 
-known_of : (limit : ℕ) (u w : Option (List ℕ)) (state : ReaderState Before) (F : List Fact)
-    (o : Option Fact) → Read limit u w state F o → (K : List Fact) → IsJournalOfAll u K
+known_of : (limit : ℕ) {u : Option (List ℕ)} (w : Option (List ℕ))
+    (state : ReaderState Before) (F : List Fact) (o : Option Fact) → Read limit u w state F o
+    → (K : List Fact) → IsJournalOfAll u K
     → Continues K (F ++ option_list o) o
-known_of limit u w state F (Some f) r K k =
+known_of limit {u = u} w state F (Some f) r K k =
     let a = ahead-sofar limit u w state (F ++ f ∷ []) r k.version K k.valid k.rising k.bytes_are in
     record { rest = a.0; is = a.1; rising = k.rising; ended = λ e. absurd (let h = e in cc) }
-known_of limit u w state F None r K k =
+known_of limit {u = u} w state F None r K k =
     record {
       rest = [];
       is =
@@ -175,15 +182,24 @@ pub record GivesOn (limit : ℕ) (u w : Option (List ℕ)) (state : ReaderState 
   pub ended : held ≡ None → IfSome u (λ bytes. IsJournalWithin limit bytes G)
   pub known : (K : List Fact) → IsJournalOfAll u K → Continues K (G ++ option_list held) held
 
+-- a call with the limit that it was made with
+with_limit : {limit own : ℕ} {u v w : Option (List ℕ)} {old new : ReaderState Before}
+    {F : List Fact} {held : Option Fact} {result : Result (Option Fact) ReadFault}
+    → IsCalled limit own u v w old new F held result
+    → IsCalled limit limit u v w old new F held result
+with_limit {v = v} {w = w} {old = old} {new = new} {result = result} c = record {
+  same_limit = refl;
+  read = c.read;
+  gives = subst (λ x. Gives journal_framing x old new v w result) c.same_limit c.gives;
+}
+
 -- the state after a call that gave an entry or the end
-pub gives_on : (limit limit' : ℕ) (u v w : Option (List ℕ)) (old new : ReaderState Before)
-    (F : List Fact) (held o : Option Fact) → limit' ≡ limit → ReadAt limit u v old F held
-    → Gives journal_framing limit' old new v w (Ok o)
+pub gives_on : {limit own : ℕ} {u v w : Option (List ℕ)} {old new : ReaderState Before}
+    {F : List Fact} {held o : Option Fact} → IsCalled limit own u v w old new F held (Ok o)
     → GivesOn limit u w new (F ++ option_list held) o
-gives_on limit limit' u v w old new F held o same p g =
+gives_on {limit = limit} {u = u} {w = w} {old = old} {new = new} {F = F} {held = held} {o = o} c =
     let G = F ++ option_list held in
-    let r = read_on limit u v w old new F held o p
-    (subst (λ x. Gives journal_framing x old new v w (Ok o)) same g) in
+    let r = read_on w old new o (with_limit c) in
     record {
       read = read_at limit u w new G o r;
       reads = reads_of limit u w new G o r;
@@ -191,40 +207,40 @@ gives_on limit limit' u v w old new F held o same p g =
       rising = rising_of limit u w new G o r;
       sized = sized_of limit u w new G o r;
       ended = ended_of limit u w new G o r;
-      known = known_of limit u w new G o r;
+      known = known_of limit w new G o r;
     }
 
 -- A call that stops at a fault.
 
-fault_at : (limit : ℕ) (u v w : Option (List ℕ)) (old new : ReaderState Before) (F : List Fact)
-    (held : Option Fact) (f : ReadFault) → ReadAt limit u v old F held
-    → GivesFault journal_framing limit old new v w f
-    → ReadsEntries u w (F ++ option_list held) × HasFault journal_framing limit u f × IsTrue
-    (is_open old)
-fault_at limit u v w Header new F held f r g = (
-  reads-fault limit u v w Header new _ f r g,
-  sofar-fault journal_sound limit u v w Header new _
-      f r g,
-  refl,
-)
-fault_at limit u v w (Items place) new F held f r g = (
-  reads-fault limit u v w (Items place) new _ f r g,
-  sofar-fault journal_sound limit u v w
-      (Items place) new _ f r g,
-  refl,
-)
-fault_at limit u v w (Failed h) new F held f r g = absurd r
-fault_at limit u v w Ended new F held f r g = grind (arith)
+-- what was read before the fault, which the journal has
+pub record StopsOn (limit : ℕ) (u w : Option (List ℕ)) (old : ReaderState Before)
+    (G : List Fact) (f : ReadFault) : Type 0 where
+  pub reads : ReadsEntries u w G
+  pub has_fault : HasFault journal_framing limit u f
+  pub open_before : IsTrue (is_open old)
 
-pub stops_on : (limit limit' : ℕ) (u v w : Option (List ℕ)) (old new : ReaderState Before)
-    (F : List Fact) (held : Option Fact) (f : ReadFault) → limit' ≡ limit
-    → ReadAt limit u v old F held
-    → Gives journal_framing limit' old new v w (Err f)
-    → ReadsEntries u w (F ++ option_list held) × HasFault journal_framing limit u f × IsTrue
-    (is_open old)
-stops_on limit limit' u v w old new F held f same p g =
-    fault_at limit u v w old new F held f p
-    (subst (λ x. Gives journal_framing x old new v w (Err f)) same g)
+fault_at : {limit : ℕ} {u v w : Option (List ℕ)} (old : ReaderState Before)
+    {new : ReaderState Before} {F : List Fact} {held : Option Fact} {f : ReadFault}
+    → IsCalled limit limit u v w old new F held (Err f)
+    → StopsOn limit u w old (F ++ option_list held) f
+fault_at {limit = limit} {u = u} {v = v} {w = w} Header {new = new} {f = f} c = record {
+  reads = reads-fault limit u v w Header new _ f c.read c.gives;
+  has_fault = sofar-fault journal_sound limit u v w Header new _ f c.read c.gives;
+  open_before = refl;
+}
+fault_at {limit = limit} {u = u} {v = v} {w = w} (Items place) {new = new} {f = f} c = record {
+  reads = reads-fault limit u v w (Items place) new _ f c.read c.gives;
+  has_fault = sofar-fault journal_sound limit u v w (Items place) new _ f c.read c.gives;
+  open_before = refl;
+}
+fault_at (Failed h) c = absurd c.read
+fault_at Ended c = let g = c.gives in grind (arith)
+
+pub stops_on : {limit own : ℕ} {u v w : Option (List ℕ)} {old new : ReaderState Before}
+    {F : List Fact} {held : Option Fact} {f : ReadFault}
+    → IsCalled limit own u v w old new F held (Err f)
+    → StopsOn limit u w old (F ++ option_list held) f
+stops_on {old = old} c = fault_at old (with_limit c)
 
 -- a call that gave an entry or the end had no failure
 pub never : (b : Bool) (x y : ℕ) (o : Option Fact) → FailsIf {T = Option Fact} b x y (Ok o) → y ≡ x
@@ -240,6 +256,14 @@ module _ {R : Type 0} (unread : R → Option (List ℕ)) (failures : R → ℕ) 
       → FailsSince unread failures t u fault → FailsSince unread failures s u fault
   since s t u fault h k = grind (arith)
 
+  -- the reader of a stream that has given these facts since it was new was called again
+  abbrev Called : JournalStream R → JournalStream R → JournalStream R → List Fact
+      → Result (Option Fact) ReadFault → Type 0
+  Called start s t F result =
+      IsCalled (limit_of start.reader) (limit_of s.reader) (unread_of unread failures start)
+      (unread_of unread failures s) (unread_of unread failures t) (state_of s.reader)
+      (state_of t.reader) F s.held result
+
   -- the stream is advanced, or stops, as the trait's clauses say (specs/Streams)
   pub stream_goes_on : (s t : JournalStream R) → FailsSince unread failures s t None
       → limit_of t.reader ≡ limit_of s.reader
@@ -247,10 +271,9 @@ module _ {R : Type 0} (unread : R → Option (List ℕ)) (failures : R → ℕ) 
       (unread_of unread failures s) (unread_of unread failures t) (Ok t.held) → GoesOn b s t
   stream_goes_on s t same limit g = record {
     gave = λ start F p.
-        let r = gives_on (limit_of start.reader) (limit_of s.reader)
-        (unread_of unread failures start) (unread_of unread failures s)
-        (unread_of unread failures t) (state_of s.reader) (state_of t.reader) F s.held t.held
-        p.same_limit p.read g in
+        let call : Called start s t F (Ok t.held) =
+        record { same_limit = p.same_limit; read = p.read; gives = g } in
+        let r = gives_on call in
         let fails = since start s t None p.fails same in
         record {
           passes = record { fails = fails; same_limit = limit ∙ p.same_limit; read = r.read };
@@ -272,14 +295,13 @@ module _ {R : Type 0} (unread : R → Option (List ℕ)) (failures : R → ℕ) 
       (unread_of unread failures s) (unread_of unread failures t) (Err f)
       → StopsAt b s t (load.Read f)
   stream_stops s t f same g = λ start F p.
-      let h = stops_on (limit_of start.reader) (limit_of s.reader) (unread_of unread failures start)
-      (unread_of unread failures s) (unread_of unread failures t) (state_of s.reader)
-      (state_of t.reader) F s.held f p.same_limit p.read g in
+      let call : Called start s t F (Err f) =
+      record { same_limit = p.same_limit; read = p.read; gives = g } in
+      let h = stops_on call in
       record {
-        reads = h.0;
-        fails = since start s t (Some (load.Read f)) p.fails (same h.2);
-        stops =
-            h.1;
+        reads = h.reads;
+        fails = since start s t (Some (load.Read f)) p.fails (same h.open_before);
+        stops = h.has_fault;
       }
 
   pub none_failed : (s t : JournalStream R)

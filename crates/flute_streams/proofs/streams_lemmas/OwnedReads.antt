@@ -1,9 +1,11 @@
 -- OwnedJournalStream: reading on in a journal advances the stream.
 use Rattle.flute_streams.proofs.Common.{◌≡◌, ℕ, List, length, Option, Some, Ok, Err, Bool}
+use Rattle.flute_streams.proofs.Common.{Result}
 use Rattle.flute_streams.proofs.Common.{ap, ◌∙◌, subst, arith, Fact, ReadFault, FailsIf}
 use Rattle.flute_streams.proofs.Common.{is_open, Gives, journal_framing, Behaviour, option_list}
 use Rattle.flute_streams.proofs.Common.{GoesOn, StopsAt, room, FailsBy}
-use Rattle.flute_streams.proofs.streams_lemmas.JournalReads.{gives_on, stops_on, never, fewer}
+use Rattle.flute_streams.proofs.streams_lemmas.JournalReads.{IsCalled, gives_on, stops_on, never}
+use Rattle.flute_streams.proofs.streams_lemmas.JournalReads.{fewer}
 use Rattle.flute_journal.specs.declared.fault.LoadFault.TheVariants as load
 use Rattle.flute_streams.specs.declared.streams.owned_journal_stream.OwnedJournalStream.{OwnedJournalStream}
 use Rattle.flute_streams.specs.OwnedStreams.{owned_behaviour}
@@ -13,6 +15,12 @@ module _ {R : Type 0} (unread : R → Option (List ℕ)) (failures : R → ℕ) 
     abbrev b : Behaviour (OwnedJournalStream R)
     b = owned_behaviour unread failures
 
+    -- the reader of a stream that has given these facts since it was new was called again
+    abbrev Called : OwnedJournalStream R → List Fact → Result (Option Fact) ReadFault → Type 0
+    Called start F result =
+        IsCalled start.max_entries s.max_entries (unread start.source) (unread s.source)
+        (unread t.source) s.state t.state F s.held result
+
     pub owned_goes_on : t.max_entries ≡ s.max_entries
         → FailsIf {T = Option Fact} (is_open s.state) (failures s.source) (failures t.source)
         (Ok t.held)
@@ -20,8 +28,9 @@ module _ {R : Type 0} (unread : R → Option (List ℕ)) (failures : R → ℕ) 
         (Ok t.held) → GoesOn b s t
     owned_goes_on limit h g = record {
       gave = λ start F p.
-          let r = gives_on start.max_entries s.max_entries (unread start.source) (unread s.source)
-          (unread t.source) s.state t.state F s.held t.held p.same_limit p.read g in
+          let call : Called start F (Ok t.held) =
+          record { same_limit = p.same_limit; read = p.read; gives = g } in
+          let r = gives_on call in
           let fails : failures t.source ≡ failures start.source =
           never (is_open s.state) (failures s.source) (failures t.source) t.held h ∙ p.fails in
           record {
@@ -51,16 +60,16 @@ module _ {R : Type 0} (unread : R → Option (List ℕ)) (failures : R → ℕ) 
         → Gives journal_framing s.max_entries s.state t.state (unread s.source) (unread t.source)
         (Err f) → StopsAt b s t (load.Read f)
     owned_stops f h g = λ start F p.
-        let r = stops_on start.max_entries s.max_entries (unread start.source) (unread s.source)
-        (unread t.source) s.state t.state F s.held f p.same_limit p.read g in
+        let call : Called start F (Err f) =
+        record { same_limit = p.same_limit; read = p.read; gives = g } in
+        let r = stops_on call in
         let failed : FailsBy (failures s.source) (failures t.source) (Some (load.Read f)) =
         subst
         (λ (more : Bool). FailsIf {T = Option Fact} more (failures s.source) (failures t.source)
-        (Err f)) r.2 h in
+        (Err f)) r.open_before h in
         record {
-          reads = r.0;
+          reads = r.reads;
           fails =
               subst (λ n. FailsBy n (failures t.source) (Some (load.Read f))) p.fails failed;
-          stops =
-              r.1;
+          stops = r.has_fault;
         }

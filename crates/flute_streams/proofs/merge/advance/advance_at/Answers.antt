@@ -24,8 +24,7 @@ loop-number-preserved g c =
           ≡ g.G.Streams.names c.args.streams.now in
           record {
             went = subst P (sym w.streams-is)
-                (one_goes g.G.Stream.Stream.behaviour c.args.place k old now
-                (g.G.Streams.streams w.advance.new.self) c.loop-number.invariant.went a
+                (one_goes g.G.Stream.Stream.behaviour c.args.place c.loop-number.invariant.went a
                 (sym (ap place_of (c.head.ensures a.before a.was))
                 ∙ c.is_at.ensures.at w.if-is_at.true));
             all = subst Q (sym w.streams-is)
@@ -47,7 +46,7 @@ loop-number-preserved g c =
           ≡ g.G.Streams.names c.args.streams.now in
           record {
             went = subst P (sym w.streams-is)
-                (one_stays g.G.Stream.Stream.behaviour c.args.place k old now x.0
+                (one_stays g.G.Stream.Stream.behaviour c.args.place
                 c.loop-number.invariant.went x.1
                 (λ e. c.is_at.ensures.elsewhere w.if-is_at.false
                 (ap place_of (c.head.ensures x.0 x.1) ∙ e)));

@@ -47,21 +47,21 @@ returns-in-Err-clause-failures g c =
 pub returns-then-stops-clause-short : goal.returns-then-stops-clause-short
 returns-then-stops-clause-short g c =
     (stop_header g.G.Stream.Stream.behaviour c.args.patient (g.G.Streams.streams c.args.streams.now)
-    (g.G.Streams.streams c.advance_at.new.streams) _ _ c.requires.new c.in_default.ensures.go_on
+    (g.G.Streams.streams c.advance_at.new.streams) c.requires.new c.in_default.ensures.go_on
     (puts-part c.args.writer.now.failed c.header.new.self.failed _ _ header c.requires.good
     (c.stops.ensures.stops c.if-stops.true).0 c.header.ensures.puts)).0.short
 
 pub returns-then-stops-clause-reads_ahead : goal.returns-then-stops-clause-reads_ahead
 returns-then-stops-clause-reads_ahead g c =
     (stop_header g.G.Stream.Stream.behaviour c.args.patient (g.G.Streams.streams c.args.streams.now)
-    (g.G.Streams.streams c.advance_at.new.streams) _ _ c.requires.new c.in_default.ensures.go_on
+    (g.G.Streams.streams c.advance_at.new.streams) c.requires.new c.in_default.ensures.go_on
     (puts-part c.args.writer.now.failed c.header.new.self.failed _ _ header c.requires.good
     (c.stops.ensures.stops c.if-stops.true).0 c.header.ensures.puts)).0.reads_ahead
 
 pub returns-then-stops-clause-failures : goal.returns-then-stops-clause-failures
 returns-then-stops-clause-failures g c =
     (stop_header g.G.Stream.Stream.behaviour c.args.patient (g.G.Streams.streams c.args.streams.now)
-    (g.G.Streams.streams c.advance_at.new.streams) _ _ c.requires.new c.in_default.ensures.go_on
+    (g.G.Streams.streams c.advance_at.new.streams) c.requires.new c.in_default.ensures.go_on
     (puts-part c.args.writer.now.failed c.header.new.self.failed _ _ header c.requires.good
     (c.stops.ensures.stops c.if-stops.true).0 c.header.ensures.puts)).1
 
@@ -69,13 +69,13 @@ pub entry-requires : goal.entry-requires
 entry-requires g c =
     record {
       sized = sized-lowest g.G.Stream.Stream.behaviour c.loop-fact.invariant.state
-          (fact_of c.in-Some.fact) c.in-Some.ensures.lowest;
+          c.in-Some.ensures.lowest;
     }
 
 pub returns-then-stops-2-clause-short : goal.returns-then-stops-2-clause-short
 returns-then-stops-2-clause-short g c =
     (stop_entry g.G.Stream.Stream.behaviour c.loop-fact.invariant.state
-    (fact_of c.in-Some.fact) c.in-Some.ensures.lowest c.entry.ensures.valid c.args.patient _
+    c.in-Some.ensures.lowest c.entry.ensures.valid c.args.patient
     (c.loop-fact.invariant.eager (c.stops-in-Some.ensures.stops c.if-stops-2.true).1)
     (puts-part c.loop-fact.writer.failed c.entry.new.self.failed _ _
     (entry (fact_of c.in-Some.fact)) (c.loop-fact.invariant.eager
@@ -85,7 +85,7 @@ returns-then-stops-2-clause-short g c =
 pub returns-then-stops-2-clause-reads_ahead : goal.returns-then-stops-2-clause-reads_ahead
 returns-then-stops-2-clause-reads_ahead g c =
     (stop_entry g.G.Stream.Stream.behaviour c.loop-fact.invariant.state
-    (fact_of c.in-Some.fact) c.in-Some.ensures.lowest c.entry.ensures.valid c.args.patient _
+    c.in-Some.ensures.lowest c.entry.ensures.valid c.args.patient
     (c.loop-fact.invariant.eager (c.stops-in-Some.ensures.stops c.if-stops-2.true).1)
     (puts-part c.loop-fact.writer.failed c.entry.new.self.failed _ _
     (entry (fact_of c.in-Some.fact)) (c.loop-fact.invariant.eager
@@ -99,7 +99,7 @@ returns-then-stops-2-clause-failures g c =
 pub returns-in-Err-advance-clause-short : goal.returns-in-Err-advance-clause-short
 returns-in-Err-advance-clause-short g c =
     (stop_input g.G.Stream.Stream.behaviour c.loop-fact.invariant.state
-    (fact_of c.in-Some.fact) c.in-Some.ensures.lowest c.entry.ensures.valid c.args.patient
+    c.in-Some.ensures.lowest c.entry.ensures.valid c.args.patient
     c.entry.new.self.failed (g.G.Streams.streams c.advance.new.streams) _ c.in-Err-advance.fault
     c.entry.ensures.puts.puts (c.stops-in-Some.ensures.goes_on c.if-stops-2.false)
     (subst (λ a. StopsIn g.G.Stream.Stream.behaviour (Some a)
@@ -110,7 +110,7 @@ returns-in-Err-advance-clause-short g c =
 pub returns-in-Err-advance-clause-reads_ahead : goal.returns-in-Err-advance-clause-reads_ahead
 returns-in-Err-advance-clause-reads_ahead g c =
     (stop_input g.G.Stream.Stream.behaviour c.loop-fact.invariant.state
-    (fact_of c.in-Some.fact) c.in-Some.ensures.lowest c.entry.ensures.valid c.args.patient
+    c.in-Some.ensures.lowest c.entry.ensures.valid c.args.patient
     c.entry.new.self.failed (g.G.Streams.streams c.advance.new.streams) _ c.in-Err-advance.fault
     c.entry.ensures.puts.puts (c.stops-in-Some.ensures.goes_on c.if-stops-2.false)
     (subst (λ a. StopsIn g.G.Stream.Stream.behaviour (Some a)
@@ -121,7 +121,7 @@ returns-in-Err-advance-clause-reads_ahead g c =
 pub returns-in-Err-advance-clause-fault : goal.returns-in-Err-advance-clause-fault
 returns-in-Err-advance-clause-fault g c =
     (stop_input g.G.Stream.Stream.behaviour c.loop-fact.invariant.state
-    (fact_of c.in-Some.fact) c.in-Some.ensures.lowest c.entry.ensures.valid c.args.patient
+    c.in-Some.ensures.lowest c.entry.ensures.valid c.args.patient
     c.entry.new.self.failed (g.G.Streams.streams c.advance.new.streams) _ c.in-Err-advance.fault
     c.entry.ensures.puts.puts (c.stops-in-Some.ensures.goes_on c.if-stops-2.false)
     (subst (λ a. StopsIn g.G.Stream.Stream.behaviour (Some a)
@@ -132,7 +132,7 @@ returns-in-Err-advance-clause-fault g c =
 pub returns-in-Err-advance-clause-can_go_on : goal.returns-in-Err-advance-clause-can_go_on
 returns-in-Err-advance-clause-can_go_on g c =
     (stop_input g.G.Stream.Stream.behaviour c.loop-fact.invariant.state
-    (fact_of c.in-Some.fact) c.in-Some.ensures.lowest c.entry.ensures.valid c.args.patient
+    c.in-Some.ensures.lowest c.entry.ensures.valid c.args.patient
     c.entry.new.self.failed (g.G.Streams.streams c.advance.new.streams) _ c.in-Err-advance.fault
     c.entry.ensures.puts.puts (c.stops-in-Some.ensures.goes_on c.if-stops-2.false)
     (subst (λ a. StopsIn g.G.Stream.Stream.behaviour (Some a)
@@ -143,7 +143,7 @@ returns-in-Err-advance-clause-can_go_on g c =
 pub returns-in-Err-advance-clause-failures : goal.returns-in-Err-advance-clause-failures
 returns-in-Err-advance-clause-failures g c =
     (stop_input g.G.Stream.Stream.behaviour c.loop-fact.invariant.state
-    (fact_of c.in-Some.fact) c.in-Some.ensures.lowest c.entry.ensures.valid c.args.patient
+    c.in-Some.ensures.lowest c.entry.ensures.valid c.args.patient
     c.entry.new.self.failed (g.G.Streams.streams c.advance.new.streams) _ c.in-Err-advance.fault
     c.entry.ensures.puts.puts (c.stops-in-Some.ensures.goes_on c.if-stops-2.false)
     (subst (λ a. StopsIn g.G.Stream.Stream.behaviour (Some a)
@@ -154,7 +154,7 @@ returns-in-Err-advance-clause-failures g c =
 pub overflow_add-entries : goal.overflow_add-entries
 overflow_add-entries g c =
     let next = state_turn g.G.Stream.Stream.behaviour c.loop-fact.invariant.state
-    (fact_of c.in-Some.fact) c.in-Some.ensures.lowest c.entry.ensures.valid
+    c.in-Some.ensures.lowest c.entry.ensures.valid
     c.entry.new.self.failed (IsCounted g.row.SESSIONS g.row.OBJECTS g.row.SYMBOLS
     c.count_place-within.new.tally c.count_place-within.result)
     (g.G.Streams.streams c.advance.new.streams) _
@@ -168,7 +168,7 @@ overflow_add-entries g c =
 pub loop-fact-smaller : goal.loop-fact-smaller
 loop-fact-smaller g c =
     turn-falls g.G.Stream.Stream.behaviour c.loop-fact.invariant.state
-    (fact_of c.in-Some.fact) c.in-Some.ensures.lowest (g.G.Streams.streams c.advance.new.streams)
+    c.in-Some.ensures.lowest (g.G.Streams.streams c.advance.new.streams)
     (subst (λ a. GoOnAt g.G.Stream.Stream.behaviour (Some a)
     (g.G.Streams.streams c.loop-fact.streams) (g.G.Streams.streams c.advance.new.streams))
     c.address-place.ensures c.in_default-advance.ensures.go_on)
@@ -176,7 +176,7 @@ loop-fact-smaller g c =
 pub returns-then-stops-3-clause-short : goal.returns-then-stops-3-clause-short
 returns-then-stops-3-clause-short g c =
     (stop_end g.G.Stream.Stream.behaviour c.loop-fact.invariant.state
-    c.in_default-lowest.ensures.lowest c.args.patient _
+    c.in_default-lowest.ensures.lowest c.args.patient
     (c.loop-fact.invariant.eager (c.stops-2.ensures.stops c.if-stops-3.true).1)
     (puts-part c.loop-fact.writer.failed c.end.new.self.failed _ _ (end c.loop-fact.entries)
     (c.loop-fact.invariant.eager (c.stops-2.ensures.stops c.if-stops-3.true).1)
@@ -185,7 +185,7 @@ returns-then-stops-3-clause-short g c =
 pub returns-then-stops-3-clause-reads_ahead : goal.returns-then-stops-3-clause-reads_ahead
 returns-then-stops-3-clause-reads_ahead g c =
     (stop_end g.G.Stream.Stream.behaviour c.loop-fact.invariant.state
-    c.in_default-lowest.ensures.lowest c.args.patient _
+    c.in_default-lowest.ensures.lowest c.args.patient
     (c.loop-fact.invariant.eager (c.stops-2.ensures.stops c.if-stops-3.true).1)
     (puts-part c.loop-fact.writer.failed c.end.new.self.failed _ _ (end c.loop-fact.entries)
     (c.loop-fact.invariant.eager (c.stops-2.ensures.stops c.if-stops-3.true).1)
@@ -197,13 +197,13 @@ returns-then-stops-3-clause-failures g c =
 
 pub returns-clause-merged : goal.returns-clause-merged
 returns-clause-merged g c =
-    (finished g.G.Stream.Stream.behaviour g.row.SESSIONS g.row.OBJECTS g.row.SYMBOLS
+    (finished g.G.Stream.Stream.behaviour
     c.loop-fact.tally c.loop-fact.within c.end.new.self.failed c.loop-fact.invariant.state _
     c.requires.few c.in_default-lowest.ensures.lowest c.end.ensures.puts).merged
 
 pub returns-clause-ended : goal.returns-clause-ended
 returns-clause-ended g c =
-    finished g.G.Stream.Stream.behaviour g.row.SESSIONS g.row.OBJECTS g.row.SYMBOLS
+    finished g.G.Stream.Stream.behaviour
     c.loop-fact.tally c.loop-fact.within c.end.new.self.failed c.loop-fact.invariant.state _
     c.requires.few c.in_default-lowest.ensures.lowest c.end.ensures.puts
 
@@ -212,7 +212,7 @@ returns-clause-failures g c = no_failure g.G.Stream.Stream.behaviour c.loop-fact
 
 pub returns-clause-cut : goal.returns-clause-cut
 returns-clause-cut g c = λ e.
-    let m = (finished g.G.Stream.Stream.behaviour g.row.SESSIONS g.row.OBJECTS g.row.SYMBOLS
+    let m = (finished g.G.Stream.Stream.behaviour
     c.loop-fact.tally c.loop-fact.within c.end.new.self.failed c.loop-fact.invariant.state _
     c.requires.few c.in_default-lowest.ensures.lowest c.end.ensures.puts).merged in
     cut_journal _ _ _ _ c.end.new.self.failed e m.puts
@@ -224,7 +224,7 @@ some_end n e = cc
 
 pub returns-then-not-within-clause-merged : goal.returns-then-not-within-clause-merged
 returns-then-not-within-clause-merged g c =
-    (finished g.G.Stream.Stream.behaviour g.row.SESSIONS g.row.OBJECTS g.row.SYMBOLS
+    (finished g.G.Stream.Stream.behaviour
     c.loop-fact.tally c.loop-fact.within true c.loop-fact.invariant.state _ c.requires.few
     c.in_default-lowest.ensures.lowest
     (left_out c.loop-fact.writer.failed _ (end c.loop-fact.entries)
@@ -232,7 +232,7 @@ returns-then-not-within-clause-merged g c =
 
 pub returns-then-not-within-clause-ended : goal.returns-then-not-within-clause-ended
 returns-then-not-within-clause-ended g c =
-    finished g.G.Stream.Stream.behaviour g.row.SESSIONS g.row.OBJECTS g.row.SYMBOLS
+    finished g.G.Stream.Stream.behaviour
     c.loop-fact.tally c.loop-fact.within true c.loop-fact.invariant.state _ c.requires.few
     c.in_default-lowest.ensures.lowest
     (left_out c.loop-fact.writer.failed _ (end c.loop-fact.entries) (some_end c.loop-fact.entries))
@@ -243,7 +243,7 @@ returns-then-not-within-clause-failures g c =
 
 pub returns-then-not-within-clause-cut : goal.returns-then-not-within-clause-cut
 returns-then-not-within-clause-cut g c = λ e.
-    let m = (finished g.G.Stream.Stream.behaviour g.row.SESSIONS g.row.OBJECTS g.row.SYMBOLS
+    let m = (finished g.G.Stream.Stream.behaviour
     c.loop-fact.tally c.loop-fact.within true c.loop-fact.invariant.state _ c.requires.few
     c.in_default-lowest.ensures.lowest
     (left_out c.loop-fact.writer.failed _ (end c.loop-fact.entries)

@@ -5,9 +5,7 @@ use Rattle.flute_streams.proofs.merge.leading.Lead.follow.Goals as goal
 
 pub returns-in-Err-clause-stops : goal.returns-in-Err-clause-stops
 returns-in-Err-clause-stops g c = λ a at.
-    lead-stops g.G.Stream.Stream.behaviour (g.G.Streams.streams c.args.streams.now)
-    (g.G.Streams.streams c.advance.new.self) c.args.self.now.number c.args.self.now.next a
-    c.in-Err.fault
+    lead-stops g.G.Stream.Stream.behaviour a
     c.requires at c.in-Err.ensures.advances
 
 pub head-requires : goal.head-requires
@@ -22,13 +20,10 @@ head-requires g c =
 
 pub returns-clause-go_on : goal.returns-clause-go_on
 returns-clause-go_on g c = λ a at.
-    lead-goes g.G.Stream.Stream.behaviour (g.G.Streams.streams c.args.streams.now)
-    (g.G.Streams.streams c.advance.new.self) c.args.self.now.number c.args.self.now.next a
+    lead-goes g.G.Stream.Stream.behaviour a
     c.requires at c.in_default.ensures.advances
 
 pub returns-clause-leads : goal.returns-clause-leads
 returns-clause-leads g c = λ below.
-    still-leads g.G.Stream.Stream.behaviour (g.G.Streams.streams c.args.streams.now)
-    (g.G.Streams.streams c.advance.new.self) c.args.self.now.number c.args.self.now.next
-    (fact_in c.head.result)
+    still-leads g.G.Stream.Stream.behaviour
     c.requires c.in_default.ensures.advances c.head.ensures (c.is_below-self.ensures below)

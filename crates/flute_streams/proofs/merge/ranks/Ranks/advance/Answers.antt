@@ -27,16 +27,15 @@ returns-in-Err-clause-stops g c =
     let at : c.args.place ≡ place_at_rank c.args.place.key rank =
     same_place c.args.place c.args.place.key rank refl c.number_of-rank.ensures in
     let apart =
-    passed_elsewhere b c.args.place.key c.args.place rank c.loop-number.next k at found.3
+    passed_elsewhere b c.args.place.key rank c.loop-number.next k at found.3
     i.ranked in
     let went =
-    more_stay b (Some c.args.place) (k - c.loop-number.next) c.loop-number.next k old now
+    more_stay b (Some c.args.place) (k - c.loop-number.next)
     (omega (arith, found.0)) (omega (arith, found.1, i.all)) apart i.went in
     let a = c.in-Err.ensures.advances in
     let there =
     sym (ap place_of (c.head.ensures a.before a.was)) ∙ c.is_at.ensures.at c.if-is_at.true in
-    one_stops b (Some c.args.place) k old now (g.G.Streams.streams c.advance.new.self)
-    c.in-Err.fault went a there
+    one_stops b (Some c.args.place) went a there
 
 pub loop-number-preserved : goal.loop-number-preserved
 loop-number-preserved g c =
@@ -51,9 +50,9 @@ loop-number-preserved g c =
     let joined = c.if-is_at in
     let at : c.args.place ≡ place_at_rank key rank =
     same_place c.args.place key rank refl c.number_of-rank.ensures in
-    let apart = passed_elsewhere b key c.args.place rank c.loop-number.next k at found.3 i.ranked in
+    let apart = passed_elsewhere b key rank c.loop-number.next k at found.3 i.ranked in
     let went =
-    more_stay b (Some c.args.place) (k - c.loop-number.next) c.loop-number.next k old now
+    more_stay b (Some c.args.place) (k - c.loop-number.next)
     (omega (arith, found.0)) (omega (arith, found.1, i.all)) apart i.went in
     let ranked = rest_from b key c.loop-number.next k found.0 i.ranked in
     let W = λ (s : g.row.G.Denot).
@@ -83,7 +82,7 @@ loop-number-preserved g c =
           record {
             went =
                 subst W (sym w.streams-is)
-                (one_goes b (Some c.args.place) k old now new went a there);
+                (one_goes b (Some c.args.place) went a there);
             all = subst L (sym w.streams-is) (same_length b k now new a ∙ i.all);
             names = subst N (sym w.streams-is) (w.advance.ensures.names ∙ i.names);
             ranked =
@@ -107,7 +106,7 @@ loop-number-preserved g c =
           record {
             went =
                 subst W (sym w.streams-is)
-                (one_stays b (Some c.args.place) k old now x.0 went x.1 stays);
+                (one_stays b (Some c.args.place) went x.1 stays);
             all = subst L (sym w.streams-is) i.all;
             names = subst N (sym w.streams-is) i.names;
             ranked =
