@@ -5,7 +5,7 @@ use Rattle.flute_streams.proofs.Common.{List, ◌++◌, length, take, Option, So
 use Rattle.flute_streams.proofs.Common.{inl, inr, ◌⊎◌, sym, ap, ◌∙◌}
 use Rattle.flute_streams.proofs.Common.{subst, arith, cases_Bool, eqb, eqb-false, eqb-true}
 use Rattle.flute_streams.proofs.Common.{slice_get, slice_get_within, same_Some, Address, Fact}
-use Rattle.flute_streams.proofs.Common.{option_list, Behaviour, Advances, heads, place_of}
+use Rattle.flute_streams.proofs.Common.{option_list, Behaviour, Advances, heads}
 use Rattle.flute_streams.proofs.merge_lemmas.GoingOn.{NoneAt, WentSoFar, all_went, item_at}
 use Rattle.flute_streams.proofs.merge_lemmas.GoingOn.{more_stay}
 use Rattle.flute_streams.proofs.merge_lemmas.LeadFacts.{set_elsewhere}

@@ -1,7 +1,7 @@
 -- JournalStream: reading on in a journal advances the stream (specs/JournalStreams).
 use Rattle.flute_streams.proofs.Common.{journal_framing, Behaviour, Bool, Consumes-kept, Continues}
 use Rattle.flute_streams.proofs.Common.{Ended, Items, Err, Fact, Failed, FailsIf, FailsSince, Gives}
-use Rattle.flute_streams.proofs.Common.{GivesEnd, GivesFault, GoesOn, HasFault, Header, IfSome}
+use Rattle.flute_streams.proofs.Common.{GivesEnd, GoesOn, HasFault, Header, IfSome}
 use Rattle.flute_streams.proofs.Common.{IsFactIn, IsJournalOfAll, IsJournalWithin, IsRising}
 use Rattle.flute_streams.proofs.Common.{IsSized, IsTrue, Keeps, LentStream, List, LoadFault, None}
 use Rattle.flute_streams.proofs.Common.{Ok, Option, ReadAt, ReadFault, ReadWhole, ReadsEntries}

@@ -1,69 +1,65 @@
 -- merge_into: each exit follows by a lemma on the state of the merge before it.
 use Rattle.flute_streams.proofs.Common.{◌≢◌, ℕ, [], true, Some, sym, subst, arith, fact_of}
 use Rattle.flute_streams.proofs.Common.{header, entry, end, GoOnAt, StopsIn, IsCounted}
+use Rattle.flute_streams.proofs.Common.{Input, NoneFails, OneFails, Write}
 use Rattle.flute_journal.proofs.Public.{puts-part, left_out}
 use Rattle.flute_streams.proofs.merge_lemmas.Finished.{cut_journal}
 use Rattle.flute_streams.proofs.merge_lemmas.StreamStates.{stop_first, stop_header, state_turn}
 use Rattle.flute_streams.proofs.merge_lemmas.StreamStates.{turn-falls, sized-lowest, few-joined}
 use Rattle.flute_streams.proofs.merge_lemmas.StreamStates.{no_failure, stop_entry, stop_input}
-use Rattle.flute_streams.proofs.merge_lemmas.StreamStates.{stop_end, finished}
+use Rattle.flute_streams.proofs.merge_lemmas.StreamStates.{stop_end, finished, Stopping}
+use Rattle.flute_streams.proofs.merge.all_streams.merge_into.Given.{Over}
 use Rattle.flute_streams.proofs.merge.all_streams.merge_into.Goals as goal
 
-pub returns-in-Err-clause-short : goal.returns-in-Err-clause-short
-returns-in-Err-clause-short g c =
-    (stop_first g.G.Stream.Stream.behaviour c.args.patient (g.G.Streams.streams c.args.streams.now)
+-- an input stopped before the header was written
+first_stop : (g : Over) (c : goal.In-Err g)
+    → Stopping g.G.Stream.Stream.behaviour c.args.patient (g.G.Streams.streams c.args.streams.now)
+    (g.G.Streams.streams c.advance_at.new.streams) (g.W.Sink.written c.args.writer.now.sink.now)
+    (g.W.Sink.written c.args.writer.now.sink.now) (Input c.in-Err.fault)
+    × OneFails g.G.Stream.Stream.behaviour c.in-Err.fault.number c.in-Err.fault.fault
+    (g.G.Streams.streams c.args.streams.now) (g.G.Streams.streams c.advance_at.new.streams)
+first_stop g c =
+    stop_first g.G.Stream.Stream.behaviour c.args.patient (g.G.Streams.streams c.args.streams.now)
     (g.G.Streams.streams c.advance_at.new.streams)
     (g.W.Sink.written c.args.writer.now.sink.now) c.in-Err.fault c.requires.new
-    c.in-Err.ensures.stops).0.short
+    c.in-Err.ensures.stops
+
+pub returns-in-Err-clause-short : goal.returns-in-Err-clause-short
+returns-in-Err-clause-short g c = (first_stop g c).0.short
 
 pub returns-in-Err-clause-reads_ahead : goal.returns-in-Err-clause-reads_ahead
-returns-in-Err-clause-reads_ahead g c =
-    (stop_first g.G.Stream.Stream.behaviour c.args.patient (g.G.Streams.streams c.args.streams.now)
-    (g.G.Streams.streams c.advance_at.new.streams)
-    (g.W.Sink.written c.args.writer.now.sink.now) c.in-Err.fault c.requires.new
-    c.in-Err.ensures.stops).0.reads_ahead
+returns-in-Err-clause-reads_ahead g c = (first_stop g c).0.reads_ahead
 
 pub returns-in-Err-clause-fault : goal.returns-in-Err-clause-fault
-returns-in-Err-clause-fault g c =
-    (stop_first g.G.Stream.Stream.behaviour c.args.patient (g.G.Streams.streams c.args.streams.now)
-    (g.G.Streams.streams c.advance_at.new.streams)
-    (g.W.Sink.written c.args.writer.now.sink.now) c.in-Err.fault c.requires.new
-    c.in-Err.ensures.stops).0.names
+returns-in-Err-clause-fault g c = (first_stop g c).0.names
 
 pub returns-in-Err-clause-can_go_on : goal.returns-in-Err-clause-can_go_on
-returns-in-Err-clause-can_go_on g c =
-    (stop_first g.G.Stream.Stream.behaviour c.args.patient (g.G.Streams.streams c.args.streams.now)
-    (g.G.Streams.streams c.advance_at.new.streams)
-    (g.W.Sink.written c.args.writer.now.sink.now) c.in-Err.fault c.requires.new
-    c.in-Err.ensures.stops).0.can_go_on
+returns-in-Err-clause-can_go_on g c = (first_stop g c).0.can_go_on
 
 pub returns-in-Err-clause-failures : goal.returns-in-Err-clause-failures
-returns-in-Err-clause-failures g c =
-    (stop_first g.G.Stream.Stream.behaviour c.args.patient (g.G.Streams.streams c.args.streams.now)
+returns-in-Err-clause-failures g c = (first_stop g c).1
+
+-- the header could not be written
+header_stop : (g : Over) (c : goal.Then-stops g)
+    → Stopping g.G.Stream.Stream.behaviour c.args.patient (g.G.Streams.streams c.args.streams.now)
+    (g.G.Streams.streams c.advance_at.new.streams) (g.W.Sink.written c.args.writer.now.sink.now)
+    (g.W.Sink.written c.header.new.self.sink.now) Write
+    × NoneFails g.G.Stream.Stream.behaviour (g.G.Streams.streams c.args.streams.now)
     (g.G.Streams.streams c.advance_at.new.streams)
-    (g.W.Sink.written c.args.writer.now.sink.now) c.in-Err.fault c.requires.new
-    c.in-Err.ensures.stops).1
+header_stop g c =
+    stop_header g.G.Stream.Stream.behaviour c.args.patient (g.G.Streams.streams c.args.streams.now)
+    (g.G.Streams.streams c.advance_at.new.streams) c.requires.new c.in_default.ensures.go_on
+    (puts-part c.args.writer.now.failed c.header.new.self.failed _ _ header c.requires.good
+    (c.stops.ensures.stops c.if-stops.true).0 c.header.ensures.puts)
 
 pub returns-then-stops-clause-short : goal.returns-then-stops-clause-short
-returns-then-stops-clause-short g c =
-    (stop_header g.G.Stream.Stream.behaviour c.args.patient (g.G.Streams.streams c.args.streams.now)
-    (g.G.Streams.streams c.advance_at.new.streams) c.requires.new c.in_default.ensures.go_on
-    (puts-part c.args.writer.now.failed c.header.new.self.failed _ _ header c.requires.good
-    (c.stops.ensures.stops c.if-stops.true).0 c.header.ensures.puts)).0.short
+returns-then-stops-clause-short g c = (header_stop g c).0.short
 
 pub returns-then-stops-clause-reads_ahead : goal.returns-then-stops-clause-reads_ahead
-returns-then-stops-clause-reads_ahead g c =
-    (stop_header g.G.Stream.Stream.behaviour c.args.patient (g.G.Streams.streams c.args.streams.now)
-    (g.G.Streams.streams c.advance_at.new.streams) c.requires.new c.in_default.ensures.go_on
-    (puts-part c.args.writer.now.failed c.header.new.self.failed _ _ header c.requires.good
-    (c.stops.ensures.stops c.if-stops.true).0 c.header.ensures.puts)).0.reads_ahead
+returns-then-stops-clause-reads_ahead g c = (header_stop g c).0.reads_ahead
 
 pub returns-then-stops-clause-failures : goal.returns-then-stops-clause-failures
-returns-then-stops-clause-failures g c =
-    (stop_header g.G.Stream.Stream.behaviour c.args.patient (g.G.Streams.streams c.args.streams.now)
-    (g.G.Streams.streams c.advance_at.new.streams) c.requires.new c.in_default.ensures.go_on
-    (puts-part c.args.writer.now.failed c.header.new.self.failed _ _ header c.requires.good
-    (c.stops.ensures.stops c.if-stops.true).0 c.header.ensures.puts)).1
+returns-then-stops-clause-failures g c = (header_stop g c).1
 
 pub entry-requires : goal.entry-requires
 entry-requires g c =
@@ -72,84 +68,61 @@ entry-requires g c =
           c.in-Some.ensures.lowest;
     }
 
-pub returns-then-stops-2-clause-short : goal.returns-then-stops-2-clause-short
-returns-then-stops-2-clause-short g c =
-    (stop_entry g.G.Stream.Stream.behaviour c.loop-fact.invariant.state
-    c.in-Some.ensures.lowest c.entry.ensures.valid c.args.patient
-    (c.loop-fact.invariant.eager (c.stops-in-Some.ensures.stops c.if-stops-2.true).1)
+-- an entry could not be written
+entry_stop : (g : Over) (c : goal.Then-stops-2 g)
+    → Stopping g.G.Stream.Stream.behaviour c.args.patient (g.G.Streams.streams c.args.streams.now)
+    (g.G.Streams.streams c.loop-fact.streams) (g.W.Sink.written c.args.writer.now.sink.now)
+    (g.W.Sink.written c.entry.new.self.sink.now) Write
+entry_stop g c =
+    let stops = c.stops-in-Some.ensures.stops c.if-stops-2.true in
+    let good = c.loop-fact.invariant.eager stops.1 in
+    stop_entry g.G.Stream.Stream.behaviour c.loop-fact.invariant.state c.in-Some.ensures.lowest
+    c.entry.ensures.valid c.args.patient good
     (puts-part c.loop-fact.writer.failed c.entry.new.self.failed _ _
-    (entry (fact_of c.in-Some.fact)) (c.loop-fact.invariant.eager
-    (c.stops-in-Some.ensures.stops c.if-stops-2.true).1)
-    (c.stops-in-Some.ensures.stops c.if-stops-2.true).0 c.entry.ensures.puts.puts)).short
+    (entry (fact_of c.in-Some.fact)) good stops.0 c.entry.ensures.puts.puts)
+
+pub returns-then-stops-2-clause-short : goal.returns-then-stops-2-clause-short
+returns-then-stops-2-clause-short g c = (entry_stop g c).short
 
 pub returns-then-stops-2-clause-reads_ahead : goal.returns-then-stops-2-clause-reads_ahead
-returns-then-stops-2-clause-reads_ahead g c =
-    (stop_entry g.G.Stream.Stream.behaviour c.loop-fact.invariant.state
-    c.in-Some.ensures.lowest c.entry.ensures.valid c.args.patient
-    (c.loop-fact.invariant.eager (c.stops-in-Some.ensures.stops c.if-stops-2.true).1)
-    (puts-part c.loop-fact.writer.failed c.entry.new.self.failed _ _
-    (entry (fact_of c.in-Some.fact)) (c.loop-fact.invariant.eager
-    (c.stops-in-Some.ensures.stops c.if-stops-2.true).1)
-    (c.stops-in-Some.ensures.stops c.if-stops-2.true).0 c.entry.ensures.puts.puts)).reads_ahead
+returns-then-stops-2-clause-reads_ahead g c = (entry_stop g c).reads_ahead
 
 pub returns-then-stops-2-clause-failures : goal.returns-then-stops-2-clause-failures
 returns-then-stops-2-clause-failures g c =
     no_failure g.G.Stream.Stream.behaviour c.loop-fact.invariant.state
 
-pub returns-in-Err-advance-clause-short : goal.returns-in-Err-advance-clause-short
-returns-in-Err-advance-clause-short g c =
-    (stop_input g.G.Stream.Stream.behaviour c.loop-fact.invariant.state
-    c.in-Some.ensures.lowest c.entry.ensures.valid c.args.patient
-    c.entry.new.self.failed (g.G.Streams.streams c.advance.new.streams) _ c.in-Err-advance.fault
-    c.entry.ensures.puts.puts (c.stops-in-Some.ensures.goes_on c.if-stops-2.false)
+-- an input stopped after an entry was written
+input_stop : (g : Over) (c : goal.In-Err-advance g)
+    → Stopping g.G.Stream.Stream.behaviour c.args.patient (g.G.Streams.streams c.args.streams.now)
+    (g.G.Streams.streams c.advance.new.streams) (g.W.Sink.written c.args.writer.now.sink.now)
+    (g.W.Sink.written c.entry.new.self.sink.now) (Input c.in-Err-advance.fault)
+    × OneFails g.G.Stream.Stream.behaviour c.in-Err-advance.fault.number
+    c.in-Err-advance.fault.fault (g.G.Streams.streams c.args.streams.now)
+    (g.G.Streams.streams c.advance.new.streams)
+input_stop g c =
+    stop_input g.G.Stream.Stream.behaviour c.loop-fact.invariant.state c.in-Some.ensures.lowest
+    c.entry.ensures.valid c.args.patient c.entry.new.self.failed
+    (g.G.Streams.streams c.advance.new.streams) _ c.in-Err-advance.fault c.entry.ensures.puts.puts
+    (c.stops-in-Some.ensures.goes_on c.if-stops-2.false)
     (subst (λ a. StopsIn g.G.Stream.Stream.behaviour (Some a)
     (g.G.Streams.streams c.loop-fact.streams)
     (g.G.Streams.streams c.advance.new.streams) c.in-Err-advance.fault) c.address-place.ensures
-    c.in-Err-advance.ensures.stops)).0.short
+    c.in-Err-advance.ensures.stops)
+
+pub returns-in-Err-advance-clause-short : goal.returns-in-Err-advance-clause-short
+returns-in-Err-advance-clause-short g c = (input_stop g c).0.short
 
 pub returns-in-Err-advance-clause-reads_ahead : goal.returns-in-Err-advance-clause-reads_ahead
-returns-in-Err-advance-clause-reads_ahead g c =
-    (stop_input g.G.Stream.Stream.behaviour c.loop-fact.invariant.state
-    c.in-Some.ensures.lowest c.entry.ensures.valid c.args.patient
-    c.entry.new.self.failed (g.G.Streams.streams c.advance.new.streams) _ c.in-Err-advance.fault
-    c.entry.ensures.puts.puts (c.stops-in-Some.ensures.goes_on c.if-stops-2.false)
-    (subst (λ a. StopsIn g.G.Stream.Stream.behaviour (Some a)
-    (g.G.Streams.streams c.loop-fact.streams)
-    (g.G.Streams.streams c.advance.new.streams) c.in-Err-advance.fault) c.address-place.ensures
-    c.in-Err-advance.ensures.stops)).0.reads_ahead
+returns-in-Err-advance-clause-reads_ahead g c = (input_stop g c).0.reads_ahead
 
 pub returns-in-Err-advance-clause-fault : goal.returns-in-Err-advance-clause-fault
-returns-in-Err-advance-clause-fault g c =
-    (stop_input g.G.Stream.Stream.behaviour c.loop-fact.invariant.state
-    c.in-Some.ensures.lowest c.entry.ensures.valid c.args.patient
-    c.entry.new.self.failed (g.G.Streams.streams c.advance.new.streams) _ c.in-Err-advance.fault
-    c.entry.ensures.puts.puts (c.stops-in-Some.ensures.goes_on c.if-stops-2.false)
-    (subst (λ a. StopsIn g.G.Stream.Stream.behaviour (Some a)
-    (g.G.Streams.streams c.loop-fact.streams)
-    (g.G.Streams.streams c.advance.new.streams) c.in-Err-advance.fault) c.address-place.ensures
-    c.in-Err-advance.ensures.stops)).0.names
+returns-in-Err-advance-clause-fault g c = (input_stop g c).0.names
 
 pub returns-in-Err-advance-clause-can_go_on : goal.returns-in-Err-advance-clause-can_go_on
-returns-in-Err-advance-clause-can_go_on g c =
-    (stop_input g.G.Stream.Stream.behaviour c.loop-fact.invariant.state
-    c.in-Some.ensures.lowest c.entry.ensures.valid c.args.patient
-    c.entry.new.self.failed (g.G.Streams.streams c.advance.new.streams) _ c.in-Err-advance.fault
-    c.entry.ensures.puts.puts (c.stops-in-Some.ensures.goes_on c.if-stops-2.false)
-    (subst (λ a. StopsIn g.G.Stream.Stream.behaviour (Some a)
-    (g.G.Streams.streams c.loop-fact.streams)
-    (g.G.Streams.streams c.advance.new.streams) c.in-Err-advance.fault) c.address-place.ensures
-    c.in-Err-advance.ensures.stops)).0.can_go_on
+returns-in-Err-advance-clause-can_go_on g c = (input_stop g c).0.can_go_on
 
 pub returns-in-Err-advance-clause-failures : goal.returns-in-Err-advance-clause-failures
-returns-in-Err-advance-clause-failures g c =
-    (stop_input g.G.Stream.Stream.behaviour c.loop-fact.invariant.state
-    c.in-Some.ensures.lowest c.entry.ensures.valid c.args.patient
-    c.entry.new.self.failed (g.G.Streams.streams c.advance.new.streams) _ c.in-Err-advance.fault
-    c.entry.ensures.puts.puts (c.stops-in-Some.ensures.goes_on c.if-stops-2.false)
-    (subst (λ a. StopsIn g.G.Stream.Stream.behaviour (Some a)
-    (g.G.Streams.streams c.loop-fact.streams)
-    (g.G.Streams.streams c.advance.new.streams) c.in-Err-advance.fault) c.address-place.ensures
-    c.in-Err-advance.ensures.stops)).1
+returns-in-Err-advance-clause-failures g c = (input_stop g c).1
 
 pub overflow_add-entries : goal.overflow_add-entries
 overflow_add-entries g c =
@@ -173,69 +146,58 @@ loop-fact-smaller g c =
     (g.G.Streams.streams c.loop-fact.streams) (g.G.Streams.streams c.advance.new.streams))
     c.address-place.ensures c.in_default-advance.ensures.go_on)
 
+-- the end could not be written
+end_stop : (g : Over) (c : goal.Then-stops-3 g)
+    → Stopping g.G.Stream.Stream.behaviour c.args.patient (g.G.Streams.streams c.args.streams.now)
+    (g.G.Streams.streams c.loop-fact.streams) (g.W.Sink.written c.args.writer.now.sink.now)
+    (g.W.Sink.written c.end.new.self.sink.now) Write
+end_stop g c =
+    let stops = c.stops-2.ensures.stops c.if-stops-3.true in
+    let good = c.loop-fact.invariant.eager stops.1 in
+    stop_end g.G.Stream.Stream.behaviour c.loop-fact.invariant.state
+    c.in_default-lowest.ensures.lowest c.args.patient good
+    (puts-part c.loop-fact.writer.failed c.end.new.self.failed _ _ (end c.loop-fact.entries) good
+    stops.0 c.end.ensures.puts)
+
 pub returns-then-stops-3-clause-short : goal.returns-then-stops-3-clause-short
-returns-then-stops-3-clause-short g c =
-    (stop_end g.G.Stream.Stream.behaviour c.loop-fact.invariant.state
-    c.in_default-lowest.ensures.lowest c.args.patient
-    (c.loop-fact.invariant.eager (c.stops-2.ensures.stops c.if-stops-3.true).1)
-    (puts-part c.loop-fact.writer.failed c.end.new.self.failed _ _ (end c.loop-fact.entries)
-    (c.loop-fact.invariant.eager (c.stops-2.ensures.stops c.if-stops-3.true).1)
-    (c.stops-2.ensures.stops c.if-stops-3.true).0 c.end.ensures.puts)).short
+returns-then-stops-3-clause-short g c = (end_stop g c).short
 
 pub returns-then-stops-3-clause-reads_ahead : goal.returns-then-stops-3-clause-reads_ahead
-returns-then-stops-3-clause-reads_ahead g c =
-    (stop_end g.G.Stream.Stream.behaviour c.loop-fact.invariant.state
-    c.in_default-lowest.ensures.lowest c.args.patient
-    (c.loop-fact.invariant.eager (c.stops-2.ensures.stops c.if-stops-3.true).1)
-    (puts-part c.loop-fact.writer.failed c.end.new.self.failed _ _ (end c.loop-fact.entries)
-    (c.loop-fact.invariant.eager (c.stops-2.ensures.stops c.if-stops-3.true).1)
-    (c.stops-2.ensures.stops c.if-stops-3.true).0 c.end.ensures.puts)).reads_ahead
+returns-then-stops-3-clause-reads_ahead g c = (end_stop g c).reads_ahead
 
 pub returns-then-stops-3-clause-failures : goal.returns-then-stops-3-clause-failures
 returns-then-stops-3-clause-failures g c =
     no_failure g.G.Stream.Stream.behaviour c.loop-fact.invariant.state
 
-pub returns-clause-merged : goal.returns-clause-merged
-returns-clause-merged g c =
-    (finished g.G.Stream.Stream.behaviour
-    c.loop-fact.tally c.loop-fact.within c.end.new.self.failed c.loop-fact.invariant.state _
-    c.requires.few c.in_default-lowest.ensures.lowest c.end.ensures.puts).merged
-
 pub returns-clause-ended : goal.returns-clause-ended
 returns-clause-ended g c =
-    finished g.G.Stream.Stream.behaviour
-    c.loop-fact.tally c.loop-fact.within c.end.new.self.failed c.loop-fact.invariant.state _
-    c.requires.few c.in_default-lowest.ensures.lowest c.end.ensures.puts
+    finished g.G.Stream.Stream.behaviour c.loop-fact.tally c.loop-fact.within c.end.new.self.failed
+    c.loop-fact.invariant.state _ c.requires.few c.in_default-lowest.ensures.lowest
+    c.end.ensures.puts
+
+pub returns-clause-merged : goal.returns-clause-merged
+returns-clause-merged g c = (returns-clause-ended g c).merged
 
 pub returns-clause-failures : goal.returns-clause-failures
 returns-clause-failures g c = no_failure g.G.Stream.Stream.behaviour c.loop-fact.invariant.state
 
 pub returns-clause-cut : goal.returns-clause-cut
 returns-clause-cut g c = λ e.
-    let m = (finished g.G.Stream.Stream.behaviour
-    c.loop-fact.tally c.loop-fact.within c.end.new.self.failed c.loop-fact.invariant.state _
-    c.requires.few c.in_default-lowest.ensures.lowest c.end.ensures.puts).merged in
-    cut_journal _ _ _ _ c.end.new.self.failed e m.puts
+    cut_journal _ _ _ _ c.end.new.self.failed e (returns-clause-merged g c).puts
 
 -- after a failed write the end was not written
 
 some_end : (n : ℕ) → end n ≢ []
 some_end n e = cc
 
-pub returns-then-not-within-clause-merged : goal.returns-then-not-within-clause-merged
-returns-then-not-within-clause-merged g c =
-    (finished g.G.Stream.Stream.behaviour
-    c.loop-fact.tally c.loop-fact.within true c.loop-fact.invariant.state _ c.requires.few
-    c.in_default-lowest.ensures.lowest
-    (left_out c.loop-fact.writer.failed _ (end c.loop-fact.entries)
-    (some_end c.loop-fact.entries))).merged
-
 pub returns-then-not-within-clause-ended : goal.returns-then-not-within-clause-ended
 returns-then-not-within-clause-ended g c =
-    finished g.G.Stream.Stream.behaviour
-    c.loop-fact.tally c.loop-fact.within true c.loop-fact.invariant.state _ c.requires.few
-    c.in_default-lowest.ensures.lowest
+    finished g.G.Stream.Stream.behaviour c.loop-fact.tally c.loop-fact.within true
+    c.loop-fact.invariant.state _ c.requires.few c.in_default-lowest.ensures.lowest
     (left_out c.loop-fact.writer.failed _ (end c.loop-fact.entries) (some_end c.loop-fact.entries))
+
+pub returns-then-not-within-clause-merged : goal.returns-then-not-within-clause-merged
+returns-then-not-within-clause-merged g c = (returns-then-not-within-clause-ended g c).merged
 
 pub returns-then-not-within-clause-failures : goal.returns-then-not-within-clause-failures
 returns-then-not-within-clause-failures g c =
@@ -243,9 +205,4 @@ returns-then-not-within-clause-failures g c =
 
 pub returns-then-not-within-clause-cut : goal.returns-then-not-within-clause-cut
 returns-then-not-within-clause-cut g c = λ e.
-    let m = (finished g.G.Stream.Stream.behaviour
-    c.loop-fact.tally c.loop-fact.within true c.loop-fact.invariant.state _ c.requires.few
-    c.in_default-lowest.ensures.lowest
-    (left_out c.loop-fact.writer.failed _ (end c.loop-fact.entries)
-    (some_end c.loop-fact.entries))).merged in
-    cut_journal _ _ _ _ true e m.puts
+    cut_journal _ _ _ _ true e (returns-then-not-within-clause-merged g c).puts

@@ -1,4 +1,4 @@
-use Rattle.flute_streams.proofs.Common.{arith, slice_get_within, fact_in}
+use Rattle.flute_streams.proofs.Common.{arith, slice_get_within}
 use Rattle.flute_streams.proofs.merge_lemmas.GoingOn.{same_length}
 use Rattle.flute_streams.proofs.merge_lemmas.LeadFacts.{lead-goes, lead-stops, still-leads}
 use Rattle.flute_streams.proofs.merge.leading.Lead.follow.Goals as goal
