@@ -78,7 +78,6 @@ module _ {S : Type 0} (b : Behaviour S) (place : Option Address) where
     rest = (as_it_was k old now x w.rest is).1;
   }
 
-  -- stream k holds that address, and is advanced
   -- none of those up to m stands there
   pub more_stay : (n : ℕ) {k m : ℕ} {old now : List S} → m ≡ k + n → m ≤ length now
       → NoneAt k m now → WentSoFar k old now → WentSoFar m old now
@@ -96,6 +95,7 @@ module _ {S : Type 0} (b : Behaviour S) (place : Option Address) where
       subst (λ i. WentSoFar i old now) same
       (one_stays before x.1 (apart j x.0 (omega arith) l x.1))
 
+  -- stream k holds that address, and is advanced
   pub one_goes : {k : ℕ} {old now new : List S} → WentSoFar k old now
       → (a : Advances b k now new (Ok tt)) → place_of (b.held a.before) ≡ place
       → WentSoFar (k + 1) old new

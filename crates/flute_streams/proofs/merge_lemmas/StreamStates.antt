@@ -105,8 +105,7 @@ module _ {S : Type 0} (b : Behaviour S) where
       (subst (λ (l : List S). StopsIn b None l new fault) (sym (new_nows b old)) h) in
       subst (λ (l : List S). Stopping patient l new w w (Input fault)
       × OneFails b fault.number fault.fault l new) (new_starts b old)
-      (at_input s
-      (short_header b [] header (Appends-nil w) refl)
+      (at_input s (short_header b [] header (Appends-nil w) refl)
       (subst (λ (l : List Fact). Collects l []) (sym (new_givens b old)) none_collects)
       (λ p. Appends-nil w))
 
@@ -167,8 +166,7 @@ module _ {S : Type 0} (b : Behaviour S) where
       let Q : List S → Type 0 =
       λ l. Stopping patient (starts t.next) l w w' Write × NoneFails b (starts t.next) l in
       subst P (t.starts_are ∙ new_starts b old) (subst Q t.nows_are (
-        at_write (givens t.next)
-            (short_header b a.part a.rest a.appended (sym a.whole))
+        at_write (givens t.next) (short_header b a.part a.rest a.appended (sym a.whole))
             (reads_now b None t.next s)
             (subst (λ (l : List Fact). Collects l []) (sym e) none_collects) a.appended
             (cut_header refl (a.rest, a.cut, sym a.whole)),
@@ -338,8 +336,8 @@ module _ {S : Type 0} (b : Behaviour S) where
             subst (λ (l : List S). Stopping patient l new w w'' (Input fault)
             × OneFails b fault.number fault.fault l new) state.starts_are
             (at_input s
-            (short_entry b state.joined g part.bytes part.more from_next collects_next part.appended
-            part.whole) collects_next
+            (short_entry b state.joined g part.bytes part.more from_next collects_next
+            part.appended part.whole) collects_next
             (λ p. subst (Appends w w'') (written-snoc state.joined g)
             (written-whole next w w'' bs (eager p) (next_bytes next w'' a))))
 

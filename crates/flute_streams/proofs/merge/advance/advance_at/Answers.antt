@@ -46,8 +46,7 @@ loop-number-preserved g c =
           ≡ g.G.Streams.names c.args.streams.now in
           record {
             went = subst P (sym w.streams-is)
-                (one_stays g.G.Stream.Stream.behaviour c.args.place
-                c.loop-number.invariant.went x.1
+                (one_stays g.G.Stream.Stream.behaviour c.args.place c.loop-number.invariant.went x.1
                 (λ e. c.is_at.ensures.elsewhere w.if-is_at.false
                 (ap place_of (c.head.ensures x.0 x.1) ∙ e)));
             all = subst Q (sym w.streams-is) c.loop-number.invariant.all;

@@ -5,8 +5,7 @@ use Rattle.flute_streams.proofs.merge.leading.Lead.follow.Goals as goal
 
 pub returns-in-Err-clause-stops : goal.returns-in-Err-clause-stops
 returns-in-Err-clause-stops g c = λ a at.
-    lead-stops g.G.Stream.Stream.behaviour a
-    c.requires at c.in-Err.ensures.advances
+    lead-stops g.G.Stream.Stream.behaviour a c.requires at c.in-Err.ensures.advances
 
 pub head-requires : goal.head-requires
 head-requires g c =
@@ -20,10 +19,9 @@ head-requires g c =
 
 pub returns-clause-go_on : goal.returns-clause-go_on
 returns-clause-go_on g c = λ a at.
-    lead-goes g.G.Stream.Stream.behaviour a
-    c.requires at c.in_default.ensures.advances
+    lead-goes g.G.Stream.Stream.behaviour a c.requires at c.in_default.ensures.advances
 
 pub returns-clause-leads : goal.returns-clause-leads
 returns-clause-leads g c = λ below.
-    still-leads g.G.Stream.Stream.behaviour
-    c.requires c.in_default.ensures.advances c.head.ensures (c.is_below-self.ensures below)
+    still-leads g.G.Stream.Stream.behaviour c.requires c.in_default.ensures.advances
+    c.head.ensures (c.is_below-self.ensures below)

@@ -27,11 +27,10 @@ returns-in-Err-clause-stops g c =
     let at : c.args.place ≡ place_at_rank c.args.place.key rank =
     same_place c.args.place c.args.place.key rank refl c.number_of-rank.ensures in
     let apart =
-    passed_elsewhere b c.args.place.key rank c.loop-number.next k at found.3
-    i.ranked in
+    passed_elsewhere b c.args.place.key rank c.loop-number.next k at found.3 i.ranked in
     let went =
-    more_stay b (Some c.args.place) (k - c.loop-number.next)
-    (omega (arith, found.0)) (omega (arith, found.1, i.all)) apart i.went in
+    more_stay b (Some c.args.place) (k - c.loop-number.next) (omega (arith, found.0))
+    (omega (arith, found.1, i.all)) apart i.went in
     let a = c.in-Err.ensures.advances in
     let there =
     sym (ap place_of (c.head.ensures a.before a.was)) ∙ c.is_at.ensures.at c.if-is_at.true in
@@ -52,8 +51,8 @@ loop-number-preserved g c =
     same_place c.args.place key rank refl c.number_of-rank.ensures in
     let apart = passed_elsewhere b key rank c.loop-number.next k at found.3 i.ranked in
     let went =
-    more_stay b (Some c.args.place) (k - c.loop-number.next)
-    (omega (arith, found.0)) (omega (arith, found.1, i.all)) apart i.went in
+    more_stay b (Some c.args.place) (k - c.loop-number.next) (omega (arith, found.0))
+    (omega (arith, found.1, i.all)) apart i.went in
     let ranked = rest_from b key c.loop-number.next k found.0 i.ranked in
     let W = λ (s : g.row.G.Denot).
     WentSoFar b (Some c.args.place) (k + 1) old (g.G.Streams.streams s) in
