@@ -53,8 +53,8 @@ pub record FirstsFrom {S : Type 0} (b : Behaviour S) (number k : ℕ) (streams :
   pub none_before : (j : ℕ) (s : S) → j < k → slice_get streams j ≡ Some s → j ≢ number
       → NoneBefore next (b.held s)
 
-module _ {S : Type 0} (b : Behaviour S) (number k : ℕ) (streams : List S)
-    (next : Option Address) where
+module _ {S : Type 0} (b : Behaviour S) {number k : ℕ} {streams : List S}
+    {next : Option Address} where
   pub firsts_more : (o : Option Fact)
       → ((s : S) → slice_get streams k ≡ Some s → o ≡ b.held s)
       → FirstsFrom b number k streams next

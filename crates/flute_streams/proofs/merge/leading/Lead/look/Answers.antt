@@ -10,6 +10,5 @@ returns g c = λ below.
     let h = c.loop-other.invariant in
     let all : length streams ≤ c.loop-other.other = omega (arith, h.all, c.loop-other-test.false) in
     subst (λ n. Leads b streams n c.loop-other.self.next) (sym h.number)
-    (lead-new b c.args.number c.loop-other.other streams c.loop-other.self.next
-    (fact_in c.head-head.result) c.requires all c.head-head.ensures h.firsts
+    (lead-new b (fact_in c.head-head.result) c.requires all c.head-head.ensures h.firsts
     (c.is_below-self.ensures below))
