@@ -7,12 +7,12 @@ use Rattle.flutejoin_commands.specs.Files.{Files}
 use Rattle.flutejoin_commands.specs.Worlds.{HasOut}
 
 -- an output with these entries, which was whole at any moment
-pub closed_whole : (name : List ℕ) (files : Option Files) (old new : Option (List Closing))
-    (first last : Option Entries) → HasOut files name first → IsWholeAlways first last
-    → IsNoted name last old new → ClosesWhole name files old new
-closed_whole name files None new first last h w n = inl n
-closed_whole name files (Some old) new first None h w n = absurd n
-closed_whole name files (Some old) new first (Some e) h w n = inr (record {
+pub closed_whole : {name : List ℕ} {files : Option Files} (old : Option (List Closing))
+    {new : Option (List Closing)} (first last : Option Entries) → HasOut files name first
+    → IsWholeAlways first last → IsNoted name last old new → ClosesWhole name files old new
+closed_whole None first last h w n = inl n
+closed_whole (Some old) first None h w n = absurd n
+closed_whole (Some old) first (Some e) h w n = inr (record {
   before = old;
   entries = e;
   was = refl;
@@ -21,9 +21,9 @@ closed_whole name files (Some old) new first (Some e) h w n = inr (record {
 })
 
 -- the same, stated of the files and closed outputs before
-pub closes_since : (name : List ℕ) (files now : Option Files)
-    (old between new : Option (List Closing)) → now ≡ files → between ≡ old
+pub closes_since : {name : List ℕ} {files now : Option Files}
+    {old between new : Option (List Closing)} → now ≡ files → between ≡ old
     → ClosesWhole name now between new → ClosesWhole name files old new
-closes_since name files now old between new same kept h =
+closes_since {name = name} {now = now} {old = old} {new = new} same kept h =
     subst (λ f. ClosesWhole name f old new) same
     (subst (λ c. ClosesWhole name now c new) kept h)

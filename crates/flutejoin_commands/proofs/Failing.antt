@@ -14,10 +14,10 @@ if_told (Ok a) tells D P N f n = tt
 if_told (Err e) tells D P N f n = (f, n)
 
 -- the fault of the work, or the reason why there is no output if it could be done
-pub first_fault : {A : Type 0} (writes : A → Option (List ℕ) → Option (List ℕ) → Type 0)
+pub first_fault : {A : Type 0} {writes : A → Option (List ℕ) → Option (List ℕ) → Type 0}
     (fails : CommandFault → Type 0) (old new : Option (List ℕ)) (done : Result A CommandFault)
-    (reason told : CommandFault) → IfOk done (λ x. writes x old new) → IfErr done fails
+    {reason told : CommandFault} → IfOk done (λ x. writes x old new) → IfErr done fails
     → MatchResult done (λ _. told ≡ reason) (λ fault. told ≡ fault)
     → fails told ⊎ ((told ≡ reason) × CouldBeDone writes)
-first_fault writes fails old new (Ok x) reason told w f is = inr (is, (x, old, new, w))
-first_fault writes fails old new (Err e) reason told w f is = inl (subst fails (sym is) f)
+first_fault fails old new (Ok x) w f is = inr (is, (x, old, new, w))
+first_fault fails old new (Err e) w f is = inl (subst fails (sym is) f)

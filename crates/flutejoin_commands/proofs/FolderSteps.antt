@@ -63,39 +63,43 @@ all_files files o m f h l = l.beside ∙ ap (λ (p : Places). files_beside p ++ 
 
 -- OUT at the end: the folder, kept as it was, or nothing.
 
-pub is_folder : (files : List NamedFile) (o m f n : Option Places) → LeadsTo IsMade o m → LeadsTo
-    (Fills files None) m f
-    → LeadsTo (λ old new. BecomesFolder (folder_of (files_beside old)) old new) f n → LeadsTo
-    (IsFolderOf files) o n
-is_folder files None None None None h l b = tt
-is_folder files None None None (Some n) h l b = absurd b
-is_folder files None None (Some f) n h l b = absurd l
-is_folder files None (Some m) f n h l b = absurd h
-is_folder files (Some o) None f n h l b = absurd h
-is_folder files (Some o) (Some m) None n h l b = absurd l
-is_folder files (Some o) (Some m) (Some f) None h l b = absurd b
-is_folder files (Some o) (Some m) (Some f) (Some n) h l b = record {
-  none = h.none;
+-- a new folder was made, and these files were filled in
+pub record IsFilled (files : List NamedFile) (o m f : Option Places) : Type 0 where
+  pub made : LeadsTo IsMade o m
+  pub filled : LeadsTo (Fills files None) m f
+
+pub is_folder : {files : List NamedFile} (o m f n : Option Places) → IsFilled files o m f
+    → LeadsTo (λ old new. BecomesFolder (folder_of (files_beside old)) old new) f n
+    → LeadsTo (IsFolderOf files) o n
+is_folder None None None None x b = tt
+is_folder None None None (Some n) x b = absurd b
+is_folder None None (Some f) n x b = absurd x.filled
+is_folder None (Some m) f n x b = absurd x.made
+is_folder (Some o) None f n x b = absurd x.made
+is_folder (Some o) (Some m) None n x b = absurd x.filled
+is_folder (Some o) (Some m) (Some f) None x b = absurd b
+is_folder {files} (Some o) (Some m) (Some f) (Some n) x b = record {
+  none = x.made.none;
   becomes = record {
-    out = b.out ∙ ap (λ x. Some (folder_of x)) (all_files files o m f h l);
-    past =
-        b.past;
+    out = b.out ∙ ap (λ l. Some (folder_of l)) (all_files files o m f x.made x.filled);
+    past = b.past;
   };
 }
 
-pub is_kept : (files : List NamedFile) (o m f n : Option Places) → LeadsTo IsMade o m → LeadsTo
-    (Fills files None) m f
-    → LeadsTo (λ old new. StaysThere (files_beside old) new) f n → LeadsTo NoneBeside f n → LeadsTo
-    (IsKeptFolder files) o n
-is_kept files None None None None h l s b = tt
-is_kept files None None None (Some n) h l s b = absurd s
-is_kept files None None (Some f) n h l s b = absurd l
-is_kept files None (Some m) f n h l s b = absurd h
-is_kept files (Some o) None f n h l s b = absurd h
-is_kept files (Some o) (Some m) None n h l s b = absurd l
-is_kept files (Some o) (Some m) (Some f) None h l s b = absurd s
-is_kept files (Some o) (Some m) (Some f) (Some n) h l s b = record
-    { lasts = subst (λ x. StaysThere x n) (all_files files o m f h l) s; beside = b }
+pub is_kept : {files : List NamedFile} (o m f n : Option Places) → IsFilled files o m f
+    → LeadsTo (λ old new. StaysThere (files_beside old) new) f n → LeadsTo NoneBeside f n
+    → LeadsTo (IsKeptFolder files) o n
+is_kept None None None None x s b = tt
+is_kept None None None (Some n) x s b = absurd s
+is_kept None None (Some f) n x s b = absurd x.filled
+is_kept None (Some m) f n x s b = absurd x.made
+is_kept (Some o) None f n x s b = absurd x.made
+is_kept (Some o) (Some m) None n x s b = absurd x.filled
+is_kept (Some o) (Some m) (Some f) None x s b = absurd s
+is_kept {files} (Some o) (Some m) (Some f) (Some n) x s b = record {
+  lasts = subst (λ l. StaysThere l n) (all_files files o m f x.made x.filled) s;
+  beside = b;
+}
 
 pub is_nowhere : (o m f n : Option Places) → LeadsTo IsMade o m → LeadsTo FolderStays m f → LeadsTo
     StaysNothing f n → LeadsTo IsNowhere o n
@@ -125,44 +129,43 @@ one_always (Some o) (Some m) (Some f) (Some n) h s b = (
 )
 
 -- the journal contains the files that were written, and what is reported of its objects
-pub tells_files : {most : Limits} (input left : Option (List ℕ)) (picked : Picked) (m f : Option
-    Places)
-    (r r' : Option (List ℕ)) (count : ℕ) (e : ExtractsAll most input left picked m f r r' count)
+pub tells_files : {most : Limits} {input left : Option (List ℕ)} {picked : Picked}
+    {m f : Option Places} {r r' : Option (List ℕ)} {count : ℕ}
+    (e : ExtractsAll most input left picked m f r r' count)
     → TellsFiles most input picked e.taken.files e.taken.told
-tells_files input left picked m f r r' count e = record
-    { entries = e.entries; journal = e.journal; within = e.within; taken = e.taken.taken }
+tells_files e =
+    record { entries = e.entries; journal = e.journal; within = e.within; taken = e.taken.taken }
 
-pub leaves_folder : {most : Limits} (input left : Option (List ℕ)) (picked : Picked) (o m f n :
-    Option Places)
-    (r r' r'' : Option (List ℕ)) (count : ℕ) → LeadsTo IsMade o m → ExtractsAll most input left
-    picked m
-    f r r' count
-    → LeadsTo (λ old new. BecomesFolder (folder_of (files_beside old)) old new) f n → LeadsTo
-    (λ old new. StaysThere (files_beside old) new) f n → LeadsTo NoneBeside f n
-    → Appends r' r'' (count_line (codes "written") count) → LeavesFolder most input picked o n r r''
-leaves_folder input left picked o m f n r r' r'' count h e b s g line = record {
-  files = e.taken.files;
-  told = e.taken.told;
-  tells = tells_files input left picked m f r r' count e;
-  out = is_folder e.taken.files o m f n h e.taken.filled b;
-  kept = is_kept e.taken.files o m f n h e.taken.filled s g;
-  report = Appends-trans r r' r'' e.taken.told (count_line (codes "written")
-      (length e.taken.files)) e.taken.written
-      (subst (λ k. Appends r' r'' (count_line (codes "written") k)) e.taken.count_is line);
-}
+pub leaves_folder : {most : Limits} {input left : Option (List ℕ)} {picked : Picked}
+    (o n : Option Places) {m f : Option Places} {r r' r'' : Option (List ℕ)} {count : ℕ}
+    → LeadsTo IsMade o m → ExtractsAll most input left picked m f r r' count
+    → LeadsTo (λ old new. BecomesFolder (folder_of (files_beside old)) old new) f n
+    → LeadsTo (λ old new. StaysThere (files_beside old) new) f n → LeadsTo NoneBeside f n
+    → Appends r' r'' (count_line (codes "written") count)
+    → LeavesFolder most input picked o n r r''
+leaves_folder o n {m = m} {f = f} {r = r} {r' = r'} {r'' = r''} h e b s g line =
+    let filled : IsFilled e.taken.files o m f = record { made = h; filled = e.taken.filled } in
+    record {
+      files = e.taken.files;
+      told = e.taken.told;
+      tells = tells_files e;
+      out = is_folder o m f n filled b;
+      kept = is_kept o m f n filled s g;
+      report = Appends-trans r r' r'' e.taken.told
+          (count_line (codes "written") (length e.taken.files)) e.taken.written
+          (subst (λ k. Appends r' r'' (count_line (codes "written") k)) e.taken.count_is line);
+    }
 
 -- OUT is there, though the command failed
-pub there_failed : {most : Limits} (input left : Option (List ℕ)) (picked : Picked) (o m f n :
-    Option Places)
-    (r r' : Option (List ℕ)) (count : ℕ) (fault : CommandFault) → (fault ≡ NotOnDisk) ⊎
-    (fault ≡ CannotWrite)
+pub there_failed : {most : Limits} {input left : Option (List ℕ)} {picked : Picked}
+    (o n : Option Places) {m f : Option Places} {r r' : Option (List ℕ)} {count : ℕ}
+    {fault : CommandFault} → (fault ≡ NotOnDisk) ⊎ (fault ≡ CannotWrite)
     → LeadsTo IsMade o m → ExtractsAll most input left picked m f r r' count
-    → LeadsTo (λ old new. BecomesFolder (folder_of (files_beside old)) old new) f n → FolderFails
-    most
-    input left picked o n fault
-there_failed input left picked o m f n r r' count fault why h e b =
-    of_end why e.taken.files e.taken.told (tells_files input left picked m f r r' count e)
-    (is_folder e.taken.files o m f n h e.taken.filled b)
+    → LeadsTo (λ old new. BecomesFolder (folder_of (files_beside old)) old new) f n
+    → FolderFails most input left picked o n fault
+there_failed o n {m = m} {f = f} why h e b =
+    of_end why e.taken.files e.taken.told (tells_files e)
+    (is_folder o m f n (record { made = h; filled = e.taken.filled }) b)
 
 -- the work failed
 pub work_failed : {most : Limits} (input left : Option (List ℕ)) (picked : Picked) (o n : Option
@@ -193,31 +196,42 @@ pub on_if_ok : {T E B : Type 0} {P : T → Type 0} (r : Result T E) → ((x : T)
 on_if_ok (Ok x) f h = f x h
 on_if_ok (Err e) f h = h
 
+-- what filling a folder did: all files of the journal were written, or it failed
+pub record Filling (most : Limits) (input left : Option (List ℕ)) (picked : Picked)
+    (m f : Option Places) (r r' : Option (List ℕ)) (done : Result ℕ CommandFault) : Type 0 where
+  pub stays : LeadsTo FolderStays m f
+  pub extracted : IfOk done (ExtractsAll most input left picked m f r r')
+  pub failed : IfErr done (λ x. ExtractAllFails most input left x ⊎ (x ≡ CannotWrite))
+
+-- what finishing it did
+pub record Finishing (f n : Option Places) (done : Result ℕ CommandFault)
+    (result : Result ℕ (FinishFault CommandFault)) : Type 0 where
+  pub fault : IfErr done (λ x. result ≡ Err (finish.Work x))
+  pub work : IfErr result (λ e. IfWork e (λ x. done ≡ Err x))
+  pub dropped : IfErr result (λ e. LeadsTo (EndsAt e) f n)
+
 -- the folder was not finished
-pub not_finished : {most : Limits} {input left : Option (List ℕ)} {picked : Picked} {o n : Option
-    Places}
-    (m f : Option Places) (r r' : Option (List ℕ)) (done : Result ℕ CommandFault)
-    (result : Result ℕ (FinishFault CommandFault)) (fault : FinishFault CommandFault)
-    → result ≡ Err fault → LeadsTo IsMade o m → LeadsTo FolderStays m f
-    → IfOk done (ExtractsAll most input left picked m f r r')
-    → IfErr done (λ x. ExtractAllFails most input left x ⊎ (x ≡ CannotWrite))
-    → IfErr done (λ x. result ≡ Err (finish.Work x))
-    → IfErr result (λ e. IfWork e (λ x. done ≡ Err x))
-    → IfErr result (λ e. LeadsTo (EndsAt e) f n)
-    → FolderFails most input left picked o n (finish_fault fault)
-not_finished {most} {input} {left} {picked} {o} {n} m f r r' done result fault is h s ok err
-    told work ends = ended fault is
-    (subst (λ x. IfErr x (λ e. IfWork e (λ y. done ≡ Err y))) is work)
-    (subst (λ x. IfErr x (λ e. LeadsTo (EndsAt e) f n)) is ends)
+pub not_finished : {most : Limits} {input left : Option (List ℕ)} {picked : Picked}
+    {o m f n : Option Places} {r r' : Option (List ℕ)} {done : Result ℕ CommandFault}
+    {result : Result ℕ (FinishFault CommandFault)} {fault : FinishFault CommandFault}
+    → result ≡ Err fault → LeadsTo IsMade o m → Filling most input left picked m f r r' done
+    → Finishing f n done result → FolderFails most input left picked o n (finish_fault fault)
+not_finished {most} {input} {left} {picked} {o} {m} {f} {n} {r} {r'} {done} {result} {fault} is h
+    filling finishing = ended fault is
+    (subst (λ x. IfErr x (λ e. IfWork e (λ y. done ≡ Err y))) is finishing.work)
+    (subst (λ x. IfErr x (λ e. LeadsTo (EndsAt e) f n)) is finishing.dropped)
   where
     ended : (e : FinishFault CommandFault) → result ≡ Err e → IfWork e (λ y. done ≡ Err y)
         → LeadsTo (EndsAt e) f n → FolderFails most input left picked o n (finish_fault e)
     ended (finish.Work y) at y_is there =
         work_failed input left picked o n y
-        (subst (λ d. IfErr d (λ x. ExtractAllFails most input left x ⊎ (x ≡ CannotWrite))) y_is err)
-        (is_nowhere o m f n h s there)
-    ended finish.Write at y_is there = of_device refl (is_nowhere o m f n h s there)
+        (subst
+        (λ d. IfErr d (λ x. ExtractAllFails most input left x ⊎ (x ≡ CannotWrite))) y_is
+        filling.failed)
+        (is_nowhere o m f n h filling.stays there)
+    ended finish.Write at y_is there = of_device refl (is_nowhere o m f n h filling.stays there)
     ended finish.NotOnDisk at y_is there =
-        let d = done_but_disk done result told at in
-        there_failed input left picked o m f n r r' d.0 NotOnDisk (inl refl) h
-        (subst (λ x. IfOk x (ExtractsAll most input left picked m f r r')) d.1 ok) there
+        let d = done_but_disk done result finishing.fault at in
+        there_failed o n (inl refl) h
+        (subst (λ x. IfOk x (ExtractsAll most input left picked m f r r')) d.1 filling.extracted)
+        there

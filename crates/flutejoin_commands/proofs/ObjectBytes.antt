@@ -349,39 +349,37 @@ answers_map most input left P Q (Err CannotCreate) f a =
           f a.entries a.holds;
     }
 
--- what extract writes, for the journal's facts and for any with the same values
-told_of_bytes : {W : Type 0} (written : W → Option (List ℕ)) (most : Limits)
-    (input left : Option (List ℕ))
-    (key : Key) (old new : W) (r : Result ℕ CommandFault) (others : List Fact)
-    → AnswersFrom most input left (λ F. Same F others → Extracts written others key old new r) r
-    → AnswersFrom most input left (λ F. Same F others
-    → Extracts (λ x. x) others key (written old) (written new) r) r
-told_of_bytes written most input left key old new r others a =
-    answers_map most input left (λ F. Same F others → Extracts written others key old new r)
-    (λ F. Same F others → Extracts (λ x. x) others key (written old) (written new) r) r
-    (λ F f s. of_bytes written others key old new r (f s)) a
+-- a call of extract: the object, and the input and the sink before and after
+pub record Extraction (W : Type 0) : Type 0 where
+  pub key : Key
+  pub input : Option (List ℕ)
+  pub left : Option (List ℕ)
+  pub old : W
+  pub new : W
 
-pub object_written : {W : Type 0} (written : W → Option (List ℕ)) (most : Limits)
-    (input left : Option (List ℕ))
-    (key : Key) (old new : W) (r : Result ℕ CommandFault)
-    → ((others : List Fact) → AnswersFrom most input left (λ F. Same F others
-    → Extracts written others key old new r) r)
-    → IfOk r (λ n. WritesObject most input key n (written old) (written new))
-object_written written most input left key old new (Ok n) a =
-    (left, λ others. told_of_bytes written most input left key old new (Ok n) others (a others))
-object_written written most input left key old new (Err e) a = tt
+module _ {W : Type 0} (written : W → Option (List ℕ)) (most : Limits) (x : Extraction W) where
+  -- for any facts with the values of those of the journal, the sink has what is extracted of them
+  abbrev SinkHas : Result ℕ CommandFault → List Fact → Type 0
+  SinkHas r others = AnswersFrom most x.input x.left
+      (λ F. Same F others → Extracts written others x.key x.old x.new r) r
 
-pub object_fails : {W : Type 0} (written : W → Option (List ℕ)) (most : Limits)
-    (input left : Option (List ℕ))
-    (key : Key) (old new : W) (r : Result ℕ CommandFault)
-    → ((others : List Fact) → AnswersFrom most input left (λ F. Same F others
-    → Extracts written others key old new r) r)
-    → IfErr r (λ fault. ExtractFails most input key fault)
-object_fails written most input left key old new (Ok n) a = tt
-object_fails written most input left key old new (Err e) a = (
-  left,
-  written old,
-  written new,
-  λ others. told_of_bytes written most input left key old new (Err e)
-      others (a others),
-)
+  -- so do the bytes that it was given
+  told_of_bytes : (r : Result ℕ CommandFault) (others : List Fact) → SinkHas r others
+      → AnswersFrom most x.input x.left (λ F. Same F others
+      → Extracts (λ y. y) others x.key (written x.old) (written x.new) r) r
+  told_of_bytes r others a =
+      answers_map most x.input x.left
+      (λ F. Same F others → Extracts written others x.key x.old x.new r)
+      (λ F. Same F others → Extracts (λ y. y) others x.key (written x.old) (written x.new) r) r
+      (λ F f s. of_bytes written others x.key x.old x.new r (f s)) a
+
+  pub object_written : (r : Result ℕ CommandFault) → ((others : List Fact) → SinkHas r others)
+      → IfOk r (λ n. WritesObject most x.input x.key n (written x.old) (written x.new))
+  object_written (Ok n) a = (x.left, λ others. told_of_bytes (Ok n) others (a others))
+  object_written (Err e) a = tt
+
+  pub object_fails : (r : Result ℕ CommandFault) → ((others : List Fact) → SinkHas r others)
+      → IfErr r (λ fault. ExtractFails most x.input x.key fault)
+  object_fails (Ok n) a = tt
+  object_fails (Err e) a =
+      (x.left, written x.old, written x.new, λ others. told_of_bytes (Err e) others (a others))

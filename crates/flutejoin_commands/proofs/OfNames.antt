@@ -170,13 +170,19 @@ pub told_of : (files : Option Files) (name : List ℕ) (known : Option (List ℕ
 told_of None name known h P p = tt
 told_of (Some files) name known h P p = subst P h.0 p
 
-told_of_two : (files : Option Files) (a b : List ℕ) (first second : Option (List ℕ))
-    → HasBytes files a first → HasBytes files b second
+-- two names have these bytes, if the files are known
+record HaveBytes (files : Option Files) (a b : List ℕ) (first second : Option (List ℕ))
+    : Type 0 where
+  pub of_first : HasBytes files a first
+  pub of_second : HasBytes files b second
+
+told_of_two : (files : Option Files) {a b : List ℕ} {first second : Option (List ℕ)}
+    → HaveBytes files a b first second
     → (P : Option (List ℕ) → Option (List ℕ) → Type 0) → P first second
     → IfFiles files (λ f. P (f a) (f b))
-told_of_two None a b first second h i P p = tt
-told_of_two (Some files) a b first second h i P p = subst (λ y. P (files a) y) i.0
-    (subst (λ x. P x second) h.0 p)
+told_of_two None h P p = tt
+told_of_two (Some files) {a = a} {second = second} h P p =
+    subst (λ y. P (files a) y) h.of_second.0 (subst (λ x. P x second) h.of_first.0 p)
 
 -- a command of one input: what it left, and why it failed
 module _ {A : Type 0} (P Q : Option (List ℕ) → A → Option (List ℕ) → Option (List ℕ) → Type 0)
@@ -216,9 +222,12 @@ module _ {A : Type 0} (P : Option (List ℕ) → Option (List ℕ) → A → Opt
     (a b : List ℕ)
     (first second : Option (List ℕ)) (h : HasBytes files a first) (i : HasBytes files b second)
     (out : List ℕ) (old new : Outside) where
+  both : HaveBytes files a b first second
+  both = record { of_first = h; of_second = i }
+
   both_told : (x : A) (o n : Option (List ℕ)) → P first second x o n
       → IfFiles files (λ f. P (f a) (f b) x o n)
-  both_told x o n p = told_of_two files a b first second h i (λ k l. P k l x o n) p
+  both_told x o n p = told_of_two files both (λ k l. P k l x o n) p
 
   pub left_of_two : (lines : A → List ℕ) (r : Result (Unit {0}) CommandFault)
       → OnOk r (Leaves (P first second) (P first second) lines out old new)
@@ -243,7 +252,7 @@ module _ {A : Type 0} (P : Option (List ℕ) → Option (List ℕ) → A → Opt
       (λ x o n. IfFiles files (λ f. P (f a) (f b) x o n)) both_told both_told out
       (F first second) (λ fault. IsBefore files (a ∷ b ∷ []) fault
       ⊎ IfFiles files (λ f. F (f a) (f b) fault))
-      old new e (λ w. inr (told_of_two files a b first second h i (λ k l. F k l e) w)) l
+      old new e (λ w. inr (told_of_two files both (λ k l. F k l e) w)) l
 
 -- the first of two that was not opened
 pub two_unopened : {S : Type 0} (files known : Option Files) (a b : List ℕ) (fault : CommandFault)

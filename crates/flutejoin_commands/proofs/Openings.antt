@@ -50,11 +50,12 @@ module _ {R : Type 0} (files : Option Files) (unread : R → Option (List ℕ)) 
   }
 
   -- one more
-  pub one_opened : (names : List (List ℕ)) (opened new : List (JoinInput R)) (k : ℕ) (name : List ℕ)
-      (begun : JoinInput R) → AreFirstOpened files unread k names opened
+  pub one_opened : {names : List (List ℕ)} {opened new : List (JoinInput R)}
+      {k : ℕ} {name : List ℕ} (begun : JoinInput R)
+      → AreFirstOpened files unread k names opened
       → slice_get names k ≡ Some name → IsOpened files unread name begun
       → new ≡ opened ++ begun ∷ [] → AreFirstOpened files unread (k + 1) names new
-  one_opened names opened new k name begun h here is e = record {
+  one_opened {names = names} {opened = opened} {k = k} {name = name} begun h here is e = record {
     as_many = ap length e ∙ length-append opened (begun ∷ []) ∙ ap (λ n. n + 1) h.as_many;
     few = let within = slice_get_within names k name here in omega (arith, within);
     each = λ j n b at was.
@@ -83,17 +84,19 @@ module _ {R : Type 0} (files : Option Files) (unread : R → Option (List ℕ)) 
   }
 
   -- the next was not opened, of the same files
-  pub next_not_opened : (files' : Option Files) (names : List (List ℕ))
-      (opened : List (JoinInput R)) (k : ℕ) (name : List ℕ) (fault : CommandFault) {old new : ℕ}
-      → files' ≡ files → AreFirstOpened files unread k names opened → slice_get names k ≡ Some name
+  pub next_not_opened : {files' : Option Files} {names : List (List ℕ)}
+      {opened : List (JoinInput R)} {k : ℕ} {name : List ℕ} {fault : CommandFault}
+      {old new : ℕ} → files' ≡ files → AreFirstOpened files unread k names opened
+      → slice_get names k ≡ Some name
       → IsNotOpened files' unread (k + 1) name fault → new ≡ old + (k + 1)
       → FirstNotOpened files unread names old new fault
-  next_not_opened files' names opened k name fault same h here why asked = record {
-    before = k;
-    opened = opened;
-    are_opened = h;
-    name = name;
-    here = here;
-    why = subst (λ f. IsNotOpened f unread (k + 1) name fault) same why;
-    asked = asked;
-  }
+  next_not_opened {opened = opened} {k = k} {name = name} {fault = fault} same h here why
+      asked = record {
+        before = k;
+        opened = opened;
+        are_opened = h;
+        name = name;
+        here = here;
+        why = subst (λ f. IsNotOpened f unread (k + 1) name fault) same why;
+        asked = asked;
+      }

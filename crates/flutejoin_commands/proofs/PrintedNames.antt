@@ -45,12 +45,12 @@ if_told None name known h P p = tt
 if_told (Some files) name known h P p = subst P h.0 p
 
 -- a fact of what is put aside, which is empty if the files are known
-pub if_empty : (files : Option Files) (tells : Bool) (a b : Option (List ℕ)) (P : Type 0)
+pub if_empty : (files : Option Files) {tells : Bool} {a b : Option (List ℕ)} (P : Type 0)
     → TellsAsides files tells → (tells ≡ true → a ≡ Some [])
     → (tells ≡ true → b ≡ Some []) → (a ≡ Some [] → b ≡ Some [] → P)
     → IfFiles files (λ f. P)
-if_empty None tells a b P told d e p = tt
-if_empty (Some files) tells a b P told d e p = p (d told) (e told)
+if_empty None P told d e p = tt
+if_empty (Some files) P told d e p = p (d told) (e told)
 
 -- a fact of success
 pub by_done : {P : Type 0} (r : Result (Unit {0}) CommandFault) → (r ≡ Ok tt → P) → OnOk r P

@@ -51,27 +51,31 @@ as_found_since (Some made) (Some now) (Some new) f n h = record {
   named = h.named ∙ some_same now.named made.named n;
 }
 
+-- these entries are of one output: OUT was found alike, and its name is the same
+pub record AreOfOne (made now : Option Entries) : Type 0 where
+  pub found : option_map found_in now ≡ option_map found_in made
+  pub named : option_map named_in now ≡ option_map named_in made
+
 pub there_since : (P : Option (List ℕ) → Option (List ℕ) → Type 0)
-    (made now new : Option Entries) → option_map found_in now ≡ option_map found_in made
-    → option_map named_in now ≡ option_map named_in made
+    (made now new : Option Entries) → AreOfOne made now
     → P (option_map taken made) (option_map taken now)
     → Leads (λ old e. OutBecomes (whole (taken old)) old e) now new
     → Leads (λ old e. IsEitherAlways (whole (taken old)) old e) now new
     → BecomesWritten IsThere P made new
-there_since P None None None f n p b h = p
-there_since P None None (Some new) f n p b h = h
-there_since P None (Some now) new f n p b h = absurd cc
-there_since P (Some made) None new f n p b h = absurd cc
-there_since P (Some made) (Some now) None f n p b h = h
-there_since P (Some made) (Some now) (Some new) f n p b h = (
+there_since P None None None same p b h = p
+there_since P None None (Some new) same p b h = h
+there_since P None (Some now) new same p b h = absurd (let f = same.found in cc)
+there_since P (Some made) None new same p b h = absurd (let f = same.found in cc)
+there_since P (Some made) (Some now) None same p b h = h
+there_since P (Some made) (Some now) (Some new) same p b h = (
   taken now,
   p,
   record {
     out = b.out;
-    found = b.found ∙ some_same now.found made.found f;
-    past = b.past ∙ ap (λ x. x ∷ []) (some_same now.found made.found f);
+    found = b.found ∙ some_same now.found made.found same.found;
+    past = b.past ∙ ap (λ x. x ∷ []) (some_same now.found made.found same.found);
   },
-  either_at (taken now) made now new (some_same now.named made.named n) h,
+  either_at (taken now) made now new (some_same now.named made.named same.named) h,
   tt,
 )
 
@@ -85,37 +89,43 @@ beside_since (Some made) None new f h = absurd cc
 beside_since (Some made) (Some now) None f h = h
 beside_since (Some made) (Some now) (Some new) f h = h
 
+-- how a work ended: what it wrote since its output was made, and how often this failed
+pub record WorkEnds {A : Type 0} (writes : A → Option (List ℕ) → Option (List ℕ) → Type 0)
+    (made now : Option Entries) (m n : ℕ) (done : Result A CommandFault) : Type 0 where
+  pub same : AreOfOne made now
+  pub quiet : OnOk done (n ≡ m)
+  pub written : IfOk done (λ x. writes x (option_map taken made) (option_map taken now))
+
+-- how its output was finished
+pub record OutputEnds {A : Type 0} (now new : Option Entries) (n l : ℕ)
+    (done : Result A CommandFault) (ended : Result A (FinishFault CommandFault)) : Type 0 where
+  pub fault : IfErr done (λ e. ended ≡ Err (Work e))
+  pub dropped : IfErr ended (λ f. Leads (Ends f) now new)
+  pub any_moment : Leads (λ old e. IsEitherAlways (whole (taken old)) old e) now new
+  pub gone : OnErr ended (l ≡ n + (if is_ok done then 1 else 0) → NothingBeside now new)
+  pub cause : OnOk done (OnErr ended (n < l))
+
 -- only the last step of finishing failed
-pub not_on_disk : {A : Type 0} (writes : A → Option (List ℕ) → Option (List ℕ) → Type 0)
-    (fails : CommandFault → Type 0) (lines : A → List ℕ)
-    (made now new : Option Entries) (m n l : ℕ) (told : Option (List ℕ)) (t : ℕ)
-    (done : Result A CommandFault) (ended : Result A (FinishFault CommandFault))
-    → option_map found_in now ≡ option_map found_in made
-    → option_map named_in now ≡ option_map named_in made
-    → OnOk done (n ≡ m) → IfOk done (λ x. writes x (option_map taken made) (option_map taken now))
-    → IfErr done (λ e. ended ≡ Err (Work e)) → ended ≡ Err NotOnDisk
-    → IfErr ended (λ f. Leads (Ends f) now new)
-    → Leads (λ old e. IsEitherAlways (whole (taken old)) old e) now new
-    → OnErr ended (l ≡ n + (if is_ok done then 1 else 0) → NothingBeside now new)
-    → OnOk done (OnErr ended (n < l))
+pub not_on_disk : {A : Type 0} {writes : A → Option (List ℕ) → Option (List ℕ) → Type 0}
+    {fails : CommandFault → Type 0} {lines : A → List ℕ} {made now new : Option Entries}
+    {m n l : ℕ} {told : Option (List ℕ)} {t : ℕ} (done : Result A CommandFault)
+    (ended : Result A (FinishFault CommandFault)) → WorkEnds writes made now m n done
+    → OutputEnds now new n l done ended → ended ≡ Err NotOnDisk
     → FailsWriting writes fails lines (devices made m told t) (devices new l told t) fault.NotOnDisk
-not_on_disk writes fails lines made now new m n l told t (Ok x)
-    (Ok y) f named quiet w b is d h g c = absurd cc
-not_on_disk writes fails lines made now new m n l told t (Ok x)
-    (Err (Work e)) f named quiet w b is d h g c = absurd cc
-not_on_disk writes fails lines made now new m n l told t (Ok x)
-    (Err Write) f named quiet w b is d h g c = absurd cc
-not_on_disk writes fails lines made now new m n l told t (Ok x)
-    (Err NotOnDisk) f named quiet w b is d h g c = by_disk refl (record {
+not_on_disk (Ok x) (Ok y) w e is = absurd cc
+not_on_disk (Ok x) (Err (Work f)) w e is = absurd cc
+not_on_disk (Ok x) (Err Write) w e is = absurd cc
+not_on_disk {writes = writes} {made = made} {now = now} {new = new} (Ok x) (Err NotOnDisk) w e is =
+    by_disk refl (record {
       answer = x;
-      out = there_since (writes x) made now new f named w d h;
-      folder_fails = omega (arith, quiet, c);
-      cleared = λ once. beside_since made now new f (g (omega (arith, quiet, once)));
+      out = there_since (writes x) made now new w.same w.written e.dropped e.any_moment;
+      folder_fails = omega (arith, w.quiet, e.cause);
+      cleared = λ once.
+          beside_since made now new w.same.found (e.gone (omega (arith, w.quiet, once)));
       untold = record { report = refl; failures = refl };
     })
-not_on_disk writes fails lines made now new m n l told t
-    (Err e) ended f named quiet w b is d h g c = let clash : Err (Work e) ≡ Err NotOnDisk =
-    sym b ∙ is in absurd cc
+not_on_disk (Err f) ended w e is =
+    let clash : Err (Work f) ≡ Err NotOnDisk = sym e.fault ∙ is in absurd cc
 
 -- From what was known once the file beside OUT was made to what was known before.
 
@@ -158,14 +168,14 @@ module _ (old : Option Entries) (m : ℕ) (told : Option (List ℕ)) (t : ℕ) (
     fails_before (by_report is h) = of_report is h
 
 -- why a command failed, known of it once the file beside OUT was made
-pub failed_before : {A B : Type 0} (writes : A → Option (List ℕ) → Option (List ℕ)
-    → Type 0) (fails : CommandFault → Type 0) (lines : A → List ℕ) (before : Type 0)
-    (old made : Option Entries) (m k : ℕ) (told : Option (List ℕ)) (t : ℕ) (new : Devices)
-    (done : Result B CommandFault) → Does created old made → k ≡ m
-    → IfErr done (FailsWriting writes fails lines (devices made k told t) new)
-    → IfErr done (Fails writes fails lines before (devices old m told t) new)
-failed_before writes fails lines before old made m k told t new (Ok x) d e h = tt
-failed_before writes fails lines before old made m k told t new (Err fault) d e h =
+pub failed_before : {A : Type 0} {writes : A → Option (List ℕ) → Option (List ℕ) → Type 0}
+    {fails : CommandFault → Type 0} {lines : A → List ℕ} {before : Type 0}
+    {old made : Option Entries} {m k : ℕ} {told : Option (List ℕ)} {t : ℕ} {new : Devices}
+    {fault : CommandFault} → Does created old made → k ≡ m
+    → FailsWriting writes fails lines (devices made k told t) new fault
+    → Fails writes fails lines before (devices old m told t) new fault
+failed_before {writes = writes} {fails = fails} {lines = lines} {before = before} {old = old}
+    {made = made} {m = m} {told = told} {t = t} {new = new} {fault = fault} d e h =
     fails_before old m told t new fault writes fails lines before
     (subst (λ (x : Option Entries). FailsWriting writes fails lines (devices x m told t) new fault)
     (made_of old made d)

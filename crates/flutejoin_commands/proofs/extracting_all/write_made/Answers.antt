@@ -7,7 +7,8 @@ use Rattle.flutejoin.specs.Limits.{limits_of}
 use Rattle.flutejoin_commands.proofs.FolderSteps.{made_ready, made_nothing, filled_beside}
 use Rattle.flutejoin_commands.proofs.FolderSteps.{one_always, leaves_folder, there_failed, on_ok}
 use Rattle.flutejoin_commands.specs.Folders.{FolderFails}
-use Rattle.flutejoin_commands.proofs.FolderSteps.{on_if_ok, if_err, not_finished}
+use Rattle.flutejoin_commands.proofs.FolderSteps.{Filling, Finishing, on_if_ok, if_err}
+use Rattle.flutejoin_commands.proofs.FolderSteps.{not_finished}
 use Rattle.flutejoin_commands.proofs.extracting_all.write_made.Goals as goal
 
 pub fill-filled-requires : goal.fill-filled-requires
@@ -35,11 +36,10 @@ returns-in-Ok-clause-extracted g c = λ o h.
     let picked = c.args.picked.now in
     let r = g.P.Sink.written c.args.report.now in
     let r' = g.P.Sink.written c.fill-filled.new.report in
-    let r'' = g.P.Sink.written c.tell.new.report in
     let e = subst (λ (x : Result ℕ CommandFault). IfOk x (ExtractsAll (limits_of c.args.any_size) u
     w picked m f r r'))
     c.in-Ok.ensures.done c.fill-filled.ensures.filled in
-    on_ok c.tell.result (λ line. leaves_folder u w picked o m f n r r' r'' c.in-Ok.count h e
+    on_ok c.tell.result (λ line. leaves_folder o n h e
     c.in-Ok.ensures.kept c.in-Ok.ensures.lasts c.in-Ok.ensures.gone_ok line) c.tell.ensures.told
 
 pub returns-in-Ok-clause-failed : goal.returns-in-Ok-clause-failed
@@ -55,8 +55,8 @@ returns-in-Ok-clause-failed g c = λ o h.
     let e = subst (λ (x : Result ℕ CommandFault). IfOk x (ExtractsAll (limits_of c.args.any_size) u
     w picked m f r r'))
     c.in-Ok.ensures.done c.fill-filled.ensures.filled in
-    if_err c.tell.result (λ fault is. there_failed u w picked o m f n r r' c.in-Ok.count fault
-    (inr is) h e c.in-Ok.ensures.kept) c.tell.ensures.failed
+    if_err c.tell.result (λ fault is. there_failed o n (inr is) h e c.in-Ok.ensures.kept)
+    c.tell.ensures.failed
 
 pub returns-in-Ok-clause-any_moment : goal.returns-in-Ok-clause-any_moment
 returns-in-Ok-clause-any_moment g c = λ o h.
@@ -69,12 +69,23 @@ pub returns-in-Err-clause-failed : goal.returns-in-Err-clause-failed
 returns-in-Err-clause-failed g c = λ o h.
     let u = g.R.Source.unread c.args.source.now in
     let w = g.R.Source.unread c.fill-filled.new.source in
-    let e = not_finished (g.D.NewFolder.places c.args.folder.now)
-    (g.D.NewFolder.places c.fill-filled.new.folder) (g.P.Sink.written c.args.report.now)
-    (g.P.Sink.written c.fill-filled.new.report) c.fill-filled.result c.finish_folder.result
-    c.in-Err.fault c.in-Err.is h
-    c.fill-filled.ensures.stays c.fill-filled.ensures.filled c.fill-filled.ensures.failed
-    c.finish_folder.ensures.fault c.finish_folder.ensures.work c.finish_folder.ensures.dropped in
+    let m = g.D.NewFolder.places c.args.folder.now in
+    let f = g.D.NewFolder.places c.fill-filled.new.folder in
+    let r = g.P.Sink.written c.args.report.now in
+    let r' = g.P.Sink.written c.fill-filled.new.report in
+    let filling : Filling (limits_of c.args.any_size) u w c.args.picked.now m f r r'
+    c.fill-filled.result = record {
+      stays = c.fill-filled.ensures.stays;
+      extracted = c.fill-filled.ensures.filled;
+      failed = c.fill-filled.ensures.failed;
+    } in
+    let finishing : Finishing f (g.D.NewFolder.places c.finish_folder.new.folder)
+    c.fill-filled.result c.finish_folder.result = record {
+      fault = c.finish_folder.ensures.fault;
+      work = c.finish_folder.ensures.work;
+      dropped = c.finish_folder.ensures.dropped;
+    } in
+    let e = not_finished c.in-Err.is h filling finishing in
     subst (λ x. FolderFails (limits_of c.args.any_size) u w c.args.picked.now o
     (g.D.NewFolder.places c.finish_folder.new.folder)
     x) (sym c.fault_of.ensures) e

@@ -19,9 +19,7 @@ returns-in_err-input-clause-failed g c =
     let not : FirstNotOpened files g.I.Input.Source.unread names
     (g.I.Inputs.asked c.args.inputs.now) (g.I.Inputs.asked c.open_one.new.inputs)
     c.in_err-input.field-0.0 =
-    next_not_opened files g.I.Input.Source.unread (g.I.Inputs.files c.loop-k.inputs) names
-    c.loop-k.opened.items c.loop-k.k (get_or paths c.loop-k.k first).now
-    c.in_err-input.field-0.0
+    next_not_opened files g.I.Input.Source.unread
     c.loop-k.invariant.same_files c.loop-k.invariant.opened
     (here_is (λ path. path.now) paths c.loop-k.k first c.loop-k-test.true)
     c.in_err-input.ensures.failed asked in
@@ -38,9 +36,7 @@ loop-k-preserved g c =
       same_files = c.open_one.ensures.same_files ∙ c.loop-k.invariant.same_files;
       same_closed = c.open_one.ensures.same_closed ∙ c.loop-k.invariant.same_closed;
       opened =
-          one_opened files g.I.Input.Source.unread (map (λ path. path.now) paths)
-          c.loop-k.opened.items c.push.new.self.items c.loop-k.k
-          (get_or paths c.loop-k.k first).now c.in_ok-input.input
+          one_opened files g.I.Input.Source.unread c.in_ok-input.input
           c.loop-k.invariant.opened (here_is (λ path. path.now) paths c.loop-k.k first
           c.loop-k-test.true)
           (subst (λ f. IsOpened f g.I.Input.Source.unread (get_or paths c.loop-k.k first).now

@@ -1,6 +1,7 @@
 -- write_created: what is known once it is finished.
 use Rattle.std.proofs.Common.{rules, sym, ◌∙◌}
-use Rattle.flutejoin_commands.proofs.Since.{either_since, not_on_disk}
+use Rattle.flutejoin_commands.proofs.Since.{WorkEnds, OutputEnds, either_since}
+use Rattle.flutejoin_commands.proofs.Since.{not_on_disk}
 use Rattle.flutejoin_commands.proofs.output_command.write_created.Goals as goal
 
 pub returns-in-Ok-clause-any_moment : goal.returns-in-Ok-clause-any_moment
@@ -19,16 +20,25 @@ returns-clause-any_moment g c =
 
 pub returns-clause-failed : goal.returns-clause-failed
 returns-clause-failed g c =
-    not_on_disk (g.K.Work.writes c.args.work) (g.K.Work.fails c.args.work)
-    (g.K.Work.tells c.args.work)
-    (g.F.Folder.entries c.args.output) (g.F.Folder.entries c.write-written.new.sink.output)
-    (g.F.Folder.entries c.finish-done.result.1)
-    (g.F.Folder.failures c.args.output) (g.F.Folder.failures c.write-written.new.sink.output)
-    (g.F.Folder.failures c.finish-done.result.1)
-    (g.P.Sink.written c.args.report.now)
-    (g.P.Sink.failures c.args.report.now) c.write-written.result c.finish-done.result.0
-    (c.write-written.new.sink.found ∙ sym c.requires.found)
-    (c.write-written.new.sink.named ∙ sym c.requires.named)
-    c.write-written.ensures.quiet c.write-written.ensures.written c.finish-done.ensures.fault
-    (search rules) c.finish-done.ensures.dropped c.finish-done.ensures.any_moment
-    c.finish-done.ensures.gone c.finish-done.ensures.cause
+    let entries = g.F.Folder.entries in
+    let failures = g.F.Folder.failures in
+    let now = c.write-written.new.sink.output in
+    let new = c.finish-done.result.1 in
+    let work : WorkEnds (g.K.Work.writes c.args.work) (entries c.args.output) (entries now)
+    (failures c.args.output) (failures now) c.write-written.result = record {
+      same = record {
+        found = c.write-written.new.sink.found ∙ sym c.requires.found;
+        named = c.write-written.new.sink.named ∙ sym c.requires.named;
+      };
+      quiet = c.write-written.ensures.quiet;
+      written = c.write-written.ensures.written;
+    } in
+    let output : OutputEnds (entries now) (entries new) (failures now) (failures new)
+    c.write-written.result c.finish-done.result.0 = record {
+      fault = c.finish-done.ensures.fault;
+      dropped = c.finish-done.ensures.dropped;
+      any_moment = c.finish-done.ensures.any_moment;
+      gone = c.finish-done.ensures.gone;
+      cause = c.finish-done.ensures.cause;
+    } in
+    not_on_disk c.write-written.result c.finish-done.result.0 work output (search rules)

@@ -34,7 +34,7 @@ returns-clause-listed g c =
     subst (λ (x : Option Files). TellsAsides x tells) same c.asides-asides.ensures.tells in
     let first = c.in_ok-lines.ensures.empty in
     by_done r (λ is. if_told files c.args.j.now known c.in_ok-source.ensures.opened (Lists true)
-    (if_empty files tells a b (Lists true known) told first
+    (if_empty files (Lists true known) told first
     (λ t. c.in_ok-gap_lines.ensures.empty (c.aside.ensures.same_tells ∙ t)) (λ e f. (subst
     (λ (x : Result (Unit {0}) CommandFault). IfPrinted x (λ p. Lists p known)) is
     (c.gaps_on.ensures.listed e f)).0)))
@@ -69,7 +69,7 @@ returns-clause-failed g c =
       | inl n ↦ inl (
         n,
         if_told files name known opened (Lists false)
-            (if_empty files tells a b (Lists false known) told first
+            (if_empty files (Lists false known) told first
             (λ t. c.in_ok-gap_lines.ensures.empty (c.aside.ensures.same_tells ∙ t)) (λ e f.
             (subst
             (λ (x : Result (Unit {0}) CommandFault). IfPrinted x (λ p. Lists p known)) is
