@@ -22,13 +22,14 @@ more_numbers limit texts numbers text n are is low = (
 )
 
 -- one word more
-pub next_number : (limit : ℕ) (texts : List (Bor (List ℕ))) (i : ℕ) (d : Bor (List ℕ))
-    (old new : List ℕ) (n : ℕ) → i < length texts
-    → AreNumbers limit (map text_of (take i texts)) old → number_in (get_or texts i d).now ≡ Some n
-    → n < limit → new ≡ old ++ n ∷ [] → AreNumbers limit (map text_of (take (i + 1) texts)) new
-next_number limit texts i d old new n lt are is low added =
+pub next_number : {limit : ℕ} (texts : List (Bor (List ℕ))) (i : ℕ) (d : Bor (List ℕ))
+    (old : List ℕ) {new : List ℕ} {n : ℕ} → i < length texts
+    → AreNumbers limit (map text_of (take i texts)) old
+    → (number_in (get_or texts i d).now ≡ Some n) × (n < limit) → new ≡ old ++ n ∷ []
+    → AreNumbers limit (map text_of (take (i + 1) texts)) new
+next_number {limit = limit} texts i d old {n = n} lt are is added =
     rw (take_more texts i d lt, map-append text_of (take i texts) (get_or texts i d ∷ []), added)
-    (more_numbers limit (map text_of (take i texts)) old (get_or texts i d).now n are is low)
+    (more_numbers limit (map text_of (take i texts)) old (get_or texts i d).now n are is.0 is.1)
 
 -- a word that is no number
 pub wrong_session : (texts : List (Bor (List ℕ))) (i : ℕ) (d : Bor (List ℕ)) → i < length texts

@@ -13,6 +13,6 @@ returns-in_err-number c =
 
 pub loop-text-preserved : goal.loop-text-preserved
 loop-text-preserved c =
-    next_number _ c.args.texts.now c.loop-text.text-index _ _ _ c.in_ok-number.field-0 (omega arith)
-    c.loop-text.invariant c.in_ok-number.ensures.0 c.in_ok-number.ensures.1
+    next_number c.args.texts.now c.loop-text.text-index _ _ (omega arith)
+    c.loop-text.invariant c.in_ok-number.ensures
     (grind (arith, c.add.ensures.added))
