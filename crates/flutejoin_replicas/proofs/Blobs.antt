@@ -16,9 +16,10 @@ pub all_kept : (u v : Option (List ℕ)) (bytes : List ℕ) → Consumes u v byt
     → IfSome u (λ all. bytes ≡ all)
 all_kept u v bytes read end = Consumes-all u v bytes [] bytes read end refl
 
-pub end_kept : (u v w : Option (List ℕ)) (bytes part : List ℕ) → Consumes u v bytes
-    → Consumes v w part → part ≡ [] → IsAtEnd w → IfSome u (λ all. bytes ≡ all)
-end_kept u v w bytes part read more none end =
+pub end_kept : (u v w : Option (List ℕ)) (bytes : List ℕ) {part : List ℕ}
+    → Consumes u v bytes → Consumes v w part → part ≡ [] → IsAtEnd w
+    → IfSome u (λ all. bytes ≡ all)
+end_kept u v w bytes {part = part} read more none end =
     let P : List ℕ → Type 0 = λ xs. Consumes u w xs in
     all_kept u w bytes
     (subst P (ap (λ xs. bytes ++ xs) none ∙ append-nil bytes)
@@ -39,9 +40,10 @@ too_large u v w bytes part read more large =
     go (Some all) (Some rest) front h large = rw h (omega (arith, large, length-append front rest))
 
 -- a piece was kept
-pub piece_kept : (u v w : Option (List ℕ)) (bytes more part : List ℕ) → more ≡ bytes ++ part
+pub piece_kept : (u v w : Option (List ℕ)) (bytes : List ℕ) {more : List ℕ} (part : List ℕ)
+    → more ≡ bytes ++ part
     → Consumes u v bytes → Consumes v w part → Consumes u w more
-piece_kept u v w bytes more part e read given = rw e (Consumes-trans u v w bytes part read given)
+piece_kept u v w bytes part e read given = rw e (Consumes-trans u v w bytes part read given)
 
 pub piece_of : (bytes more buffer read : List ℕ) (count : ℕ)
     → more ≡ bytes ++ take count buffer → buffer ≡ read

@@ -247,7 +247,7 @@ drive_more limit {before = before} {steps = steps} {done = done} {k = k} {step =
           EachBelow-trans before.contents mid.contents now.contents so_far.kept
           (done_above limit mid step now done_now);
       least = λ origins fits.
-          rw (known_after-marked before.contents steps done origins k step true next.is next.within)
+          rw (known_after-marked before.contents steps done origins k true next.is next.within)
           (EachBelow-trans _ _ _
           (held_after-below _ _ step (origins k) (so_far.least origins fits))
           (EachBelow-from_same _ _ (done_now.content (origins k) (fits k step next.is))));
@@ -271,7 +271,7 @@ drive_more limit {before = before} {steps = steps} {done = done} {k = k} {step =
       kept =
           EachBelow-trans before.contents mid.contents now.contents so_far.kept refused.kept;
       least = λ origins fits.
-          rw (known_after-marked before.contents steps done origins k step false next.is
+          rw (known_after-marked before.contents steps done origins k false next.is
           next.within)
           (EachBelow-trans _ _ _ (so_far.least origins fits) refused.kept);
       most = λ origins fits.

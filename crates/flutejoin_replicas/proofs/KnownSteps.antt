@@ -34,12 +34,12 @@ known_after-none held f origins = refl
 
 -- what was given by the steps done, when one more is marked
 pub known_after-marked : (held : List (List Fact)) (steps : List Step) (done : List Bool)
-    (origins : ℕ → List Fact) (k : ℕ) (step : Step) (b : Bool) → slice_get steps k ≡ Some step
-    → k < length done
+    (origins : ℕ → List Fact) (k : ℕ) {step : Step} (b : Bool)
+    → slice_get steps k ≡ Some step → k < length done
     → known_after held (done_among steps (set done k b)) origins (k + 1)
     ≡ held_after_next (known_after held (done_among steps done) origins k)
     (if_done (Some b) (Some step)) (origins k)
-known_after-marked held steps done origins k step b is within =
+known_after-marked held steps done origins k {step = step} b is within =
     known_after-next held (done_among steps (set done k b)) origins k
     (if_done (Some b) (Some step)) (rw (slice_get-set_same done k b within, is) refl)
     ∙ ap (λ A. held_after_next A (if_done (Some b) (Some step)) (origins k))

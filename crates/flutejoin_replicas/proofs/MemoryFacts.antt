@@ -116,8 +116,8 @@ module _ {choice : Choice} where
   memory_fails inputs fault (of_inputs h) = absurd h
 
   -- reading the journal that was written gives the facts it was written of
-  pub joins_of : (inputs : List (List ℕ)) (counts : JoinCounts) (bytes : List ℕ)
-      (store : List Fact)
+  pub joins_of : {inputs : List (List ℕ)} {counts : JoinCounts} {bytes : List ℕ}
+      {store : List Fact}
       → counts.entries < 2 ^ 64
       → ((bs : List ℕ) (F G : List Fact) → IsJournal bs F → IsJournal bs G → Same F G)
       → ((bs : List ℕ) (limit : ℕ) (F : List Fact) → limit < 2 ^ 64
@@ -126,7 +126,7 @@ module _ {choice : Choice} where
       → IsJournalOf counts.entries bytes store
       → Joins {s = MAX_SESSIONS} {o = MAX_OBJECTS} {y = MAX_SYMBOLS} choice inputs
       (record { store = store; datagrams = counts.datagrams; refused = counts.refused })
-  joins_of inputs counts bytes store few one is_one h journal = record {
+  joins_of {counts = counts} {bytes = bytes} {store = store} few one is_one h journal = record {
     told = h.told;
     tell = h.tell;
     content =

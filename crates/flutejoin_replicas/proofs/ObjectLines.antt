@@ -41,26 +41,35 @@ object_part F key status s t h part =
     (flat_map gap_line (gaps_at F key (fact_at F (info_address key))))
     (subst (λ x. AppendsPart s t (status_line key x)) (status_is F key status h) part)
 
+-- the line of the object's status was written
+pub record StatusWritten (F : List Fact) (key : Key) (s t : Option (List ℕ)) : Type 0 where
+  pub status : Status
+  pub told : TellsStatus F key status
+  pub line : Appends s t (status_line key status)
+
+-- it is the line of the status that the facts give
+line_at : {F : List Fact} {key : Key} {s t : Option (List ℕ)} → StatusWritten F key s t
+    → Appends s t (status_line key (status_at F key (fact_at F (info_address key))))
+line_at {F = F} {key = key} {s = s} {t = t} h =
+    subst (λ x. Appends s t (status_line key x)) (status_is F key h.status h.told) h.line
+
 -- the line of the object was written, and then those of its gaps
-pub object_written : {T E : Type 0} (F : List Fact) (key : Key) (status : Status) (left : GapsLeft)
-    (s t t' : Option (List ℕ)) (r : Result T E) → TellsStatus F key status → GivesGaps F key left
-    → Appends s t (status_line key status) → Writes t t' (flat_map gap_line left.gaps) r
+pub object_written : {T E : Type 0} {F : List Fact} {key : Key} {left : GapsLeft}
+    {s t : Option (List ℕ)} (t' : Option (List ℕ)) (r : Result T E) → StatusWritten F key s t
+    → GivesGaps F key left → Writes t t' (flat_map gap_line left.gaps) r
     → Writes s t' (object_lines F key) r
 unfolding object_lines
-object_written F key status left s t t' r h g line more =
+object_written {F = F} {key = key} {left = left} {s = s} {t = t} t' r h g more =
     Writes-behind s t t' (status_line key (status_at F key (fact_at F (info_address key))))
-    (flat_map gap_line (gaps_at F key (fact_at F (info_address key)))) r
-    (subst (λ x. Appends s t (status_line key x)) (status_is F key status h) line)
+    (flat_map gap_line (gaps_at F key (fact_at F (info_address key)))) r (line_at h)
     (subst (λ l. Writes t t' (flat_map gap_line l) r) (gaps_are F key left g) more)
 
 -- and an object without one information has none
-pub object_alone : (F : List Fact) (key : Key) (status : Status) (fault : GapFault)
-    (s t : Option (List ℕ)) → TellsStatus F key status → TellsGapFault F key fault
-    → Appends s t (status_line key status) → Appends s t (object_lines F key)
+pub object_alone : {F : List Fact} {key : Key} {s t : Option (List ℕ)} (fault : GapFault)
+    → StatusWritten F key s t → TellsGapFault F key fault → Appends s t (object_lines F key)
 unfolding object_lines
-object_alone F key status fault s t h g line =
+object_alone {F = F} {key = key} {s = s} {t = t} fault h g =
     let front = status_line key (status_at F key (fact_at F (info_address key))) in
     let all : front ≡ front ++ flat_map gap_line (gaps_at F key (fact_at F (info_address key))) =
     sym (append-nil front) ∙ ap (λ l. front ++ flat_map gap_line l) (sym (no_gaps F key fault g)) in
-    subst (λ (l : List ℕ). Appends s t l) all (subst (λ x. Appends s t (status_line key x))
-    (status_is F key status h) line)
+    subst (λ (l : List ℕ). Appends s t l) all (line_at h)

@@ -41,17 +41,16 @@ EachBelow-trans A B C h k =
           λ r. Below-trans (held_by A r) (held_by B r) (held_by C r) (h.each r) (k.each r);
     }
 
--- a relation of two lists holds at each replica, if it does where one was set and everywhere before
-pub each_set : (R : List Fact → List Fact → Type 0) (A B : List (List Fact)) (i : ℕ)
-    (x y : List Fact) → i < length A → i < length B → R x y
-    → ((r : ℕ) → r ≢ i → R (held_by A r) (held_by B r)) → (r : ℕ)
-    → R (held_by (set A i x) r) (held_by (set B i y) r)
-each_set R A B i x y within_A within_B here others r =
+-- P holds at each replica, if it does of what one was set to and of what the others held before
+pub each_set : (P : ℕ → List Fact → Type 0) (A : List (List Fact)) (i : ℕ) (x : List Fact)
+    → i < length A → P i x → ((r : ℕ) → r ≢ i → P r (held_by A r)) → (r : ℕ)
+    → P r (held_by (set A i x) r)
+each_set P A i x within here others r =
     elim (cases_eq r i) [
       | inl e ↦
-          let P : ℕ → Type 0 = λ q. R (held_by (set A i x) q) (held_by (set B i y) q) in
-          subst P (sym e) (rw (get_or-set_same A i x [], get_or-set_same B i y []) here)
-      | inr ne ↦ rw (get_or-set_other A i r x [] ne, get_or-set_other B i r y [] ne) (others r ne)
+          let Q : ℕ → Type 0 = λ q. P q (held_by (set A i x) q) in
+          subst Q (sym e) (rw (get_or-set_same A i x []) here)
+      | inr ne ↦ rw (get_or-set_other A i r x [] ne) (others r ne)
     ]
 
 pub EachSame-set : (A B : List (List Fact)) (i : ℕ) (x y : List Fact) → i < length A → EachSame A B
@@ -59,7 +58,9 @@ pub EachSame-set : (A B : List (List Fact)) (i : ℕ) (x y : List Fact) → i < 
 EachSame-set A B i x y within h same =
     record {
       count = length-set A i x ∙ h.count ∙ sym (length-set B i y);
-      each = each_set Same A B i x y within (omega (arith, h.count)) same (λ r _. h.each r);
+      each = each_set (λ r l. Same l (held_by (set B i y) r)) A i x within
+          (rw (get_or-set_same B i y [] (omega (arith, h.count))) same)
+          (λ r ne. rw (get_or-set_other B i r y [] ne) (h.each r));
     }
 
 pub EachBelow-set : (A B : List (List Fact)) (i : ℕ) (x y : List Fact) → i < length A
@@ -67,7 +68,9 @@ pub EachBelow-set : (A B : List (List Fact)) (i : ℕ) (x y : List Fact) → i <
 EachBelow-set A B i x y within h below =
     record {
       count = length-set A i x ∙ h.count ∙ sym (length-set B i y);
-      each = each_set Below A B i x y within (omega (arith, h.count)) below (λ r _. h.each r);
+      each = each_set (λ r l. Below l (held_by (set B i y) r)) A i x within
+          (rw (get_or-set_same B i y [] (omega (arith, h.count))) below)
+          (λ r ne. rw (get_or-set_other B i r y [] ne) (h.each r));
     }
 
 -- setting an element to its own value changes nothing

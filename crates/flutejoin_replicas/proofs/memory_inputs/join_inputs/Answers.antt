@@ -19,7 +19,7 @@ returns-in-Ok-clause-joined c =
     λ w. JoinsTo (everything c.args.sender) c.args.inputs.now counts w (Some bytes) in
     let U : Option (List ℕ) → Type 0 =
     λ u. IfSome u (λ bs. IsJournalOf counts.entries bs c.in-Ok.store) in
-    joins_of c.args.inputs.now counts bytes c.in-Ok.store few c.a_journal_has_one_content.ensures
+    joins_of few c.a_journal_has_one_content.ensures
     c.a_journal_within_a_bound_is_one.ensures
     (subst Q c.new-journal.ensures.bytes
     (subst P c.as_slice.ensures c.in_ok-counts.ensures.joined))

@@ -14,8 +14,7 @@ loop-bytes-init g c =
 pub returns-then-count-eq0-clause-bytes : goal.returns-then-count-eq0-clause-bytes
 returns-then-count-eq0-clause-bytes g c =
     end_kept _ _ (g.R.Source.unread c.read.new.self) c.loop-bytes.bytes.items
-    (take c.in_ok-count.count c.read.new.buffer) c.loop-bytes.invariant.2
-    c.in_ok-count.ensures.bytes.0
+    c.loop-bytes.invariant.2 c.in_ok-count.ensures.bytes.0
     (ap (λ n. take n c.read.new.buffer) c.if-count-eq0.true)
     (c.in_ok-count.ensures.bytes.1 c.if-count-eq0.true
     (omega (arith, c.read.auto.buffer, c.deref_mut.ensures.len, c.loop-bytes.invariant.0)))
@@ -48,7 +47,7 @@ loop-bytes-preserved g c =
           (omega (arith, c.if-count-len.false, c.len.ensures, c.loop-bytes.bytes.ok.0))
           c.loop-bytes.invariant.1,
       piece_kept _ _ (g.R.Source.unread c.read.new.self) c.loop-bytes.bytes.items
-          c.extend_from_slice.new.self.items _ more c.loop-bytes.invariant.2
+          _ more c.loop-bytes.invariant.2
           c.in_ok-count.ensures.bytes.0,
       omega (arith, c.in_ok-count.ensures.failures, c.loop-bytes.invariant.3),
     )
