@@ -35,7 +35,7 @@ pub whole : (u v w : Option (List ℕ)) (from to : ReaderState Before) (es : Lis
     → IfSome u (λ x. IsJournalWithin MAX_ENTRIES x es)
 whole u v w from to es h g =
     whole-at journal_sound MAX_ENTRIES u w es
-    (side-from journal_sound MAX_ENTRIES u v w from to es None h g)
+    (side-from journal_sound w to None h g)
 
 -- these entries were read, and the lines of those that are selected written, and nothing else
 pub record Shown (choice : Selection) (first now : Option (List ℕ)) (state : ReaderState Before)
@@ -69,7 +69,7 @@ module _ {choice : Selection} {u v : Option (List ℕ)} (w : Option (List ℕ))
         → Shown choice u w to s t' (count + lines)
     shown-next lines are line = record {
       entries = h.entries ++ f ∷ [];
-      sofar = sofar-next journal_sound MAX_ENTRIES u v w from to h.entries f h.sofar g;
+      sofar = sofar-next journal_sound h.sofar g;
       counted =
           let more = ap length (selected_more choice f h.entries) in
           let all = length-append (selected choice h.entries) (selected choice (f ∷ [])) in
@@ -84,7 +84,7 @@ module _ {choice : Selection} {u v : Option (List ℕ)} (w : Option (List ℕ))
     pub shown-part : AppendsPart t t' (entry_lines (selected choice (f ∷ [])))
         → ShowsPart choice u w s t'
     shown-part part =
-        let all = sofar-next journal_sound MAX_ENTRIES u v w from to h.entries f h.sofar g in
+        let all = sofar-next journal_sound h.sofar g in
         of_entries (h.entries ++ f ∷ []) all.are_items
         (subst (Consumes u w) (read_some journal_framing all.are_items.told h.entries f) all.read)
         (subst (λ (x : List ℕ). AppendsPart s t' x) (lines_more choice h.entries f)
@@ -97,7 +97,7 @@ module _ {choice : Selection} {u v : Option (List ℕ)} (w : Option (List ℕ))
   shown-fault f g = record {
     entries = h.entries;
     are_items = h.sofar.are_items;
-    stops = (sofar-stops MAX_ENTRIES u v w from to h.entries f h.sofar g).0;
+    stops = (sofar-stops h.sofar g).0;
     written = h.written;
   }
 

@@ -68,7 +68,7 @@ Journal-of_same bs F G same j = (
 pub never_both : (bs : List ℕ) (entries es : List Fact) (f : ReadFault)
     → IsJournalWithin MAX_ENTRIES bs entries → Stops journal_framing bs MAX_ENTRIES es f → ⊥
 never_both bs entries es f j stops =
-    let b = beyond j.are_items.told MAX_ENTRIES entries es bs f j.are_items.valid
+    let b = beyond j.are_items.told entries j.are_items.valid
     j.are_items.in_order (omega (arith, j.are_items.few)) j.bytes_are stops in
     omega (arith, b.1, j.are_items.few)
 
@@ -77,7 +77,7 @@ pub too_many : (bs : List ℕ) (F es : List Fact) (f : ReadFault) → IsJournal 
     → Stops journal_framing bs MAX_ENTRIES es f → (f ≡ ReadFault.TooMany) × IsLonger F MAX_ENTRIES
 too_many bs F es f (v, journal) stops =
     let j = journal_parts v bs F journal in
-    let b = beyond v MAX_ENTRIES j.entries es bs f j.valid j.collects.rising j.small j.bytes_are
+    let b = beyond v j.entries j.valid j.collects.rising j.small j.bytes_are
     stops in (
       b.0,
       record {
@@ -112,5 +112,5 @@ not_longer F entries bs j same h =
 pub begins_below : (bs : List ℕ) (F es : List Fact) → IsJournal bs F → BeginsWith MAX_ENTRIES bs es
     → Below es F
 begins_below bs F es (v, j) begins =
-    without_end-below v begins.are_items.told bs F es begins.rest j begins.are_items.valid
+    without_end-below v begins.are_items.told F es begins.rest j begins.are_items.valid
     begins.whole

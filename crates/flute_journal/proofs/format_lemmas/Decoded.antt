@@ -46,14 +46,14 @@ pub front_octets : (bs a b : List ℕ) (n : ℕ) → IsSplitAt bs n a b → AllB
     → AllByRecursion IsByte a
 front_octets bs a b n s h = subst (AllByRecursion IsByte) (sym s.1) (octets-take n bs h)
 
-pub opening_version : (m : List ℕ) (is_known : List ℕ → Bool) (bs a b : List ℕ)
+pub opening_version : (m : List ℕ) (is_known : List ℕ → Bool) (bs : List ℕ) {a b : List ℕ}
     → length bs ≤ 6 → IsSplitAt bs 4 a b → bytes_eq a m ≡ true → 2 ≤ length b
     → is_known b ≡ false
     → StopsReading 6 (version_fault m is_known) bs faults.Version
-opening_version m is_known bs a b most s e some wrong =
+opening_version m is_known bs {a = a} {b = b} most s e some wrong =
     stops_here 6 (version_fault m is_known) bs faults.Version (λ h. cc) tt
     (λ r. ap (λ (x : List ℕ). version_fault m is_known (x ++ r)) (joined bs a b 4 s)
-    ∙ version_wrong m is_known a b r s.3 (omega (arith, most, some, s.4)) e wrong)
+    ∙ version_wrong m is_known a r s.3 (omega (arith, most, some, s.4)) e wrong)
 
 header_read : (bs a b : List ℕ) (v : Version) → IsSplitAt bs 4 a b → bytes_eq a magic ≡ true
     → b ≡ version_bytes v → header_in v ≡ bs
@@ -62,22 +62,23 @@ header_read bs a b v s e is =
     ∙ ap (λ (x : List ℕ). magic ++ x) is)
 
 -- a header with the magic number, by what its version is
-pub header_parsed : (bs a b : List ℕ) (o : Option Version) (r : Result Version ReadFault)
+pub header_parsed : (bs : List ℕ) {a b : List ℕ} (o : Option Version)
+    {r : Result Version ReadFault}
     → r ≡ ok_or o faults.Version → length bs ≤ 6 → IsSplitAt bs 4 a b
     → bytes_eq a magic ≡ true → 2 ≤ length b
     → MatchOption o (is_version b ≡ false) (λ (v : Version). b ≡ version_bytes v)
     → Parses 6 (λ (v : Version). header_in v ≡ bs) header_fault bs r
-header_parsed bs a b None r is most s e some wrong =
+header_parsed bs None is most s e some wrong =
     subst (Parses 6 (λ (v : Version). header_in v ≡ bs) header_fault bs) (sym is)
-    (opening_version magic is_version bs a b most s e some wrong)
-header_parsed bs a b (Some v) r is most s e some h =
+    (opening_version magic is_version bs most s e some wrong)
+header_parsed bs {a = a} {b = b} (Some v) is most s e some h =
     subst (Parses 6 (λ (v : Version). header_in v ≡ bs) header_fault bs) (sym is)
     (header_read bs a b v s e h)
 
-pub opening_read : (o bs a b : List ℕ) → length o ≡ 6 → length bs ≤ 6
+pub opening_read : (o bs : List ℕ) {a b : List ℕ} → length o ≡ 6 → length bs ≤ 6
     → IsSplitAt bs 4 a b → bytes_eq a (take 4 o) ≡ true → 2 ≤ length b
     → bytes_eq b (take 2 (drop 4 o)) ≡ true → bs ≡ o
-opening_read o bs a b len most s e some e' =
+opening_read o bs {a = a} {b = b} len most s e some e' =
     let front : a ≡ take 4 o = (bytes_eq-Decides a (take 4 o)).0 e in
     let back : b ≡ take 2 (drop 4 o) = (bytes_eq-Decides b (take 2 (drop 4 o))).0 e' in
     joined bs a b 4 s
@@ -87,10 +88,10 @@ opening_read o bs a b len most s e some e' =
     ∙ take-append-drop 4 o
 
 -- the number at the end was read, and no bytes follow it
-pub end_read : (bs a b : List ℕ) (n count : ℕ) → IsSplitAt bs 8 a b
+pub end_read : (bs : List ℕ) {a b : List ℕ} {n count : ℕ} → IsSplitAt bs 8 a b
     → AllByRecursion IsByte bs → length b ≡ 0 → n ≡ big_endian a → n ≡ count
     → bs ≡ in_bytes 8 count
-end_read bs a b n count s h none is or_failed =
+end_read bs {a = a} {b = b} s h none is or_failed =
     cc (
       joined bs a b 8 s,
       nil_from_length b none,
@@ -100,10 +101,11 @@ end_read bs a b n count s h none is or_failed =
       or_failed,
     )
 
-pub id_read : (bs a b : List ℕ) (m n : ℕ) → IsSplitAt bs 4 a b → AllByRecursion IsByte bs
+pub id_read : (bs : List ℕ) {a b : List ℕ} {m n : ℕ} → IsSplitAt bs 4 a b
+    → AllByRecursion IsByte bs
     → m ≡ big_endian (take 2 a) → n ≡ big_endian (take (length a - 2) (drop 2 a))
     → bs ≡ (in_bytes 2 m ++ in_bytes 2 n) ++ b
-id_read bs a b m n s h first second =
+id_read bs s h first second =
     grind (arith, take_all, length-drop, spelled_pair, front_octets, joined)
 
 pub length_empty : (bs : List ℕ) (n : ℕ) → length bs ≡ 2 → n ≡ big_endian bs → n ≡ 0
@@ -132,27 +134,36 @@ pub sender_long : (v : Version) (bs : List ℕ) → v ≡ Two → length bs ≡ 
 unfolding sender_size
 sender_long v bs e len = len ∙ ap sender_size e
 
+-- the bytes of a key: those of its sender, whose number this is, and those of its name
+pub record LieInKey (version : Version) (bytes front back : List ℕ) (sender : ℕ) : Type 0 where
+  pub octets : AllByRecursion IsByte bytes
+  pub long : length bytes ≡ key_size version
+  pub size : ℕ
+  pub size_is : size ≡ sender_size version
+  pub front_is : front ≡ take size bytes
+  pub back_is : back ≡ drop size bytes
+  pub sender_is : sender ≡ big_endian front
+
 -- a key is that of its sender and its name
-pub key_found : (v : Version) (n sender : ℕ) (bs front back : List ℕ) (r : Option Key)
-    → n ≡ sender_size v → length bs ≡ key_size v → AllByRecursion IsByte bs
-    → front ≡ take n bs → back ≡ drop n bs
-    → sender ≡ big_endian front
+pub key_found : {v : Version} {sender : ℕ} {bs front back : List ℕ} (r : Option Key)
+    → LieInKey v bs front back sender
     → MatchOption r (is_name back ≡ false)
     (λ key. (is_name back ≡ true) × (key ≡ named_in sender back) × IsKey key)
     → MatchOption r (is_key v bs ≡ false)
     (λ key. (is_key v bs ≡ true) × (key ≡ key_in v bs) × IsKeyIn v key)
-key_found v n sender bs front back None size len oct f b is h =
-    ap is_name (ap (λ m. drop m bs) (sym size) ∙ sym b) ∙ h
-key_found v n sender bs front back (Some key) size len oct f b is h =
+key_found {bs = bs} None l h =
+    ap is_name (ap (λ m. drop m bs) (sym l.size_is) ∙ sym l.back_is) ∙ h
+key_found {v = v} {sender = sender} {bs = bs} {front = front} {back = back} (Some key) l h =
     let m = sender_size v in
-    let f' : front ≡ take m bs = f ∙ ap (λ k. take k bs) size in
-    let b' : back ≡ drop m bs = b ∙ ap (λ k. drop k bs) size in
-    let long : length front ≡ m = ap length f' ∙ length-take-le m bs (omega (arith, len)) in
+    let f' : front ≡ take m bs = l.front_is ∙ ap (λ k. take k bs) l.size_is in
+    let b' : back ≡ drop m bs = l.back_is ∙ ap (λ k. drop k bs) l.size_is in
+    let long : length front ≡ m = ap length f' ∙ length-take-le m bs (omega (arith, l.long)) in
     let small : big_endian front < 256 ^ length front =
-    number-below front (subst (AllByRecursion IsByte) (sym f') (octets-take m bs oct)) in
-    let or_failed : sender ≡ number_at 0 m bs = is ∙ ap big_endian f' in
+    number-below front (subst (AllByRecursion IsByte) (sym f') (octets-take m bs l.octets)) in
+    let or_failed : sender ≡ number_at 0 m bs = l.sender_is ∙ ap big_endian f' in
     let fits : sender < 256 ^ m =
-    subst (λ k. k < 256 ^ m) (sym is) (subst (λ k. big_endian front < 256 ^ k) long small) in (
+    subst (λ k. k < 256 ^ m) (sym l.sender_is)
+    (subst (λ k. big_endian front < 256 ^ k) long small) in (
       ap is_name (sym b') ∙ h.0,
       h.1 ∙ (λ i. named_in (or_failed i) (b' i)),
       (h.2, subst (λ (z : Key). HasRoom v z.session) (sym h.1) fits),
@@ -173,10 +184,11 @@ id_wrong last key id bs b p is wrong =
     ∙ stop (b ++ r))
 
 -- the bytes of a key that is none
-pub key_wrong : (v : Version) (k : Kind) (last : Option Address) (n : ℕ) (bs a b : List ℕ)
+pub key_wrong : (v : Version) (k : Kind) (last : Option Address) {n : ℕ} (bs : List ℕ)
+    {a b : List ℕ}
     → n ≡ key_size v → IsSplitAt bs n a b → is_key v a ≡ false
     → StopsReading (head_size v k) (body_fault v last k) bs faults.Key
-key_wrong v k last n bs a b size s wrong =
+key_wrong v k last {n = n} bs {a = a} {b = b} size s wrong =
     let m = key_size v in
     let long : length a ≡ m = s.3 ∙ size in
     let stop = λ (r : List ℕ).
@@ -191,36 +203,52 @@ key_wrong v k last n bs a b size s wrong =
     ∙ ap (body_fault v last k) (append_assoc a b r) ∙ stop (b ++ r))
 
 -- parsing an entry's head: its key, and then what follows the key
-behind_key : (v : Version) (k : Kind) (last : Option Address) (key : Key) (bs b : List ℕ)
-    (r : Result EntryHead ReadFault) → IsKeyIn v key → bs ≡ key_bytes v key ++ b
+behind_key : (v : Version) (k : Kind) (last : Option Address) (key : Key) (b : List ℕ)
+    (r : Result EntryHead ReadFault) → IsKeyIn v key
     → Parses (rest_size k) (RestIs last k key b) (rest_fault last k key) b r
-    → Parses (head_size v k) (λ x. HeadIn v last k x × (head_bytes v x ≡ bs))
-    (body_fault v last k) bs r
-behind_key v k last key bs b (Ok x) p is h = (
+    → Parses (head_size v k)
+    (λ x. HeadIn v last k x × (head_bytes v x ≡ key_bytes v key ++ b)) (body_fault v last k)
+    (key_bytes v key ++ b) r
+behind_key v k last key b (Ok x) p h = (
   (h.0, subst (λ (z : Key). HasRoom v z.session) (sym h.1) p.1),
-  (λ i. key_bytes v (h.1 i) ++ h.2 i) ∙ sym is,
+  λ i. key_bytes v (h.1 i) ++ h.2 i,
 )
-behind_key v k last key bs b (Err f) p is h =
-    stops_behind (head_size v k) (rest_size k) (body_fault v last k) (rest_fault last k key) bs
-    (key_bytes v key) b f is (omega (arith, length-key_bytes v key))
+behind_key v k last key b (Err f) p h =
+    stops_behind (head_size v k) (body_fault v last k)
+    (key_bytes v key) refl (omega (arith, length-key_bytes v key))
     (λ r e. key_comes v last k key r p.0 p.1 ∙ e) h
 
+-- bytes begin with those of this key
+pub record BeginsWithKey (version : Version) (bytes : List ℕ) (key : Key) (rest : List ℕ)
+    : Type 0 where
+  pub octets : AllByRecursion IsByte bytes
+  pub size : ℕ
+  pub size_is : size ≡ key_size version
+  pub front : List ℕ
+  pub split : IsSplitAt bytes size front rest
+  pub passes : is_key version front ≡ true
+  pub key_is : key ≡ key_in version front
+  pub valid : IsKeyIn version key
+
 -- the same for a kind that is known by an equation
-pub parsed_at : (v : Version) (kind k : Kind) (last : Option Address) (key : Key) (n : ℕ)
-    (bs a b : List ℕ) (r : Result EntryHead ReadFault) → kind ≡ k → n ≡ key_size v
-    → IsSplitAt bs n a b
-    → AllByRecursion IsByte bs → is_key v a ≡ true → key ≡ key_in v a → IsKeyIn v key
+pub parsed_at : {v : Version} {kind k : Kind} (last : Option Address) {key : Key}
+    {bs b : List ℕ} (r : Result EntryHead ReadFault) → kind ≡ k → BeginsWithKey v bs key b
     → Parses (rest_size k) (RestIs last k key b) (rest_fault last k key) b r
     → Parses (head_size v kind) (λ x. HeadIn v last kind x × (head_bytes v x ≡ bs))
     (body_fault v last kind) bs r
-parsed_at v kind k last key n bs a b r e size s h passes is valid p =
+parsed_at {v = v} {kind = kind} {k = k} last {key = key} {bs = bs} {b = b} r e s p =
+    let a = s.front in
+    let n = s.size in
     let spelled_key : bs ≡ key_bytes v key ++ b =
-    joined bs a b n s ∙ ap (λ (x : List ℕ). x ++ b)
-    (sym (key_spelled v a (s.3 ∙ size) (front_octets bs a b n s h) passes)
-    ∙ ap (key_bytes v) (sym is)) in
+    joined bs a b n s.split ∙ ap (λ (x : List ℕ). x ++ b)
+    (sym (key_spelled v a (s.split.3 ∙ s.size_is) (front_octets bs a b n s.split s.octets)
+    s.passes)
+    ∙ ap (key_bytes v) (sym s.key_is)) in
     subst (λ z. Parses (head_size v z) (λ x. HeadIn v last z x × (head_bytes v x ≡ bs))
     (body_fault v last z) bs r) (sym e)
-    (behind_key v k last key bs b r valid spelled_key p)
+    (subst (λ (l : List ℕ). Parses (head_size v k)
+    (λ x. HeadIn v last k x × (head_bytes v x ≡ l)) (body_fault v last k) l r) (sym spelled_key)
+    (behind_key v k last key b r s.valid p))
 
 -- a head in front of more bytes: the head with the first n of them is a prefix of the whole
 pub in_front : (head body rest : List ℕ) (n : ℕ) → body ≡ take n rest

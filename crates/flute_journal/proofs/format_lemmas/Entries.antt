@@ -5,7 +5,8 @@ use Rattle.flute_journal.proofs.Common.{cases_lt, le-leb, take_at, drop_at, Info
 use Rattle.flute_journal.proofs.Common.{ObjectName, Key, SymbolId, Fact, Info, InfoConflict, Symbol}
 use Rattle.flute_journal.proofs.Common.{SymbolConflict, Version, One, Two, in_bytes, sender_bytes}
 use Rattle.flute_journal.proofs.Common.{name_bytes, key_bytes, id_bytes, counted_bytes, header_in}
-use Rattle.flute_journal.proofs.Common.{entry_in, AllByRecursion, IsKey, HasRoom, IsId, IsInfo}
+use Rattle.flute_journal.proofs.Common.{entry_in, AllByRecursion, IsKey, IsKeyIn, HasRoom, IsId}
+use Rattle.flute_journal.proofs.Common.{IsInfo}
 use Rattle.flute_journal.proofs.Common.{IsFact, IsFactIn}
 use Rattle.flute_journal.specs.Format.{sender_size}
 use Rattle.flute_journal.proofs.Numbers.{in_bytes-injective}
@@ -22,17 +23,16 @@ name-injective : (a b : Key) (x y : List ℕ) → IsKey a → IsKey b
     → (a.session.tsi ≡ b.session.tsi) × (a.object ≡ b.object) × (x ≡ y)
 name-injective a b x y p q e = grind (arith, append_assoc, in_bytes-injective)
 
-pub key-injective : (v : Version) (a b : Key) (x y : List ℕ) → IsKey a → HasRoom v a.session
-    → IsKey b → HasRoom v b.session → key_bytes v a ++ x ≡ key_bytes v b ++ y
-    → (a ≡ b) × (x ≡ y)
-key-injective v a b x y p r q s e =
+pub key-injective : (v : Version) (a b : Key) (x y : List ℕ) → IsKeyIn v a → IsKeyIn v b
+    → key_bytes v a ++ x ≡ key_bytes v b ++ y → (a ≡ b) × (x ≡ y)
+key-injective v a b x y p q e =
     let grouped =
     sym (append_assoc (sender_bytes v a.session) (name_bytes a) x) ∙ e
     ∙ append_assoc (sender_bytes v b.session) (name_bytes b) y in
     let sender =
     in_bytes-injective (sender_size v) a.session.sender b.session.sender (name_bytes a ++ x)
-    (name_bytes b ++ y) r s grouped in
-    let name = name-injective a b x y p q sender.1 in
+    (name_bytes b ++ y) p.1 q.1 grouped in
+    let name = name-injective a b x y p.0 q.0 sender.1 in
     (λ i. record { session = session (sender.0 i) (name.0 i); object = name.1 i }, name.2)
 
 pub id-injective : (a b : SymbolId) (x y : List ℕ) → IsId a → IsId b

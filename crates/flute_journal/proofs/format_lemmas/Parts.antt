@@ -1,9 +1,10 @@
 -- Spelled bytes pass the checks of specs/Faults, part by part.
+use Rattle.flute_journal.proofs.Common.{SymbolIs}
 use Rattle.flute_journal.proofs.Common.{Address, AllByRecursion, Before, Bool, Check, Fact, File}
 use Rattle.flute_journal.proofs.Common.{HasRoom, Instance, IsBody, IsByte, IsFact, IsFactIn, IsId}
-use Rattle.flute_journal.proofs.Common.{IsKey, IsObjectName, IsTrue, IsWithin, Key, Kind, List}
+use Rattle.flute_journal.proofs.Common.{IsKey, IsObjectName, IsWithin, Key, Kind, List}
 use Rattle.flute_journal.proofs.Common.{None, ObjectName, One, Option, Some, Symbol, SymbolId, Two}
-use Rattle.flute_journal.proofs.Common.{Version, [], ap, append_assoc, arith, at_place, big_endian}
+use Rattle.flute_journal.proofs.Common.{Version, [], ap, append_assoc, arith, big_endian}
 use Rattle.flute_journal.proofs.Common.{body, body_fault, byte_of, bytes_checks, bytes_eq}
 use Rattle.flute_journal.proofs.Common.{bytes_fault, cut, cut_fault, drop, drop-drop, drop_at}
 use Rattle.flute_journal.proofs.Common.{end_checks, entry_in, eq-eqb, eqb, false, first_fault}
@@ -231,10 +232,11 @@ opening_comes m is_known bs v r len len' e =
     (cut-passes 6 (bs ++ v) r (omega (arith, six)))
     ∙ ap (λ (x : List ℕ). first_fault ((not (is_known x), faults.Version) ∷ [])) back
 
-pub version_wrong : (m : List ℕ) (is_known : List ℕ → Bool) (bs v r : List ℕ)
+pub version_wrong : (m : List ℕ) (is_known : List ℕ → Bool) (bs : List ℕ) {v : List ℕ}
+    (r : List ℕ)
     → length bs ≡ 4 → length v ≡ 2 → bytes_eq bs m ≡ true → is_known v ≡ false
     → version_fault m is_known ((bs ++ v) ++ r) ≡ Some faults.Version
-version_wrong m is_known bs v r len len' e wrong =
+version_wrong m is_known bs {v = v} r len len' e wrong =
     cc (
       opening_comes m is_known bs v r len len' e,
       first-stop (not (is_known v), faults.Version) [] (ap not wrong),
@@ -302,33 +304,33 @@ key_comes v last k key r p fits =
     key_passes v key r (λ x y. rest_checks last (byte_of k) x y) p fits
 
 -- the fault of a symbol's bytes after the fixed part of its entry
-pub symbol_cut : (v : Version) (last : Option Address) (key : Key) (id : SymbolId) (n : ℕ)
-    (r : List ℕ) → IsKey key → HasRoom v key.session → IsId id
-    → IsTrue (is_after last (symbol_address key id)) → 0 < n → n < 2 ^ 16
+pub symbol_cut : (v : Version) {last : Option Address} {k : Kind} {key : Key} {id : SymbolId}
+    {n : ℕ} (r : List ℕ) → SymbolIs last k key id n → HasRoom v key.session
     → body_fault v last kinds.Symbol ((key_bytes v key ++ (id_bytes id ++ in_bytes 2 n)) ++ r)
     ≡ cut_fault n r
-symbol_cut v last key id n r kv fits iv e some small =
-    let size : big_endian (in_bytes 2 n) ≡ n = number-in_bytes 2 n (omega (arith, small)) in
+symbol_cut v {last = last} {key = key} {id = id} {n = n} r s fits =
+    let size : big_endian (in_bytes 2 n) ≡ n = number-in_bytes 2 n (omega (arith, s.short)) in
     ap (body_fault v last kinds.Symbol)
     (append_assoc (key_bytes v key) (id_bytes id ++ in_bytes 2 n) r)
-    ∙ key_comes v last kinds.Symbol key ((id_bytes id ++ in_bytes 2 n) ++ r) kv fits
+    ∙ key_comes v last kinds.Symbol key ((id_bytes id ++ in_bytes 2 n) ++ r) s.key_valid fits
     ∙ ap (rest_fault last kinds.Symbol key) (append_assoc (id_bytes id) (in_bytes 2 n) r)
-    ∙ symbol_comes last key id (in_bytes 2 n ++ r) iv e
-    ∙ length_passes (in_bytes 2 n) r refl (omega (arith, size, some))
+    ∙ symbol_comes last key id (in_bytes 2 n ++ r) s.id_valid s.in_order
+    ∙ length_passes (in_bytes 2 n) r refl (omega (arith, size, s.some))
     ∙ ap (λ k. cut_fault k r) size
 
 -- within the bound, the fault of an entry is that of what follows its kind
-pub body_comes : (limit count : ℕ) (v : Version) (last : Option Address) (k : Kind) (r : List ℕ)
-    → count < limit
-    → next_fault (at_place v count last) limit (byte_of k ∷ r) ≡ body_fault v last k r
-body_comes limit count v last k r few = grind (arith, first-pass, lt-leb)
+pub body_comes : (limit : ℕ) (b : Before) (k : Kind) (r : List ℕ) → b.count < limit
+    → next_fault b limit (byte_of k ∷ r) ≡ body_fault b.version b.last k r
+body_comes limit b k r few = grind (arith, first-pass, lt-leb)
 
-pub entry_comes : (limit count : ℕ) (v : Version) (last : Option Address) (k : Kind) (key : Key)
-    (r : List ℕ) → count < limit → IsKey key → HasRoom v key.session
-    → next_fault (at_place v count last) limit ((byte_of k ∷ key_bytes v key) ++ r)
-    ≡ rest_fault last k key r
-entry_comes limit count v last k key r few p fits =
-    body_comes limit count v last k (key_bytes v key ++ r) few ∙ key_comes v last k key r p fits
+pub entry_comes : (limit : ℕ) (b : Before) (k : Kind) (key : Key) (r : List ℕ)
+    → b.count < limit
+    → IsKey key → HasRoom b.version key.session
+    → next_fault b limit ((byte_of k ∷ key_bytes b.version key) ++ r)
+    ≡ rest_fault b.last k key r
+entry_comes limit b k key r few p fits =
+    body_comes limit b k (key_bytes b.version key ++ r) few
+    ∙ key_comes b.version b.last k key r p fits
 
 -- Bytes with nothing after a whole value (specs/Input: IsWithin): they are too short for more.
 
@@ -365,13 +367,24 @@ pub entry_within : (v : Version) (k : Kind) (p : List ℕ) → IsWithin (body v)
 entry_within v k p h f more valid e = grind (arith)
 
 -- no more bytes of a symbol than the fixed part of its entry says
-pub symbol_within : (v : Version) (key : Key) (id : SymbolId) (n : ℕ) (p : List ℕ) → IsKey key
-    → HasRoom v key.session → IsId id → n < 2 ^ 16 → length p ≤ n
+pub symbol_within : (v : Version) {last : Option Address} {k : Kind} {key : Key} {id : SymbolId}
+    {n : ℕ} (p : List ℕ) → SymbolIs last k key id n → HasRoom v key.session
+    → length p ≤ n
     → IsWithin (body v) (IsBody v kinds.Symbol)
     ((key_bytes v key ++ (id_bytes id ++ in_bytes 2 n)) ++ p)
-symbol_within v key id n p kv fits iv small few (Symbol l j b) more h e =
-    grind (arith, append_assoc, key-injective, id-injective, in_bytes-injective, nothing_left)
-symbol_within v key id n p kv fits iv small few f more h e = absurd (omega (arith, h.0))
+symbol_within v p s fits few (Symbol l j b) more h e =
+    grind (
+      arith,
+      s.key_valid,
+      s.id_valid,
+      s.short,
+      append_assoc,
+      key-injective,
+      id-injective,
+      in_bytes-injective,
+      nothing_left,
+    )
+symbol_within v p s fits few f more h e = absurd (omega (arith, h.0))
 
 -- the byte before an entry
 

@@ -30,31 +30,47 @@ pub written-snoc : (es : List Fact) (f : Fact)
 written-snoc [] f = refl
 written-snoc (e ∷ es) f = refl
 
+-- bytes begin with a header of this version and these valid entries
+pub record BeginsWith (version : Version) (entries : List Fact) (rest bytes : List ℕ)
+    : Type 0 where
+  pub valid : AllByRecursion (IsFactIn version) entries
+  pub bytes_are : bytes ≡ without_end_in version entries ++ rest
+
+-- they begin with a whole journal of valid entries
+pub record BeginsWithAll (version : Version) (entries : List Fact) (rest bytes : List ℕ)
+    : Type 0 where
+  pub valid : AllByRecursion (IsFactIn version) entries
+  pub bytes_are : bytes ≡ spelling_in version entries ++ rest
+
 -- If two journals begin with the same bytes, they have one version; where the first ends after
 -- its own entries, these are the first entries of the second.
-pub without_end-both : (v w : Version) (fs es : List Fact) (x t : List ℕ)
-    → AllByRecursion (IsFactIn v) fs → AllByRecursion (IsFactIn w) es
+pub without_end-both : {v w : Version} {fs es : List Fact} {x t bytes : List ℕ}
+    → BeginsWith v fs x bytes → BeginsWith w es t bytes
     → ((f : Fact) (y : List ℕ) → t ≡ entry_in v f ++ y → ⊥)
-    → without_end_in v fs ++ x ≡ without_end_in w es ++ t → (v ≡ w) × GoesOn (entry_in v) fs es x t
-without_end-both v w fs es x t p q none e =
+    → (v ≡ w) × GoesOn (entry_in v) fs es x t
+without_end-both {v = v} {w = w} {fs = fs} {es = es} {x = x} {t = t} p q none =
+    let e : without_end_in v fs ++ x ≡ without_end_in w es ++ t =
+    sym p.bytes_are ∙ q.bytes_are in
     let h = header-injective v w (flat_map (entry_in v) fs ++ x) (flat_map (entry_in w) es ++ t)
     (sym (append_assoc (header_in v) (flat_map (entry_in v) fs) x) ∙ e
     ∙ append_assoc (header_in w) (flat_map (entry_in w) es) t) in (
       h.0,
-      begins (entry_in v) (IsFactIn v) (entry_injective v) fs es x t none p
-          (subst (λ (z : Version). AllByRecursion (IsFactIn z) es) (sym h.0) q)
+      begins (entry_in v) (IsFactIn v) (entry_injective v) fs es x t none p.valid
+          (subst (λ (z : Version). AllByRecursion (IsFactIn z) es) (sym h.0) q.valid)
           (subst (λ (z : Version). flat_map (entry_in v) fs ++ x ≡ flat_map (entry_in z) es ++ t)
           (sym h.0) h.1),
     )
 
-pub without_end-of_spelling : (v w : Version) (fs es : List Fact) (x y : List ℕ)
-    → AllByRecursion (IsFactIn v) fs → AllByRecursion (IsFactIn w) es
-    → without_end_in v fs ++ x ≡ spelling_in w es ++ y
+pub without_end-of_spelling : {v w : Version} {fs es : List Fact} {x y bytes : List ℕ}
+    → BeginsWith v fs x bytes → BeginsWithAll w es y bytes
     → (v ≡ w) × GoesOn (entry_in v) fs es x (end (length es) ++ y)
-without_end-of_spelling v w fs es x y p q e =
-    without_end-both v w fs es x (end (length es) ++ y) p q
-    (λ f z. not_end v f (in_bytes 8 (length es) ++ y) z)
-    (e ∙ append_assoc (without_end_in w es) (end (length es)) y)
+without_end-of_spelling {v = v} {w = w} {es = es} {y = y} {bytes = bytes} p q =
+    let r : BeginsWith w es (end (length es) ++ y) bytes =
+    record {
+      valid = q.valid;
+      bytes_are = q.bytes_are ∙ append_assoc (without_end_in w es) (end (length es)) y;
+    } in
+    without_end-both p r (λ f z. not_end v f (in_bytes 8 (length es) ++ y) z)
 
 by_rest : (v : Version) (fs es rest : List Fact) (x y : List ℕ) → es ≡ fs ++ rest
     → end (length fs) ++ x ≡ flat_map (entry_in v) rest ++ (end (length es) ++ y) → es ≡ fs
@@ -65,18 +81,21 @@ by_rest v fs es (f ∷ rest) x y s t =
     (t ∙ append_assoc (entry_in v f) (flat_map (entry_in v) rest) (end (length es) ++ y)))
 
 -- a journal is read in one way, whatever follows it
-pub spelling-injective : (v w : Version) (fs es : List Fact) (x y : List ℕ)
-    → AllByRecursion (IsFactIn v) fs → AllByRecursion (IsFactIn w) es
-    → spelling_in v fs ++ x ≡ spelling_in w es ++ y
+pub spelling-injective : {v w : Version} {fs es : List Fact} {x y bytes : List ℕ}
+    → BeginsWithAll v fs x bytes → BeginsWithAll w es y bytes
     → (v ≡ w) × (es ≡ fs) × (x ≡ y)
-spelling-injective v w fs es x y p q e =
-    let r = without_end-of_spelling v w fs es (end (length fs) ++ x) y p q
-    (sym (append_assoc (without_end_in v fs) (end (length fs)) x) ∙ e) in
+spelling-injective {v = v} {fs = fs} {es = es} {x = x} {y = y} {bytes = bytes} p q =
+    let begun : BeginsWith v fs (end (length fs) ++ x) bytes =
+    record {
+      valid = p.valid;
+      bytes_are = p.bytes_are ∙ append_assoc (without_end_in v fs) (end (length fs)) x;
+    } in
+    let r = without_end-of_spelling begun q in
     let one = by_rest v fs es r.1.more x y r.1.items r.1.bytes in (
       r.0,
       one,
       append_cancel_left (spelling_in v fs) x y
-          (e ∙ (λ i. spelling_in (sym r.0 i) (one i) ++ y)),
+          (sym p.bytes_are ∙ q.bytes_are ∙ (λ i. spelling_in (sym r.0 i) (one i) ++ y)),
     )
 
 -- Journals of whatever version.
@@ -111,15 +130,22 @@ pub written_journal : (bytes : List ℕ) (facts : List Fact) → Journal bytes f
     → IsJournal bytes facts
 written_journal bytes facts j = (Two, j)
 
+-- the entries of a journal, which nothing follows
+pub begins_with_all : {v : Version} {bytes : List ℕ} {facts : List Fact}
+    → (j : JournalParts v bytes facts) → BeginsWithAll v j.entries [] bytes
+begins_with_all {v = v} j =
+    record {
+      valid = j.valid;
+      bytes_are = j.bytes_are ∙ sym (append-nil (spelling_in v j.entries));
+    }
+
 -- a journal has one version, and its facts have one value at each address
 pub same_journal : (v w : Version) (bytes : List ℕ) (F G : List Fact) → JournalIn v bytes F
     → JournalIn w bytes G → (v ≡ w) × Same F G
 same_journal v w bytes F G first second =
     let j = journal_parts v bytes F first in
     let k = journal_parts w bytes G second in
-    let one = spelling-injective v w j.entries k.entries [] [] j.valid k.valid
-    (append-nil (spelling_in v j.entries) ∙ sym j.bytes_are ∙ k.bytes_are
-    ∙ sym (append-nil (spelling_in w k.entries))) in (
+    let one = spelling-injective (begins_with_all j) (begins_with_all k) in (
       one.0,
       record {
         each =
@@ -142,8 +168,11 @@ pub no_end : (M : List Fact) (bs more : List ℕ) → AllByRecursion IsFact M
     → bs ++ more ≡ without_end M → (facts : List Fact) → IsJournal bs facts → ⊥
 no_end M bs more all e facts (v, journal) =
     let j = journal_parts v bs facts journal in
-    let f = without_end-of_spelling Two v M j.entries [] more (facts_two M all) j.valid
-    (append-nil (without_end M) ∙ sym e ∙ ap (λ (x : List ℕ). x ++ more) j.bytes_are) in
+    let begun : BeginsWith Two M [] (bs ++ more) =
+    record { valid = facts_two M all; bytes_are = e ∙ sym (append-nil (without_end M)) } in
+    let read : BeginsWithAll v j.entries more (bs ++ more) =
+    record { valid = j.valid; bytes_are = ap (λ (x : List ℕ). x ++ more) j.bytes_are } in
+    let f = without_end-of_spelling begun read in
     end_some (length j.entries) more (right_nil (flat_map entry f.1.more)
     (end (length j.entries) ++ more) f.1.bytes)
 
@@ -153,9 +182,11 @@ pub no_whole_end : (M : List Fact) (bs more : List ℕ) → AllByRecursion IsFac
     → IsJournal bs facts → ⊥
 no_whole_end M bs more all s e facts (v, journal) =
     let j = journal_parts v bs facts journal in
-    let f = spelling-injective v Two j.entries M more [] j.valid (facts_two M all)
-    (sym (ap (λ (x : List ℕ). x ++ more) j.bytes_are) ∙ e
-    ∙ sym (append-nil (spelling M))) in
+    let read : BeginsWithAll v j.entries more (bs ++ more) =
+    record { valid = j.valid; bytes_are = ap (λ (x : List ℕ). x ++ more) j.bytes_are } in
+    let whole : BeginsWithAll Two M [] (bs ++ more) =
+    record { valid = facts_two M all; bytes_are = e ∙ sym (append-nil (spelling M)) } in
+    let f = spelling-injective read whole in
     s f.2
 
 -- Bytes with nothing after a whole entry (specs/Input: IsWithin).

@@ -18,7 +18,7 @@ use Rattle.flute_journal.specs.declared.format.EntryHead.TheVariants.{Symbol}
 use Rattle.flute_journal.specs.declared.format.Kind.TheVariants as kinds
 use Rattle.flute_journal.proofs.{
   Numbers.{spelled, octets-take, octets-drop},
-  format_lemmas.Decoded.{then-equal},
+  format_lemmas.Decoded.{LieInKey, then-equal},
   format_lemmas.Entries.{room_two},
 }
 
@@ -28,13 +28,14 @@ file_bytes_of (Instance k) n is some = absurd (omega (arith, is, some))
 file_bytes_of (File k) n is some = ap (λ x. 1 ∷ in_bytes 14 x) is
 
 -- bytes with the numbers of a file are those that name it
-pub file_named : (key : Key) (bs : List ℕ) (tsi toi : ℕ) → length bs ≡ 21
-    → AllByRecursion IsByte bs → get_or bs 6 0 ≡ 1 → tsi ≡ big_endian (take 6 bs)
-    → tsi ≡ key.session.tsi → toi ≡ big_endian (drop 7 bs) → toi ≡ toi_of key.object
-    → 0 < toi → name_bytes key ≡ bs
-file_named key bs tsi toi len oct one is own number object some =
+pub file_named : (key : Key) (bs : List ℕ) → length bs ≡ 21 → AllByRecursion IsByte bs
+    → get_or bs 6 0 ≡ 1 → key.session.tsi ≡ big_endian (take 6 bs)
+    → toi_of key.object ≡ big_endian (drop 7 bs) → 0 < toi_of key.object → name_bytes key
+    ≡ bs
+file_named key bs len oct one is number some =
+    let toi = toi_of key.object in
     let front : in_bytes 6 key.session.tsi ≡ take 6 bs =
-    ap (in_bytes 6) (sym own ∙ is)
+    ap (in_bytes 6) is
     ∙ spelled 6 (take 6 bs) (length-take-le 6 bs (omega (arith, len))) (octets-take 6 bs oct) in
     let back : in_bytes 14 toi ≡ drop 7 bs =
     ap (in_bytes 14) number
@@ -42,7 +43,7 @@ file_named key bs tsi toi len oct one is own number object some =
     let tagged : 1 ∷ drop 7 bs ≡ drop 6 bs =
     ap (λ x. x ∷ drop 7 bs) (sym one) ∙ sym (drop-cons bs 6 0 (omega (arith, len))) in
     let named : object_bytes key.object ≡ drop 6 bs =
-    sym (file_bytes_of key.object toi object some)
+    sym (file_bytes_of key.object toi refl some)
     ∙ ap (λ (x : List ℕ). 1 ∷ x) back
     ∙ tagged in
     (λ i. front i ++ named i) ∙ take-append-drop 6 bs
@@ -56,28 +57,28 @@ part_after last part h =
     ∙ h
 
 -- what follows the key of the entry before, with that key
-pub next_read : (last : Address) (bs a b : List ℕ) (o : Option (SymbolId × ℕ))
+pub next_read : (last : Address) {bs a : List ℕ} (b : List ℕ) (o : Option (SymbolId × ℕ))
     → key_bytes Two last.key ≡ a → IsKey last.key → bs ≡ a ++ b
     → IfSome o (λ s. RestIs (Some last) kinds.Symbol last.key b (Symbol last.key s.0 s.1))
     → IfSome o (λ s. HeadIn Two (Some last) kinds.Symbol (Symbol last.key s.0 s.1)
     × (head_bytes Two (Symbol last.key s.0 s.1) ≡ bs))
-next_read last bs a b None spelled valid is h = tt
-next_read last bs a b (Some s) spelled valid is h =
+next_read last b None spelled valid is h = tt
+next_read last b (Some s) spelled valid is h =
     ((h.0, room_two last.key valid), (λ i. spelled i ++ h.2 i) ∙ sym is)
 
 -- bytes that spell the sender and the name of a key are those of the key
-pub key_named : (key : Key) (bs front back : List ℕ) (n sender : ℕ) → n ≡ sender_size Two
-    → length bs ≡ key_size Two → AllByRecursion IsByte bs → front ≡ take n bs
-    → back ≡ drop n bs → sender ≡ big_endian front → sender ≡ key.session.sender
-    → name_bytes key ≡ back → key_bytes Two key ≡ bs
-key_named key bs front back n sender size len oct f b is own named =
+pub key_named : (key : Key) {bs front back : List ℕ} {sender : ℕ}
+    → LieInKey Two bs front back sender → sender ≡ key.session.sender → name_bytes key
+    ≡ back
+    → key_bytes Two key ≡ bs
+key_named key {bs = bs} {front = front} {back = back} l own named =
     let m = sender_size Two in
-    let first : front ≡ take m bs = f ∙ ap (λ k. take k bs) size in
-    let then : back ≡ drop m bs = b ∙ ap (λ k. drop k bs) size in
-    let long : length (take m bs) ≡ m = length-take-le m bs (omega (arith, len)) in
+    let first : front ≡ take m bs = l.front_is ∙ ap (λ k. take k bs) l.size_is in
+    let then : back ≡ drop m bs = l.back_is ∙ ap (λ k. drop k bs) l.size_is in
+    let long : length (take m bs) ≡ m = length-take-le m bs (omega (arith, l.long)) in
     let spelled_sender : in_bytes m key.session.sender ≡ take m bs =
-    ap (in_bytes m) (sym own ∙ is ∙ ap big_endian first)
-    ∙ spelled m (take m bs) long (octets-take m bs oct) in
+    ap (in_bytes m) (sym own ∙ l.sender_is ∙ ap big_endian first)
+    ∙ spelled m (take m bs) long (octets-take m bs l.octets) in
     let name : name_bytes key ≡ drop m bs = named ∙ then in
     (λ i. spelled_sender i ++ name i) ∙ take-append-drop m bs
 

@@ -39,11 +39,12 @@ module _ {V P T : Type 0} {framing : Framing V P T} (sound : IsSound framing)
       → Begins limit bytes xs more → Decided framing limit bytes
 
   -- after these items: without a fault the bytes are the end, or one item more is read
-  goes_on : (limit : ℕ) (bytes : List ℕ) (xs : List V) (rest : List ℕ) → Again limit bytes rest
+  goes_on : {limit : ℕ} {bytes : List ℕ} {xs : List V} {rest : List ℕ}
+      → Again limit bytes rest
       → (b : Begins limit bytes xs rest) (place : P)
       → place ≡ framing.place_after b.are_items.told xs → Next framing limit place rest
       → Decided framing limit bytes
-  goes_on limit bytes xs rest again b place is (at_end e) =
+  goes_on {xs = xs} again b place is (at_end e) =
       let t = b.are_items.told in
       let count : framing.count place ≡ length xs = ap framing.count is ∙ sound.counted t xs in
       inl (
@@ -55,7 +56,7 @@ module _ {V P T : Type 0} {framing : Framing V P T} (sound : IsSound framing)
               (e ∙ ap framing.frame.end count);
         },
       )
-  goes_on limit bytes xs rest again b place is (at_item x more e some valid follows few) =
+  goes_on {xs = xs} {rest = rest} again b place is (at_item x more e some valid follows few) =
       let a = b.are_items in
       let t = a.told in
       let told : framing.told place ≡ t = ap framing.told is ∙ sound.told_is t xs in
@@ -103,7 +104,7 @@ module _ {V P T : Type 0} {framing : Framing V P T} (sound : IsSound framing)
       )
   stops_or limit bytes xs rest again b None h =
       let place = framing.place_after b.are_items.told xs in
-      goes_on limit bytes xs rest again b place refl (found limit place rest b.octets h)
+      goes_on again b place refl (found limit place rest b.octets h)
 
   -- the decision, item by item, as many as there are bytes
   decides : (fuel limit : ℕ) (bytes : List ℕ) (xs : List V) (rest : List ℕ) → length rest ≤ fuel

@@ -1,10 +1,11 @@
 -- Bytes without a fault are those of a journal; others stop at exactly one fault (specs/Framing).
+use Rattle.flute_journal.proofs.Common.{Before}
 use Rattle.flute_journal.proofs.Common.{Address, AllByRecursion, Bool, Fact, HasRoom, Info}
 use Rattle.flute_journal.proofs.Common.{InfoConflict, InfoFault, IsByte, IsFact, IsId, IsKey}
 use Rattle.flute_journal.proofs.Common.{IsKeyIn, IsRising, IsSymbol, IsTrue, Key, Kind, List, None}
 use Rattle.flute_journal.proofs.Common.{One, Option, ReadFault, Some, journal_framing, Symbol}
 use Rattle.flute_journal.proofs.Common.{SymbolConflict, Two, Version, [], address, ap, append_assoc}
-use Rattle.flute_journal.proofs.Common.{arith, at_place, big_endian, body, body_fault, byte_of}
+use Rattle.flute_journal.proofs.Common.{arith, big_endian, body, body_fault, byte_of}
 use Rattle.flute_journal.proofs.Common.{bytes_eq, bytes_eq-Decides, cases_Bool, drop, drop-drop}
 use Rattle.flute_journal.proofs.Common.{end_checks, entry_checks, eqb, eqb-false, eqb-true, false}
 use Rattle.flute_journal.proofs.Common.{first_fault, header_fault, header_in, id_bytes, id_in}
@@ -223,26 +224,28 @@ kind_at (suc (suc (suc (suc zero)))) p q = (kinds.SymbolConflict, refl)
 kind_at (suc (suc (suc (suc (suc n))))) p q = absurd (omega (arith, q))
 
 -- without a fault these bytes are the end
-end_found : (limit count : ℕ) (v : Version) (last : Option Address) (b : ℕ) (rest : List ℕ)
-    → b ≡ 255 → AllByRecursion IsByte rest → first_fault (end_checks count rest) ≡ None
-    → Next journal_framing limit (at_place v count last) (b ∷ rest)
-end_found limit count v last b rest is oct e =
+end_found : (limit : ℕ) (before : Before) {b : ℕ} (rest : List ℕ) → b ≡ 255
+    → AllByRecursion IsByte rest → first_fault (end_checks before.count rest) ≡ None
+    → Next journal_framing limit before (b ∷ rest)
+end_found limit before rest is oct e =
     let a = first-none _ _ _ e in
     let c = first-none _ _ _ a.1 in
     let d = first-none _ _ _ c.1 in
     let len : length rest ≡ 8 =
     omega (arith, ltb-false (length rest) 8 a.0, ltb-false 8 (length rest) d.0) in
     let whole : take 8 rest ≡ rest = take_all 8 rest (omega (arith, len)) in
-    let told : big_endian rest ≡ count =
-    ap big_endian (sym whole) ∙ eqb-true (big_endian (take 8 rest)) count (is_true _ c.0) in
+    let told : big_endian rest ≡ before.count =
+    ap big_endian (sym whole) ∙ eqb-true (big_endian (take 8 rest)) before.count
+    (is_true _ c.0) in
     at_end (ap (λ x. x ∷ rest) is ∙ ap (λ (x : List ℕ). 255 ∷ x)
     (sym (spelled 8 rest len oct) ∙ ap (in_bytes 8) told))
 
 -- without a fault they are an entry of this kind
-entry_found : (limit count : ℕ) (v : Version) (last : Option Address) (k : Kind) (rest : List ℕ)
-    → count < limit → AllByRecursion IsByte rest → body_fault v last k rest ≡ None
-    → Next journal_framing limit (at_place v count last) (byte_of k ∷ rest)
-entry_found limit count v last k rest few oct e =
+entry_found : (limit : ℕ) (before : Before) (k : Kind) (rest : List ℕ) → before.count < limit
+    → AllByRecursion IsByte rest → body_fault before.version before.last k rest ≡ None
+    → Next journal_framing limit before (byte_of k ∷ rest)
+entry_found limit before k rest few oct e =
+    let v = before.version in
     let n = key_size v in
     let a = first-none _ _ _ e in
     let b = first-none _ _ _ a.1 in
@@ -251,7 +254,7 @@ entry_found limit count v last k rest few oct e =
     let key = key_in v front in
     let yes' : is_key v front ≡ true = is_true _ b.0 in
     let valid = key_valid v front oct' yes' in
-    let r = rest_found last k key (drop n rest) valid.0 (octets-drop n rest oct) b.1 in
+    let r = rest_found before.last k key (drop n rest) valid.0 (octets-drop n rest oct) b.1 in
     let bytes : rest ≡ body v r.fact ++ r.more =
     split_at n rest (key_bytes v key) (key_spelled v front (front_length n rest a.0) oct' yes')
     ∙ ap (λ (x : List ℕ). key_bytes v key ++ x) r.bytes_are
@@ -262,30 +265,30 @@ entry_found limit count v last k rest few oct e =
     (omega arith)
     (r.valid, subst (λ (x : Key). HasRoom v x.session) (sym r.key_is) valid.1) r.in_order few
 
-kind_found : (limit count : ℕ) (v : Version) (last : Option Address) (b : ℕ) (rest : List ℕ)
-    → is_kind b ≡ true → AllByRecursion IsByte rest
-    → first_fault (entry_checks (at_place v count last) limit b rest) ≡ None
-    → next_fault (at_place v count last) limit (b ∷ rest) ≡ None
-    → Next journal_framing limit (at_place v count last) (b ∷ rest)
-kind_found limit count v last b rest e oct h whole =
+kind_found : (limit : ℕ) (before : Before) (b : ℕ) (rest : List ℕ) → is_kind b ≡ true
+    → AllByRecursion IsByte rest → first_fault (entry_checks before limit b rest) ≡ None
+    → next_fault before limit (b ∷ rest) ≡ None
+    → Next journal_framing limit before (b ∷ rest)
+kind_found limit before b rest e oct h whole =
     let p = both (leb 1 b) (leb b 4) e in
     let k = kind_at b (leb-true 1 b p.0) (leb-true b 4 p.1) in
-    let few : count < limit = leb-false limit count (first-none _ _ _ h).0 in
-    let none : body_fault v last k.0 rest ≡ None = grind (arith, body_comes) in
-    subst (λ x. Next journal_framing limit (at_place v count last) (x ∷ rest)) (sym k.1)
-    (entry_found limit count v last k.0 rest few oct none)
+    let few : before.count < limit = leb-false limit before.count (first-none _ _ _ h).0 in
+    let none : body_fault before.version before.last k.0 rest ≡ None =
+    sym (body_comes limit before k.0 rest few)
+    ∙ ap (λ x. next_fault before limit (x ∷ rest)) (sym k.1) ∙ whole in
+    subst (λ x. Next journal_framing limit before (x ∷ rest)) (sym k.1)
+    (entry_found limit before k.0 rest few oct none)
 
 -- without a fault, what follows some entries is the end or begins with an entry
-pub next_found : (limit count : ℕ) (v : Version) (last : Option Address) (bytes : List ℕ)
-    → AllByRecursion IsByte bytes → next_fault (at_place v count last) limit bytes ≡ None
-    → Next journal_framing limit (at_place v count last) bytes
-next_found limit count v last [] oct e = absurd (none-some _ (sym e))
-next_found limit count v last (b ∷ rest) oct e = elim (cases_Bool (eqb b 255)) [
-  | inl t ↦ end_found limit count v last b rest (eqb-true b 255 t) oct.1 (taken (eqb b 255) _ _ t e)
+pub next_found : (limit : ℕ) (before : Before) (bytes : List ℕ) → AllByRecursion IsByte bytes
+    → next_fault before limit bytes ≡ None → Next journal_framing limit before bytes
+next_found limit before [] oct e = absurd (none-some _ (sym e))
+next_found limit before (b ∷ rest) oct e = elim (cases_Bool (eqb b 255)) [
+  | inl t ↦ end_found limit before rest (eqb-true b 255 t) oct.1 (taken (eqb b 255) _ _ t e)
   | inr n ↦
       let h = passed (eqb b 255) _ _ n e in
       elim (cases_Bool (is_kind b)) [
-        | inl t ↦ kind_found limit count v last b rest t oct.1 (taken (is_kind b) _ _ t h) e
+        | inl t ↦ kind_found limit before b rest t oct.1 (taken (is_kind b) _ _ t h) e
         | inr m ↦ absurd (none-some _ (sym (passed (is_kind b) _ _ m h)))
       ]
 ]

@@ -1,4 +1,5 @@
 -- Bytes are the datagram file of one list of datagrams, or they stop at one fault.
+use Rattle.flute_journal.proofs.Common.{Option}
 use Rattle.flute_journal.proofs.Common.{length-bytes_high_first, none-some, same_Some, ◌≡◌, ℕ, ◌^◌}
 use Rattle.flute_journal.proofs.Common.{◌<◌, ◌≤◌, List, [], ◌∷◌, ◌++◌, length, take, drop, Some}
 use Rattle.flute_journal.proofs.Common.{None, refl, sym, ap, ◌∙◌, subst, append_assoc, arith}
@@ -8,7 +9,8 @@ use Rattle.flute_journal.proofs.Common.{append-nil, big_endian, ReadFault, in_by
 use Rattle.flute_journal.proofs.Common.{IsByte, file_header, record_of, IsDatagram, AreItems}
 use Rattle.flute_journal.proofs.Common.{file_framing, IsFileOf, IsFileWithin, Stops, record_fault}
 use Rattle.flute_journal.proofs.Common.{file_frame}
-use Rattle.flute_journal.proofs.framing_lemmas.Sequences.{begins, one_stop, stop_at_bound}
+use Rattle.flute_journal.proofs.framing_lemmas.Sequences.{begins, IsStop, one_stop}
+use Rattle.flute_journal.proofs.framing_lemmas.Sequences.{stop_at_bound, Passes, PassesWithin}
 use Rattle.flute_journal.proofs.Each.{all_split}
 use Rattle.flute_journal.proofs.format_lemmas.Entries.{counted-injective}
 use Rattle.flute_journal.proofs.Numbers.{number-in_bytes, number-below, octets-take, octets-drop}
@@ -76,16 +78,13 @@ not_in_header bytes rest f e h =
     none-some f (sym (file_header_passes rest) ∙ ap (opening_fault file_header) (sym e) ∙ h)
 
 pass : (limit : ℕ) (ds : List (List ℕ)) → AllByRecursion IsDatagram ds
-    → (front : List (List ℕ)) (x : List ℕ) (xs : List (List ℕ)) (r : List ℕ) → ds ≡ front ++ x ∷ xs
-    → length front < limit
-    → record_fault limit (length front) (record_of x ++ r) ≡ None
+    → PassesWithin record_of (λ l r. record_fault limit (length l) r) limit ds
 pass limit ds v front x xs r e few =
     record_passes limit (length front) x r
     (all_split IsDatagram front (x ∷ xs) (subst (AllByRecursion IsDatagram) e v)).1.0 few
 
 pass_all : (limit : ℕ) (ds : List (List ℕ)) → AreItems file_frame limit ds
-    → (front : List (List ℕ)) (x : List ℕ) (xs : List (List ℕ)) (r : List ℕ) → ds ≡ front ++ x ∷ xs
-    → record_fault limit (length front) (record_of x ++ r) ≡ None
+    → Passes record_of (λ l r. record_fault limit (length l) r) ds
 pass_all limit ds a front x xs r e =
     pass limit ds a.valid front x xs r e
     (omega (arith, a.few, ap length e, length-append front (x ∷ xs)))
@@ -102,11 +101,23 @@ file_stops_once bytes limit ds es f g (after_items s) (in_header b k) =
     absurd (not_in_header bytes (flat_map record_of ds ++ s.rest) g
     (grouped bytes ds s.rest s.whole) k)
 file_stops_once bytes limit ds es f g (after_items s) (after_items t) =
-    one_stop record_of IsDatagram record-injective (λ l r. record_fault limit (length l) r) ds es
-    s.rest t.rest f g (pass_all limit ds s.are_items) (pass_all limit es t.are_items)
-    s.are_items.valid t.are_items.valid
+    let fault : List (List ℕ) → List ℕ → Option ReadFault =
+    λ l r. record_fault limit (length l) r in
+    let first : IsStop record_of fault IsDatagram ds s.rest f =
+    record {
+      passes = pass_all limit ds s.are_items;
+      valid = s.are_items.valid;
+      stops = s.first;
+    } in
+    let second : IsStop record_of fault IsDatagram es t.rest g =
+    record {
+      passes = pass_all limit es t.are_items;
+      valid = t.are_items.valid;
+      stops = t.first;
+    } in
+    one_stop record_of IsDatagram record-injective fault first second
     (behind_header _ _ (sym (grouped bytes ds s.rest s.whole) ∙ grouped bytes es t.rest
-    t.whole)) s.first t.first
+    t.whole))
 
 -- a datagram file stops only beyond the bound
 pub file_stops_at_bound : (bytes : List ℕ) (limit : ℕ) (ds es : List (List ℕ)) (f : ReadFault)
@@ -118,7 +129,7 @@ file_stops_at_bound bytes limit ds es f h (after_items s) =
     let e = behind_header _ _ (sym (grouped bytes es s.rest s.whole) ∙ h.bytes_are) ∙ sym
     (append-nil (flat_map record_of ds)) in
     stop_at_bound record_of IsDatagram record-injective (λ l r. record_fault limit (length l) r)
-    limit es ds s.rest [] f (pass limit ds h.valid)
+    limit f (pass limit ds h.valid)
     (λ x y many. too_many_records limit (length es) (record_of x) y (omega arith) many)
     (begins record_of IsDatagram record-injective es ds s.rest [] (λ x y n. not_nothing x y (sym n))
     s.are_items.valid h.valid e) refl s.first
@@ -135,13 +146,14 @@ no_fault bytes limit ds es f w s =
     let b = file_stops_at_bound bytes limit ds es f file s in
     omega (arith, b.1, w.are_items.few)
 
-next_record : (limit count : ℕ) (rest : List ℕ) → AllByRecursion IsByte rest → (n : ℕ)
-    → n ≡ big_endian (take 2 rest) → count < limit → 2 ≤ length rest → n ≤ length (drop 2 rest)
-    → n < 2 ^ 16 → Next file_framing limit count rest
-next_record limit count rest oct n is few two whole small =
+next_record : (limit count : ℕ) (rest : List ℕ) → AllByRecursion IsByte rest → count < limit
+    → 2 ≤ length rest → big_endian (take 2 rest) ≤ length (drop 2 rest)
+    → big_endian (take 2 rest) < 2 ^ 16 → Next file_framing limit count rest
+next_record limit count rest oct few two whole small =
+    let n = big_endian (take 2 rest) in
     let size : length (take n (drop 2 rest)) ≡ n = length-take-le n (drop 2 rest) whole in
     let field : in_bytes 2 n ≡ take 2 rest =
-    ap (in_bytes 2) is ∙ spelled 2 (take 2 rest) (length-take-le 2 rest two)
+    spelled 2 (take 2 rest) (length-take-le 2 rest two)
     (octets-take 2 rest oct) in
     let all : rest ≡ record_of (take n (drop 2 rest)) ++ drop n (drop 2 rest) =
     grind (arith, take-append-drop, append_assoc) in
@@ -169,7 +181,7 @@ record_found limit count (b ∷ bs) oct e =
     let d = first-none _ _ _ c.1 in
     let two : 2 ≤ length rest = ltb-false (length rest) 2 c.0 in
     let len : length (take 2 rest) ≡ 2 = length-take-le 2 rest two in
-    next_record limit count rest oct (big_endian (take 2 rest)) refl (leb-false limit count a.0) two
+    next_record limit count rest oct (leb-false limit count a.0) two
     (ltb-false (length (drop 2 rest)) (big_endian (take 2 rest)) d.0)
     (subst (λ k. big_endian (take 2 rest) < 256 ^ k) len
     (number-below (take 2 rest) (octets-take 2 rest oct)))

@@ -4,7 +4,8 @@ use Rattle.flute_journal.proofs.Common.{drop_at, Option, Some, None, Result, Ok,
 use Rattle.flute_journal.proofs.Common.{refl, ap, ◌∙◌, subst, arith, inr, IfSome, IfErr, Consumes}
 use Rattle.flute_journal.proofs.Common.{Consumes-nil, Consumes-trans, ReadFault, IsFaultOf}
 use Rattle.flute_journal.proofs.Common.{StaysWithin}
-use Rattle.flute_journal.proofs.framing_lemmas.ReadsUpTo.{asked, fault_up_to, fault_up_to-behind}
+use Rattle.flute_journal.proofs.framing_lemmas.ReadsUpTo.{IsBehind, asked, fault_up_to}
+use Rattle.flute_journal.proofs.framing_lemmas.ReadsUpTo.{fault_up_to-behind}
 use Rattle.flute_journal.specs.declared.fault.ReadFault.TheVariants as faults
 use Rattle.flute_journal.specs.declared.readers.reader_state.ReaderState.{ReaderState}
 use Rattle.flute_journal.specs.declared.readers.reader_state.ReaderState.TheVariants.{Header, Items}
@@ -49,33 +50,41 @@ fault-first u v p q f some h = known_header u p q f h
 
 -- What a call gives, in each state: the end, an item, or a fault.
 module _ {V P T : Type 0} (framing : Framing V P T) where
-  pub reads_on : (limit : ℕ) (told : T) (place : P) (u v : Option (List ℕ))
-      (r : Result (Option V) ReadFault) → ReadsNext framing limit place u v r
-      → StaysWithin (framing.frame.item (framing.told place))
-      (framing.frame.IsItem (framing.told place)) u v r
-      → IfErr r framing.IsFault → ReadsFrom framing told limit (Items place) u v r
-  reads_on limit told place u v (Ok (Some x)) h w k = h
-  reads_on limit told place u v (Ok None) h w k = h
-  reads_on limit told place u v (Err f) h w k =
+  -- the next item, the end or a fault was read at this place, and nothing after a whole item
+  pub record ReadsWithin (limit : ℕ) (place : P) (u v : Option (List ℕ))
+      (r : Result (Option V) ReadFault) : Type 0 where
+    pub next : ReadsNext framing limit place u v r
+    pub within : StaysWithin (framing.frame.item (framing.told place))
+        (framing.frame.IsItem (framing.told place)) u v r
+    pub possible : IfErr r framing.IsFault
+
+  pub reads_on : {limit : ℕ} (told : T) {place : P} {u v : Option (List ℕ)}
+      (r : Result (Option V) ReadFault) → ReadsWithin limit place u v r
+      → ReadsFrom framing told limit (Items place) u v r
+  reads_on told (Ok (Some x)) h = h.next
+  reads_on told (Ok None) h = h.next
+  reads_on {limit = limit} told {place = place} {u = u} {v = v} (Err f) h =
+      let w = h.within in
       record {
-        fault = h;
-        possible = k;
+        fault = h.next;
+        possible = h.possible;
         asks = λ e. (
           u,
           Consumes-nil u,
           asked (framing.frame.end (framing.count place))
-              (framing.next_fault place limit) u v f h e,
+              (framing.next_fault place limit) u v f h.next e,
         );
         part = w.0;
         read = w.1;
         is_part = in_item w.0 refl w.2;
       }
 
-  pub gives : (limit : ℕ) (told : T) (old new : ReaderState P) (u v : Option (List ℕ))
-      (r : Result (Option V) ReadFault) → is_open old ≡ true
+  pub gives : (limit : ℕ) (told : T) (old : ReaderState P) {new : ReaderState P}
+      (u v : Option (List ℕ)) (r : Result (Option V) ReadFault)
       → new ≡ state_after framing (place_at framing told old) r
-      → ReadsFrom framing told limit old u v r → Gives framing limit old new u v r
-  gives limit told old new u v (Ok (Some x)) opened e h =
+      → (is_open old ≡ true) × ReadsFrom framing told limit old u v r
+      → Gives framing limit old new u v r
+  gives limit told old u v (Ok (Some x)) e (opened, h) =
       record {
         told = told;
         open_before = opened;
@@ -86,17 +95,17 @@ module _ {V P T : Type 0} (framing : Framing V P T) where
         goes_on = e;
         bytes = h.3;
       }
-  gives limit told old new u v (Ok None) opened e h =
+  gives limit told old u v (Ok None) e (opened, h) =
       record { told = told; ended = e; bytes = inr (opened, h.0, h.1) }
-  gives limit told old new u v (Err f) opened e h =
+  gives limit told old u v (Err f) e (opened, h) =
       record { told = told; stays = e; found = inr (opened, h) }
 
 module _ {V P T : Type 0} {framing : Framing V P T} (sound : IsSound framing) where
-  pub reads_header : (limit : ℕ) (told : T) (u v : Option (List ℕ)) (f : ReadFault)
+  pub reads_header : (limit : ℕ) (told : T) (u v : Option (List ℕ)) {f : ReadFault}
       → IsFaultOf framing.header_fault u v f → (f ≡ faults.OutOfMemory → ⊥) → framing.IsFault f
       → Advances u v 6
       → ReadsFrom framing told limit Header u v (Err f)
-  reads_header limit told u v f h some k a = record {
+  reads_header limit told u v {f = f} h some k a = record {
     fault = fault_up_to (end_bytes framing told Header) (fault_from framing Header limit) u v f
         (fault-first u v framing.header_fault
         (λ bs. framing.next_fault (framing.place_after (framing.told_in bs) []) limit
@@ -121,42 +130,41 @@ module _ {V P T : Type 0} {framing : Framing V P T} (sound : IsSound framing) wh
       ∙ ap (λ (x : List ℕ). framing.next_fault (framing.place_after told []) limit x)
       (drop_at (framing.frame.header told) r 6 (sound.header_size told))
 
-  pub reads_first : (limit : ℕ) (told : T) (u v w : Option (List ℕ))
+  pub reads_first : {limit : ℕ} (told : T) (u : Option (List ℕ)) {v w : Option (List ℕ)}
       (r : Result (Option V) ReadFault) → Consumes u v (framing.frame.header told)
-      → ReadsNext framing limit (framing.place_after told []) v w r
-      → StaysWithin (framing.frame.item (framing.told (framing.place_after told [])))
-      (framing.frame.IsItem (framing.told (framing.place_after told []))) v w r
-      → IfErr r framing.IsFault
+      → ReadsWithin framing limit (framing.place_after told []) v w r
       → ReadsFrom framing told limit Header u w r
-  reads_first limit told u v w (Ok (Some x)) took h s k = (
-    h.0,
-    h.1,
-    h.2,
+  reads_first told u {v = v} {w = w} (Ok (Some x)) took h = (
+    h.next.0,
+    h.next.1,
+    h.next.2,
     Consumes-trans u v w (framing.frame.header told)
-        (framing.frame.item (framing.told (framing.place_after told [])) x) took h.3,
+        (framing.frame.item (framing.told (framing.place_after told [])) x) took h.next.3,
   )
-  reads_first limit told u v w (Ok None) took h s k = (
+  reads_first told u {v = v} {w = w} (Ok None) took h = (
     Consumes-trans u v w (framing.frame.header told)
-        (framing.frame.end (framing.count (framing.place_after told []))) took h.0,
-    h.1,
+        (framing.frame.end (framing.count (framing.place_after told []))) took h.next.0,
+    h.next.1,
   )
-  reads_first limit told u v w (Err f) took h s k = record {
-    fault = fault_up_to-behind u v w (framing.frame.header told)
-        (framing.frame.end (framing.count (framing.place_after told [])))
-        (fault_from framing Header limit)
-        (framing.next_fault (framing.place_after told []) limit) f took (header_comes limit told)
-        h;
-    possible = k;
-    asks = λ e. (
-      v,
-      took,
-      asked (framing.frame.end (framing.count (framing.place_after told [])))
-          (framing.next_fault (framing.place_after told []) limit) v w f h e,
-    );
-    part = framing.frame.header told ++ s.0;
-    read = Consumes-trans u v w (framing.frame.header told) s.0 took s.1;
-    is_part = in_item s.0 refl s.2;
-  }
+  reads_first {limit = limit} told u {v = v} {w = w} (Err f) took h =
+      let place = framing.place_after told [] in
+      let behind : IsBehind u v (framing.frame.header told) (fault_from framing Header limit)
+      (framing.next_fault place limit) =
+      record { took = took; comes = header_comes limit told } in
+      let s = h.within in
+      record {
+        fault = fault_up_to-behind w (framing.frame.end (framing.count place)) f behind h.next;
+        possible = h.possible;
+        asks = λ e. (
+          v,
+          took,
+          asked (framing.frame.end (framing.count place)) (framing.next_fault place limit) v w f
+              h.next e,
+        );
+        part = framing.frame.header told ++ s.0;
+        read = Consumes-trans u v w (framing.frame.header told) s.0 took s.1;
+        is_part = in_item s.0 refl s.2;
+      }
 
   counted_at : (told : T) (state : ReaderState P)
       → framing.count (place_at framing told state) ≡ count_at framing state

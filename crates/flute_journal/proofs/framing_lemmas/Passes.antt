@@ -12,8 +12,10 @@ use Rattle.flute_journal.proofs.Common.{key_bytes, fact_key, last_of, length, le
 use Rattle.flute_journal.proofs.Common.{next_fault, none-some, refl, rest_bytes, rest_fault}
 use Rattle.flute_journal.proofs.Common.{same_Some, spelling_in, subst, sym, symbol_address}
 use Rattle.flute_journal.proofs.Common.{counted_bytes, true, ℕ, ◌++◌, ◌<◌, ◌^◌, ◌∙◌, ◌∷◌, ◌≡◌, ◌≤◌}
-use Rattle.flute_journal.proofs.framing_lemmas.Sequences.{one_stop, stop_at_bound}
-use Rattle.flute_journal.proofs.format_lemmas.Prefixes.{without_end-both, journal_parts}
+use Rattle.flute_journal.proofs.framing_lemmas.Sequences.{IsStop, one_stop, stop_at_bound}
+use Rattle.flute_journal.proofs.framing_lemmas.Sequences.{Passes, PassesWithin}
+use Rattle.flute_journal.proofs.format_lemmas.Prefixes.{BeginsWith, without_end-both}
+use Rattle.flute_journal.proofs.format_lemmas.Prefixes.{journal_parts}
 use Rattle.flute_journal.proofs.Each.{all_split}
 use Rattle.flute_journal.proofs.Numbers.{number-in_bytes}
 use Rattle.flute_journal.proofs.format_lemmas.Rising.{Rises, rising-rises}
@@ -58,15 +60,15 @@ entry_split : (v : Version) (f : Fact) (r : List ℕ)
 entry_split v f r = grind (arith, append_assoc)
 
 -- an entry in order and within the bound has no fault
-pub entry-passes : (limit count : ℕ) (v : Version) (last : Option Address) (f : Fact) (r : List ℕ)
-    → IsFactIn v f → count < limit → is_after last (address f) ≡ true
-    → next_fault (at_place v count last) limit (entry_in v f ++ r) ≡ None
-entry-passes limit count v last f r p few e =
+pub entry-passes : (limit : ℕ) (b : Before) (f : Fact) (r : List ℕ) → IsFactIn b.version f
+    → b.count < limit → is_after b.last (address f) ≡ true
+    → next_fault b limit (entry_in b.version f ++ r) ≡ None
+entry-passes limit b f r p few e =
     cc (
-      entry_split v f r,
-      entry_comes limit count v last (kind_of f) (fact_key f)
+      entry_split b.version f r,
+      entry_comes limit b (kind_of f) (fact_key f)
           (rest_bytes f ++ r) few (key_valid f p.0) p.1,
-      rest_passes last f r p.0 e,
+      rest_passes b.last f r p.0 e,
     )
 
 pub entry-too_many : (limit : ℕ) (b : Before) (v : Version) (f : Fact) (r : List ℕ)
@@ -90,18 +92,14 @@ rises_next b (f ∷ fs) g gs h = rises_next (Some (address f)) fs g gs h.1
 
 -- entries in order and within the bound have no fault
 pass : (v : Version) (limit : ℕ) (es : List Fact) → AllByRecursion (IsFactIn v) es → IsRising es
-    → (front : List Fact) (x : Fact) (xs : List Fact) (r : List ℕ) → es ≡ front ++ x ∷ xs
-    → length front < limit
-    → next_fault (before v front) limit (entry_in v x ++ r) ≡ None
+    → PassesWithin (entry_in v) (λ l r. next_fault (before v l) limit r) limit es
 pass v limit es p q front x xs r e few =
     let valid = all_split (IsFactIn v) front (x ∷ xs) (subst (AllByRecursion (IsFactIn v)) e p) in
-    entry-passes limit (length front) v (last_of None front) x r valid.1.0 few
+    entry-passes limit (before v front) x r valid.1.0 few
     (rises_next None front x xs (rising-rises (front ++ x ∷ xs) (subst IsRising e q)))
 
 pass_all : (v : Version) (limit : ℕ) (es : List Fact) → AllByRecursion (IsFactIn v) es → IsRising es
-    → length es ≤ limit → (front : List Fact) (x : Fact) (xs : List Fact) (r : List ℕ)
-    → es ≡ front ++ x ∷ xs
-    → next_fault (before v front) limit (entry_in v x ++ r) ≡ None
+    → length es ≤ limit → Passes (entry_in v) (λ l r. next_fault (before v l) limit r) es
 pass_all v limit es p q few front x xs r e =
     pass v limit es p q front x xs r e
     (omega (arith, few, ap length e, length-append front (x ∷ xs)))
@@ -115,19 +113,22 @@ not_in_header v bytes es rest f e h =
     (sym (e ∙ append_assoc (header_in v) (flat_map (entry_in v) es) rest)) ∙ h)
 
 -- a journal's bytes stop only with more entries than the bound
-pub beyond : (v : Version) (limit : ℕ) (es fs : List Fact) (bytes : List ℕ) (f : ReadFault)
+pub beyond : (v : Version) {limit : ℕ} (es : List Fact) {fs : List Fact} {bytes : List ℕ}
+    {f : ReadFault}
     → AllByRecursion (IsFactIn v) es → IsRising es → length es < 2 ^ 64
     → bytes ≡ spelling_in v es → Stops journal_framing bytes limit fs f
     → (f ≡ faults.TooMany) × (limit < length es)
-beyond v limit es fs bytes f p q small e (in_header none h) =
+beyond v es {bytes = bytes} {f = f} p q small e (in_header none h) =
     absurd (not_in_header v bytes es (end (length es)) f e h)
-beyond v limit es fs bytes f p q small e (after_items s) =
+beyond v {limit = limit} es {fs = fs} {bytes = bytes} {f = f} p q small e (after_items s) =
     let w = s.are_items.told in
     let n = length es in
-    let b = without_end-both w v fs es s.rest (end n) s.are_items.valid p
-    (λ x y. not_end w x (in_bytes 8 n) y) (sym s.whole ∙ e) in
+    let begun : BeginsWith w fs s.rest bytes =
+    record { valid = s.are_items.valid; bytes_are = s.whole } in
+    let whole : BeginsWith v es (end n) bytes = record { valid = p; bytes_are = e } in
+    let b = without_end-both begun whole (λ x y. not_end w x (in_bytes 8 n) y) in
     stop_at_bound (entry_in w) (IsFactIn w) (entry_injective w)
-    (λ l r. next_fault (before w l) limit r) limit fs es s.rest (end n) f
+    (λ l r. next_fault (before w l) limit r) limit f
     (pass w limit es (subst (λ (z : Version). AllByRecursion (IsFactIn z) es) (sym b.0) p) q)
     (λ x y many. entry-too_many limit (before w fs) w x y many) b.1
     (end-passes limit n w (last_of None es) small) s.first
@@ -138,14 +139,16 @@ Below-more F G =
     (Same-append (F ++ F) F G G (Same-twice F) (Same-itself G))
 
 -- a journal that begins with these entries contains their facts
-pub without_end-below : (v w : Version) (bytes : List ℕ) (F es : List Fact) (rest : List ℕ)
+pub without_end-below : (v w : Version) {bytes : List ℕ} (F es : List Fact) (rest : List ℕ)
     → JournalIn v bytes F → AllByRecursion (IsFactIn w) es → bytes ≡ without_end_in w es ++ rest
     → Below es F
-without_end-below v w bytes F es rest journal p e =
+without_end-below v w {bytes = bytes} F es rest journal p e =
     let j = journal_parts v bytes F journal in
     let all = j.entries in
-    let b = without_end-both w v es all rest (end (length all)) p j.valid
-    (λ x y. not_end w x (in_bytes 8 (length all)) y) (sym e ∙ j.bytes_are) in
+    let begun : BeginsWith w es rest bytes = record { valid = p; bytes_are = e } in
+    let whole : BeginsWith v all (end (length all)) bytes =
+    record { valid = j.valid; bytes_are = j.bytes_are } in
+    let b = without_end-both begun whole (λ x y. not_end w x (in_bytes 8 (length all)) y) in
     let low : Below es all = subst (Below es) (sym b.1.items) (Below-more es b.1.more) in
     let moved = Same-append es es F all (record { each = λ a. refl }) j.collects.same in
     record { each = λ a. moved.each a ∙ low.each a ∙ sym (j.collects.same.each a) }
@@ -169,11 +172,23 @@ stops_one bytes limit es fs f g (after_items s) (after_items t) =
     append_assoc (header_in w) (flat_map (entry_in w) fs) t.rest) in
     let valid =
     subst (λ (z : Version). AllByRecursion (IsFactIn z) fs) (sym h.0) t.are_items.valid in
-    one_stop (entry_in v) (IsFactIn v) (entry_injective v) (λ l r. next_fault (before v l) limit r)
-    es fs s.rest t.rest f g
-    (pass_all v limit es s.are_items.valid s.are_items.in_order s.are_items.few)
-    (pass_all v limit fs valid t.are_items.in_order t.are_items.few)
-    s.are_items.valid valid
+    let fault : List Fact → List ℕ → Option ReadFault =
+    λ l r. next_fault (before v l) limit r in
+    let first : IsStop (entry_in v) fault (IsFactIn v) es s.rest f =
+    record {
+      passes = pass_all v limit es s.are_items.valid s.are_items.in_order s.are_items.few;
+      valid = s.are_items.valid;
+      stops = s.first;
+    } in
+    let second : IsStop (entry_in v) fault (IsFactIn v) fs t.rest g =
+    record {
+      passes = pass_all v limit fs valid t.are_items.in_order t.are_items.few;
+      valid = valid;
+      stops =
+          subst (λ (z : Version). next_fault (before z fs) limit t.rest ≡ Some g) (sym h.0)
+          t.first;
+    } in
+    one_stop (entry_in v) (IsFactIn v) (entry_injective v) fault
+    first second
     (subst (λ (z : Version). flat_map (entry_in v) es ++ s.rest ≡ flat_map (entry_in z) fs ++
-    t.rest) (sym h.0) h.1) s.first
-    (subst (λ (z : Version). next_fault (before z fs) limit t.rest ≡ Some g) (sym h.0) t.first)
+    t.rest) (sym h.0) h.1)

@@ -9,26 +9,40 @@ use Rattle.flute_journal.proofs.Common.{Parses, AsksMemory, IsSettled, Consumes-
 use Rattle.flute_journal.proofs.Common.{first_fault, ◌∷◌}
 use Rattle.flute_journal.specs.declared.fault.ReadFault.TheVariants as faults
 
+-- these bytes were read, and what follows them has the fault of a part
+pub record IsBehind (u v : Option (List ℕ)) (front : List ℕ)
+    (whole part : List ℕ → Option ReadFault) : Type 0 where
+  pub took : Consumes u v front
+  pub comes : (r : List ℕ) → whole (front ++ r) ≡ part r
+
+-- a fault of the bytes that were left
+fault_seen : (u v : Option (List ℕ)) {front : List ℕ}
+    {whole part : List ℕ → Option ReadFault}
+    (f : ReadFault) → IsBehind u v front whole part → IfSome v (λ bytes. part bytes ≡ Some f)
+    → IfSome u (λ bytes. whole bytes ≡ Some f)
+fault_seen None v f b h = tt
+fault_seen (Some x) None f b h = absurd b.took
+fault_seen (Some x) (Some y) {whole = whole} f b h = ap whole b.took ∙ b.comes y ∙ h
+
 -- the whole has the fault of the part after the bytes that were read
-pub fault-behind : (u v w : Option (List ℕ)) (front : List ℕ)
-    (whole part : List ℕ → Option ReadFault) (f : ReadFault)
-    → Consumes u v front → ((r : List ℕ) → whole (front ++ r) ≡ part r)
+pub fault-behind : {u v : Option (List ℕ)} (w : Option (List ℕ)) {front : List ℕ}
+    {whole part : List ℕ → Option ReadFault} (f : ReadFault) → IsBehind u v front whole part
     → IsFaultOf part v w f → IsFaultOf whole u w f
-fault-behind u v w front whole part faults.Read took e h =
-    (front ++ h.0, Consumes-trans u v w front h.0 took h.1, e h.0 ∙ h.2)
-fault-behind u v w front whole part faults.OutOfMemory took e h = record {
+fault-behind {u = u} {v = v} w {front = front} faults.Read b h =
+    (front ++ h.0, Consumes-trans u v w front h.0 b.took h.1, b.comes h.0 ∙ h.2)
+fault-behind {u = u} {v = v} w {front = front} {whole = whole} faults.OutOfMemory b h = record {
   read = front ++ h.read;
   seen = h.seen;
-  consumed = Consumes-trans u v w front h.read took h.consumed;
+  consumed = Consumes-trans u v w front h.read b.took h.consumed;
   follows = h.follows;
   settled = λ more.
       let all = h.read ++ h.seen in
       let one = ap (λ (l : List ℕ). l ++ more) (append_assoc front h.read h.seen)
       ∙ append_assoc front all more in
       subst (λ (o : Option ReadFault). IfSome o (λ f. f ≡ faults.Cut))
-      (sym (ap whole one ∙ e (all ++ more))) (h.settled more);
+      (sym (ap whole one ∙ b.comes (all ++ more))) (h.settled more);
 }
-fault-behind u v w front whole part f took e h = grind (arith)
+fault-behind {u = u} {v = v} w f b h = fault_seen u v f b h
 
 -- memory is asked for before the bytes that are so many are read
 
@@ -77,14 +91,14 @@ pub asked : (last : List ℕ) (fault : List ℕ → Option ReadFault) (u v : Opt
 asked last fault u v f h e = subst (IsFaultUpTo last fault u v) e h
 
 -- the same, where the source may fail after the last bytes
-pub fault_up_to-behind : (u v w : Option (List ℕ)) (front last : List ℕ)
-    (whole part : List ℕ → Option ReadFault) (f : ReadFault)
-    → Consumes u v front → ((r : List ℕ) → whole (front ++ r) ≡ part r)
-    → IsFaultUpTo last part v w f → IsFaultUpTo (front ++ last) whole u w f
-fault_up_to-behind u v w front last whole part faults.Read took e h =
-    grind (arith, fault-behind, Consumes-trans)
-fault_up_to-behind u v w front last whole part f took e h =
-    fault-behind u v w front whole part f took e h
+pub fault_up_to-behind : {u v : Option (List ℕ)} (w : Option (List ℕ)) {front : List ℕ}
+    (last : List ℕ) {whole part : List ℕ → Option ReadFault} (f : ReadFault)
+    → IsBehind u v front whole part → IsFaultUpTo last part v w f
+    → IsFaultUpTo (front ++ last) whole u w f
+fault_up_to-behind w last faults.Read b (inl h) = inl (fault-behind w faults.Read b h)
+fault_up_to-behind {u = u} {v = v} w {front = front} last faults.Read b (inr h) =
+    inr (Consumes-trans u v w front last b.took h)
+fault_up_to-behind w last f b h = fault-behind w f b h
 
 -- a fault of bytes is one of bytes that may end
 pub fault_up_to : (last : List ℕ) (fault : List ℕ → Option ReadFault)
@@ -111,19 +125,20 @@ stops_here n whole front f other bytes h =
     record { of_bytes = bytes; short = λ e. absurd (other e); whole = λ r e. h r }
 
 -- if the bytes after their prefix stop reading, the whole stops it with the same fault
-pub stops_behind : (n m : ℕ) (whole part : List ℕ → Option ReadFault) (front a b : List ℕ)
-    (f : ReadFault) → front ≡ a ++ b → length a + m ≤ n
+pub stops_behind : (n : ℕ) {m : ℕ} (whole : List ℕ → Option ReadFault)
+    {part : List ℕ → Option ReadFault} {front : List ℕ} (a : List ℕ) {b : List ℕ}
+    {f : ReadFault} → front ≡ a ++ b → length a + m ≤ n
     → ((r : List ℕ) → part r ≡ Some f → whole (a ++ r) ≡ Some f)
     → StopsReading m part b f → StopsReading n whole front f
-stops_behind n m whole part front a b f is fits h s = grind (arith, length-append, append_assoc)
+stops_behind n whole a is fits h s = grind (arith, length-append, append_assoc)
 
-at_front : (fault : List ℕ → Option ReadFault) (u v : Option (List ℕ)) (n : ℕ)
-    (failed : Bool) (front : List ℕ) (f : ReadFault) → ReadsUpTo u v n failed front
+at_front : {fault : List ℕ → Option ReadFault} (u v : Option (List ℕ)) {n : ℕ}
+    {failed : Bool} {front : List ℕ} {f : ReadFault} → ReadsUpTo u v n failed front
     → StopsReading n fault front f
     → (f ≡ faults.Cut → failed ≡ false) → IfSome u (λ bytes. fault bytes ≡ Some f)
-at_front fault None v n failed front f a s whole = tt
-at_front fault (Some x) None n failed front f a s whole = absurd a.read
-at_front fault (Some x) (Some y) n failed front f a s whole =
+at_front None v a s whole = tt
+at_front (Some x) None a s whole = absurd a.read
+at_front {fault = fault} (Some x) (Some y) a s whole =
     ap fault a.read ∙ s.whole y (λ e. a.fewer (s.short e) (whole e))
 
 cut_there : (fault : List ℕ → Option ReadFault) (n : ℕ) (front : List ℕ)
@@ -132,31 +147,32 @@ cut_there fault n front s = ap fault (sym (append-nil front)) ∙ s.whole [] (λ
 
 -- the fault of what was read is that of the bytes that were left, unless the source failed where
 -- they are cut
-pub fault_found : (T : Type 0) (fault : List ℕ → Option ReadFault) (u v : Option (List ℕ))
-    (n : ℕ) (failed : Bool) (front : List ℕ) (f : ReadFault) → ReadsUpTo u v n failed front
+pub fault_found : (T : Type 0) {fault : List ℕ → Option ReadFault} {u v : Option (List ℕ)}
+    {n : ℕ} (failed : Bool) {front : List ℕ} (f : ReadFault) → ReadsUpTo u v n failed front
     → StopsReading n fault front f → IfErr (or_failed {T = T} failed (Err f)) (IsFaultOf fault u v)
-fault_found T fault u v n failed front faults.Read a s = absurd s.of_bytes
-fault_found T fault u v n failed front faults.OutOfMemory a s = absurd s.of_bytes
-fault_found T fault u v n true front faults.Cut a s = (front, a.read, cut_there fault n front s)
-fault_found T fault u v n false front f a s = at_front fault u v n false front f a s (λ e. refl)
-fault_found T fault u v n true front f a s = at_front fault u v n true front f a s (λ e. absurd cc)
+fault_found T failed faults.Read a s = absurd s.of_bytes
+fault_found T failed faults.OutOfMemory a s = absurd s.of_bytes
+fault_found T {fault = fault} {n = n} true {front = front} faults.Cut a s =
+    (front, a.read, cut_there fault n front s)
+fault_found T {u = u} {v = v} false f a s = at_front u v a s (λ e. refl)
+fault_found T {u = u} {v = v} true f a s = at_front u v a s (λ e. absurd cc)
 
 -- what was read of a source, as it is parsed: a value takes all of the bytes
 pub parsed_reads : {T : Type 0} (spelling : T → List ℕ) (IsIt : T → Type 0)
-    (fault : List ℕ → Option ReadFault) (u v : Option (List ℕ)) (n : ℕ) (failed : Bool)
-    (front : List ℕ)
+    (fault : List ℕ → Option ReadFault) {u v : Option (List ℕ)} {n : ℕ} (failed : Bool)
+    {front : List ℕ}
     (r : Result T ReadFault) → ReadsUpTo u v n failed front
     → ((x : T) → IsIt x → n ≤ length (spelling x))
     → Parses n (λ x. IsIt x × (spelling x ≡ front)) fault front r
     → Reads spelling IsIt fault u v (or_failed failed r)
-parsed_reads spelling IsIt fault u v n true front (Ok x) a least p =
+parsed_reads spelling IsIt fault true (Ok x) a least p =
     absurd (omega (arith, a.short refl, least x p.0, ap length p.1))
-parsed_reads spelling IsIt fault u v n false front (Ok x) a least p =
+parsed_reads spelling IsIt fault {u = u} {v = v} false (Ok x) a least p =
     (p.0, subst (Consumes u v) (sym p.1) a.read)
-parsed_reads {T} spelling IsIt fault u v n true front (Err f) a least p =
-    fault_found T fault u v n true front f a p
-parsed_reads {T} spelling IsIt fault u v n false front (Err f) a least p =
-    fault_found T fault u v n false front f a p
+parsed_reads {T} spelling IsIt fault true (Err f) a least p =
+    fault_found T true f a p
+parsed_reads {T} spelling IsIt fault false (Err f) a least p =
+    fault_found T false f a p
 
 fails_once : (T : Type 0) (f : ReadFault) (old new : ℕ) → IsOfBytes f → new ≡ old + 1
     → Fails {T = T} old new (Err (left_by f))
@@ -174,14 +190,15 @@ fails_never T f old new b e = inl e
 
 -- how often the source failed where bytes of it were parsed
 pub parsed_fails : {T : Type 0} (IsIt : T → Type 0) (fault : List ℕ → Option ReadFault)
-    (n : ℕ) (failed : Bool) (front : List ℕ) (r : Result T ReadFault) (old new : ℕ)
-    → new ≡ old + times_failed failed → Parses n IsIt fault front r
-    → Fails old new (or_failed failed r)
-parsed_fails IsIt fault n true front (Ok x) old new e p = e
-parsed_fails IsIt fault n false front (Ok x) old new e p = omega (arith, e)
-parsed_fails {T} IsIt fault n true front (Err f) old new e p = fails_once T f old new p.of_bytes e
-parsed_fails {T} IsIt fault n false front (Err f) old new e p =
-    fails_never T f old new p.of_bytes (omega (arith, e))
+    (n : ℕ) (failed : Bool) (front : List ℕ) (r : Result T ReadFault) (old : ℕ)
+    → Parses n IsIt fault front r
+    → Fails old (old + times_failed failed) (or_failed failed r)
+parsed_fails IsIt fault n true front (Ok x) old p = refl
+parsed_fails IsIt fault n false front (Ok x) old p = omega arith
+parsed_fails {T} IsIt fault n true front (Err f) old p =
+    fails_once T f old (old + 1) p.of_bytes refl
+parsed_fails {T} IsIt fault n false front (Err f) old p =
+    fails_never T f old (old + 0) p.of_bytes (omega arith)
 
 -- parsing takes no memory
 pub parsed_memory : {T : Type 0} (IsIt : T → Type 0) (fault : List ℕ → Option ReadFault)

@@ -1,5 +1,6 @@
 -- The records of a datagram file (specs/Records, specs/FileFraming).
-use Rattle.flute_journal.proofs.Common.{◌≡◌, ℕ, ◌^◌, ◌<◌, ◌≤◌, Bool, true, false, IsTrue, leb, List}
+use Rattle.flute_journal.proofs.Common.{◌≡◌, ℕ, ◌^◌, ◌<◌, ◌≤◌, Bool, true}
+use Rattle.flute_journal.proofs.Common.{false, leb, List}
 use Rattle.flute_journal.proofs.Common.{[], ◌∷◌, ◌++◌, length, take, drop, Option, Some, None}
 use Rattle.flute_journal.proofs.Common.{Result, Ok, Err, sym, ap, ◌∙◌, append_assoc, arith, le-leb}
 use Rattle.flute_journal.proofs.Common.{lt-leb, nil_from_length, take_at, drop_at, length-append}
@@ -13,6 +14,7 @@ use Rattle.flute_journal.proofs.format_lemmas.Parts.{first-pass, first-stop, cut
 use Rattle.flute_journal.proofs.format_lemmas.Parts.{nothing_left, within-short}
 use Rattle.flute_journal.proofs.Numbers.{in_bytes-injective}
 use Rattle.flute_journal.proofs.framing_lemmas.ReadsUpTo.{asks_first, fault-behind, fault_up_to}
+use Rattle.flute_journal.proofs.framing_lemmas.ReadsUpTo.{IsBehind}
 use Rattle.flute_journal.specs.declared.fault.ReadFault.TheVariants as faults
 use Rattle.flute_journal.specs.{Input.{Advances}, FileFraming.{file_framing}, Lent.{TakesRecord}}
 
@@ -70,13 +72,25 @@ record_taken limit count u v (Err f) few h some =
     subst P (sym h.0)
     (asks_first (record_fault limit count) u v h.1 (record_settled limit count few))
 
+-- the length of a record within the bound was read
+pub record LengthRead (limit count n : ℕ) (u v : Option (List ℕ)) : Type 0 where
+  pub front : List ℕ
+  pub few : count < limit
+  pub two : length front ≡ 2
+  pub is : n ≡ big_endian front
+  pub took : Consumes u v front
+
 -- the bytes of a record could not be read
-pub record_stops : (limit count n : ℕ) (u v w : Option (List ℕ)) (front : List ℕ) (f : ReadFault)
-    → count < limit → length front ≡ 2 → n ≡ big_endian front
-    → Consumes u v front → IsFaultOf (cut_fault n) v w f
+pub record_stops : {limit count n : ℕ} {u v : Option (List ℕ)} (w : Option (List ℕ))
+    (f : ReadFault) → LengthRead limit count n u v → IsFaultOf (cut_fault n) v w f
     → IsFaultUpTo [] (record_fault limit count) u w f
-record_stops limit count n u v w front f few len is took h =
-    grind (arith, fault_up_to, fault-behind, record_comes)
+record_stops {limit = limit} {count = count} {n = n} {u = u} {v = v} w f read h =
+    let behind : IsBehind u v read.front (record_fault limit count) (cut_fault n) =
+    record {
+      took = read.took;
+      comes = λ r. record_comes limit count n read.front r read.few read.two read.is;
+    } in
+    fault_up_to [] (record_fault limit count) u w f (fault-behind w f behind h)
 
 -- What was read of a record has nothing after it (specs/Input: IsWithin).
 
@@ -101,21 +115,21 @@ pub length_ends : {T : Type 0} (u v : Option (List ℕ)) (front : List ℕ) (r :
 length_ends u v front (Ok x) took few = tt
 length_ends u v front (Err f) took few = (front, took, record_within-short front few)
 
-pub record_ends : {T : Type 0} (n : ℕ) (u v w : Option (List ℕ)) (front : List ℕ)
-    (r : Result T ReadFault) → in_bytes 2 n ≡ front → n < 2 ^ 16 → Consumes u v front
-    → Advances v w n
-    → StaysWithin record_of IsDatagram u w r
-record_ends n u v w front (Ok x) is small took a = tt
-record_ends n u v w front (Err f) is small took a =
+pub record_ends : (n : ℕ) (u v w : Option (List ℕ)) {front : List ℕ}
+    → in_bytes 2 n ≡ front → n < 2 ^ 16 → Consumes u v front → Advances v w n
+    → (part : List ℕ) × Consumes u w part × IsWithin record_of IsDatagram part
+record_ends n u v w {front = front} is small took a =
     (front ++ a.0, Consumes-trans u v w front a.0 took a.1, record_within n front a.0 is small a.2)
 
 -- a record was read whole
-pub record_read : (limit count n : ℕ) (u v w : Option (List ℕ)) (front d : List ℕ) → count < limit
-    → in_bytes 2 n ≡ front → n < 2 ^ 16
-    → Consumes u v front → length d ≡ n → AllByRecursion IsByte d → Consumes v w d
-    → IsDatagram d × IsTrue true × (count < limit) × Consumes u w (record_of d)
-record_read limit count n u v w front d few spells small took size octs rest =
-    grind (arith, Consumes-trans)
+pub record_read : {n : ℕ} (u v w : Option (List ℕ)) {front : List ℕ} (d : List ℕ)
+    → in_bytes 2 n ≡ front → Consumes u v front → length d ≡ n → Consumes v w d
+    → Consumes u w (record_of d)
+record_read u v w d spells took size rest = grind (arith, Consumes-trans)
+
+pub datagram_read : {n : ℕ} (d : List ℕ) → length d ≡ n → n < 2 ^ 16
+    → AllByRecursion IsByte d → IsDatagram d
+datagram_read d size small octs = record { short = omega (arith, size, small); octets = octs }
 
 -- no record: the end of the input, or a source that failed
 pub no_record : (limit count : ℕ) (failed : Bool) (u v : Option (List ℕ)) (front : List ℕ)
@@ -124,4 +138,4 @@ pub no_record : (limit count : ℕ) (failed : Bool) (u v : Option (List ℕ)) (f
 no_record limit count failed u v front a none = grind (arith, nil_from_length)
 
 -- what was read of a record
-pub ruleset record_reads = (length_ends, record_ends, record_read)
+pub ruleset record_reads = (length_ends, record_read, datagram_read)

@@ -21,6 +21,26 @@ module _ {T : Type 0} (spell : T → List ℕ) where
       → flat_map spell (x ∷ xs) ++ r ≡ spell x ++ (flat_map spell xs ++ r)
   grouped x xs r = append_assoc (spell x) (flat_map spell xs) r
 
+  module _ (fault : List T → List ℕ → Option ReadFault) where
+    -- none of these items is at fault
+    abbrev pub Passes : List T → Type 0
+    Passes all =
+        (front : List T) (x : T) (xs : List T) (r : List ℕ) → all ≡ front ++ x ∷ xs
+        → fault front (spell x ++ r) ≡ None
+
+    -- none that is within the bound
+    abbrev pub PassesWithin : ℕ → List T → Type 0
+    PassesWithin limit all =
+        (front : List T) (x : T) (xs : List T) (r : List ℕ) → all ≡ front ++ x ∷ xs
+        → length front < limit → fault front (spell x ++ r) ≡ None
+
+    -- valid items without a fault, and the fault of the bytes after them
+    pub record IsStop (IsIt : T → Type 0) (items : List T) (rest : List ℕ) (f : ReadFault)
+        : Type 0 where
+      pub passes : Passes items
+      pub valid : AllByRecursion IsIt items
+      pub stops : fault items rest ≡ Some f
+
   module _ (IsIt : T → Type 0) (injective : (x y : T) (r s : List ℕ) → IsIt x → IsIt y
       → spell x ++ r ≡ spell y ++ s → (x ≡ y) × (r ≡ s)) where
     go_on : (es fs : List T) (r s : List ℕ) → AllByRecursion IsIt es → AllByRecursion IsIt fs
@@ -50,16 +70,10 @@ module _ {T : Type 0} (spell : T → List ℕ) where
         cons_goes x y es fs r s here.0 (begins es fs r s none p.1 q.1 here.1)
 
     module _ (fault : List T → List ℕ → Option ReadFault) where
-      -- none of these items is at fault
-      abbrev Passes : List T → Type 0
-      Passes all =
-          (front : List T) (x : T) (xs : List T) (r : List ℕ) → all ≡ front ++ x ∷ xs
-          → fault front (spell x ++ r) ≡ None
-
-      goes_one : (es fs : List T) (r s : List ℕ) (f g : ReadFault) → Passes fs
+      goes_one : {es fs : List T} {r s : List ℕ} (f g : ReadFault) → Passes fault fs
           → GoesOn es fs r s → fault es r ≡ Some f → fault fs s ≡ Some g
           → (es ≡ fs) × (f ≡ g)
-      goes_one es fs r s f g passes h a b = by_more h.more h.items h.bytes
+      goes_one {es = es} {fs = fs} {r = r} {s = s} f g passes h a b = by_more h.more h.items h.bytes
         where
           by_more : (more : List T) → fs ≡ es ++ more → r ≡ flat_map spell more ++ s
               → (es ≡ fs) × (f ≡ g)
@@ -71,24 +85,26 @@ module _ {T : Type 0} (spell : T → List ℕ) where
               ∙ ap (fault es) (sym (e ∙ grouped x more s)) ∙ a))
 
       -- bytes stop at one fault, after one list of items
-      pub one_stop : (es fs : List T) (r s : List ℕ) (f g : ReadFault) → Passes es → Passes fs
-          → AllByRecursion IsIt es → AllByRecursion IsIt fs
-          → flat_map spell es ++ r ≡ flat_map spell fs ++ s → fault es r ≡ Some f
-          → fault fs s ≡ Some g → (es ≡ fs) × (f ≡ g)
-      one_stop es fs r s f g p q v w e a b = elim (go_on es fs r s v w e) [
-        | inl h ↦ goes_one es fs r s f g q h a b
-        | inr h ↦ (let o = goes_one fs es s r g f p h b a in (sym o.0, sym o.1))
-      ]
+      pub one_stop : {es fs : List T} {r s : List ℕ} {f g : ReadFault}
+          → IsStop fault IsIt es r f → IsStop fault IsIt fs s g
+          → flat_map spell es ++ r ≡ flat_map spell fs ++ s → (es ≡ fs) × (f ≡ g)
+      one_stop {es = es} {fs = fs} {r = r} {s = s} {f = f} {g = g} p q e =
+          elim (go_on es fs r s p.valid q.valid e) [
+            | inl h ↦ goes_one f g q.passes h p.stops q.stops
+            | inr h ↦
+                let o = goes_one g f p.passes h q.stops p.stops in
+                (sym o.0, sym o.1)
+          ]
 
       -- if items without a fault after them also stop, there are more of them than the bound
-      pub stop_at_bound : (limit : ℕ) (es fs : List T) (r s : List ℕ) (f : ReadFault)
-          → ((front : List T) (x : T) (xs : List T) (y : List ℕ) → fs ≡ front ++ x ∷ xs
-          → length front < limit → fault front (spell x ++ y) ≡ None)
+      pub stop_at_bound : (limit : ℕ) {es fs : List T} {r s : List ℕ} (f : ReadFault)
+          → PassesWithin fault limit fs
           → ((x : T) (y : List ℕ) → limit ≤ length es
           → fault es (spell x ++ y) ≡ Some faults.TooMany)
           → GoesOn es fs r s → fault fs s ≡ None → fault es r ≡ Some f
           → (f ≡ faults.TooMany) × (limit < length fs)
-      stop_at_bound limit es fs r s f passes many h none a = by_more h.more h.items h.bytes
+      stop_at_bound limit {es = es} {fs = fs} {r = r} {s = s} f passes many h none a =
+          by_more h.more h.items h.bytes
         where
           by_more : (more : List T) → fs ≡ es ++ more → r ≡ flat_map spell more ++ s
               → (f ≡ faults.TooMany) × (limit < length fs)

@@ -123,11 +123,11 @@ module _ {V P T : Type 0} {framing : Framing V P T} where
 
   -- the fault of a call is the fault after the items that were read
 
-  fault_after : (told : T) (limit : ℕ) (u x w : Option (List ℕ)) (state : ReaderState P)
-      (xs : List V) (f : ReadFault) → Sofar framing limit u x state xs
+  fault_after : {told : T} {limit : ℕ} {u x w : Option (List ℕ)} {state : ReaderState P}
+      (xs : List V) {f : ReadFault} → Sofar framing limit u x state xs
       → IsAtFault framing told limit state x w f
       → FaultAfter framing limit u x w xs f
-  fault_after told limit u x w state [] f s h = record {
+  fault_after {told = told} {limit = limit} {x = x} {w = w} [] {f = f} s h = record {
     are_items = record {
       told = told;
       valid = tt;
@@ -138,7 +138,7 @@ module _ {V P T : Type 0} {framing : Framing V P T} where
     before_it = s.read;
     at_fault = subst (λ (z : ReaderState P). IsAtFault framing told limit z x w f) s.state_is h;
   }
-  fault_after told limit u x w state (y ∷ ys) f s h =
+  fault_after {told = told} {limit = limit} {x = x} {w = w} (y ∷ ys) {f = f} s h =
       let t = s.are_items.told in
       let g = subst (λ (z : ReaderState P). IsAtFault framing told limit z x w f) s.state_is h in
       record {
@@ -156,12 +156,12 @@ module _ {V P T : Type 0} {framing : Framing V P T} where
         };
       }
 
-  pub found_now : (limit : ℕ) (u x w : Option (List ℕ)) (old new : ReaderState P) (xs : List V)
-      (f : ReadFault) → Sofar framing limit u x old xs → GivesFault framing limit old new x w f
+  pub found_now : {limit : ℕ} {u x w : Option (List ℕ)} {old new : ReaderState P} {xs : List V}
+      {f : ReadFault} → Sofar framing limit u x old xs → GivesFault framing limit old new x w f
       → FaultAfter framing limit u x w xs f
-  found_now limit u x w old new xs f s h = elim h.found [
+  found_now {xs = xs} {f = f} s h = elim h.found [
     | inl p ↦ absurd (not_failed framing s.are_items.told xs f (sym s.state_is ∙ p.0))
-    | inr p ↦ fault_after h.told limit u x w old xs f s p.1
+    | inr p ↦ fault_after xs s p.1
   ]
 
 module _ {V P T : Type 0} {framing : Framing V P T} (sound : IsSound framing) where
@@ -176,10 +176,10 @@ module _ {V P T : Type 0} {framing : Framing V P T} (sound : IsSound framing) wh
       }
 
   -- a call that gives an item adds it to those that were read
-  pub sofar-next : (limit : ℕ) (u v w : Option (List ℕ)) (old new : ReaderState P) (xs : List V)
-      (x : V) → Sofar framing limit u v old xs
+  pub sofar-next : {limit : ℕ} {u v w : Option (List ℕ)} {old new : ReaderState P} {xs : List V}
+      {x : V} → Sofar framing limit u v old xs
       → GivesItem framing limit old new v w x → Sofar framing limit u w new (xs ++ x ∷ [])
-  sofar-next limit u v w old new xs x s h =
+  sofar-next {limit = limit} {u = u} {v = v} {w = w} {old = old} {new = new} {xs = xs} {x = x} s h =
       let p = placed framing h.told limit u v old xs s in
       let a = p.are_items in
       let t = a.told in
@@ -214,30 +214,32 @@ module _ {V P T : Type 0} {framing : Framing V P T} (sound : IsSound framing) wh
       }
 
   -- a reader that has read these items gives an item or the end
-  pub side-from : (limit : ℕ) (u v w : Option (List ℕ)) (old new : ReaderState P) (settled : List V)
+  pub side-from : {limit : ℕ} {u v : Option (List ℕ)} (w : Option (List ℕ))
+      {old : ReaderState P} (new : ReaderState P) {settled : List V}
       (o : Option V)
       → Sofar framing limit u v old settled → Gives framing limit old new v w (Ok o)
       → Side framing limit u w new settled o
-  side-from limit u v w old new settled (Some x) s g = sofar-next limit u v w old new settled x s g
-  side-from limit u v w old new settled None s g = elim g.bytes [
-    | inl b ↦ absurd (not_ended framing s.are_items.told settled (sym s.state_is ∙ b.0))
-    | inr b ↦
-        let p = placed framing g.told limit u v old settled s in
-        let t = p.are_items.told in
-        let count : framing.count (place_at framing g.told old) ≡ length settled =
-        ap framing.count p.place ∙ sound.counted t settled in
-        let start = opening framing t (state_at framing t settled) in
-        let last : Consumes v w (start ++ framing.frame.end (length settled)) =
-        subst (Consumes v w) (λ i. p.start i ++ framing.frame.end (count i)) b.1 in
-        record {
-          are_items = p.are_items;
-          read = subst (Consumes u w) (all_read framing t settled
-              (framing.frame.end (length settled)))
-              (Consumes-trans u v w (read_of framing t settled)
-              (start ++ framing.frame.end (length settled)) p.read last);
-          at_end = b.2;
-        }
-  ]
+  side-from w new (Some x) s g = sofar-next s g
+  side-from {limit = limit} {u = u} {v = v} w {old = old} new {settled = settled} None s g =
+      elim g.bytes [
+        | inl b ↦ absurd (not_ended framing s.are_items.told settled (sym s.state_is ∙ b.0))
+        | inr b ↦
+            let p = placed framing g.told limit u v old settled s in
+            let t = p.are_items.told in
+            let count : framing.count (place_at framing g.told old) ≡ length settled =
+            ap framing.count p.place ∙ sound.counted t settled in
+            let start = opening framing t (state_at framing t settled) in
+            let last : Consumes v w (start ++ framing.frame.end (length settled)) =
+            subst (Consumes v w) (λ i. p.start i ++ framing.frame.end (count i)) b.1 in
+            record {
+              are_items = p.are_items;
+              read = subst (Consumes u w) (all_read framing t settled
+                  (framing.frame.end (length settled)))
+                  (Consumes-trans u v w (read_of framing t settled)
+                  (start ++ framing.frame.end (length settled)) p.read last);
+              at_end = b.2;
+            }
+      ]
 
   -- a file that was read to its end
   pub whole-at : (limit : ℕ) (u w : Option (List ℕ)) (items : List V)
@@ -302,7 +304,8 @@ module _ {V P T : Type 0} {framing : Framing V P T} (sound : IsSound framing) wh
   place_same t (y ∷ ys) = refl
 
   -- memory ran out after these items
-  run_out : (limit : ℕ) (u w : Option (List ℕ)) (xs : List V) (a : AreItems framing.frame limit xs)
+  run_out : {limit : ℕ} (u w : Option (List ℕ)) {xs : List V}
+      (a : AreItems framing.frame limit xs)
       (read seen : List ℕ)
       → Consumes u w (read_of framing a.told xs
       ++ (opening framing a.told (state_at framing a.told xs) ++ read))
@@ -310,9 +313,9 @@ module _ {V P T : Type 0} {framing : Framing V P T} (sound : IsSound framing) wh
       → IsSettled (framing.next_fault (place_at framing a.told (state_at framing a.told xs)) limit)
       (read ++ seen)
       → IfSome u (λ bytes. (items : List V) × MayRunOut framing bytes limit items)
-  run_out limit None w xs a read seen took follows settled = tt
-  run_out limit (Some z) None xs a read seen took follows settled = absurd took
-  run_out limit (Some z) (Some y) xs a read seen took follows settled =
+  run_out None w a read seen took follows settled = tt
+  run_out (Some z) None a read seen took follows settled = absurd took
+  run_out {limit = limit} (Some z) (Some y) {xs = xs} a read seen took follows settled =
       let t = a.told in
       let start = read_of framing t xs ++ (opening framing t (state_at framing t xs) ++ read) in
       let front = up_to_end framing.frame t xs in
@@ -340,7 +343,7 @@ module _ {V P T : Type 0} {framing : Framing V P T} (sound : IsSound framing) wh
   asked_behind limit u x w xs a before asks =
       let start = opening framing a.told (state_at framing a.told xs) in
       let m = asks.2 in
-      run_out limit u w xs a m.read m.seen
+      run_out u w a m.read m.seen
       (Consumes-trans u x w (read_of framing a.told xs) (start ++ m.read) before
       (Consumes-trans x asks.0 w start m.read asks.1 m.consumed)) m.follows m.settled
 
@@ -353,8 +356,9 @@ module _ {V P T : Type 0} {framing : Framing V P T} (sound : IsSound framing) wh
       some_stop limit u xs f (stops_by limit u x xs f i.are_items i.before_it i.at_fault.fault)
 
   -- a call that gives a fault: the bytes have it
-  pub sofar-fault : (limit : ℕ) (u v w : Option (List ℕ)) (old new : ReaderState P) (xs : List V)
-      (f : ReadFault) → Sofar framing limit u v old xs
+  pub sofar-fault : {limit : ℕ} {u v w : Option (List ℕ)} {old new : ReaderState P}
+      {xs : List V}
+      {f : ReadFault} → Sofar framing limit u v old xs
       → GivesFault framing limit old new v w f → HasFault framing limit u f
-  sofar-fault limit u v w old new xs f s h =
-      has_fault limit u v w xs f (found_now limit u v w old new xs f s h)
+  sofar-fault {limit = limit} {u = u} {v = v} {w = w} {xs = xs} {f = f} s h =
+      has_fault limit u v w xs f (found_now s h)

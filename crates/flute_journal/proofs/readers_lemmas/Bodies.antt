@@ -1,5 +1,6 @@
 -- What is read after the first byte of an entry (src/readers/entry_fields.rt).
-use Rattle.flute_journal.proofs.Common.{Address, BodyIn, Bool, Consumes, Consumes-trans, Err, Fact}
+use Rattle.flute_journal.proofs.Common.{Address, Before, BodyIn, Bool, Consumes, Consumes-trans}
+use Rattle.flute_journal.proofs.Common.{Err, Fact}
 use Rattle.flute_journal.proofs.Common.{EntryHead, HeadIn, ReadsUpTo, HasRoom, IsBody, IsFact}
 use Rattle.flute_journal.proofs.Common.{IsFactIn, IsFaultOf, IsFaultUpTo, IsSized, IsWithin, Key}
 use Rattle.flute_journal.proofs.Common.{Kind, List, Ok, Option, Parses, ReadFault, Reads, ReadsEnd}
@@ -11,7 +12,8 @@ use Rattle.flute_journal.proofs.Common.{length-append, length-bytes_high_first, 
 use Rattle.flute_journal.proofs.Common.{opening_fault, refl, subst, sym, or_failed, true, ℕ, ◌++◌}
 use Rattle.flute_journal.proofs.Common.{◌<◌, ◌∙◌, ◌∷◌, ◌≡◌, ◌≤◌}
 use Rattle.flute_journal.specs.{declared.format.EntryHead.TheVariants.{Symbol}, Input.{Advances}}
-use Rattle.flute_journal.proofs.framing_lemmas.ReadsUpTo.{fault-behind, fault_up_to}
+use Rattle.flute_journal.specs.declared.format.Kind.TheVariants as kinds
+use Rattle.flute_journal.proofs.framing_lemmas.ReadsUpTo.{IsBehind, fault-behind, fault_up_to}
 use Rattle.flute_journal.proofs.framing_lemmas.ReadsUpTo.{fault_up_to-behind, fault_found}
 use Rattle.flute_journal.proofs.framing_lemmas.ReadsUpTo.{parsed_reads}
 use Rattle.flute_journal.proofs.format_lemmas.Parts.{symbol_cut, symbol_within, body_comes}
@@ -19,17 +21,17 @@ use Rattle.flute_journal.proofs.format_lemmas.Parts.{body_least, entry_within, e
 use Rattle.flute_journal.proofs.format_lemmas.Parts.{length-key_bytes}
 
 -- the first bytes of a file
-pub opening_reads : {T : Type 0} (o : List ℕ) (u v : Option (List ℕ)) (failed : Bool)
-    (front : List ℕ) (r : Result T ReadFault) → length o ≡ 6
+pub opening_reads : {T : Type 0} (o : List ℕ) {u v : Option (List ℕ)} (failed : Bool)
+    {front : List ℕ} (r : Result T ReadFault) → length o ≡ 6
     → ReadsUpTo u v 6 failed front → Parses 6 (λ _. front ≡ o) (opening_fault o) front r
     → Reads (λ _. o) (λ _. Unit {0}) (opening_fault o) u v (or_failed failed r)
-opening_reads o u v true front (Ok x) len a p =
+opening_reads o true (Ok x) len a p =
     absurd (omega (arith, a.short refl, len, ap length p))
-opening_reads o u v false front (Ok x) len a p = (tt, subst (Consumes u v) p a.read)
-opening_reads {T} o u v true front (Err f) len a p =
-    fault_found T (opening_fault o) u v 6 true front f a p
-opening_reads {T} o u v false front (Err f) len a p =
-    fault_found T (opening_fault o) u v 6 false front f a p
+opening_reads o {u = u} {v = v} false (Ok x) len a p = (tt, subst (Consumes u v) p a.read)
+opening_reads {T} o {u = u} {v = v} true {front = front} (Err f) len a p =
+    fault_found T true f a p
+opening_reads {T} o {u = u} {v = v} false {front = front} (Err f) len a p =
+    fault_found T false f a p
 
 pub header_reads : (u v : Option (List ℕ)) (failed : Bool) (front : List ℕ)
     (r : Result Version ReadFault)
@@ -37,10 +39,10 @@ pub header_reads : (u v : Option (List ℕ)) (failed : Bool) (front : List ℕ)
     → Parses 6 (λ (w : Version). header_in w ≡ front) header_fault front r
     → Reads header_in (λ (w : Version). Unit {0}) header_fault u v (or_failed failed r)
 header_reads u v failed front (Ok w) a p =
-    parsed_reads header_in (λ (x : Version). Unit {0}) header_fault u v 6 failed front (Ok w) a
+    parsed_reads header_in (λ (x : Version). Unit {0}) header_fault failed (Ok w) a
     (λ x h. omega arith) (tt, p)
 header_reads u v failed front (Err f) a p =
-    parsed_reads header_in (λ (x : Version). Unit {0}) header_fault u v 6 failed front (Err f) a
+    parsed_reads header_in (λ (x : Version). Unit {0}) header_fault failed (Err f) a
     (λ x h. omega arith) p
 
 -- the number at the end, and no bytes after it
@@ -57,24 +59,20 @@ end_reads count u v false front (Ok x) a p = (
 )
 end_reads {T} count u v true front (Err f) a p =
     fault_up_to (in_bytes 8 count) (end_fault count) u v _
-    (fault_found T (end_fault count) u v 9 true front f a p)
+    (fault_found T true f a p)
 end_reads {T} count u v false front (Err f) a p =
     fault_up_to (in_bytes 8 count) (end_fault count) u v f
-    (fault_found T (end_fault count) u v 9 false front f a p)
+    (fault_found T false f a p)
 
 -- a fault of the number at the end is a fault of the end, its first byte included
-pub end_stops : (limit count : ℕ) (version : Version) (last : Option Address)
-    (u v w : Option (List ℕ)) (front : List ℕ) (f : ReadFault) → front ≡ 255 ∷ []
-    → Consumes u v front
-    → IsFaultUpTo (in_bytes 8 count) (end_fault count) v w f
-    → IsFaultUpTo (end count) (next_fault (at_place version count last) limit) u w f
-end_stops limit count version last u v w front f is took h =
-    let P : List ℕ → Type 0 =
-    λ x. IsFaultUpTo (x ++ in_bytes 8 count)
-    (next_fault (at_place version count last) limit) u w f in
-    subst P is (fault_up_to-behind u v w front (in_bytes 8 count)
-    (next_fault (at_place version count last) limit) (end_fault count) f took
-    (λ r. ap (λ (x : List ℕ). next_fault (at_place version count last) limit (x ++ r)) is) h)
+pub end_stops : (limit : ℕ) (before : Before) (u v w : Option (List ℕ)) (f : ReadFault)
+    → Consumes u v (255 ∷ []) → IsFaultUpTo (in_bytes 8 before.count) (end_fault before.count)
+    v w f
+    → IsFaultUpTo (end before.count) (next_fault before limit) u w f
+end_stops limit before u v w f took h =
+    let behind : IsBehind u v (255 ∷ []) (next_fault before limit) (end_fault before.count) =
+    record { took = took; comes = λ r. refl } in
+    fault_up_to-behind w (in_bytes 8 before.count) f behind h
 
 -- the bytes of an entry, up to those of a symbol
 pub fixed_least : (version : Version) (last : Option Address) (k : Kind) (x : EntryHead)
@@ -83,26 +81,33 @@ fixed_least version last k x h =
     grind (arith, body_least, length-key_bytes, length-append, length-bytes_high_first)
 
 -- the input ended within the bytes of a symbol
-pub symbol_stops : (version : Version) (last : Option Address) (k : Kind) (key : Key)
-    (id : SymbolId) (n : ℕ) (u v w : Option (List ℕ)) (f : ReadFault)
-    (r : Result Fact ReadFault) → r ≡ Err f
-    → SymbolIs last k key id n → HasRoom version key.session
+pub symbol_stops : (version : Version) {last : Option Address} {k : Kind} {key : Key}
+    {id : SymbolId} {n : ℕ} (u v w : Option (List ℕ)) {f : ReadFault}
+    {r : Result Fact ReadFault}
+    → r ≡ Err f → HeadIn version last k (Symbol key id n)
     → Consumes u v (head_bytes version (Symbol key id n)) → IsFaultOf (cut_fault n) v w f
     → Reads (body version) (BodyIn version last k) (body_fault version last k) u w r
-symbol_stops version last k key id n u v w f r e s fits took h =
-    grind (arith, fault-behind, symbol_cut)
+symbol_stops version {last = last} {k = k} {key = key} {id = id} {n = n} u v w {f = f} e s took h =
+    let fixed = head_bytes version (Symbol key id n) in
+    let behind : IsBehind u v fixed (body_fault version last kinds.Symbol) (cut_fault n) =
+    record { took = took; comes = λ r. symbol_cut version r s.0 s.1 } in
+    let fault : IsFaultOf (body_fault version last k) u w f =
+    subst (λ z. IsFaultOf (body_fault version last z) u w f) (sym s.0.kind_is)
+    (fault-behind w f behind h) in
+    subst (Reads (body version) (BodyIn version last k) (body_fault version last k) u w) (sym e)
+    fault
 
-pub symbol_ends : (version : Version) (last : Option Address) (k : Kind) (key : Key) (id : SymbolId)
-    (n : ℕ) (u v w : Option (List ℕ)) (f : ReadFault) (r : Result Fact ReadFault)
-    → r ≡ Err f
-    → SymbolIs last k key id n → HasRoom version key.session
+pub symbol_ends : (version : Version) {last : Option Address} {k : Kind} {key : Key}
+    {id : SymbolId} {n : ℕ} (u v w : Option (List ℕ)) {f : ReadFault}
+    {r : Result Fact ReadFault}
+    → r ≡ Err f → HeadIn version last k (Symbol key id n)
     → Consumes u v (head_bytes version (Symbol key id n)) → Advances v w n
     → StaysWithin (body version) (IsBody version k) u w r
-symbol_ends version last k key id n u v w f r e s fits took a =
+symbol_ends version {k = k} {key = key} {id = id} {n = n} u v w e s took a =
     let fixed = head_bytes version (Symbol key id n) in
     let within =
-    subst (λ z. IsWithin (body version) (IsBody version z) (fixed ++ a.0)) (sym s.kind_is)
-    (symbol_within version key id n a.0 s.key_valid fits s.id_valid s.short a.2) in
+    subst (λ z. IsWithin (body version) (IsBody version z) (fixed ++ a.0)) (sym s.0.kind_is)
+    (symbol_within version a.0 s.0 s.1 a.2) in
     subst (StaysWithin (body version) (IsBody version k) u w) (sym e)
     (fixed ++ a.0, Consumes-trans u v w fixed a.0 took a.1, within)
 
@@ -118,24 +123,37 @@ end_ends version u v w front most took a = (
       (omega (arith, most, a.2, length-append front a.0)),
 )
 
-pub body_stops : (limit count : ℕ) (version : Version) (last : Option Address) (k : Kind)
-    (u v w : Option (List ℕ)) (front : List ℕ) (f : ReadFault) → front ≡ byte_of k ∷ []
-    → count < limit
-    → Consumes u v front → IsFaultOf (body_fault version last k) v w f
-    → IsFaultUpTo (end count) (next_fault (at_place version count last) limit) u w f
-body_stops limit count version last k u v w front f is few took h =
-    fault_up_to (end count) (next_fault (at_place version count last) limit) u w f
-    (fault-behind u v w front (next_fault (at_place version count last) limit)
-    (body_fault version last k) f took
-    (λ r. ap (λ (x : List ℕ). next_fault (at_place version count last) limit (x ++ r)) is
-    ∙ body_comes limit count version last k r few) h)
+-- the kind of an entry was read, which is one of this kind
+pub record KindRead (k : Kind) (u v : Option (List ℕ)) : Type 0 where
+  pub front : List ℕ
+  pub is : front ≡ byte_of k ∷ []
+  pub took : Consumes u v front
 
-pub body_ends : (version : Version) (k : Kind) (u v w : Option (List ℕ)) (front part : List ℕ)
-    → front ≡ byte_of k ∷ [] → Consumes u v front → Consumes v w part
+pub body_stops : (limit : ℕ) (before : Before) {k : Kind} {u v : Option (List ℕ)}
+    (w : Option (List ℕ)) (f : ReadFault) → KindRead k u v → before.count < limit
+    → IsFaultOf (body_fault before.version before.last k) v w f
+    → IsFaultUpTo (end before.count) (next_fault before limit) u w f
+body_stops limit before {k = k} {u = u} {v = v} w f read few h =
+    let behind : IsBehind u v read.front (next_fault before limit)
+    (body_fault before.version before.last k) =
+    record {
+      took = read.took;
+      comes = λ r. ap (λ (x : List ℕ). next_fault before limit (x ++ r)) read.is
+          ∙ body_comes limit before k r few;
+    } in
+    fault_up_to (end before.count) (next_fault before limit) u w f (fault-behind w f behind h)
+
+pub body_ends : (version : Version) {k : Kind} {u v : Option (List ℕ)} (w : Option (List ℕ))
+    (part : List ℕ) → KindRead k u v → Consumes v w part
     → IsWithin (body version) (IsBody version k) part
     → (all : List ℕ) × Consumes u w all
     × IsWithin (entry_in version) (IsFactIn version) all
-body_ends version k u v w front part is took rest h = grind (arith, Consumes-trans, entry_within)
+body_ends version {k = k} {u = u} {v = v} w part read rest h = (
+  read.front ++ part,
+  Consumes-trans u v w read.front part read.took rest,
+  subst (λ x. IsWithin (entry_in version) (IsFactIn version) (x ++ part)) (sym read.is)
+      (entry_within version k part h),
+)
 
 -- a symbol of a fact has as many bytes as one has
 pub fact_sized : (f : Fact) → IsFact f → IsSized f

@@ -7,7 +7,8 @@ use Rattle.flute_journal.proofs.Common.{false, file_framing, file_header, first_
 use Rattle.flute_journal.proofs.Common.{left_by, not, opening_fault, place_at, record_of, refl}
 use Rattle.flute_journal.proofs.Common.{state_after, subst, take, or_failed, true, ℕ, ◌++◌, ◌∷◌}
 use Rattle.flute_journal.proofs.Common.{◌≡◌}
-use Rattle.flute_journal.proofs.framing_lemmas.Framed.{reads_on, reads_first, gives}
+use Rattle.flute_journal.proofs.framing_lemmas.Framed.{ReadsWithin, reads_on, reads_first}
+use Rattle.flute_journal.proofs.framing_lemmas.Framed.{gives}
 use Rattle.flute_journal.proofs.framing_lemmas.Framings.{file_sound}
 use Rattle.flute_journal.specs.declared.fault.ReadFault.TheVariants as faults
 
@@ -46,22 +47,24 @@ pub reads_record : (limit count : ℕ) (u v : Option (List ℕ))
     (r : Result (Option (List ℕ)) ReadFault) → ReadsNext file_framing limit count u v r
     → StaysWithin record_of IsDatagram u v r
     → IfErr r IsFileFault → ReadsFrom file_framing tt limit (Items count) u v r
-reads_record limit count u v r h w k = reads_on file_framing limit tt count u v r h w k
+reads_record limit count u v r h w k =
+    let read : ReadsWithin file_framing limit count u v r =
+    record { next = h; within = w; possible = k } in
+    reads_on file_framing tt r read
 
-pub reads_file_first : (limit : ℕ) (u v w : Option (List ℕ))
-    (r : Result (Option (List ℕ)) ReadFault) → Consumes u v file_header
-    → ReadsNext file_framing limit 0 v w r
-    → StaysWithin record_of IsDatagram v w r → IfErr r IsFileFault
-    → ReadsFrom file_framing tt limit Header u w r
-reads_file_first limit u v w r took h s k = reads_first file_sound limit tt u v w r took h s k
+pub reads_file_first : {limit : ℕ} (u : Option (List ℕ)) {v w : Option (List ℕ)}
+    {r : Result (Option (List ℕ)) ReadFault} → Consumes u v file_header
+    → ReadsWithin file_framing limit 0 v w r → ReadsFrom file_framing tt limit Header u w r
+reads_file_first u {r = r} took h = reads_first file_sound tt u r took h
 
 -- what a reader gives from a state that is known by an equation
-pub gives_of_file_at : (limit count : ℕ) (at old new : ReaderState ℕ) (u v w : Option (List ℕ))
-    (r s : Result (Option (List ℕ)) ReadFault) → old ≡ at → is_open at ≡ true
-    → count ≡ place_at file_framing tt at → r ≡ s → v ≡ w → new ≡ state_after file_framing count r
-    → ReadsFrom file_framing tt limit at u w s → Gives file_framing limit old new u v r
-gives_of_file_at limit count at old new u v w r s is opened counted gave left behind h =
-    grind (arith, gives)
+pub gives_of_file_at : (limit : ℕ) {count : ℕ} {at old new : ReaderState ℕ}
+    (u : Option (List ℕ)) {v w : Option (List ℕ)} {r s : Result (Option (List ℕ)) ReadFault}
+    → old ≡ at → count ≡ place_at file_framing tt at → r ≡ s → v ≡ w
+    → new ≡ state_after file_framing count r
+    → (is_open at ≡ true) × ReadsFrom file_framing tt limit at u w s
+    → Gives file_framing limit old new u v r
+gives_of_file_at limit u is counted gave left behind h = grind (arith, gives)
 
 -- what a reader of datagrams gives, of the record that it read
 pub ruleset gives_next = (gives_of_file_at, reads_record)

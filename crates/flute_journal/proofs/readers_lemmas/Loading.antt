@@ -35,10 +35,10 @@ none-over s o y (more_objects session h) = omega (arith, h)
 none-over s o y (more_symbols key h) = omega (arith, h)
 
 -- before the first entry the store is empty
-pub loaded_none : (s o y limit : ℕ) (u v : Option (List ℕ)) (state : ReaderState Before)
-    (content : List Fact) → v ≡ u → state ≡ Header → content ≡ []
+pub loaded_none : (s o y limit : ℕ) {u v : Option (List ℕ)} {state : ReaderState Before}
+    {content : List Fact} → v ≡ u → state ≡ Header → content ≡ []
     → Loaded s o y limit u v state content
-loaded_none s o y limit u v state content e is c =
+loaded_none s o y limit {u = u} {state = state} {content = content} e is c =
     subst (λ (x : Option (List ℕ)). Loaded s o y limit u x state content) (sym e)
     (subst (λ (x : ReaderState Before). Loaded s o y limit u u x content) (sym is)
     (subst (λ (x : List Fact). Loaded s o y limit u u Header x) (sym c)
@@ -57,44 +57,45 @@ one_more : (F G : List Fact) (f : Fact) → Same F G → Same (F ++ f ∷ []) (G
 one_more F G f h = Same-append F G (f ∷ []) (f ∷ []) h (Same-itself (f ∷ []))
 
 -- one entry more was read, and its fact was put
-pub loaded-next : (s o y limit : ℕ) (u v w : Option (List ℕ)) (old new : ReaderState Before)
-    (F G : List Fact) (f : Fact) → Loaded s o y limit u v old F
+pub loaded-next : {s o y limit : ℕ} {u v w : Option (List ℕ)} {old new : ReaderState Before}
+    {F G : List Fact} {f : Fact} → Loaded s o y limit u v old F
     → GivesItem journal_framing limit old new v w f → Same G (F ++ f ∷ [])
     → (Over (F ++ f ∷ []) s o y → ⊥) → Loaded s o y limit u w new G
-loaded-next s o y limit u v w old new F G f l h same fits =
+loaded-next {s = s} {o = o} {y = y} {F = F} {G = G} {f = f} l h same fits =
     let es = l.entries in
     let more = one_more F es f l.same in
     record {
       entries = es ++ f ∷ [];
-      sofar = sofar-next journal_sound limit u v w old new es f l.sofar h;
+      sofar = sofar-next journal_sound l.sofar h;
       same = Same-trans G (F ++ f ∷ []) (es ++ f ∷ []) same more;
       fits = λ over. fits (over-same (es ++ f ∷ []) (F ++ f ∷ []) s o y
           (Same-sym (F ++ f ∷ []) (es ++ f ∷ []) more) over);
     }
 
 -- the facts that were read are within the limits
-pub loaded-fits : (s o y limit : ℕ) (u v : Option (List ℕ)) (state : ReaderState Before)
-    (F : List Fact) → Loaded s o y limit u v state F → Over F s o y → ⊥
-loaded-fits s o y limit u v state F l over = l.fits (over-same F l.entries s o y l.same over)
+pub loaded-fits : {s o y limit : ℕ} {u v : Option (List ℕ)} {state : ReaderState Before}
+    {F : List Fact} → Loaded s o y limit u v state F → Over F s o y → ⊥
+loaded-fits {s = s} {o = o} {y = y} {F = F} l over =
+    l.fits (over-same F l.entries s o y l.same over)
 
-begins-over : (s o y limit : ℕ) (u w : Option (List ℕ)) (es : List Fact) (f : Fact)
+begins-over : {s o y limit : ℕ} (u w : Option (List ℕ)) (es : List Fact) (f : Fact)
     → (a : AreItems journal_frame limit (es ++ f ∷ []))
     → Consumes u w (without_end_in a.told (es ++ f ∷ []))
     → Over (es ++ f ∷ []) s o y → IfSome u (BeginsOver s o y limit)
-begins-over s o y limit None w es f a h over = tt
-begins-over s o y limit (Some x) None es f a h over = absurd h
-begins-over s o y limit (Some x) (Some z) es f a h over =
+begins-over None w es f a h over = tt
+begins-over (Some x) None es f a h over = absurd h
+begins-over (Some x) (Some z) es f a h over =
     (es ++ f ∷ [], record { are_items = a; rest = z; whole = h }, over)
 
 -- one entry more would pass the limits
-pub loaded-over : (s o y limit : ℕ) (u v w : Option (List ℕ)) (old new : ReaderState Before)
-    (F : List Fact) (f : Fact) → Loaded s o y limit u v old F
+pub loaded-over : {s o y limit : ℕ} {u v w : Option (List ℕ)} {old new : ReaderState Before}
+    {F : List Fact} {f : Fact} → Loaded s o y limit u v old F
     → GivesItem journal_framing limit old new v w f → Over (F ++ f ∷ []) s o y
     → IfSome u (BeginsOver s o y limit)
-loaded-over s o y limit u v w old new F f l h over =
+loaded-over {s = s} {o = o} {y = y} {u = u} {w = w} {F = F} {f = f} l h over =
     let es = l.entries in
-    let next = sofar-next journal_sound limit u v w old new es f l.sofar h in
-    begins-over s o y limit u w es f next.are_items
+    let next = sofar-next journal_sound l.sofar h in
+    begins-over u w es f next.are_items
     (subst (Consumes u w) (read_some journal_framing next.are_items.told es f) next.read)
     (over-same (F ++ f ∷ []) (es ++ f ∷ []) s o y (one_more F es f l.same) over)
 
@@ -109,11 +110,11 @@ entries_at state = count_at journal_framing state
 
 -- How often the source failed.
 
-pub loaded_failed : (T X : Type 0) (s o y limit : ℕ) (u v : Option (List ℕ))
-    (state : ReaderState Before) (F : List Fact) (f : ReadFault) (n m k : ℕ)
+pub loaded_failed : (T X : Type 0) {s o y limit : ℕ} {u v : Option (List ℕ)}
+    {state : ReaderState Before} {F : List Fact} (f : ReadFault) {n m : ℕ} (k : ℕ)
     → Loaded s o y limit u v state F
     → m ≡ n → FailsIf {T = T} (is_open state) m k (Err f) → FailsToLoad {T = X} n k (Err (Read f))
-loaded_failed T X s o y limit u v state F f n m k l e h = let opened =
+loaded_failed T X {limit = limit} {u = u} {v = v} {state = state} f k l e h = let opened =
     open_after limit u v state l.entries l.sofar in grind arith
 
 -- no failure is counted where something was given
@@ -122,31 +123,25 @@ loaded-read b n m k e h = grind (arith)
 
 -- What a reader gave, and what became of it in the store.
 
-pub given-entry : (limit bound : ℕ) (v w : Option (List ℕ)) (old new : ReaderState Before)
-    (given : Option Fact) (f : Fact) → bound ≡ limit → given ≡ Some f
+pub given-entry : {limit bound : ℕ} (v w : Option (List ℕ)) (old new : ReaderState Before)
+    {given : Option Fact} {f : Fact} → bound ≡ limit → given ≡ Some f
     → Gives journal_framing bound old new v w (Ok given)
     → GivesItem journal_framing limit old new v w f
-given-entry limit bound v w old new given f b e h = grind (arith)
+given-entry v w old new b e h = grind (arith)
 
-pub loaded-given : {X : Type 0} (s o y limit bound : ℕ) (u v w : Option (List ℕ))
-    (old new : ReaderState Before) (F G : List Fact) (given : Option Fact) (f : Fact) (x : X)
-    → Loaded s o y limit u v old F → bound ≡ limit → given ≡ Some f
-    → Gives journal_framing bound old new v w (Ok given) → Same G (F ++ f ∷ [])
-    → (Over (F ++ f ∷ []) s o y → Ok x ≡ Err join.Full) → Loaded s o y limit u w new G
-loaded-given s o y limit bound u v w old new F G given f x l b e h same full =
-    loaded-next s o y limit u v w old new F G f l
-    (given-entry limit bound v w old new given f b e h) same
-    (λ over. let is = full over in absurd cc)
+pub loaded-given : {X : Type 0} {s o y limit : ℕ} {u v w : Option (List ℕ)}
+    {old new : ReaderState Before} {F G : List Fact} {f : Fact} (x : X)
+    → Loaded s o y limit u v old F → GivesItem journal_framing limit old new v w f
+    → Same G (F ++ f ∷ []) → (Over (F ++ f ∷ []) s o y → Ok x ≡ Err join.Full)
+    → Loaded s o y limit u w new G
+loaded-given x l h same full = loaded-next l h same (λ over. let is = full over in absurd cc)
 
-pub loaded-full : (s o y limit bound : ℕ) (u v w z : Option (List ℕ)) (old new : ReaderState Before)
-    (F : List Fact) (given : Option Fact) (f : Fact) (why : JoinRefusal)
-    → Loaded s o y limit u v old F → bound ≡ limit → given ≡ Some f
-    → Gives journal_framing bound old new v w (Ok given)
+pub loaded-full : {s o y limit : ℕ} {u v w : Option (List ℕ)} (z : Option (List ℕ))
+    {old new : ReaderState Before} {F : List Fact} {f : Fact} (why : JoinRefusal)
+    → Loaded s o y limit u v old F → GivesItem journal_framing limit old new v w f
     → (why ≡ join.Full → Over (F ++ f ∷ []) s o y) → IsLoadFault s o y limit u z (refused why)
-loaded-full s o y limit bound u v w z old new F given f join.Full l b e h full =
-    loaded-over s o y limit u v w old new F f l (given-entry limit bound v w old new given f b e h)
-    (full refl)
-loaded-full s o y limit bound u v w z old new F given f join.OutOfMemory l b e h full = tt
+loaded-full z join.Full l h full = loaded-over l h (full refl)
+loaded-full z join.OutOfMemory l h full = tt
 
 journal-at : (limit : ℕ) (u w : Option (List ℕ)) (es F : List Fact)
     → AtEnd journal_framing limit u w es → Same F es → IfSome u (λ bytes. IsJournalOf limit bytes F)
@@ -154,51 +149,53 @@ journal-at limit u w es F s same =
     Consumes-whole u w (spelling_in s.are_items.told es) (λ bytes. IsJournalOf limit bytes F) s.read
     s.at_end (es, record { are_items = s.are_items; bytes_are = refl }, same)
 
-pub loaded_all : (s o y limit bound : ℕ) (u v w : Option (List ℕ)) (old new : ReaderState Before)
-    (F : List Fact) (given : Option Fact) → Loaded s o y limit u v old F
+pub loaded_all : {s o y limit bound : ℕ} {u v : Option (List ℕ)} (w : Option (List ℕ))
+    {old : ReaderState Before} (new : ReaderState Before)
+    {F : List Fact} (given : Option Fact) → Loaded s o y limit u v old F
     → bound ≡ limit → given ≡ None → Gives journal_framing bound old new v w (Ok given)
     → IsLoaded limit u w F
-loaded_all s o y limit bound u v w old new F None l b e h =
+loaded_all {limit = limit} {bound = bound} {u = u} {v = v} w {old = old} new {F = F} None l b e h =
     let end =
-    side-from journal_sound limit u v w old new l.entries None l.sofar
+    side-from journal_sound w new None l.sofar
     (subst (λ (n : ℕ). Gives journal_framing n old new v w (Ok None)) b
     (subst (λ (x : Option Fact). Gives journal_framing bound old new v w (Ok x)) e h)) in
     record { journal = journal-at limit u w l.entries F end l.same; at_end = end.at_end }
-loaded_all s o y limit bound u v w old new F (Some f) l b e h = absurd cc
+loaded_all w new (Some f) l b e h = absurd cc
 
-pub loaded-stops : (s o y limit bound : ℕ) (u v w : Option (List ℕ)) (old new : ReaderState Before)
-    (F : List Fact) (f : ReadFault) → Loaded s o y limit u v old F
+pub loaded-stops : {s o y limit bound : ℕ} {u v w : Option (List ℕ)}
+    {old new : ReaderState Before}
+    {F : List Fact} {f : ReadFault} → Loaded s o y limit u v old F
     → bound ≡ limit → GivesFault journal_framing bound old new v w f
     → IsLoadFault s o y limit u w (Read f)
-loaded-stops s o y limit bound u v w old new F f l b h = (
+loaded-stops {v = v} {w = w} {old = old} {new = new} {f = f} l b h = (
   l.entries,
   l.fits,
-  (sofar-stops limit u v w old new l.entries f l.sofar
+  (sofar-stops l.sofar
       (subst (λ (n : ℕ). GivesFault journal_framing n old new v w f) b h)).0,
 )
 
 -- What was read where no store was.
 
-pub fault-part : (s o y limit bound : ℕ) (u v w : Option (List ℕ)) (old new : ReaderState Before)
-    (F : List Fact) (f : ReadFault) → Loaded s o y limit u v old F
+pub fault-part : {s o y limit bound : ℕ} {u v w : Option (List ℕ)}
+    {old new : ReaderState Before}
+    {F : List Fact} {f : ReadFault} → Loaded s o y limit u v old F
     → bound ≡ limit → GivesFault journal_framing bound old new v w f
     → ReadsNoMore s o y limit u w (Read f)
-fault-part s o y limit bound u v w old new F f l b h = (
+fault-part {v = v} {w = w} {old = old} {new = new} {f = f} l b h = (
   l.entries,
-  (sofar-stops limit u v w old new l.entries f l.sofar
+  (sofar-stops l.sofar
       (subst (λ (n : ℕ). GivesFault journal_framing n old new v w f) b h)).1,
 )
 
-pub refused-part : (s o y limit bound : ℕ) (u v w : Option (List ℕ)) (old new : ReaderState Before)
-    (F : List Fact) (given : Option Fact) (f : Fact) → Loaded s o y limit u v old F
-    → bound ≡ limit → given ≡ Some f → Gives journal_framing bound old new v w (Ok given)
-    → (why : JoinRefusal) → (why ≡ join.Full → Over (F ++ f ∷ []) s o y)
+pub refused-part : {s o y limit : ℕ} {u v w : Option (List ℕ)} {old new : ReaderState Before}
+    {F : List Fact} {f : Fact} → Loaded s o y limit u v old F
+    → GivesItem journal_framing limit old new v w f → (why : JoinRefusal)
+    → (why ≡ join.Full → Over (F ++ f ∷ []) s o y)
     → ReadsNoMore s o y limit u w (refused why)
-refused-part s o y limit bound u v w old new F given f l b e h join.Full full =
+refused-part {s = s} {o = o} {y = y} {u = u} {w = w} {F = F} {f = f} l h join.Full full =
     let es = l.entries ++ f ∷ [] in
     let next =
-    sofar-next journal_sound limit u v w old new l.entries f l.sofar
-    (given-entry limit bound v w old new given f b e h) in
+    sofar-next journal_sound l.sofar h in
     record {
       within = l.entries;
       last = f;
@@ -208,11 +205,10 @@ refused-part s o y limit bound u v w old new F given f l b e h join.Full full =
       none_over = l.fits;
       over = over-same (F ++ f ∷ []) es s o y (one_more F l.entries f l.same) (full refl);
     }
-refused-part s o y limit bound u v w old new F given f l b e h join.OutOfMemory full =
+refused-part {u = u} {w = w} {f = f} l h join.OutOfMemory full =
     let es = l.entries ++ f ∷ [] in
     let next =
-    sofar-next journal_sound limit u v w old new l.entries f l.sofar
-    (given-entry limit bound v w old new given f b e h) in (
+    sofar-next journal_sound l.sofar h in (
       es,
       after_entries next.are_items []
           (subst (Consumes u w)

@@ -52,13 +52,14 @@ pub record LieInFront (bytes : List ℕ) (n : ℕ) (fixed symbol : List ℕ) : T
   pub whole : length symbol ≡ n
 
 -- they begin with the entry of that symbol, if the head is its head
-pub symbol_begins : (v : Version) (last : Option Address) (key : Key) (id : SymbolId) (n : ℕ)
+pub symbol_begins : (v : Version) {last : Option Address} {key : Key} {id : SymbolId} {n : ℕ}
     {bytes fixed symbol : List ℕ} → HeadIs last kinds.Symbol (Symbol key id n)
     → HasRoom v key.session → head_bytes v (Symbol key id n) ≡ fixed
     → LieInFront bytes n fixed symbol
     → BeginsWithEntry v last bytes (facts.Symbol key id symbol)
     (1 + length fixed + length symbol)
-symbol_begins v last key id n {bytes = bytes} {fixed = fixed} {symbol = symbol} s room head_is l =
+symbol_begins v {last = last} {key = key} {id = id} {n = n} {bytes = bytes} {fixed = fixed}
+    {symbol = symbol} s room head_is l =
     let first : l.first ≡ 3 = l.first_is in
     let behind : AllByRecursion IsByte l.back =
     (subst (AllByRecursion IsByte) l.is l.octets).1 in

@@ -16,6 +16,7 @@ use Rattle.flute_journal.proofs.format_lemmas.Parts.{entry_within-short}
 use Rattle.flute_journal.proofs.Each.{all_split}
 use Rattle.flute_journal.proofs.format_lemmas.Prefixes.{without_end_in-snoc, within_entry}
 use Rattle.flute_journal.proofs.format_lemmas.Prefixes.{within_end, within_nil}
+use Rattle.flute_journal.proofs.format_lemmas.Prefixes.{BeginsWith, BeginsWithAll}
 use Rattle.flute_journal.proofs.format_lemmas.Prefixes.{without_end-of_spelling}
 use Rattle.flute_journal.proofs.format_lemmas.Rising.{Rises-second, Rises, rising-rises}
 use Rattle.flute_journal.specs.Whole.{in_header as part_in_header, after_entries as part_after}
@@ -30,20 +31,20 @@ all_read v [] = sym (append_assoc (header_in v) [] (end 0))
 all_read v (e ∷ es) = refl
 
 -- what was read where a fault was found
-part_at : (limit : ℕ) (u x w : Option (List ℕ)) (es : List Fact) (part : List ℕ)
+part_at : {limit : ℕ} (u x w : Option (List ℕ)) (es : List Fact) {part : List ℕ}
     (a : AreItems journal_frame limit es) → Consumes u x (read_of journal_framing a.told es)
     → Consumes x w part → IsPart journal_framing a.told (state_at journal_framing a.told es) part
     → ReadsPart limit u w es
-part_at limit u x w [] part a took more (in_opening short) =
+part_at u x w [] {part = part} a took more (in_opening short) =
     part_in_header refl part (Consumes-trans u x w [] part took more) short
-part_at limit u x w [] part a took more (in_item rest e within) =
+part_at u x w [] {part = part} a took more (in_item rest e within) =
     part_after a rest (subst (Consumes u w) e (Consumes-trans u x w [] part took more)) within
-part_at limit u x w (e ∷ es) part a took more (in_opening short) =
+part_at u x w (e ∷ es) {part = part} a took more (in_opening short) =
     let front = without_end_in a.told (e ∷ es) in
     part_after a [] (subst (λ (l : List ℕ). Consumes u w (front ++ l))
     (nil_from_length part (omega (arith, short))) (Consumes-trans u x w front part took more))
     (within_nil a.told)
-part_at limit u x w (e ∷ es) part a took more (in_item rest is within) =
+part_at u x w (e ∷ es) {part = part} a took more (in_item rest is within) =
     let front = without_end_in a.told (e ∷ es) in
     part_after a rest (subst (λ (l : List ℕ). Consumes u w (front ++ l)) is
     (Consumes-trans u x w front part took more)) within
@@ -51,7 +52,7 @@ part_at limit u x w (e ∷ es) part a took more (in_item rest is within) =
 reads_part : (limit : ℕ) (u x w : Option (List ℕ)) (es : List Fact) (f : ReadFault)
     → FaultAfter journal_framing limit u x w es f → ReadsPart limit u w es
 reads_part limit u x w es f i =
-    part_at limit u x w es i.at_fault.part i.are_items i.before_it i.at_fault.read
+    part_at u x w es i.are_items i.before_it i.at_fault.read
     i.at_fault.is_part
 
 -- the source failed after these entries
@@ -88,12 +89,12 @@ stopped_at limit u x w es f i =
     stops_by journal_sound limit u x es f i.are_items i.before_it i.at_fault.fault
 
 -- a fault after these entries, and what was read
-pub sofar-stops : (limit : ℕ) (u v w : Option (List ℕ)) (old new : ReaderState Before)
-    (es : List Fact) (f : ReadFault) → Sofar journal_framing limit u v old es
+pub sofar-stops : {limit : ℕ} {u v w : Option (List ℕ)} {old new : ReaderState Before}
+    {es : List Fact} {f : ReadFault} → Sofar journal_framing limit u v old es
     → GivesFault journal_framing limit old new v w f
     → StopsAfter limit es u w f × ReadsPart limit u w es
-sofar-stops limit u x w old new es f s h =
-    let i = found_now limit u x w old new es f s h in
+sofar-stops {limit = limit} {u = u} {v = x} {w = w} {es = es} {f = f} s h =
+    let i = found_now s h in
     (stopped_at limit u x w es f i, reads_part limit u x w es f i)
 
 -- What was read: whole entries, and a part of the next one (ReadsPart).
@@ -156,11 +157,11 @@ ends_part v (x ∷ es) part (in_item more e w) =
     after_entries more (ap (λ (l : List ℕ). without_end_in v (x ∷ es) ++ l) e) w
 
 -- what was read, at a fault of the bytes
-pub reads-fault : (limit : ℕ) (u v w : Option (List ℕ)) (old new : ReaderState Before)
-    (es : List Fact) (f : ReadFault) → Sofar journal_framing limit u v old es
+pub reads-fault : {limit : ℕ} {u v w : Option (List ℕ)} {old new : ReaderState Before}
+    {es : List Fact} {f : ReadFault} → Sofar journal_framing limit u v old es
     → GivesFault journal_framing limit old new v w f → ReadsEntries u w es
-reads-fault limit u x w old new es f s g =
-    let i = found_now limit u x w old new es f s g in
+reads-fault {u = u} {v = x} {w = w} {es = es} s g =
+    let i = found_now s g in
     let v = i.are_items.told in
     let read = read_of journal_framing v es in
     record {
@@ -187,8 +188,13 @@ ahead-read : (v : Version) (input left : Option (List ℕ)) (settled : List Fact
 ahead-read v None left settled p c w es q r e = absurd (none-some (spelling_in w es) e)
 ahead-read v (Some xs) None settled p c w es q r e = absurd c
 ahead-read v (Some xs) (Some ys) settled p c w es q r e =
-    let f = (without_end-of_spelling v w settled es ys [] p q
-    (sym c ∙ same_Some xs (spelling_in w es) e ∙ sym (append-nil (spelling_in w es)))).1 in (
+    let begun : BeginsWith v settled ys xs = record { valid = p; bytes_are = c } in
+    let whole : BeginsWithAll w es [] xs =
+    record {
+      valid = q;
+      bytes_are = same_Some xs (spelling_in w es) e ∙ sym (append-nil (spelling_in w es));
+    } in
+    let f = (without_end-of_spelling begun whole).1 in (
       f.more,
       f.items,
       Rises-second None settled f.more

@@ -17,16 +17,17 @@ pub record Saved (facts left : List Fact) (failed : Bool) (old now : Option (Lis
   pub counted : count ≡ length done
   pub written : Written failed old now (header ++ flat_map entry done)
 
-pub saved-next : (facts left rest : List Fact) (b d : Bool) (u v w : Option (List ℕ))
-    (count : ℕ) (f : Fact) → Saved facts left b u v count → left ≡ f ∷ rest → IsFact f
+pub saved-next : {facts left rest : List Fact} {b : Bool} (d : Bool) {u v : Option (List ℕ)}
+    (w : Option (List ℕ))
+    {count : ℕ} {f : Fact} → Saved facts left b u v count → left ≡ f ∷ rest → IsFact f
     → PutsBytes b d v w (entry f) → Saved facts rest d u w (count + 1)
-saved-next facts left rest b d u v w count f s e valid h = record {
+saved-next {rest = rest} {b = b} d {u = u} {v = v} w {f = f} s e valid h = record {
   done = s.done ++ f ∷ [];
   parts = s.parts ∙ ap (λ (x : List Fact). s.done ++ x) e ∙ sym (append_assoc s.done (f ∷ []) rest);
   valid = all_more IsFact s.done f s.valid valid;
   counted = omega (arith, s.counted, length-append s.done (f ∷ []));
   written = subst (Written d u w) (flat_map_more entry header s.done f)
-      (written-more b d u v w (header ++ flat_map entry s.done) (entry f) s.written h);
+      (written-more b d u v w (header ++ flat_map entry s.done) (entry f) (s.written, h));
 }
 
 spelled : (done left : List Fact) (n : ℕ)
@@ -45,10 +46,21 @@ saved-cut facts left b u v count s e =
     subst (AppendsPart u v) (sym (spelled s.done left n)
     ∙ ap (λ (x : List Fact). header ++ flat_map entry x ++ end n) (sym s.parts)) part
 
-pub saved-all : (facts left : List Fact) (b d : Bool) (u v w : Option (List ℕ)) (count : ℕ)
+pub saved-all : {facts left : List Fact} {b : Bool} (d : Bool) {u v : Option (List ℕ)}
+    (w : Option (List ℕ)) {count : ℕ}
     → Saved facts left b u v count → left ≡ [] → PutsBytes b d v w (end count)
     → Written d u w (spelling facts) × (count ≡ length facts) × AllByRecursion IsFact facts
-saved-all facts left b d u v w count s e h = grind (arith, append-nil, written-more)
+saved-all {facts = facts} {left = left} {b = b} d {u = u} {v = v} w {count = count} s e h =
+    let whole : s.done ≡ facts =
+    sym (append-nil s.done) ∙ ap (λ (x : List Fact). s.done ++ x) (sym e) ∙ sym s.parts in
+    let counted : count ≡ length facts = s.counted ∙ ap length whole in
+    let written : Written d u w ((header ++ flat_map entry s.done) ++ end count) =
+    written-more b d u v w (header ++ flat_map entry s.done) (end count) (s.written, h) in (
+      subst (λ (x : List ℕ). Written d u w x)
+          (λ i. (header ++ flat_map entry (whole i)) ++ end (counted i)) written,
+      counted,
+      subst (AllByRecursion IsFact) whole s.valid,
+    )
 
 -- rising facts have no other journal
 pub only-spelling : (facts : List Fact) → IsRising facts → (bytes : List ℕ)

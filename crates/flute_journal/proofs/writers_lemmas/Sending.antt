@@ -25,10 +25,11 @@ next_one all place d e =
       get_or_from_slice_get all place d d e,
     )
 
-pub sent_next : (all : List (List ℕ)) (place : ℕ) (u v w : Option (List ℕ)) (d : List ℕ)
+pub sent_next : {all : List (List ℕ)} {place : ℕ} {u v : Option (List ℕ)}
+    (w : Option (List ℕ)) {d : List ℕ}
     → Sent all place u v → slice_get all place ≡ Some d → IsDatagram d
     → Appends v w (record_of d) → Sent all (place + 1) u w
-sent_next all place u v w d s e valid h =
+sent_next {place = place} {u = u} {v = v} w {d = d} s e valid h =
     let n : suc place ≡ place + 1 = omega arith in
     record {
       done = s.done ++ d ∷ [];
@@ -40,10 +41,11 @@ sent_next all place u v w d s e valid h =
           (record_of d) s.written h);
     }
 
-pub sent-part : (all : List (List ℕ)) (place : ℕ) (u v w : Option (List ℕ)) (d : List ℕ)
+pub sent-part : {all : List (List ℕ)} {place : ℕ} {u v : Option (List ℕ)}
+    (w : Option (List ℕ)) {d : List ℕ}
     → Sent all place u v → slice_get all place ≡ Some d
     → AppendsPart v w (record_of d) → AppendsPart u w (file_header ++ flat_map record_of all)
-sent-part all place u v w d s e h =
+sent-part {all = all} {place = place} {u = u} {v = v} w {d = d} s e h =
     let rest = drop (suc place) all in
     let whole : all ≡ s.done ++ d ∷ rest =
     s.parts ∙ ap (λ (x : List (List ℕ)). s.done ++ x) (next_one all place d e) in

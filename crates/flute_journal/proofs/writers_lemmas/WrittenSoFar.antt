@@ -9,19 +9,19 @@ some_more [] ys n e = n refl
 some_more (x ∷ xs) ys n e = cc
 
 -- more bytes were put after what was written
-pub written-more : (f g : Bool) (u v w : Option (List ℕ)) (xs ys : List ℕ) → Written f u v xs
-    → PutsBytes f g v w ys → Written g u w (xs ++ ys)
-written-more false false u v w xs ys a p = Appends-trans u v w xs ys a p
-written-more false true u v w xs ys a p = record {
+pub written-more : (f g : Bool) (u v w : Option (List ℕ)) (xs ys : List ℕ)
+    → Written f u v xs × PutsBytes f g v w ys → Written g u w (xs ++ ys)
+written-more false false u v w xs ys (a, p) = Appends-trans u v w xs ys a p
+written-more false true u v w xs ys (a, p) = record {
   part = xs ++ p.part;
   rest = p.rest;
   appended = Appends-trans u v w xs p.part a p.appended;
   whole = ap (λ (l : List ℕ). xs ++ l) p.whole ∙ sym (append_assoc xs p.part p.rest);
   cut = p.cut;
 }
-written-more true true u v w xs ys a p =
+written-more true true u v w xs ys (a, p) =
     search (rules, append-nil, Appends-trans, append_assoc, some_more)
-written-more true false u v w xs ys a p = absurd p
+written-more true false u v w xs ys (a, p) = absurd p
 
 pub written-whole : (f : Bool) (u v : Option (List ℕ)) (xs : List ℕ) → f ≡ false
     → Written f u v xs → Appends u v xs

@@ -271,7 +271,8 @@ module _ {S : Type 0} (b : Behaviour S) where
             → Written next w w'' (without_end (state.joined ++ g ∷ []))
         next_bytes next w'' a =
             subst (Written next w w'') (without_end-snoc state.joined g)
-            (written-more failed next w w' w'' (without_end state.joined) (entry g) state.written a)
+            (written-more failed next w w' w'' (without_end state.joined) (entry g)
+            (state.written, a))
 
         -- the state after this turn
         pub state_turn : (next : Bool) (Next : List Fact → Type 0) (new : List S)
@@ -371,7 +372,8 @@ module _ {S : Type 0} (b : Behaviour S) where
           → Written next w w'' (spelling state.joined)
       whole next w'' a =
           subst (λ n. Written next w w'' (without_end state.joined ++ end n)) state.count_is
-          (written-more failed next w w' w'' (without_end state.joined) (end count) state.written a)
+          (written-more failed next w w' w'' (without_end state.joined) (end count)
+          (state.written, a))
 
       -- the journal of other facts with the same value at each address is the one that was written
       others_too : (next : Bool) (w'' : Option (List ℕ))

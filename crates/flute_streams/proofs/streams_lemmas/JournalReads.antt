@@ -15,6 +15,7 @@ use Rattle.flute_streams.proofs.Common.{◌∷◌, ◌≡◌, ◌≤◌}
 use Rattle.flute_journal.proofs.Public.{ahead-sofar, reads-side, reads-sofar, reads-fault, AtEnd}
 use Rattle.flute_journal.proofs.Public.{whole-at, side-from, open_after, sofar-fault, journal_sound}
 use Rattle.flute_journal.proofs.Public.{one_given, all_split, fact_sized, spelling-injective}
+use Rattle.flute_journal.proofs.Public.{BeginsWithAll}
 use Rattle.flute_journal.specs.declared.fault.LoadFault.TheVariants as load
 use Rattle.flute_streams.specs.declared.streams.journal_stream.JournalStream.{JournalStream}
 
@@ -59,10 +60,9 @@ read_from : {limit : ℕ} {u v : Option (List ℕ)} (w : Option (List ℕ))
     {old : ReaderState Before} (new : ReaderState Before) {es : List Fact} (o : Option Fact)
     → Sofar journal_framing limit u v old es → Gives journal_framing limit old new v w (Ok o)
     → Read limit u w new es o
-read_from {limit = limit} {u = u} {v = v} w {old = old} new {es = es} (Some f) s g =
-    side-from journal_sound limit u v w old new es (Some f) s g
-read_from {limit = limit} {u = u} {v = v} w {old = old} new {es = es} None s g =
-    (whole_at limit u w es (side-from journal_sound limit u v w old new es None s g), g.ended)
+read_from w new (Some f) s g = side-from journal_sound w new (Some f) s g
+read_from {limit = limit} {u = u} w new {es = es} None s g =
+    (whole_at limit u w es (side-from journal_sound w new None s g), g.ended)
 
 -- after the end, the next call gives the end again
 end_again : {limit : ℕ} {u v w : Option (List ℕ)} {new : ReaderState Before} {F : List Fact}
@@ -132,8 +132,14 @@ only_entries limit (Some xs) F K h k =
     let v = h.are_items.told in
     let w = k.version in
     let e : xs ≡ spelling_in w K = (let q = k.bytes_are in cc) in
-    (spelling-injective v w F K [] [] h.are_items.valid k.valid
-    (append-nil (spelling_in v F) ∙ sym h.bytes_are ∙ e ∙ sym (append-nil (spelling_in w K)))).1
+    let first : BeginsWithAll v F [] xs =
+    record {
+      valid = h.are_items.valid;
+      bytes_are = h.bytes_are ∙ sym (append-nil (spelling_in v F));
+    } in
+    let second : BeginsWithAll w K [] xs =
+    record { valid = k.valid; bytes_are = e ∙ sym (append-nil (spelling_in w K)) } in
+    (spelling-injective first second).1
 
 known_of : (limit : ℕ) {u : Option (List ℕ)} (w : Option (List ℕ))
     (state : ReaderState Before) (F : List Fact) (o : Option Fact) → Read limit u w state F o
@@ -223,14 +229,14 @@ fault_at : {limit : ℕ} {u v w : Option (List ℕ)} (old : ReaderState Before)
     {new : ReaderState Before} {F : List Fact} {held : Option Fact} {f : ReadFault}
     → IsCalled limit limit u v w old new F held (Err f)
     → StopsOn limit u w old (F ++ option_list held) f
-fault_at {limit = limit} {u = u} {v = v} {w = w} Header {new = new} {f = f} c = record {
-  reads = reads-fault limit u v w Header new _ f c.read c.gives;
-  has_fault = sofar-fault journal_sound limit u v w Header new _ f c.read c.gives;
+fault_at Header c = record {
+  reads = reads-fault c.read c.gives;
+  has_fault = sofar-fault journal_sound c.read c.gives;
   open_before = refl;
 }
-fault_at {limit = limit} {u = u} {v = v} {w = w} (Items place) {new = new} {f = f} c = record {
-  reads = reads-fault limit u v w (Items place) new _ f c.read c.gives;
-  has_fault = sofar-fault journal_sound limit u v w (Items place) new _ f c.read c.gives;
+fault_at (Items place) c = record {
+  reads = reads-fault c.read c.gives;
+  has_fault = sofar-fault journal_sound c.read c.gives;
   open_before = refl;
 }
 fault_at (Failed h) c = absurd c.read

@@ -70,7 +70,7 @@ module _ {a b d : ℕ} {u v w : Option (List ℕ)} {from to : ReaderState Before
       → ((P : List Fact) → IsRising (P ++ f ∷ []) → Stands P writer s t
       → Stands (P ++ f ∷ []) new s t') → Passing u w to next new s t'
   passing-next f next new t' g counts stands =
-      let more = sofar-next journal_sound MAX_ENTRIES u v w from to p.entries f p.sofar g in
+      let more = sofar-next journal_sound p.sofar g in
       record {
         entries = p.entries ++ f ∷ [];
         sofar = more;
@@ -88,7 +88,7 @@ module _ {a b d : ℕ} {u v w : Option (List ℕ)} {from to : ReaderState Before
     ended = (
       p.entries,
       p.counts.within,
-      (sofar-stops MAX_ENTRIES u v w from to p.entries f p.sofar g).0,
+      (sofar-stops p.sofar g).0,
     );
   }
 
@@ -96,7 +96,7 @@ module _ {a b d : ℕ} {u v w : Option (List ℕ)} {from to : ReaderState Before
       → ((F : List Fact) → IsRising (F ++ f ∷ []) → Counts a b d F tally
       → Over (F ++ f ∷ []) a b d) → PassesAll (at_most a b d) u w writer s t (Err load.Full)
   passing-full f g over =
-      let more = sofar-next journal_sound MAX_ENTRIES u v w from to p.entries f p.sofar g in
+      let more = sofar-next journal_sound p.sofar g in
       let loaded : Loaded a b d MAX_ENTRIES u v from p.entries =
       record {
         entries = p.entries;
@@ -110,14 +110,14 @@ module _ {a b d : ℕ} {u v w : Option (List ℕ)} {from to : ReaderState Before
         rising = p.sofar.are_items.in_order;
         begins = begins_at u v from p.entries p.sofar;
         stands = p.stands;
-        ended = loaded-over a b d MAX_ENTRIES u v w from to p.entries f loaded g
+        ended = loaded-over loaded g
             (over p.entries more.are_items.in_order p.counts);
       }
 
   pub passing-end : GivesEnd journal_framing from to v w → PassesAll (at_most a b d) u w writer s t
       (Ok tt)
   passing-end g =
-      let end = side-from journal_sound MAX_ENTRIES u v w from to p.entries None p.sofar g in
+      let end = side-from journal_sound w to None p.sofar g in
       let journal = whole-at journal_sound MAX_ENTRIES u w p.entries end in
       record {
         entries = p.entries;

@@ -116,7 +116,7 @@ module _ {s o y : ℕ} (u v w : Option (List ℕ)) (from to : ReaderState Before
 
   module _ (f : Fact) (g : GivesItem journal_framing MAX_ENTRIES from to v w f) where
     pub entry_rises : IsRising (h.entries ++ f ∷ [])
-    entry_rises = (sofar-next journal_sound MAX_ENTRIES u v w from to h.entries f h.sofar
+    entry_rises = (sofar-next journal_sound h.sofar
         g).are_items.in_order
 
     pub can_pick : CanPick picked objects f
@@ -139,7 +139,7 @@ module _ {s o y : ℕ} (u v w : Option (List ℕ)) (from to : ReaderState Before
           → FilesRead u w to tally' picked objects' (ps.0, p') (ws.0, w')
       more_read objects' p' w' t n = record {
         entries = h.entries ++ f ∷ [];
-        sofar = sofar-next journal_sound MAX_ENTRIES u v w from to h.entries f h.sofar g;
+        sofar = sofar-next journal_sound h.sofar g;
         counts = c;
         takes = t;
         few = let few = h.few in omega (arith, few, n, length-append h.entries (f ∷ []));
@@ -148,7 +148,7 @@ module _ {s o y : ℕ} (u v w : Option (List ℕ)) (from to : ReaderState Before
       -- an entry more was read, within the limits
       pub within_read : ReadsWithin (at_most s o y) u w
       within_read =
-          let all = sofar-next journal_sound MAX_ENTRIES u v w from to h.entries f h.sofar g in
+          let all = sofar-next journal_sound h.sofar g in
           record {
             entries = h.entries ++ f ∷ [];
             are_items = all.are_items;
@@ -158,7 +158,7 @@ module _ {s o y : ℕ} (u v w : Option (List ℕ)) (from to : ReaderState Before
 
     pub full_read : Over (h.entries ++ f ∷ []) s o y → IfSome u (BeginsOverLimits (at_most s o y))
     full_read over =
-        loaded-over s o y MAX_ENTRIES u v w from to h.entries f
+        loaded-over
         (record {
           entries = h.entries;
           sofar = h.sofar;
@@ -171,12 +171,12 @@ module _ {s o y : ℕ} (u v w : Option (List ℕ)) (from to : ReaderState Before
       → LoadFails (at_most s o y) 1 u w (Input 1 f)
   fault_read f g = (
     refl,
-    (h.entries, h.counts.within, (sofar-stops MAX_ENTRIES u v w from to h.entries f h.sofar g).0),
+    (h.entries, h.counts.within, (sofar-stops h.sofar g).0),
   )
 
   module _ (g : GivesEnd journal_framing from to v w) where
     end_read : IsAtEnd w
-    end_read = (side-from journal_sound MAX_ENTRIES u v w from to h.entries None h.sofar g).at_end
+    end_read = (side-from journal_sound w to None h.sofar g).at_end
 
     pub whole_read : ReadsWithin (at_most s o y) u w
     whole_read = record {

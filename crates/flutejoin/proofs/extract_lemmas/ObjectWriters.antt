@@ -250,8 +250,11 @@ module _ {P : List Fact} {key : Key} {failed : Bool} {start now : Option (List �
             subst (λ k. Written failed' start now' (take k (h.bytes ++ more))) (sym size)
             (subst (Written failed' start now') (sym (take-append part.size h.bytes more))
             (written-more failed failed' start now now' (take part.size h.bytes)
-            (take (part.size - length h.bytes) more) h.written
-            (subst (λ k. PutsBytes failed failed' now now' (take k more)) h.left puts)));
+            (take (part.size - length h.bytes) more) (
+              h.written,
+              subst (λ k. PutsBytes failed failed' now now' (take k more)) h.left
+                  puts,
+            )));
       }
 
       -- it was the next of the partition, and its value was written

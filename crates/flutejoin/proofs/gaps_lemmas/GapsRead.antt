@@ -108,7 +108,7 @@ module _ {s o y : ℕ} {choice : Selection} {style : Style} {u v : Option (List 
 
   module _ (f : Fact) (g : GivesItem journal_framing MAX_ENTRIES from to v w f) where
     pub entry_rises : IsRising (h.entries ++ f ∷ [])
-    entry_rises = (sofar-next journal_sound MAX_ENTRIES u v w from to h.entries f h.sofar
+    entry_rises = (sofar-next journal_sound h.sofar
         g).are_items.in_order
 
     pub one_more_read : (tally' : Tally s o y) (listing' : Listing) (aside' : PutAside)
@@ -119,7 +119,7 @@ module _ {s o y : ℕ} {choice : Selection} {style : Style} {u v : Option (List 
         aside'.gap_lines) → ListsRead choice style u w to tally' listing' empty aside'
     one_more_read tally' listing' aside' c l = record {
       entries = h.entries ++ f ∷ [];
-      sofar = sofar-next journal_sound MAX_ENTRIES u v w from to h.entries f h.sofar g;
+      sofar = sofar-next journal_sound h.sofar g;
       counts = c;
       lists = λ known is. l known (h.lists known is);
     }
@@ -131,7 +131,7 @@ module _ {s o y : ℕ} {choice : Selection} {style : Style} {u v : Option (List 
     pub within_read : (tally' : Tally s o y)
         → Counts s o y (h.entries ++ f ∷ []) tally' → ReadsWithin (at_most s o y) u w
     within_read tally' c =
-        let all = sofar-next journal_sound MAX_ENTRIES u v w from to h.entries f h.sofar g in
+        let all = sofar-next journal_sound h.sofar g in
         record {
           entries = h.entries ++ f ∷ [];
           are_items = all.are_items;
@@ -141,7 +141,7 @@ module _ {s o y : ℕ} {choice : Selection} {style : Style} {u v : Option (List 
 
     pub full_read : Over (h.entries ++ f ∷ []) s o y → IfSome u (BeginsOverLimits (at_most s o y))
     full_read over =
-        loaded-over s o y MAX_ENTRIES u v w from to h.entries f
+        loaded-over
         (record {
           entries = h.entries;
           sofar = h.sofar;
@@ -154,12 +154,12 @@ module _ {s o y : ℕ} {choice : Selection} {style : Style} {u v : Option (List 
       → LoadFails (at_most s o y) 1 u w (Input 1 f)
   fault_read f g = (
     refl,
-    (h.entries, h.counts.within, (sofar-stops MAX_ENTRIES u v w from to h.entries f h.sofar g).0),
+    (h.entries, h.counts.within, (sofar-stops h.sofar g).0),
   )
 
   module _ (g : GivesEnd journal_framing from to v w) where
     pub end_read : IsAtEnd w
-    end_read = (side-from journal_sound MAX_ENTRIES u v w from to h.entries None h.sofar g).at_end
+    end_read = (side-from journal_sound w to None h.sofar g).at_end
 
     pub whole_read : ReadsWithin (at_most s o y) u w
     whole_read = record {

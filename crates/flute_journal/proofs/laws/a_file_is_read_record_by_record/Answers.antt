@@ -8,11 +8,11 @@ pub returns-clause-begins : goal.returns-clause-begins
 returns-clause-begins c = sofar-none file_sound tt
 
 pub returns-clause-goes_on : goal.returns-clause-goes_on
-returns-clause-goes_on c = sofar-next file_sound
+returns-clause-goes_on c limit u v w old new ds d s h = sofar-next file_sound s h
 
 pub returns-clause-ends : goal.returns-clause-ends
 returns-clause-ends c limit u v w old new ds s h =
-    whole-at file_sound limit u w ds (side-from file_sound limit u v w old new ds None s h)
+    whole-at file_sound limit u w ds (side-from file_sound w new None s h)
 
 pub returns-clause-stops : goal.returns-clause-stops
-returns-clause-stops c = sofar-fault file_sound
+returns-clause-stops c limit u v w old new ds f s h = sofar-fault file_sound s h

@@ -7,7 +7,7 @@ pub returns : goal.returns
 returns c bs F es limit f (v, journal) s =
     let j = journal_parts v bs F journal in
     let all = j.entries in
-    let b = beyond v limit all es bs f j.valid j.collects.rising j.small j.bytes_are s in (
+    let b = beyond v all j.valid j.collects.rising j.small j.bytes_are s in (
       b.0,
       (
         all,

@@ -5,5 +5,4 @@ use Rattle.flute_journal.proofs.laws.bytes_are_a_journal_or_stop.Goals as goal
 
 pub returns : goal.returns
 returns c =
-    decided journal_sound
-    (λ limit before rest. next_found limit before.count before.version before.last rest)
+    decided journal_sound next_found

@@ -4,7 +4,7 @@ use Rattle.flute_journal.proofs.format.decode.check_header.Goals as goal
 
 pub returns : goal.returns
 returns c =
-    header_parsed c.args.bytes.now c.in-Some.magic.now c.in-Some.rest.now c.from_bytes.result
-    c.ok_or.result c.ok_or.ensures.value c.requires c.in-Some.ensures.cases
+    header_parsed c.args.bytes.now c.from_bytes.result c.ok_or.ensures.value c.requires
+    c.in-Some.ensures.cases
     (not_false _ c.if-ne.ensures) c.if-rest-lt2.false
     c.from_bytes.ensures

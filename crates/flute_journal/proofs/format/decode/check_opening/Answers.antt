@@ -7,7 +7,7 @@ pub returns-then-ne-2 : goal.returns-then-ne-2
 returns-then-ne-2 c =
     let o = c.args.opening.now in
     opening_version (take 4 o) (λ version. bytes_eq version (take 2 (drop 4 o))) c.args.bytes.now
-    c.in-Some.magic.now c.in-Some.rest.now c.requires c.in-Some.ensures.cases
+    c.requires c.in-Some.ensures.cases
     (not_false _ c.if-ne.ensures) c.if-rest-lt2.false (not_true _ c.if-ne-2.ensures)
 
 pub returns : goal.returns

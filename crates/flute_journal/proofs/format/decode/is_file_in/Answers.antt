@@ -1,5 +1,6 @@
 use Rattle.std.proofs.Common.{rules}
 use Rattle.flute_journal.proofs.Common.{arith, get_or, ap, big_endian, drop, length, length-drop}
+use Rattle.flute_journal.proofs.Common.{sym}
 use Rattle.flute_journal.proofs.Common.{take_all, ◌≡◌, ◌<◌, ◌-◌, ◌∙◌}
 use Rattle.std.proofs.lemmas.Bool.{eqb-true}
 use Rattle.flute_journal.proofs.{Numbers.{octets}, format_lemmas.SameFile.{file_named}}
@@ -17,7 +18,6 @@ returns-clause-spelled c = λ h.
     let number : c.number_of_14.result ≡ big_endian (drop 7 bytes) =
     c.number_of_14.ensures.value ∙ ap big_endian (take_all (length bytes - 7) (drop 7 bytes)
     (omega (arith, length-drop 7 bytes))) in
-    file_named key bytes c.number.result c.number_of_14.result c.requires (octets bytes (λ i.
-    (c.type_inv.bytes i).fits))
-    one c.number.ensures.value own number (same ∙ c.toi-toi.ensures.value) (omega
-    (arith, same, some))
+    file_named key bytes c.requires (octets bytes (λ i. (c.type_inv.bytes i).fits)) one
+    (sym own ∙ c.number.ensures.value) (sym (same ∙ c.toi-toi.ensures.value) ∙ number)
+    (omega (arith, c.toi-toi.ensures.value, some))

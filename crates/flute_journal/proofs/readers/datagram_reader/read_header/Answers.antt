@@ -6,7 +6,7 @@ use Rattle.flute_journal.proofs.readers.datagram_reader.read_header.Goals as goa
 pub returns-clause-reads : goal.returns-clause-reads
 returns-clause-reads g c =
     let front = c.read_up_to-read.result in
-    rw c.or_failed.ensures (opening_reads file_header _ _ front.failed front.bytes.now
+    rw c.or_failed.ensures (opening_reads file_header front.failed
     c.check_opening.result refl c.read_up_to-read.ensures.filled c.check_opening.ensures)
 
 pub returns-clause-faults : goal.returns-clause-faults

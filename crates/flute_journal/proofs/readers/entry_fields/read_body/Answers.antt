@@ -14,15 +14,11 @@ returns-in_err-fact-clause-within g c =
 
 pub returns-in_err-bytes-in-Symbol-clause-within : goal.returns-in_err-bytes-in-Symbol-clause-within
 returns-in_err-bytes-in-Symbol-clause-within g c =
-    let k = c.args.kind in
-    let last = c.args.last in
-    let x = c.in-Symbol in
     let e = err_from_is_err_and c.from_residual-in_err-bytes-in-Symbol.result
     c.from_residual-in_err-bytes-in-Symbol.ensures.1 in
     let r = c.in_ok-fact.ensures.reads in
     let fixed = rw c.in-Symbol.is at r.0 in
-    symbol_ends c.args.version last k x.key x.id x.length (g.R.Source.unread c.args.source.now)
+    symbol_ends c.args.version (g.R.Source.unread c.args.source.now)
     (g.R.Source.unread c.read_head.new.source) (g.R.Source.unread c.read_bytes.new.source)
-    c.in_err-bytes-in-Symbol.field-0.0 c.from_residual-in_err-bytes-in-Symbol.result
-    (e.1 ∙ ap Err e.2) fixed.0 fixed.1
+    (e.1 ∙ ap Err e.2) fixed
     (rw c.in-Symbol.is at r.1) c.in_err-bytes-in-Symbol.ensures.advances

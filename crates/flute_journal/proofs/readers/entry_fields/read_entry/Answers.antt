@@ -1,10 +1,11 @@
 -- read_entry: what was read of the end, of a wrong kind, over the bound, or of a faulty entry.
-use Rattle.flute_journal.proofs.Common.{Err, IsFactIn, ReadsNext, journal_framing, Some}
+use Rattle.flute_journal.proofs.Common.{Consumes, Err, IsFactIn, ReadsNext, journal_framing, Some}
 use Rattle.flute_journal.proofs.Common.{StaysWithin, [], ap, entry_in, err_from_is_err_and}
 use Rattle.flute_journal.proofs.Common.{next_fault, subst, sym, ◌∙◌, ◌∷◌, ◌≡◌}
 use Rattle.flute_journal.proofs.framing_lemmas.ReadsUpTo.{fault_here}
 use Rattle.flute_journal.proofs.format_lemmas.Parts.{one_byte, kind_wrong, too_many}
-use Rattle.flute_journal.proofs.readers_lemmas.Bodies.{end_ends, end_stops, body_stops, body_ends}
+use Rattle.flute_journal.proofs.readers_lemmas.Bodies.{KindRead, end_ends, end_stops}
+use Rattle.flute_journal.proofs.readers_lemmas.Bodies.{body_stops, body_ends}
 use Rattle.flute_journal.specs.declared.fault.ReadFault.TheVariants as faults
 use Rattle.flute_journal.proofs.readers.entry_fields.read_entry.Goals as goal
 
@@ -18,10 +19,11 @@ returns-in_err-read_end-clause-reads g c =
     let e = err_from_is_err_and c.from_residual.result c.from_residual.ensures.1 in
     subst (ReadsNext journal_framing c.args.max_entries c.args.before.now
     (g.R.Source.unread c.args.source.now) _) (sym (e.1 ∙ ap Err e.2))
-    (end_stops c.args.max_entries c.args.before.now.count c.args.before.now.version
-    c.args.before.now.last (g.R.Source.unread c.args.source.now)
-    (g.R.Source.unread c.read_up_to-read.new.source) _ front c.in_err-read_end.field-0.0
-    is c.read_up_to-read.ensures.filled.read c.in_err-read_end.ensures.reads)
+    (end_stops c.args.max_entries c.args.before.now (g.R.Source.unread c.args.source.now)
+    (g.R.Source.unread c.read_up_to-read.new.source) _ c.in_err-read_end.field-0.0
+    (subst (Consumes (g.R.Source.unread c.args.source.now)
+    (g.R.Source.unread c.read_up_to-read.new.source)) is c.read_up_to-read.ensures.filled.read)
+    c.in_err-read_end.ensures.reads)
 
 pub returns-in_err-read_end-clause-within : goal.returns-in_err-read_end-clause-within
 returns-in_err-read_end-clause-within g c =
@@ -68,15 +70,19 @@ returns-in_err-fact-clause-reads g c =
     let is : front ≡ c.in-Some.field-0.now ∷ [] =
     one_byte front c.in-Some.field-0.now c.read_up_to-read.ensures.filled.most
     c.in-Some.ensures.value in
+    let read : KindRead k (g.R.Source.unread c.args.source.now)
+    (g.R.Source.unread c.read_up_to-read.new.source) =
+    record {
+      front = front;
+      is = is ∙ ap (λ b. b ∷ []) c.in-Some-from_byte.ensures;
+      took = c.read_up_to-read.ensures.filled.read;
+    } in
     let e = err_from_is_err_and c.from_residual-in_err-fact.result
     c.from_residual-in_err-fact.ensures.1 in
     subst (ReadsNext journal_framing c.args.max_entries c.args.before.now
     (g.R.Source.unread c.args.source.now) _) (sym (e.1 ∙ ap Err e.2))
-    (body_stops c.args.max_entries c.args.before.now.count c.args.before.now.version
-    c.args.before.now.last k (g.R.Source.unread c.args.source.now)
-    (g.R.Source.unread c.read_up_to-read.new.source) _ front c.in_err-fact.field-0.0
-    (is ∙ ap (λ b. b ∷ []) c.in-Some-from_byte.ensures) c.if-before-max_entries.false
-    c.read_up_to-read.ensures.filled.read c.in_err-fact.ensures.reads)
+    (body_stops c.args.max_entries c.args.before.now _ c.in_err-fact.field-0.0 read
+    c.if-before-max_entries.false c.in_err-fact.ensures.reads)
 
 pub returns-in_err-fact-clause-within : goal.returns-in_err-fact-clause-within
 returns-in_err-fact-clause-within g c =
@@ -85,13 +91,17 @@ returns-in_err-fact-clause-within g c =
     let is : front ≡ c.in-Some.field-0.now ∷ [] =
     one_byte front c.in-Some.field-0.now c.read_up_to-read.ensures.filled.most
     c.in-Some.ensures.value in
+    let read : KindRead k (g.R.Source.unread c.args.source.now)
+    (g.R.Source.unread c.read_up_to-read.new.source) =
+    record {
+      front = front;
+      is = is ∙ ap (λ b. b ∷ []) c.in-Some-from_byte.ensures;
+      took = c.read_up_to-read.ensures.filled.read;
+    } in
     let e = err_from_is_err_and c.from_residual-in_err-fact.result
     c.from_residual-in_err-fact.ensures.1 in
     let a = c.in_err-fact.ensures.within in
     subst (StaysWithin (entry_in c.args.before.now.version) (IsFactIn c.args.before.now.version) _
     _) (sym e.1)
-    (body_ends c.args.before.now.version k (g.R.Source.unread c.args.source.now)
-    (g.R.Source.unread c.read_up_to-read.new.source) (g.R.Source.unread c.read_body.new.source)
-    front a.0
-    (is ∙ ap (λ b. b ∷ []) c.in-Some-from_byte.ensures) c.read_up_to-read.ensures.filled.read a.1
+    (body_ends c.args.before.now.version (g.R.Source.unread c.read_body.new.source) a.0 read a.1
     a.2)

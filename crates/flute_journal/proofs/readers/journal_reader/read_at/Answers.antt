@@ -11,9 +11,9 @@ returns-clause-gives g c =
     elim c.match-state.branch [
       | in-Items+then-before-max_entries+in-Ok-None w ↦
           let same = rw w.in-Ok-None.field-0-is at w.in-Ok-None.ensures.takes in
-          gives_at _ _ _ _ _ _ _ _ (w.state-is ∙ sym w.in-Items.is)
+          gives_at _ _ _ _ (w.state-is ∙ sym w.in-Items.is)
           (ap g.R.Source.unread w.source-is ∙ same) gives
-      | in-Items+else-before-max_entries w ↦ gives_at _ _ _ _ _ _ _ _
+      | in-Items+else-before-max_entries w ↦ gives_at _ _ _ _
           (w.state-is ∙ sym w.in-Items.is) (ap g.R.Source.unread w.source-is) gives
-      | in_default w ↦ gives_at _ _ _ _ _ _ _ _ w.state-is (ap g.R.Source.unread w.source-is) gives
+      | in_default w ↦ gives_at _ _ _ _ w.state-is (ap g.R.Source.unread w.source-is) gives
     ]

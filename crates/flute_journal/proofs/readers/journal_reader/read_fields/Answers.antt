@@ -10,7 +10,9 @@ pub returns-in-Items-clause-gives : goal.returns-in-Items-clause-gives
 returns-in-Items-clause-gives g c =
     let at = c.in-Items in
     rw at.is
-    (gives journal_framing c.args.max_entries at.before.version (Items at.before) _ _ _ _ refl
-    c.state_after-next.ensures
-    (reads_entries c.args.max_entries at.before _ _ c.read_entry-given.result
-    c.read_entry-given.ensures.reads c.read_entry-given.ensures.within))
+    (gives journal_framing c.args.max_entries at.before.version (Items at.before) _ _ _
+    c.state_after-next.ensures (
+      refl,
+      reads_entries c.args.max_entries at.before _ _ c.read_entry-given.result
+          c.read_entry-given.ensures.reads c.read_entry-given.ensures.within,
+    ))

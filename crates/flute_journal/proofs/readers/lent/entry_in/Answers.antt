@@ -11,7 +11,7 @@ pub returns : goal.returns
 returns c =
     let x = c.in_ok-key in
     let found = c.in_ok-symbol.ensures.lookup.0 in
-    symbol_begins c.args.version c.args.last.now x.key x.id x.length x.ensures.0.0 x.ensures.0.1
+    symbol_begins c.args.version x.ensures.0.0 x.ensures.0.1
     x.ensures.1
     (record {
       octets = octets c.args.bytes.now (λ i. (c.type_inv.bytes i).fits);

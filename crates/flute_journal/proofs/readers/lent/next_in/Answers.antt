@@ -1,11 +1,9 @@
 -- next_in: the bytes begin with the entry of the symbol it returns.
 -- The symbol's entry lies in front of the bytes.
 use Rattle.std.proofs.Common.{rules}
-use Rattle.flute_journal.proofs.{
-  Common.{Some, Two, ap, arith, byte_of, take, ◌∙◌, ◌≡◌},
-  Numbers.{octets},
-  readers_lemmas.Seen.{symbol_begins},
-}
+use Rattle.flute_journal.proofs.Common.{Two, ap, arith, byte_of, take, ◌∙◌, ◌≡◌}
+use Rattle.flute_journal.proofs.Numbers.{octets}
+use Rattle.flute_journal.proofs.readers_lemmas.Seen.{symbol_begins}
 use Rattle.flute_journal.proofs.readers.lent.next_in.Goals as goal
 
 pub returns-clause-begins : goal.returns-clause-begins
@@ -13,7 +11,7 @@ returns-clause-begins c =
     let x = c.in_ok-id in
     let found = c.in_ok-symbol.ensures.lookup.0 in
     let told : c.args.length ≡ x.told = search rules in
-    symbol_begins Two (Some c.args.last.now) c.args.last.now.key x.id x.told x.ensures.0.0
+    symbol_begins Two x.ensures.0.0
     x.ensures.0.1 x.ensures.1
     (record {
       octets = octets c.args.bytes.now (λ i. (c.type_inv.bytes i).fits);

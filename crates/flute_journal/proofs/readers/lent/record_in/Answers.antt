@@ -10,10 +10,11 @@ use Rattle.flute_journal.proofs.format_lemmas.Decoded.{joined, in_front}
 use Rattle.flute_journal.proofs.readers.lent.record_in.Goals as goal
 
 -- the bytes of a datagram follow their number
-record_begins : (n : ℕ) (number rest datagram : List ℕ) → in_bytes 2 n ≡ number
+record_begins : (n : ℕ) {number : List ℕ} (rest : List ℕ) {datagram : List ℕ}
+    → in_bytes 2 n ≡ number
     → length number ≡ 2 → datagram ≡ take n rest → length datagram ≡ n → n < 2 ^ 16
     → AllByRecursion IsByte datagram → BeginsWithRecord (number ++ rest) datagram
-record_begins n number rest datagram spelled two is size short octets =
+record_begins n {number = number} rest {datagram = datagram} spelled two is size short octets =
     let begins = in_front number datagram rest n is in
     let long : length (number ++ datagram) ≡ 2 + length datagram =
     omega (arith, length-append number datagram, two) in
@@ -42,5 +43,5 @@ returns-clause-begins c =
     let kept : datagram ≡ c.in-Ok.datagram = search rules in
     subst (λ xs. BeginsWithRecord xs c.in-Ok.datagram) (sym (joined bytes number rest 2 split))
     (subst (BeginsWithRecord (number ++ rest)) kept
-    (record_begins n number rest datagram c.length_in.ensures.spelled (search rules) is size
+    (record_begins n rest c.length_in.ensures.spelled (search rules) is size
     (search rules) own))

@@ -4,14 +4,14 @@ use Rattle.flute_journal.proofs.Common.{err_from_is_err_and, is_open, IsLoadFaul
 use Rattle.flute_journal.proofs.Common.{ReadsNoMore, refused}
 use Rattle.flute_journal.proofs.readers_lemmas.Loading.{loaded_all, loaded-given, loaded-fits}
 use Rattle.flute_journal.proofs.readers_lemmas.Loading.{loaded-full, loaded-stops, loaded-read}
-use Rattle.flute_journal.proofs.readers_lemmas.Loading.{fault-part, refused-part}
+use Rattle.flute_journal.proofs.readers_lemmas.Loading.{fault-part, given-entry, refused-part}
 use Rattle.flute_journal.proofs.readers.store_from_journal.read_store.Goals as goal
 
 pub returns-in_err-fact-clause-fault : goal.returns-in_err-fact-clause-fault
 returns-in_err-fact-clause-fault g c =
     let e = err_from_is_err_and c.from_residual.result c.from_residual.ensures.1 in
     let f = c.in_err-fact.field-0.0 in
-    let stops = loaded-stops _ _ _ _ _ _ _ _ _ _ _ _ c.loop-store.invariant.0
+    let stops = loaded-stops c.loop-store.invariant.0
     c.loop-store.invariant.1 c.in_err-fact.ensures.gives in
     let at : (x : g.row.R.Denot) → c.next.new.self.source.now ≡ x
     → IsLoadFault g.row.SESSIONS g.row.OBJECTS g.row.SYMBOLS c.args.max_entries
@@ -25,7 +25,7 @@ pub returns-in_err-fact-clause-reads : goal.returns-in_err-fact-clause-reads
 returns-in_err-fact-clause-reads g c =
     let e = err_from_is_err_and c.from_residual.result c.from_residual.ensures.1 in
     let f = c.in_err-fact.field-0.0 in
-    let read = fault-part _ _ _ _ _ _ _ _ _ _ _ _ c.loop-store.invariant.0 c.loop-store.invariant.1
+    let read = fault-part c.loop-store.invariant.0 c.loop-store.invariant.1
     c.in_err-fact.ensures.gives in
     let reads : (x : g.row.R.Denot) → c.next.new.self.source.now ≡ x
     → ReadsNoMore g.row.SESSIONS g.row.OBJECTS g.row.SYMBOLS c.args.max_entries
@@ -40,8 +40,9 @@ returns-in_err-put-clause-reads g c =
     let e = err_from_is_err_and c.from_residual-in_err-put.result
     c.from_residual-in_err-put.ensures.1 in
     let why = c.in_err-put.field-0.0 in
-    let read = refused-part _ _ _ _ _ _ _ _ _ _ _ _ _ c.loop-store.invariant.0
-    c.loop-store.invariant.1 c.in-Some.is c.in_ok-fact.ensures.gives why
+    let given = given-entry _ _ _ _ c.loop-store.invariant.1 c.in-Some.is
+    c.in_ok-fact.ensures.gives in
+    let read = refused-part c.loop-store.invariant.0 given why
     (λ full. c.in_err-put.ensures.full.0 (ap Err full)) in
     let reads : (x : g.row.R.Denot) → c.next.new.self.source.now ≡ x
     → ReadsNoMore g.row.SESSIONS g.row.OBJECTS g.row.SYMBOLS c.args.max_entries
@@ -56,14 +57,15 @@ returns-in_err-put-clause-fault g c =
     let e = err_from_is_err_and c.from_residual-in_err-put.result
     c.from_residual-in_err-put.ensures.1 in
     rw (e.1 ∙ ap Err e.2)
-    (loaded-full _ _ _ _ _ _ _ _ _ _ _ _ _ _ _ c.loop-store.invariant.0 c.loop-store.invariant.1
-    c.in-Some.is c.in_ok-fact.ensures.gives
+    (loaded-full _ _ c.loop-store.invariant.0
+    (given-entry _ _ _ _ c.loop-store.invariant.1 c.in-Some.is c.in_ok-fact.ensures.gives)
     (λ full. c.in_err-put.ensures.full.0 (ap Err full)))
 
 pub loop-store-preserved : goal.loop-store-preserved
 loop-store-preserved g c = (
-  loaded-given _ _ _ _ _ _ _ _ _ _ _ _ _ _ _ c.loop-store.invariant.0 c.loop-store.invariant.1
-      c.in-Some.is c.in_ok-fact.ensures.gives c.in_ok-put.ensures.ok
+  loaded-given _ c.loop-store.invariant.0
+      (given-entry _ _ _ _ c.loop-store.invariant.1 c.in-Some.is c.in_ok-fact.ensures.gives)
+      c.in_ok-put.ensures.ok
       c.in_ok-put.ensures.full.1,
   c.next.ensures.limit ∙ c.loop-store.invariant.1,
   c.next.ensures.source ∙ c.loop-store.invariant.2,
@@ -72,9 +74,9 @@ loop-store-preserved g c = (
 )
 
 pub returns-clause-within : goal.returns-clause-within
-returns-clause-within g c = loaded-fits _ _ _ _ _ _ _ _ c.loop-store.invariant.0
+returns-clause-within g c = loaded-fits c.loop-store.invariant.0
 
 pub returns-clause-journal : goal.returns-clause-journal
 returns-clause-journal g c =
-    (loaded_all _ _ _ _ _ _ _ _ _ _ _ _ c.loop-store.invariant.0 c.loop-store.invariant.1
+    (loaded_all _ _ _ c.loop-store.invariant.0 c.loop-store.invariant.1
     c.in_default.is c.in_ok-fact.ensures.gives).journal

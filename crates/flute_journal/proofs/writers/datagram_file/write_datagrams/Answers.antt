@@ -17,9 +17,8 @@ returns-in_err-write_record-clause-bytes g c =
     c.from_residual-in_err-write_record.ensures.1 in
     let here : slice_get c.args.datagrams.now c.loop-datagram.place
     ≡ Some c.in-Some.datagram.now = search rules in
-    rw e.1 (sent-part c.args.datagrams.now c.loop-datagram.place (g.W.Sink.written c.args.sink.now)
-    (g.W.Sink.written c.loop-datagram.sink) (g.W.Sink.written c.write_record.new.sink)
-    c.in-Some.datagram.now c.loop-datagram.invariant.0 here c.in_err-write_record.ensures.bytes)
+    rw e.1 (sent-part (g.W.Sink.written c.write_record.new.sink) c.loop-datagram.invariant.0 here
+    c.in_err-write_record.ensures.bytes)
 
 pub returns-clause-bytes : goal.returns-clause-bytes
 returns-clause-bytes g c =

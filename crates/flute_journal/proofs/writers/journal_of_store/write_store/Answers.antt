@@ -6,7 +6,7 @@ use Rattle.flute_journal.proofs.writers.journal_of_store.write_store.Goals as go
 
 pub loop-fact-preserved : goal.loop-fact-preserved
 loop-fact-preserved g c = record {
-  saved = saved-next _ _ _ _ _ _ _ _ _ _ c.loop-fact.invariant.saved c.in-Some.ensures.steps.0
+  saved = saved-next _ _ c.loop-fact.invariant.saved c.in-Some.ensures.steps.0
       c.entry.ensures.valid c.entry.ensures.puts.puts;
   failures = search rules;
   same_sink = search rules;
@@ -14,7 +14,7 @@ loop-fact-preserved g c = record {
 
 pub returns-then-writer-clause-bytes : goal.returns-then-writer-clause-bytes
 returns-then-writer-clause-bytes g c =
-    let next = saved-next _ _ _ _ _ _ _ _ _ _ c.loop-fact.invariant.saved c.in-Some.ensures.steps.0
+    let next = saved-next _ _ c.loop-fact.invariant.saved c.in-Some.ensures.steps.0
     c.entry.ensures.valid c.entry.ensures.puts.puts in
     let part : AppendsPart (g.W.Sink.written c.args.sink.now)
     (g.W.Sink.written c.entry.new.self.sink.now) (spelling c.args.store.now) =
@@ -26,7 +26,7 @@ returns-then-writer-clause-only g c = only-spelling c.args.store.now c.walk-fact
 
 pub returns-then-writer-2-clause-bytes : goal.returns-then-writer-2-clause-bytes
 returns-then-writer-2-clause-bytes g c =
-    let all = saved-all _ _ _ _ _ _ _ _ c.loop-fact.invariant.saved c.in-None.ensures.steps.0.0
+    let all = saved-all _ _ c.loop-fact.invariant.saved c.in-None.ensures.steps.0.0
     c.end.ensures.puts in
     let part : AppendsPart (g.W.Sink.written c.args.sink.now)
     (g.W.Sink.written c.end.new.self.sink.now) (spelling c.args.store.now) =
@@ -40,7 +40,7 @@ returns-then-writer-2-clause-only g c = only-spelling c.args.store.now c.walk-fa
 
 pub returns-clause-bytes : goal.returns-clause-bytes
 returns-clause-bytes g c =
-    let all = saved-all _ _ _ _ _ _ _ _ c.loop-fact.invariant.saved c.in-None.ensures.steps.0.0
+    let all = saved-all _ _ c.loop-fact.invariant.saved c.in-None.ensures.steps.0.0
     c.end.ensures.puts in
     let whole = subst (λ b. Written b (g.W.Sink.written c.args.sink.now)
     (g.W.Sink.written c.end.new.self.sink.now) (spelling c.args.store.now))

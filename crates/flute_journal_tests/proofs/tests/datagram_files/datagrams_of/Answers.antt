@@ -20,7 +20,7 @@ returns-in_err-datagram-clause-fault g c =
     c.in_err-datagram.ensures.gives in
     let e = err_from_is_err_and c.from_residual.result c.from_residual.ensures.1 in
     rw (e.1 ∙ ap Err e.2)
-    (sofar-fault file_sound limit u v w old new c.loop-datagrams.datagrams.items f
+    (sofar-fault file_sound
     c.loop-datagrams.invariant.0 gave)
 
 pub loop-datagrams-preserved : goal.loop-datagrams-preserved
@@ -39,6 +39,6 @@ loop-datagrams-preserved g c =
     subst (λ n. GivesItem file_framing n old new v w d) c.loop-datagrams.invariant.1 gave in
     let grown : c.push.new.self.items ≡ ds ++ d ∷ [] = grind arith in (
       subst (Sofar file_framing limit u w new) (sym grown)
-          (sofar-next file_sound limit u v w old new ds d c.loop-datagrams.invariant.0 gave'),
+          (sofar-next file_sound c.loop-datagrams.invariant.0 gave'),
       c.next.ensures.limit ∙ c.loop-datagrams.invariant.1,
     )
