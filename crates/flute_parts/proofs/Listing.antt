@@ -27,11 +27,10 @@ block n a s = map (symbol_id n) (range_with_len a s)
 
 -- one block, followed by others
 
-block-hit : (n a s k j : ℕ) {e p : ℕ} (rest : List SymbolId) → j < s → a + j ≡ e
-    → k + j ≡ p
-    → position_from (same_symbol_id (symbol_id n e)) k (block n a s ++ rest) ≡ Some p
-block-hit n a zero k j rest h f g = absurd (omega arith)
-block-hit n a (suc s) k j {e = e} {p = p} rest h f g =
+block-hit : (n a s k j : ℕ) {e : ℕ} (rest : List SymbolId) → j < s → a + j ≡ e
+    → position_from (same_symbol_id (symbol_id n e)) k (block n a s ++ rest) ≡ Some (k + j)
+block-hit n a zero k j rest h f = absurd (omega arith)
+block-hit n a (suc s) k j {e = e} rest h f =
     elim (cases_Bool (same_symbol_id (symbol_id n e) (symbol_id n a))) [
       | inl t ↦
           let q : e ≡ a =
@@ -49,7 +48,8 @@ block-hit n a (suc s) k j {e = e} {p = p} rest h f g =
           ] in
           ap (λ b. cond b (Some k) (position_from (same_symbol_id (symbol_id n e)) (k + 1)
           (block n (a + 1) s ++ rest))) t
-          ∙ block-hit n (a + 1) s (k + 1) (j - 1) rest (omega arith) (omega arith) (omega arith)
+          ∙ block-hit n (a + 1) s (k + 1) (j - 1) rest (omega arith) (omega arith)
+          ∙ ap Some (omega arith)
     ]
   where
     cases_zero : (j : ℕ) → (j ≡ 0) ⊎ (0 < j)
@@ -73,18 +73,21 @@ block-miss id n a (suc s) k {p = p} rest h g =
     ]
 
 -- the place of an id is after all ids of the blocks before its own
-pub place-hit : (sizes : List ℕ) (n m j k : ℕ) {q p : ℕ} → m < length sizes
-    → j < get_or sizes m 0 → n + m ≡ q → k + (total (take m sizes) + j) ≡ p
-    → position_from (same_symbol_id (symbol_id q j)) k (listing n sizes) ≡ Some p
-place-hit [] n m j k h l f g = absurd (omega arith)
-place-hit (s ∷ sizes) n zero j k {q = q} {p = p} h l f g =
+pub place-hit : (sizes : List ℕ) (n m j k : ℕ) {q : ℕ} → m < length sizes
+    → j < get_or sizes m 0 → n + m ≡ q
+    → position_from (same_symbol_id (symbol_id q j)) k (listing n sizes)
+    ≡ Some (k + (total (take m sizes) + j))
+place-hit [] n m j k h l f = absurd (omega arith)
+place-hit (s ∷ sizes) n zero j k {q = q} h l f =
     let e : q ≡ n = omega arith in
     ap (λ x. position_from (same_symbol_id (symbol_id x j)) k (listing n (s ∷ sizes))) e
-    ∙ block-hit n 0 s k j (listing (n + 1) sizes) l (omega arith) (omega arith)
-place-hit (s ∷ sizes) n (suc m) j k {q = q} {p = p} h l f g =
+    ∙ block-hit n 0 s k j (listing (n + 1) sizes) l (omega arith)
+    ∙ ap Some (omega arith)
+place-hit (s ∷ sizes) n (suc m) j k {q = q} h l f =
     block-miss (symbol_id q j) n 0 s k (listing (n + 1) sizes)
     (λ e _ _ x. let y : q ≡ n = ap (λ (i : SymbolId). i.sbn) x in omega arith) refl
-    ∙ place-hit sizes (n + 1) m j (k + s) (omega arith) l (omega arith) (omega arith)
+    ∙ place-hit sizes (n + 1) m j (k + s) (omega arith) l (omega arith)
+    ∙ ap Some (omega arith)
 
 -- an id beyond its block, or of no block, has no place
 pub place-miss : (sizes : List ℕ) (id : SymbolId) (n k : ℕ)
@@ -256,7 +259,7 @@ pub place-of_listed : (sizes : List ℕ) (k : ℕ) (id : SymbolId)
 place-of_listed sizes k id e =
     let a = listed-as sizes k id e in
     let b = a.2 in
-    place-hit sizes 0 id.sbn id.esi 0 a.0 a.1 (omega arith) (omega arith)
+    place-hit sizes 0 id.sbn id.esi 0 a.0 a.1 (omega arith) ∙ ap Some (omega arith)
 
 pub listed-of_place : (id : SymbolId) (xs : List SymbolId) (k r : ℕ)
     → position_from (same_symbol_id id) k xs ≡ Some r

@@ -207,7 +207,8 @@ pub place-in : (i : Information) (id : SymbolId) (k : ℕ) → id.esi < get_or (
 unfolding place ids
 place-in i id k h e =
     place-hit (sizes i) 0 id.sbn id.esi 0 (inside (sizes i) id.sbn (omega arith)) h
-    (omega arith) (omega arith)
+    (omega arith)
+    ∙ ap Some (omega arith)
   where
     inside : (xs : List ℕ) (n : ℕ) → 0 < get_or xs n 0 → n < length xs
     inside [] n p = absurd (omega arith)

@@ -21,13 +21,14 @@ part_of old mid new bytes n lt done kept = record {
       ap length e in omega (arith, length-drop n bytes, l));
 }
 
+-- the first n bytes were taken
+abbrev Took : Option (List ℕ) → Option (List ℕ) → List ℕ → ℕ → Type 0
+Took old new bytes n = (n ≤ length bytes) × Appends old new (take n bytes)
+
 -- n bytes more were taken
-goes_on : (old mid new : Option (List ℕ)) (bytes : List ℕ) (w n : ℕ) → w ≤ length bytes
-    → n ≤ length (take (length bytes - w) (drop w bytes))
-    → Appends old mid (take w bytes)
-    → Appends mid new (take n (take (length bytes - w) (drop w bytes)))
-    → (w + n ≤ length bytes) × Appends old new (take (w + n) bytes)
-goes_on old mid new bytes w n le fits done more =
+goes_on : (old mid new : Option (List ℕ)) (bytes : List ℕ) (w n : ℕ) → Took old mid bytes w
+    → Took mid new (take (length bytes - w) (drop w bytes)) n → Took old new bytes (w + n)
+goes_on old mid new bytes w n (le, done) (fits, more) =
     let rest : take (length bytes - w) (drop w bytes) ≡ drop w bytes =
     take_all (length bytes - w) (drop w bytes) (omega (arith, length-drop w bytes)) in
     let fits' : n ≤ length (drop w bytes) = subst (λ (xs : List ℕ). n ≤ length xs) rest fits in
@@ -47,6 +48,6 @@ returns-in_err-written-clause-bytes g c =
 pub loop-written-preserved : goal.loop-written-preserved
 loop-written-preserved g c =
     let n = c.loop-written.written in
-    let on = goes_on _ _ _ _ n _ c.loop-written.invariant.0 c.in_ok-written.ensures.bound
-    c.loop-written.invariant.1 c.in_ok-written.ensures.bytes in
+    let on = goes_on _ _ _ _ n _ (c.loop-written.invariant.0, c.loop-written.invariant.1)
+    (c.in_ok-written.ensures.bound, c.in_ok-written.ensures.bytes) in
     (on.0, on.1, search rules)
