@@ -20,13 +20,14 @@ takes_more (Some o) (Some m) (Some n) xs ys first then =
     then ∙ ap (takes ys) first ∙ ap (λ (w : List ℕ). record o { waiting = w })
     (append_assoc o.waiting xs ys)
 
+-- the first n bytes were taken
+abbrev Took : Option Entries → Option Entries → List ℕ → ℕ → Type 0
+Took old new bytes n = (n ≤ length bytes) × Leads (λ a b. b ≡ takes (take n bytes) a) old new
+
 -- n bytes more were taken
-goes_on : (old mid new : Option Entries) (bytes : List ℕ) (w n : ℕ) → w ≤ length bytes
-    → n ≤ length (take (length bytes - w) (drop w bytes))
-    → Leads (λ a b. b ≡ takes (take w bytes) a) old mid
-    → Leads (λ a b. b ≡ takes (take n (take (length bytes - w) (drop w bytes))) a) mid new
-    → (w + n ≤ length bytes) × Leads (λ a b. b ≡ takes (take (w + n) bytes) a) old new
-goes_on old mid new bytes w n le fits done more =
+goes_on : (old mid new : Option Entries) (bytes : List ℕ) (w n : ℕ) → Took old mid bytes w
+    → Took mid new (take (length bytes - w) (drop w bytes)) n → Took old new bytes (w + n)
+goes_on old mid new bytes w n (le, done) (fits, more) =
     let rest : take (length bytes - w) (drop w bytes) ≡ drop w bytes =
     take_all (length bytes - w) (drop w bytes) (omega (arith, length-drop w bytes)) in
     let fits' : n ≤ length (drop w bytes) = subst (λ (xs : List ℕ). n ≤ length xs) rest fits in
@@ -39,6 +40,6 @@ goes_on old mid new bytes w n le fits done more =
 
 pub loop-at-preserved : goal.loop-at-preserved
 loop-at-preserved g c =
-    let on = goes_on _ _ _ _ c.loop-at.at _ c.loop-at.invariant.0 c.in_ok-at.ensures.bound
-    c.loop-at.invariant.1 c.in_ok-at.ensures.taken in
+    let on = goes_on _ _ _ _ c.loop-at.at _ (c.loop-at.invariant.0, c.loop-at.invariant.1)
+    (c.in_ok-at.ensures.bound, c.in_ok-at.ensures.taken) in
     (on.0, on.1, search rules)
