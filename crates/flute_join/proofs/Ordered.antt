@@ -16,47 +16,64 @@ use Rattle.flute_join.specs.MapLaws.{nothing_join}
 module _ {K X : Type 0} (cmp : K → K → Ordering) (join : X → X → X) where
   -- ---- what holds of the keys and of the values of both holds of those of the join
   module _ (P : K → Type 0) where
-    keys_first : (e f : K × X) (es fs : List (K × X)) (r : Ordering) → cmp e.0 f.0 ≡ r
-        → P e.0 → P f.0
-        → AllByRecursion P (keys_of (map_join cmp join es (f ∷ fs)))
-        → AllByRecursion P (keys_of (map_join cmp join es fs))
-        → AllByRecursion P (keys_of (map_join cmp join (e ∷ es) fs))
-        → AllByRecursion P (keys_of (map_join cmp join (e ∷ es) (f ∷ fs)))
-    keys_first e f es fs Less l p q a b c =
-        subst (λ l. AllByRecursion P (keys_of l)) (sym (first_less cmp join e f es fs l)) (p, a)
-    keys_first e f es fs Equal l p q a b c =
-        subst (λ l. AllByRecursion P (keys_of l)) (sym (first_equal cmp join e f es fs l)) (p, b)
-    keys_first e f es fs Greater l p q a b c =
-        subst (λ l. AllByRecursion P (keys_of l)) (sym (first_greater cmp join e f es fs l)) (q, c)
+    -- it holds of each key of the join
+    record EachKey (es fs : List (K × X)) : Type 0 where
+      each : AllByRecursion P (keys_of (map_join cmp join es fs))
 
-    keys_past : (e : K × X) (es : List (K × X)) → P e.0 → AllByRecursion P (keys_of es)
-        → ((fs : List (K × X)) → AllByRecursion P (keys_of fs)
-        → AllByRecursion P (keys_of (map_join cmp join es fs))) → (fs : List (K × X))
-        → AllByRecursion P (keys_of fs)
-        → AllByRecursion P (keys_of (map_join cmp join (e ∷ es) fs))
-    keys_past e es p s ih [] t =
-        subst (λ l. AllByRecursion P (keys_of l)) (sym (join_nothing cmp join (e ∷ es))) (p, s)
-    keys_past e es p s ih (f ∷ fs) t =
-        keys_first e f es fs (cmp e.0 f.0) refl p t.0 (ih (f ∷ fs) t) (ih fs t.1)
-        (keys_past e es p s ih fs t.1)
+    keys_first : {e f : K × X} {es fs : List (K × X)} {r : Ordering} → cmp e.0 f.0 ≡ r
+        → P e.0 → P f.0 → EachKey es (f ∷ fs) → EachKey es fs → EachKey (e ∷ es) fs
+        → EachKey (e ∷ es) (f ∷ fs)
+    keys_first {e = e} {f = f} {es = es} {fs = fs} {r = Less} l p q a b c =
+        record {
+          each = subst (λ l. AllByRecursion P (keys_of l)) (sym (first_less cmp join e f es fs l))
+              (p, a.each);
+        }
+    keys_first {e = e} {f = f} {es = es} {fs = fs} {r = Equal} l p q a b c =
+        record {
+          each = subst (λ l. AllByRecursion P (keys_of l)) (sym (first_equal cmp join e f es fs l))
+              (p, b.each);
+        }
+    keys_first {e = e} {f = f} {es = es} {fs = fs} {r = Greater} l p q a b c =
+        record {
+          each = subst (λ l. AllByRecursion P (keys_of l))
+              (sym (first_greater cmp join e f es fs l)) (q, c.each);
+        }
+
+    keys_past : (e : K × X) (es : List (K × X)) → P e.0
+        → ((fs : List (K × X)) → AllByRecursion P (keys_of fs) → EachKey es fs)
+        → AllByRecursion P (keys_of es) → (fs : List (K × X)) → AllByRecursion P (keys_of fs)
+        → EachKey (e ∷ es) fs
+    keys_past e es p ih s [] t =
+        record {
+          each = subst (λ l. AllByRecursion P (keys_of l)) (sym (join_nothing cmp join (e ∷ es)))
+              (p, s);
+        }
+    keys_past e es p ih s (f ∷ fs) t =
+        keys_first refl p t.0 (ih (f ∷ fs) t) (ih fs t.1) (keys_past e es p ih s fs t.1)
+
+    each_key : (es fs : List (K × X)) → AllByRecursion P (keys_of es)
+        → AllByRecursion P (keys_of fs) → EachKey es fs
+    each_key [] fs s t =
+        record {
+          each = subst (λ l. AllByRecursion P (keys_of l)) (sym (nothing_join cmp join fs)) t;
+        }
+    each_key (e ∷ es) fs s t = keys_past e es s.0 (λ gs u. each_key es gs s.1 u) s.1 fs t
 
     all_keys : (es fs : List (K × X)) → AllByRecursion P (keys_of es)
         → AllByRecursion P (keys_of fs) → AllByRecursion P (keys_of (map_join cmp join es fs))
-    all_keys [] fs s t =
-        subst (λ l. AllByRecursion P (keys_of l)) (sym (nothing_join cmp join fs)) t
-    all_keys (e ∷ es) fs s t = keys_past e es s.0 s.1 (λ gs u. all_keys es gs s.1 u) fs t
+    all_keys es fs s t = (each_key es fs s t).each
 
   module _ (P : X → Type 0) (kept : (v w : X) → P v → P w → P (join v w)) where
-    values_first : {e f : K × X} (es fs : List (K × X)) (r : Ordering) → cmp e.0 f.0 ≡ r
+    values_first : {e f : K × X} (es fs : List (K × X)) {r : Ordering} → cmp e.0 f.0 ≡ r
         → P e.1 → P f.1
         → EachValue P (map_join cmp join es (f ∷ fs)) → EachValue P (map_join cmp join es fs)
         → EachValue P (map_join cmp join (e ∷ es) fs)
         → EachValue P (map_join cmp join (e ∷ es) (f ∷ fs))
-    values_first {e = e} {f = f} es fs Less l p q a b c =
+    values_first {e = e} {f = f} es fs {r = Less} l p q a b c =
         subst (EachValue P) (sym (first_less cmp join e f es fs l)) (p, a)
-    values_first {e = e} {f = f} es fs Equal l p q a b c =
+    values_first {e = e} {f = f} es fs {r = Equal} l p q a b c =
         subst (EachValue P) (sym (first_equal cmp join e f es fs l)) (kept e.1 f.1 p q, b)
-    values_first {e = e} {f = f} es fs Greater l p q a b c =
+    values_first {e = e} {f = f} es fs {r = Greater} l p q a b c =
         subst (EachValue P) (sym (first_greater cmp join e f es fs l)) (q, c)
 
     values_past : (e : K × X) (es : List (K × X)) → P e.1 → EachValue P es
@@ -65,7 +82,7 @@ module _ {K X : Type 0} (cmp : K → K → Ordering) (join : X → X → X) wher
         → EachValue P (map_join cmp join (e ∷ es) fs)
     values_past e es p s ih [] t = subst (EachValue P) (sym (join_nothing cmp join (e ∷ es))) (p, s)
     values_past e es p s ih (f ∷ fs) t =
-        values_first es fs (cmp e.0 f.0) refl p t.0 (ih (f ∷ fs) t) (ih fs t.1)
+        values_first es fs refl p t.0 (ih (f ∷ fs) t) (ih fs t.1)
         (values_past e es p s ih fs t.1)
 
     pub EachValue-map_join : (es fs : List (K × X)) → EachValue P es → EachValue P fs

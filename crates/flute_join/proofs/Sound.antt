@@ -26,29 +26,29 @@ module _ {K X : Type 0} (cmp : K → K → Ordering) (P : X → Type 0) where
   each-value_at (e ∷ es) k w a f =
       found_first (is_at (cmp k) e.0) e.1 w (value_at cmp es k) f a.0 (each-value_at es k w a.1)
 
-  each_set : (b : Bool) (e : K × X) (es fs : List (K × X)) (w : X) → P w → P e.1
+  each_set : (b : Bool) (e : K × X) (es fs : List (K × X)) {w : X} → P w → P e.1
       → EachValue P es → EachValue P fs → EachValue P (cond b ((e.0, w) ∷ es) (e ∷ fs))
-  each_set true e es fs w p q a c = (p, a)
-  each_set false e es fs w p q a c = (q, c)
+  each_set true e es fs p q a c = (p, a)
+  each_set false e es fs p q a c = (q, c)
 
   pub each-set_value : (test : K → Bool) (es : List (K × X)) (w : X) → EachValue P es → P w
       → EachValue P (set_value test es w)
   each-set_value test [] w a p = tt
   each-set_value test (e ∷ es) w a p =
-      each_set (test e.0) e es (set_value test es w) w p a.0 a.1 (each-set_value test es w a.1 p)
+      each_set (test e.0) e es (set_value test es w) p a.0 a.1 (each-set_value test es w a.1 p)
 
-  each_put : (r : Ordering) (k : K) (e : K × X) (es fs : List (K × X)) {w : X} → P w → P e.1
-      → EachValue P es → EachValue P fs
+  each_put : (r : Ordering) (k : K) (e : K × X) (es fs : List (K × X)) {w : X} → P w
+      → EachValue P (e ∷ es) → EachValue P fs
       → EachValue P (match_ordering r ((k, w) ∷ e ∷ es) ((e.0, w) ∷ es) (e ∷ fs))
-  each_put Less k e es fs p q a c = (p, (q, a))
-  each_put Equal k e es fs p q a c = (p, a)
-  each_put Greater k e es fs p q a c = (q, c)
+  each_put Less k e es fs p a c = (p, a)
+  each_put Equal k e es fs p a c = (p, a.1)
+  each_put Greater k e es fs p a c = (a.0, c)
 
   pub each-insert_entry : (es : List (K × X)) (k : K) (w : X) → EachValue P es → P w
       → EachValue P (insert_entry cmp es k w)
   each-insert_entry [] k w a p = (p, tt)
   each-insert_entry (e ∷ es) k w a p =
-      each_put (cmp k e.0) k e es (insert_entry cmp es k w) p a.0 a.1
+      each_put (cmp k e.0) k e es (insert_entry cmp es k w) p a
       (each-insert_entry es k w a.1 p)
 
 module _ {K X : Type 0} {cmp : K → K → Ordering} (order : IsTotalOrder cmp) (join : X → X → X) where

@@ -23,6 +23,12 @@ module _ {K X : Type 0} {cmp : K → K → Ordering} (order : IsTotalOrder cmp) 
       lookup-none (is_at (cmp q)) rest (none_past_head (eq_by_cmp_equiv order) q p rest
       (IsDistinct-from_sorted cmp (keys_of (p ∷ rest)) s) t)
 
+module _ {K X : Type 0} (cmp : K → K → Ordering) (join : X → X → X) where
+  -- at this key the join of two maps has the values of both, joined
+  record IsJoinedAt (q : K) (es fs : List (K × X)) : Type 0 where
+    is : value_at cmp (map_join cmp join es fs) q
+        ≡ join_values join (value_at cmp es q) (value_at cmp fs q)
+
 module _ {K X : Type 0} {cmp : K → K → Ordering} (order : IsTotalOrder cmp) (join : X → X → X) where
   absent_below : (q : K) (e f : K × X) (fs : List (K × X)) → cmp q e.0 ≡ Equal
       → cmp e.0 f.0 ≡ Less → IsOrdered cmp (f ∷ fs) → value_at cmp (f ∷ fs) q ≡ None
@@ -35,96 +41,97 @@ module _ {K X : Type 0} {cmp : K → K → Ordering} (order : IsTotalOrder cmp) 
   join_values_none (Some v) = refl
 
   -- by the test of the first keys
-  at_less : (q : K) (e f : K × X) (es fs : List (K × X)) (b : Bool) → is_at (cmp q) e.0 ≡ b
-      → cmp e.0 f.0 ≡ Less → IsOrdered cmp (f ∷ fs)
-      → value_at cmp (map_join cmp join es (f ∷ fs)) q
-      ≡ join_values join (value_at cmp es q) (value_at cmp (f ∷ fs) q)
+  at_less : {q : K} (e : K × X) {f : K × X} {es fs : List (K × X)} (b : Bool)
+      → is_at (cmp q) e.0 ≡ b → cmp e.0 f.0 ≡ Less → IsOrdered cmp (f ∷ fs)
+      → IsJoinedAt cmp join q es (f ∷ fs)
       → value_at cmp (e ∷ map_join cmp join es (f ∷ fs)) q
       ≡ join_values join (value_at cmp (e ∷ es) q) (value_at cmp (f ∷ fs) q)
-  at_less q e f es fs true t l s ih =
+  at_less {q = q} e {f = f} {fs = fs} true t l s ih =
       rw t (sym (ap (join_values join (Some e.1))
       (absent_below q e f fs ((Equal-is (cmp q e.0)).0 t) l s)))
-  at_less q e f es fs false t l s ih = rw t ih
+  at_less e false t l s ih = rw t ih.is
 
-  at_equal : (q : K) (e f : K × X) (es fs : List (K × X)) (b : Bool) → is_at (cmp q) e.0 ≡ b
-      → cmp e.0 f.0 ≡ Equal
-      → value_at cmp (map_join cmp join es fs) q
-      ≡ join_values join (value_at cmp es q) (value_at cmp fs q)
+  at_equal : {q : K} (e f : K × X) {es fs : List (K × X)} (b : Bool) → is_at (cmp q) e.0 ≡ b
+      → cmp e.0 f.0 ≡ Equal → IsJoinedAt cmp join q es fs
       → value_at cmp ((e.0, join e.1 f.1) ∷ map_join cmp join es fs) q
       ≡ join_values join (value_at cmp (e ∷ es) q) (value_at cmp (f ∷ fs) q)
-  at_equal q e f es fs true t l ih =
+  at_equal {q = q} e f true t l ih =
       let u : is_at (cmp q) f.0 ≡ true = ap is_eq (sym (alike_right order e.0 f.0 q l)) ∙ t in
       rw (t, u) refl
-  at_equal q e f es fs false t l ih =
+  at_equal {q = q} e f false t l ih =
       let u : is_at (cmp q) f.0 ≡ false = ap is_eq (sym (alike_right order e.0 f.0 q l)) ∙ t in
-      rw (t, u) ih
+      rw (t, u) ih.is
 
-  at_greater : (q : K) (e f : K × X) (es fs : List (K × X)) (b : Bool) → is_at (cmp q) f.0 ≡ b
-      → cmp f.0 e.0 ≡ Less → IsOrdered cmp (e ∷ es)
-      → value_at cmp (map_join cmp join (e ∷ es) fs) q
-      ≡ join_values join (value_at cmp (e ∷ es) q) (value_at cmp fs q)
+  at_greater : {q : K} {e : K × X} (f : K × X) {es fs : List (K × X)} (b : Bool)
+      → is_at (cmp q) f.0 ≡ b → cmp f.0 e.0 ≡ Less → IsOrdered cmp (e ∷ es)
+      → IsJoinedAt cmp join q (e ∷ es) fs
       → value_at cmp (f ∷ map_join cmp join (e ∷ es) fs) q
       ≡ join_values join (value_at cmp (e ∷ es) q) (value_at cmp (f ∷ fs) q)
-  at_greater q e f es fs true t l s ih =
+  at_greater {q = q} {e = e} f {es = es} true t l s ih =
       rw t (sym (ap (λ o. join_values join o (Some f.1))
       (absent_below q f e es ((Equal-is (cmp q f.0)).0 t) l s)))
-  at_greater q e f es fs false t l s ih = rw t ih
+  at_greater f false t l s ih = rw t ih.is
 
   -- by which key is first
-  at_first : (q : K) (e f : K × X) (es fs : List (K × X)) (r : Ordering) → cmp e.0 f.0 ≡ r
+  at_first : {q : K} {e f : K × X} {es fs : List (K × X)} (r : Ordering) → cmp e.0 f.0 ≡ r
       → IsOrdered cmp (e ∷ es) → IsOrdered cmp (f ∷ fs)
-      → value_at cmp (map_join cmp join es (f ∷ fs)) q
-      ≡ join_values join (value_at cmp es q) (value_at cmp (f ∷ fs) q)
-      → value_at cmp (map_join cmp join es fs) q
-      ≡ join_values join (value_at cmp es q) (value_at cmp fs q)
-      → value_at cmp (map_join cmp join (e ∷ es) fs) q
-      ≡ join_values join (value_at cmp (e ∷ es) q) (value_at cmp fs q)
-      → value_at cmp (map_join cmp join (e ∷ es) (f ∷ fs)) q
-      ≡ join_values join (value_at cmp (e ∷ es) q) (value_at cmp (f ∷ fs) q)
-  at_first q e f es fs Less l s t a b c =
-      ap (λ m. value_at cmp m q) (first_less cmp join e f es fs l)
-      ∙ at_less q e f es fs (is_at (cmp q) e.0) refl l t a
-  at_first q e f es fs Equal l s t a b c =
-      ap (λ m. value_at cmp m q) (first_equal cmp join e f es fs l)
-      ∙ at_equal q e f es fs (is_at (cmp q) e.0) refl l b
-  at_first q e f es fs Greater l s t a b c =
+      → IsJoinedAt cmp join q es (f ∷ fs)
+      → IsJoinedAt cmp join q es fs → IsJoinedAt cmp join q (e ∷ es) fs
+      → IsJoinedAt cmp join q (e ∷ es) (f ∷ fs)
+  at_first {q = q} {e = e} {f = f} {es = es} {fs = fs} Less l s t a b c =
+      record {
+        is = ap (λ m. value_at cmp m q) (first_less cmp join e f es fs l)
+            ∙ at_less e (is_at (cmp q) e.0) refl l t a;
+      }
+  at_first {q = q} {e = e} {f = f} {es = es} {fs = fs} Equal l s t a b c =
+      record {
+        is = ap (λ m. value_at cmp m q) (first_equal cmp join e f es fs l)
+            ∙ at_equal e f (is_at (cmp q) e.0) refl l b;
+      }
+  at_first {q = q} {e = e} {f = f} {es = es} {fs = fs} Greater l s t a b c =
       let u : cmp f.0 e.0 ≡ Less = order.antisymm f.0 e.0 ∙ ap ordering_reverse l in
-      ap (λ m. value_at cmp m q) (first_greater cmp join e f es fs l)
-      ∙ at_greater q e f es fs (is_at (cmp q) f.0) refl u s c
+      record {
+        is = ap (λ m. value_at cmp m q) (first_greater cmp join e f es fs l)
+            ∙ at_greater f (is_at (cmp q) f.0) refl u s c;
+      }
 
   values_past : (q : K) (e : K × X) (es : List (K × X)) → IsOrdered cmp (e ∷ es)
-      → ((fs : List (K × X)) → IsOrdered cmp fs
-      → value_at cmp (map_join cmp join es fs) q
-      ≡ join_values join (value_at cmp es q) (value_at cmp fs q))
-      → (fs : List (K × X)) → IsOrdered cmp fs
-      → value_at cmp (map_join cmp join (e ∷ es) fs) q
-      ≡ join_values join (value_at cmp (e ∷ es) q) (value_at cmp fs q)
+      → ((fs : List (K × X)) → IsOrdered cmp fs → IsJoinedAt cmp join q es fs)
+      → (fs : List (K × X)) → IsOrdered cmp fs → IsJoinedAt cmp join q (e ∷ es) fs
   values_past q e es s ih [] t =
-      ap (λ m. value_at cmp m q) (join_nothing cmp join (e ∷ es))
-      ∙ sym (join_values_none (value_at cmp (e ∷ es) q))
+      record {
+        is = ap (λ m. value_at cmp m q) (join_nothing cmp join (e ∷ es))
+            ∙ sym (join_values_none (value_at cmp (e ∷ es) q));
+      }
   values_past q e es s ih (f ∷ fs) t =
       let u = sorted_tail cmp f.0 (keys_of fs) t in
-      at_first q e f es fs (cmp e.0 f.0) refl s t (ih (f ∷ fs) t) (ih fs u)
-      (values_past q e es s ih fs u)
+      at_first (cmp e.0 f.0) refl s t (ih (f ∷ fs) t) (ih fs u) (values_past q e es s ih fs u)
+
+  joined_at : (es fs : List (K × X)) (q : K) → IsOrdered cmp es → IsOrdered cmp fs
+      → IsJoinedAt cmp join q es fs
+  joined_at [] fs q s t =
+      record { is = ap (λ m. value_at cmp m q) (nothing_join cmp join fs) }
+  joined_at (e ∷ es) fs q s t =
+      values_past q e es s
+      (λ gs u. joined_at es gs q (sorted_tail cmp e.0 (keys_of es) s) u) fs t
 
   -- at each key the join has the values of the two, joined
   pub value_at-map_join : (es fs : List (K × X)) (q : K) → IsOrdered cmp es → IsOrdered cmp fs
       → value_at cmp (map_join cmp join es fs) q
       ≡ join_values join (value_at cmp es q) (value_at cmp fs q)
-  value_at-map_join [] fs q s t = ap (λ m. value_at cmp m q) (nothing_join cmp join fs)
-  value_at-map_join (e ∷ es) fs q s t =
-      values_past q e es s (λ gs u. value_at-map_join es gs q
-      (sorted_tail cmp e.0 (keys_of es) s) u) fs t
+  value_at-map_join es fs q s t = (joined_at es fs q s t).is
 
   -- ---- a join has no fewer keys
-  length_at : (e f : K × X) (es fs : List (K × X)) (r : Ordering) → cmp e.0 f.0 ≡ r
+  length_at : (e f : K × X) (es fs : List (K × X)) {r : Ordering} → cmp e.0 f.0 ≡ r
       → length es ≤ length (map_join cmp join es (f ∷ fs))
       → length es ≤ length (map_join cmp join es fs)
       → length (e ∷ es) ≤ length (map_join cmp join (e ∷ es) fs)
       → length (e ∷ es) ≤ length (map_join cmp join (e ∷ es) (f ∷ fs))
-  length_at e f es fs Less l a b c = omega (arith, ap length (first_less cmp join e f es fs l), a)
-  length_at e f es fs Equal l a b c = omega (arith, ap length (first_equal cmp join e f es fs l), b)
-  length_at e f es fs Greater l a b c =
+  length_at e f es fs {r = Less} l a b c =
+      omega (arith, ap length (first_less cmp join e f es fs l), a)
+  length_at e f es fs {r = Equal} l a b c =
+      omega (arith, ap length (first_equal cmp join e f es fs l), b)
+  length_at e f es fs {r = Greater} l a b c =
       omega (arith, ap length (first_greater cmp join e f es fs l), c)
 
   length_past : (e : K × X) (es : List (K × X))
@@ -132,7 +139,7 @@ module _ {K X : Type 0} {cmp : K → K → Ordering} (order : IsTotalOrder cmp) 
       → (fs : List (K × X)) → length (e ∷ es) ≤ length (map_join cmp join (e ∷ es) fs)
   length_past e es ih [] = omega (arith, ap length (join_nothing cmp join (e ∷ es)))
   length_past e es ih (f ∷ fs) =
-      length_at e f es fs (cmp e.0 f.0) refl (ih (f ∷ fs)) (ih fs) (length_past e es ih fs)
+      length_at e f es fs refl (ih (f ∷ fs)) (ih fs) (length_past e es ih fs)
 
   pub length-le-map_join : (es fs : List (K × X)) → length es ≤ length (map_join cmp join es fs)
   length-le-map_join [] fs = omega arith

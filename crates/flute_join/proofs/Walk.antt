@@ -83,15 +83,20 @@ module _ {K X : Type 0} {cmp : K → K → Ordering} (order : IsTotalOrder cmp)
         value_at-map_join order join es (p ∷ []) q s (ordered_one p)
         ∙ rw t (join_values_none order join (value_at cmp es q))
 
+    -- the limits forbid the join of the values of both maps at this key
+    abbrev OverAt : List (K × X) → List (K × X) → K → Type 0
+    OverAt es fs q =
+        (v : X) × (w : X) × (value_at cmp es q ≡ Some v) × (value_at cmp fs q
+        ≡ Some w) × over v w
+
     -- what forbids the join of the others forbids the whole
-    over_rest_at : (es : List (K × X)) (p : K × X) (rest : List (K × X)) (q : K) {v w : X}
-        (b : Bool) → is_at (cmp q) p.0 ≡ b → IsOrdered cmp es → IsOrdered cmp (p ∷ rest)
-        → value_at cmp (map_join cmp join es (p ∷ [])) q ≡ Some v
-        → value_at cmp rest q ≡ Some w → over v w
+    over_rest_at : (es : List (K × X)) (p : K × X) (rest : List (K × X)) (q : K)
+        {b : Bool} → is_at (cmp q) p.0 ≡ b → IsOrdered cmp es → IsOrdered cmp (p ∷ rest)
+        → OverAt (map_join cmp join es (p ∷ [])) rest q
         → MapOver cmp join limit over es (p ∷ rest)
-    over_rest_at es p rest q {w = w} true t s u l r o =
+    over_rest_at es p rest q {b = true} t s u (v, w, l, r, o) =
         absurd (none-some w (sym (absent_past order p rest q u t) ∙ r))
-    over_rest_at es p rest q {v = v} {w = w} false t s u l r o =
+    over_rest_at es p rest q {b = false} t s u (v, w, l, r, o) =
         inr (q, v, w, sym (value_elsewhere es p q s t) ∙ l, rw t r, o)
 
     pub over_rest : (es : List (K × X)) (p : K × X) (rest : List (K × X)) → IsOrdered cmp es
@@ -101,17 +106,16 @@ module _ {K X : Type 0} {cmp : K → K → Ordering} (order : IsTotalOrder cmp)
     over_rest es p rest s u (inl long) = let e =
         ap length (join_step es p rest u) in inl (omega (arith, e))
     over_rest es p rest s u (inr (q, v, w, l, r, o)) =
-        over_rest_at es p rest q (is_at (cmp q) p.0) refl s u l r o
+        over_rest_at es p rest q refl s u (v, w, l, r, o)
 
     -- where nothing forbids the first join, what forbids the whole forbids the join of the others
-    over_later_at : (es : List (K × X)) (p : K × X) (rest : List (K × X)) (q : K) {v w : X}
-        (b : Bool) → is_at (cmp q) p.0 ≡ b → IsOrdered cmp es
-        → ¬ MapOver cmp join limit over es (p ∷ [])
-        → value_at cmp es q ≡ Some v → value_at cmp (p ∷ rest) q ≡ Some w → over v w
+    over_later_at : (es : List (K × X)) (p : K × X) (rest : List (K × X)) (q : K)
+        {b : Bool} → is_at (cmp q) p.0 ≡ b → IsOrdered cmp es
+        → ¬ MapOver cmp join limit over es (p ∷ []) → OverAt es (p ∷ rest) q
         → MapOver cmp join limit over (map_join cmp join es (p ∷ [])) rest
-    over_later_at es p rest q {v = v} {w = w} true t s free l r o =
+    over_later_at es p rest q {b = true} t s free (v, w, l, r, o) =
         absurd (free (inr (q, v, w, l, rw t (rw t at r), o)))
-    over_later_at es p rest q {v = v} {w = w} false t s free l r o =
+    over_later_at es p rest q {b = false} t s free (v, w, l, r, o) =
         inr (q, v, w, value_elsewhere es p q s t ∙ l, rw t at r, o)
 
     pub over_later : (es : List (K × X)) (p : K × X) (rest : List (K × X)) → IsOrdered cmp es
@@ -121,7 +125,7 @@ module _ {K X : Type 0} {cmp : K → K → Ordering} (order : IsTotalOrder cmp)
     over_later es p rest s u free (inl long) = let e =
         ap length (join_step es p rest u) in inl (omega (arith, e))
     over_later es p rest s u free (inr (q, v, w, l, r, o)) =
-        over_later_at es p rest q (is_at (cmp q) p.0) refl s free l r o
+        over_later_at es p rest q refl s free (v, w, l, r, o)
 
     -- a join with nothing
     pub not_over_nothing : (es : List (K × X)) → length es ≤ limit

@@ -51,18 +51,18 @@ module _ {K X : Type 0} {cmp : K → K → Ordering} (order : IsTotalOrder cmp)
   turned : (e f : K × X) (r : Ordering) → cmp e.0 f.0 ≡ r → cmp f.0 e.0 ≡ ordering_reverse r
   turned e f r p = order.antisymm f.0 e.0 ∙ ap ordering_reverse p
 
-  swaps : (e f : K × X) (es fs : List (K × X)) (r : Ordering) → cmp e.0 f.0 ≡ r
+  swaps : (e f : K × X) (es fs : List (K × X)) {r : Ordering} → cmp e.0 f.0 ≡ r
       → J es (f ∷ fs) ≡ J (f ∷ fs) es → J es fs ≡ J fs es → J (e ∷ es) fs ≡ J fs (e ∷ es)
       → J (e ∷ es) (f ∷ fs) ≡ J (f ∷ fs) (e ∷ es)
-  swaps e f es fs Less p a b c =
+  swaps e f es fs {r = Less} p a b c =
       first_less cmp join e f es fs p ∙ ap (λ l. e ∷ l) a
       ∙ sym (first_greater cmp join f e fs es (turned e f Less p))
-  swaps e f es fs Equal p a b c =
+  swaps e f es fs {r = Equal} p a b c =
       first_equal cmp join e f es fs p ∙ ap (λ k. (k, join e.1 f.1) ∷ J es fs) (same e.0 f.0 p)
       ∙ ap (λ v. (f.0, v) ∷ J es fs) (laws.commutative e.1 f.1)
       ∙ ap (λ l. (f.0, join f.1 e.1) ∷ l) b
       ∙ sym (first_equal cmp join f e fs es (turned e f Equal p))
-  swaps e f es fs Greater p a b c =
+  swaps e f es fs {r = Greater} p a b c =
       first_greater cmp join e f es fs p ∙ ap (λ l. f ∷ l) c
       ∙ sym (first_less cmp join f e fs es (turned e f Greater p))
 
@@ -71,7 +71,7 @@ module _ {K X : Type 0} {cmp : K → K → Ordering} (order : IsTotalOrder cmp)
   unfolding map_join join_entry
   swaps_all e es ih [] = refl
   swaps_all e es ih (f ∷ fs) =
-      swaps e f es fs (cmp e.0 f.0) refl (ih (f ∷ fs)) (ih fs) (swaps_all e es ih fs)
+      swaps e f es fs refl (ih (f ∷ fs)) (ih fs) (swaps_all e es ih fs)
 
   commutes : (es fs : List (K × X)) → J es fs ≡ J fs es
   unfolding map_join join_entry
