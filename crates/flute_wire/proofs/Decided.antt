@@ -80,38 +80,50 @@ ask : (d : List ℕ) (r : Refusal) → Either (Applies r d)
 ask d r (inl a) k = inr (r, a)
 ask d r (inr n) k = k n
 
-all_pass : (d : List ℕ) → (Applies TooLong d → ⊥) → (Applies TooShort d → ⊥)
-    → (Applies LctVersion d → ⊥) → (Applies HeaderLength d → ⊥)
-    → (Applies HeaderCut d → ⊥) → (Applies NoTsi d → ⊥) → (Applies NoToi d → ⊥)
-    → (Applies Codepoint d → ⊥) → (Applies ExtensionLength d → ⊥)
-    → (Applies Repeated d → ⊥) → (Applies FtiLength d → ⊥)
-    → ((f : InfoFault) → Applies (Information f) d → ⊥)
-    → (Applies NoInstance d → ⊥)
-    → (Applies FluteVersion d → ⊥) → (Applies ContentEncoded d → ⊥)
-    → (Applies PayloadIdCut d → ⊥) → (r : Refusal) → Applies r d → ⊥
-all_pass d a b c e f g h i j k l m n o p q TooLong = a
-all_pass d a b c e f g h i j k l m n o p q TooShort = b
-all_pass d a b c e f g h i j k l m n o p q LctVersion = c
-all_pass d a b c e f g h i j k l m n o p q HeaderLength = e
-all_pass d a b c e f g h i j k l m n o p q HeaderCut = f
-all_pass d a b c e f g h i j k l m n o p q NoTsi = g
-all_pass d a b c e f g h i j k l m n o p q NoToi = h
-all_pass d a b c e f g h i j k l m n o p q Codepoint = i
-all_pass d a b c e f g h i j k l m n o p q ExtensionLength = j
-all_pass d a b c e f g h i j k l m n o p q Repeated = k
-all_pass d a b c e f g h i j k l m n o p q FtiLength = l
-all_pass d a b c e f g h i j k l m n o p q (Information fault) = m fault
-all_pass d a b c e f g h i j k l m n o p q NoInstance = n
-all_pass d a b c e f g h i j k l m n o p q FluteVersion = o
-all_pass d a b c e f g h i j k l m n o p q ContentEncoded = p
-all_pass d a b c e f g h i j k l m n o p q PayloadIdCut = q
+-- no refusal applies that is known before the extensions are
+record PassesHeader (d : List ℕ) : Type 0 where
+  too_long : Applies TooLong d → ⊥
+  too_short : Applies TooShort d → ⊥
+  lct_version : Applies LctVersion d → ⊥
+  header_length : Applies HeaderLength d → ⊥
+  header_cut : Applies HeaderCut d → ⊥
+  no_tsi : Applies NoTsi d → ⊥
+  no_toi : Applies NoToi d → ⊥
+  codepoint : Applies Codepoint d → ⊥
+
+-- nor one that the extensions tell, or what follows them
+record PassesExtensions (d : List ℕ) : Type 0 where
+  extension_length : Applies ExtensionLength d → ⊥
+  repeated : Applies Repeated d → ⊥
+  fti_length : Applies FtiLength d → ⊥
+  information : (f : InfoFault) → Applies (Information f) d → ⊥
+  no_instance : Applies NoInstance d → ⊥
+  flute_version : Applies FluteVersion d → ⊥
+  content_encoded : Applies ContentEncoded d → ⊥
+  payload_id_cut : Applies PayloadIdCut d → ⊥
+
+all_pass : {d : List ℕ} → PassesHeader d → PassesExtensions d → (r : Refusal)
+    → Applies r d → ⊥
+all_pass h e TooLong = h.too_long
+all_pass h e TooShort = h.too_short
+all_pass h e LctVersion = h.lct_version
+all_pass h e HeaderLength = h.header_length
+all_pass h e HeaderCut = h.header_cut
+all_pass h e NoTsi = h.no_tsi
+all_pass h e NoToi = h.no_toi
+all_pass h e Codepoint = h.codepoint
+all_pass h e ExtensionLength = e.extension_length
+all_pass h e Repeated = e.repeated
+all_pass h e FtiLength = e.fti_length
+all_pass h e (Information fault) = e.information fault
+all_pass h e NoInstance = e.no_instance
+all_pass h e FluteVersion = e.flute_version
+all_pass h e ContentEncoded = e.content_encoded
+all_pass h e PayloadIdCut = e.payload_id_cut
 
 behind : (d : List ℕ) (es : List HeaderExtension) → HasExtensions (extension_area d) es
-    → (Applies TooLong d → ⊥) → (Applies TooShort d → ⊥)
-    → (Applies LctVersion d → ⊥) → (Applies HeaderLength d → ⊥)
-    → (Applies HeaderCut d → ⊥) → (Applies NoTsi d → ⊥) → (Applies NoToi d → ⊥)
-    → (Applies Codepoint d → ⊥) → Outcome d
-behind d es x a b c e f g h i =
+    → PassesHeader d → Outcome d
+behind d es x header =
     ask d Repeated
     (carries d es x (λ es. (1 < length (bodies ext_fti es))
     ⊎ ((1 < length (bodies ext_fdt es)) ⊎ (1 < length (bodies ext_cenc es))))
@@ -141,10 +153,20 @@ behind d es x a b c e f g h i =
           (λ body. other (content_encoding body) 0))) (λ p.
           ask d PayloadIdCut (both _ _ (below 0 (length (after_header d)))
           (below (length (after_header d)) 4)) (λ q.
-          inl (all_pass d a b c e f g h i (λ none. none es x) k l
-          (λ fault z. m fault (carried d es x
-          (λ es. IsSomeAnd (first (bodies ext_fti es))
-          (λ body. info_fault (fti_information body) ≡ Some fault)) z)) n o p q)))))
+          let extensions : PassesExtensions d =
+          record {
+            extension_length = λ none. none es x;
+            repeated = k;
+            fti_length = l;
+            information = λ fault z. m fault (carried d es x
+                (λ es. IsSomeAnd (first (bodies ext_fti es))
+                (λ body. info_fault (fti_information body) ≡ Some fault)) z);
+            no_instance = n;
+            flute_version = o;
+            content_encoded = p;
+            payload_id_cut = q;
+          } in
+          inl (all_pass header extensions)))))
     ]))
 
 -- the decision for any datagram
@@ -160,7 +182,19 @@ decide_refusal d =
     ask d Codepoint (other (first_word d).codepoint 0) (λ i.
     elim (decide_extensions (length (extension_area d)) (extension_area d) (omega arith)) [
       | inr none ↦ inr (ExtensionLength, none)
-      | inl found ↦ behind d found.0 found.1 a b c e f g h i
+      | inl found ↦
+          let header : PassesHeader d =
+          record {
+            too_long = a;
+            too_short = b;
+            lct_version = c;
+            header_length = e;
+            header_cut = f;
+            no_tsi = g;
+            no_toi = h;
+            codepoint = i;
+          } in
+          behind d found.0 found.1 header
     ]))))))))
 
 pub decide_packet : (d : List ℕ) → ((c : Content) × Spells d c) ⊎ ((r : Refusal) × Applies r d)

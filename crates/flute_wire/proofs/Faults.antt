@@ -37,11 +37,11 @@ sent c p =
     (le-ltb 65535 (length (spelling c)) p.limit)
 
 -- a packet with a symbol that is no longer can be written too
-shorter : (key : Key) (i : Option Information) (id other : SymbolId) (bytes more : List ℕ)
-    → 0 < length bytes → length bytes ≤ length more
-    → write_fault (packet_at key i (Some (other, more))) ≡ None
-    → write_fault (packet_at key i (Some (id, bytes))) ≡ None
-shorter key i id other bytes more some few none =
+shorter : (key : Key) (i : Option Information) (short long : SymbolId × List ℕ)
+    → 0 < length short.1 → length short.1 ≤ length long.1
+    → write_fault (packet_at key i (Some long)) ≡ None
+    → write_fault (packet_at key i (Some short)) ≡ None
+shorter key i (id, bytes) (other, more) some few none =
     let p = no_fault (packet_at key i (Some (other, more))) none in
     let c = packet_at key i (Some (id, bytes)) in
     let front = fdt_bytes c.instance ++ fti_bytes i in
@@ -89,7 +89,7 @@ all_sent key i content k v whole h none = elim ((slice_get_cases (ids i) k).1) [
       write_fault (packet_at key (Some i) s) ≡ None) (symbol_is i content 0 _ some) none in
       subst (λ (s : Option (SymbolId × List ℕ)). write_fault (packet_at key (Some i) s)
       ≡ None) (sym (symbol_is i content k id there.2))
-      (shorter key (Some i) id _ (piece i content k) (piece i content 0)
+      (shorter key (Some i) (id, piece i content k) (_, piece i content 0)
       (omega (arith, len, begins, length_some, whole)) (omega (arith, len, len_0)) one)
 ]
 

@@ -203,12 +203,12 @@ both_push [] (x ∷ cs) d c all one = absurd all
 both_push (x ∷ ds) [] d c all one = absurd all
 both_push (x ∷ ds) (y ∷ cs) d c all one = (all.0, both_push ds cs d c all.1 one)
 
-pub one_more : (key : Key) (i : Information) (content : List ℕ) (k : ℕ) (ds : List (List ℕ))
-    (d : List ℕ) → IsValid i → k < max (length (ids i)) 1
+pub one_more : (key : Key) {i : Information} (content : List ℕ) (k : ℕ) (ds : List (List ℕ))
+    {d : List ℕ} → IsValid i → k < max (length (ids i)) 1
     → AllZip IsWritten ds (take k (packets_of key i content))
     → IsWritten d (packet_at key (Some i) (slice_get (symbols_of i content) k))
     → AllZip IsWritten (ds ++ d ∷ []) (take (k + 1) (packets_of key i content))
-one_more key i content k ds d v h all one =
+one_more key {i = i} content k ds {d = d} v h all one =
     let c = packet_at key (Some i) (slice_get (symbols_of i content) k) in
     let cs = packets_of key i content in
     subst (λ (xs : List Content). AllZip IsWritten (ds ++ d ∷ []) xs)

@@ -116,13 +116,13 @@ no_front rest [] some none x = some x.joined
 no_front rest (e ∷ es) some none x = none e (flat_map extension_bytes es) x.each.0 x.joined
 
 -- if no extension is at the front of what is left, the bytes are no extensions
-pub is_stuck : (area rest : List ℕ) (es : List HeaderExtension)
+pub is_stuck : {area : List ℕ} (rest : List ℕ) (es : List HeaderExtension)
     → area ≡ flat_map extension_bytes es ++ rest → AllByRecursion IsExtension es
     → (rest ≡ [] → ⊥)
     → ((e : HeaderExtension) (after : List ℕ) → IsExtension e
     → rest ≡ extension_bytes e ++ after → ⊥)
     → (all : List HeaderExtension) → HasExtensions area all → ⊥
-is_stuck area rest es joined each some none all x =
+is_stuck {area = area} rest es joined each some none all x =
     let r = rest_of es all area rest joined each x in
     no_front rest r.0 some none r.1
 

@@ -42,7 +42,7 @@ loop-place-preserved c =
     c.in_ok-encoded.ensures.written in
     subst (λ (ds : List (List ℕ)). AllZip IsWritten ds
     (take (place + 1) (packets_of key i content))) (sym c.in_ok-push.ensures)
-    (one_more key i content place c.loop-place.datagrams c.in_ok-encoded.field-0 c.requires.valid
+    (one_more key content place c.loop-place.datagrams c.requires.valid
     (omega (arith, count, c.loop-place-test.true)) c.loop-place.invariant written)
 
 pub returns : goal.returns
