@@ -34,8 +34,7 @@ pub whole : (u v w : Option (List ℕ)) (from to : ReaderState Before) (es : Lis
     → Sofar journal_framing MAX_ENTRIES u v from es → GivesEnd journal_framing from to v w
     → IfSome u (λ x. IsJournalWithin MAX_ENTRIES x es)
 whole u v w from to es h g =
-    whole-at journal_sound MAX_ENTRIES u w es
-    (side-from journal_sound w to None h g)
+    whole-at journal_sound MAX_ENTRIES u w es (side-from journal_sound w to None h g)
 
 -- these entries were read, and the lines of those that are selected written, and nothing else
 pub record Shown (choice : Selection) (first now : Option (List ℕ)) (state : ReaderState Before)

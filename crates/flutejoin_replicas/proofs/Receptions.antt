@@ -112,5 +112,4 @@ not_longer F entries bs j same h =
 pub begins_below : (bs : List ℕ) (F es : List Fact) → IsJournal bs F → BeginsWith MAX_ENTRIES bs es
     → Below es F
 begins_below bs F es (v, j) begins =
-    without_end-below v begins.are_items.told F es begins.rest j begins.are_items.valid
-    begins.whole
+    without_end-below v begins.are_items.told F es begins.rest j begins.are_items.valid begins.whole

@@ -48,8 +48,7 @@ front_octets bs a b n s h = subst (AllByRecursion IsByte) (sym s.1) (octets-take
 
 pub opening_version : (m : List ℕ) (is_known : List ℕ → Bool) (bs : List ℕ) {a b : List ℕ}
     → length bs ≤ 6 → IsSplitAt bs 4 a b → bytes_eq a m ≡ true → 2 ≤ length b
-    → is_known b ≡ false
-    → StopsReading 6 (version_fault m is_known) bs faults.Version
+    → is_known b ≡ false → StopsReading 6 (version_fault m is_known) bs faults.Version
 opening_version m is_known bs {a = a} {b = b} most s e some wrong =
     stops_here 6 (version_fault m is_known) bs faults.Version (λ h. cc) tt
     (λ r. ap (λ (x : List ℕ). version_fault m is_known (x ++ r)) (joined bs a b 4 s)
@@ -63,9 +62,8 @@ header_read bs a b v s e is =
 
 -- a header with the magic number, by what its version is
 pub header_parsed : (bs : List ℕ) {a b : List ℕ} (o : Option Version)
-    {r : Result Version ReadFault}
-    → r ≡ ok_or o faults.Version → length bs ≤ 6 → IsSplitAt bs 4 a b
-    → bytes_eq a magic ≡ true → 2 ≤ length b
+    {r : Result Version ReadFault} → r ≡ ok_or o faults.Version → length bs ≤ 6
+    → IsSplitAt bs 4 a b → bytes_eq a magic ≡ true → 2 ≤ length b
     → MatchOption o (is_version b ≡ false) (λ (v : Version). b ≡ version_bytes v)
     → Parses 6 (λ (v : Version). header_in v ≡ bs) header_fault bs r
 header_parsed bs None is most s e some wrong =
@@ -185,8 +183,7 @@ id_wrong last key id bs b p is wrong =
 
 -- the bytes of a key that is none
 pub key_wrong : (v : Version) (k : Kind) (last : Option Address) {n : ℕ} (bs : List ℕ)
-    {a b : List ℕ}
-    → n ≡ key_size v → IsSplitAt bs n a b → is_key v a ≡ false
+    {a b : List ℕ} → n ≡ key_size v → IsSplitAt bs n a b → is_key v a ≡ false
     → StopsReading (head_size v k) (body_fault v last k) bs faults.Key
 key_wrong v k last {n = n} bs {a = a} {b = b} size s wrong =
     let m = key_size v in
@@ -226,9 +223,8 @@ pub record BeginsWithKey (version : Version) (bytes : List ℕ) (key : Key) (res
   pub size_is : size ≡ key_size version
   pub front : List ℕ
   pub split : IsSplitAt bytes size front rest
-  pub passes : is_key version front ≡ true
-  pub key_is : key ≡ key_in version front
-  pub valid : IsKeyIn version key
+  pub found : (is_key version front ≡ true) × (key ≡ key_in version front)
+      × IsKeyIn version key
 
 -- the same for a kind that is known by an equation
 pub parsed_at : {v : Version} {kind k : Kind} (last : Option Address) {key : Key}
@@ -242,13 +238,13 @@ parsed_at {v = v} {kind = kind} {k = k} last {key = key} {bs = bs} {b = b} r e s
     let spelled_key : bs ≡ key_bytes v key ++ b =
     joined bs a b n s.split ∙ ap (λ (x : List ℕ). x ++ b)
     (sym (key_spelled v a (s.split.3 ∙ s.size_is) (front_octets bs a b n s.split s.octets)
-    s.passes)
-    ∙ ap (key_bytes v) (sym s.key_is)) in
+    s.found.0)
+    ∙ ap (key_bytes v) (sym s.found.1)) in
     subst (λ z. Parses (head_size v z) (λ x. HeadIn v last z x × (head_bytes v x ≡ bs))
     (body_fault v last z) bs r) (sym e)
     (subst (λ (l : List ℕ). Parses (head_size v k)
     (λ x. HeadIn v last k x × (head_bytes v x ≡ l)) (body_fault v last k) l r) (sym spelled_key)
-    (behind_key v k last key b r s.valid p))
+    (behind_key v k last key b r s.found.2 p))
 
 -- a head in front of more bytes: the head with the first n of them is a prefix of the whole
 pub in_front : (head body rest : List ℕ) (n : ℕ) → body ≡ take n rest

@@ -233,9 +233,8 @@ opening_comes m is_known bs v r len len' e =
     ∙ ap (λ (x : List ℕ). first_fault ((not (is_known x), faults.Version) ∷ [])) back
 
 pub version_wrong : (m : List ℕ) (is_known : List ℕ → Bool) (bs : List ℕ) {v : List ℕ}
-    (r : List ℕ)
-    → length bs ≡ 4 → length v ≡ 2 → bytes_eq bs m ≡ true → is_known v ≡ false
-    → version_fault m is_known ((bs ++ v) ++ r) ≡ Some faults.Version
+    (r : List ℕ) → length bs ≡ 4 → length v ≡ 2 → bytes_eq bs m ≡ true
+    → is_known v ≡ false → version_fault m is_known ((bs ++ v) ++ r) ≡ Some faults.Version
 version_wrong m is_known bs {v = v} r len len' e wrong =
     cc (
       opening_comes m is_known bs v r len len' e,
@@ -324,8 +323,7 @@ pub body_comes : (limit : ℕ) (b : Before) (k : Kind) (r : List ℕ) → b.coun
 body_comes limit b k r few = grind (arith, first-pass, lt-leb)
 
 pub entry_comes : (limit : ℕ) (b : Before) (k : Kind) (key : Key) (r : List ℕ)
-    → b.count < limit
-    → IsKey key → HasRoom b.version key.session
+    → b.count < limit → IsKey key → HasRoom b.version key.session
     → next_fault b limit ((byte_of k ∷ key_bytes b.version key) ++ r)
     ≡ rest_fault b.last k key r
 entry_comes limit b k key r few p fits =

@@ -68,9 +68,8 @@ next_read last b (Some s) spelled valid is h =
 
 -- bytes that spell the sender and the name of a key are those of the key
 pub key_named : (key : Key) {bs front back : List ℕ} {sender : ℕ}
-    → LieInKey Two bs front back sender → sender ≡ key.session.sender → name_bytes key
-    ≡ back
-    → key_bytes Two key ≡ bs
+    → LieInKey Two bs front back sender → sender ≡ key.session.sender
+    → name_bytes key ≡ back → key_bytes Two key ≡ bs
 key_named key {bs = bs} {front = front} {back = back} l own named =
     let m = sender_size Two in
     let first : front ≡ take m bs = l.front_is ∙ ap (λ k. take k bs) l.size_is in

@@ -40,8 +40,7 @@ module _ {V P T : Type 0} {framing : Framing V P T} (sound : IsSound framing)
 
   -- after these items: without a fault the bytes are the end, or one item more is read
   goes_on : {limit : ℕ} {bytes : List ℕ} {xs : List V} {rest : List ℕ}
-      → Again limit bytes rest
-      → (b : Begins limit bytes xs rest) (place : P)
+      → Again limit bytes rest → (b : Begins limit bytes xs rest) (place : P)
       → place ≡ framing.place_after b.are_items.told xs → Next framing limit place rest
       → Decided framing limit bytes
   goes_on {xs = xs} again b place is (at_end e) =

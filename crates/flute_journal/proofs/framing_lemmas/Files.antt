@@ -116,8 +116,7 @@ file_stops_once bytes limit ds es f g (after_items s) (after_items t) =
       stops = t.first;
     } in
     one_stop record_of IsDatagram record-injective fault first second
-    (behind_header _ _ (sym (grouped bytes ds s.rest s.whole) ∙ grouped bytes es t.rest
-    t.whole))
+    (behind_header _ _ (sym (grouped bytes ds s.rest s.whole) ∙ grouped bytes es t.rest t.whole))
 
 -- a datagram file stops only beyond the bound
 pub file_stops_at_bound : (bytes : List ℕ) (limit : ℕ) (ds es : List (List ℕ)) (f : ReadFault)
@@ -153,8 +152,7 @@ next_record limit count rest oct few two whole small =
     let n = big_endian (take 2 rest) in
     let size : length (take n (drop 2 rest)) ≡ n = length-take-le n (drop 2 rest) whole in
     let field : in_bytes 2 n ≡ take 2 rest =
-    spelled 2 (take 2 rest) (length-take-le 2 rest two)
-    (octets-take 2 rest oct) in
+    spelled 2 (take 2 rest) (length-take-le 2 rest two) (octets-take 2 rest oct) in
     let all : rest ≡ record_of (take n (drop 2 rest)) ++ drop n (drop 2 rest) =
     grind (arith, take-append-drop, append_assoc) in
     let some : 0 < length (record_of (take n (drop 2 rest))) =

@@ -102,9 +102,8 @@ module _ {V P T : Type 0} (framing : Framing V P T) where
 
 module _ {V P T : Type 0} {framing : Framing V P T} (sound : IsSound framing) where
   pub reads_header : (limit : ℕ) (told : T) (u v : Option (List ℕ)) {f : ReadFault}
-      → IsFaultOf framing.header_fault u v f → (f ≡ faults.OutOfMemory → ⊥) → framing.IsFault f
-      → Advances u v 6
-      → ReadsFrom framing told limit Header u v (Err f)
+      → IsFaultOf framing.header_fault u v f → (f ≡ faults.OutOfMemory → ⊥)
+      → framing.IsFault f → Advances u v 6 → ReadsFrom framing told limit Header u v (Err f)
   reads_header limit told u v {f = f} h some k a = record {
     fault = fault_up_to (end_bytes framing told Header) (fault_from framing Header limit) u v f
         (fault-first u v framing.header_fault

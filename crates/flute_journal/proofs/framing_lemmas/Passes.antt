@@ -114,8 +114,7 @@ not_in_header v bytes es rest f e h =
 
 -- a journal's bytes stop only with more entries than the bound
 pub beyond : (v : Version) {limit : ℕ} (es : List Fact) {fs : List Fact} {bytes : List ℕ}
-    {f : ReadFault}
-    → AllByRecursion (IsFactIn v) es → IsRising es → length es < 2 ^ 64
+    {f : ReadFault} → AllByRecursion (IsFactIn v) es → IsRising es → length es < 2 ^ 64
     → bytes ≡ spelling_in v es → Stops journal_framing bytes limit fs f
     → (f ≡ faults.TooMany) × (limit < length es)
 beyond v es {bytes = bytes} {f = f} p q small e (in_header none h) =
@@ -188,7 +187,6 @@ stops_one bytes limit es fs f g (after_items s) (after_items t) =
           subst (λ (z : Version). next_fault (before z fs) limit t.rest ≡ Some g) (sym h.0)
           t.first;
     } in
-    one_stop (entry_in v) (IsFactIn v) (entry_injective v) fault
-    first second
+    one_stop (entry_in v) (IsFactIn v) (entry_injective v) fault first second
     (subst (λ (z : Version). flat_map (entry_in v) es ++ s.rest ≡ flat_map (entry_in z) fs ++
     t.rest) (sym h.0) h.1)

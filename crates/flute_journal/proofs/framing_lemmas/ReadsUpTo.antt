@@ -17,9 +17,8 @@ pub record IsBehind (u v : Option (List ℕ)) (front : List ℕ)
 
 -- a fault of the bytes that were left
 fault_seen : (u v : Option (List ℕ)) {front : List ℕ}
-    {whole part : List ℕ → Option ReadFault}
-    (f : ReadFault) → IsBehind u v front whole part → IfSome v (λ bytes. part bytes ≡ Some f)
-    → IfSome u (λ bytes. whole bytes ≡ Some f)
+    {whole part : List ℕ → Option ReadFault} (f : ReadFault) → IsBehind u v front whole part
+    → IfSome v (λ bytes. part bytes ≡ Some f) → IfSome u (λ bytes. whole bytes ≡ Some f)
 fault_seen None v f b h = tt
 fault_seen (Some x) None f b h = absurd b.took
 fault_seen (Some x) (Some y) {whole = whole} f b h = ap whole b.took ∙ b.comes y ∙ h
@@ -160,8 +159,7 @@ fault_found T {u = u} {v = v} true f a s = at_front u v a s (λ e. absurd cc)
 -- what was read of a source, as it is parsed: a value takes all of the bytes
 pub parsed_reads : {T : Type 0} (spelling : T → List ℕ) (IsIt : T → Type 0)
     (fault : List ℕ → Option ReadFault) {u v : Option (List ℕ)} {n : ℕ} (failed : Bool)
-    {front : List ℕ}
-    (r : Result T ReadFault) → ReadsUpTo u v n failed front
+    {front : List ℕ} (r : Result T ReadFault) → ReadsUpTo u v n failed front
     → ((x : T) → IsIt x → n ≤ length (spelling x))
     → Parses n (λ x. IsIt x × (spelling x ≡ front)) fault front r
     → Reads spelling IsIt fault u v (or_failed failed r)
@@ -191,8 +189,7 @@ fails_never T f old new b e = inl e
 -- how often the source failed where bytes of it were parsed
 pub parsed_fails : {T : Type 0} (IsIt : T → Type 0) (fault : List ℕ → Option ReadFault)
     (n : ℕ) (failed : Bool) (front : List ℕ) (r : Result T ReadFault) (old : ℕ)
-    → Parses n IsIt fault front r
-    → Fails old (old + times_failed failed) (or_failed failed r)
+    → Parses n IsIt fault front r → Fails old (old + times_failed failed) (or_failed failed r)
 parsed_fails IsIt fault n true front (Ok x) old p = refl
 parsed_fails IsIt fault n false front (Ok x) old p = omega arith
 parsed_fails {T} IsIt fault n true front (Err f) old p =

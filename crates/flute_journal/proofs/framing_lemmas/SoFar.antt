@@ -125,8 +125,7 @@ module _ {V P T : Type 0} {framing : Framing V P T} where
 
   fault_after : {told : T} {limit : ℕ} {u x w : Option (List ℕ)} {state : ReaderState P}
       (xs : List V) {f : ReadFault} → Sofar framing limit u x state xs
-      → IsAtFault framing told limit state x w f
-      → FaultAfter framing limit u x w xs f
+      → IsAtFault framing told limit state x w f → FaultAfter framing limit u x w xs f
   fault_after {told = told} {limit = limit} {x = x} {w = w} [] {f = f} s h = record {
     are_items = record {
       told = told;
@@ -215,8 +214,7 @@ module _ {V P T : Type 0} {framing : Framing V P T} (sound : IsSound framing) wh
 
   -- a reader that has read these items gives an item or the end
   pub side-from : {limit : ℕ} {u v : Option (List ℕ)} (w : Option (List ℕ))
-      {old : ReaderState P} (new : ReaderState P) {settled : List V}
-      (o : Option V)
+      {old : ReaderState P} (new : ReaderState P) {settled : List V} (o : Option V)
       → Sofar framing limit u v old settled → Gives framing limit old new v w (Ok o)
       → Side framing limit u w new settled o
   side-from w new (Some x) s g = sofar-next s g
@@ -357,8 +355,7 @@ module _ {V P T : Type 0} {framing : Framing V P T} (sound : IsSound framing) wh
 
   -- a call that gives a fault: the bytes have it
   pub sofar-fault : {limit : ℕ} {u v w : Option (List ℕ)} {old new : ReaderState P}
-      {xs : List V}
-      {f : ReadFault} → Sofar framing limit u v old xs
+      {xs : List V} {f : ReadFault} → Sofar framing limit u v old xs
       → GivesFault framing limit old new v w f → HasFault framing limit u f
   sofar-fault {limit = limit} {u = u} {v = v} {w = w} {xs = xs} {f = f} s h =
       has_fault limit u v w xs f (found_now s h)

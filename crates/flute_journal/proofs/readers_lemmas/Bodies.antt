@@ -1,11 +1,11 @@
 -- What is read after the first byte of an entry (src/readers/entry_fields.rt).
 use Rattle.flute_journal.proofs.Common.{Address, Before, BodyIn, Bool, Consumes, Consumes-trans}
 use Rattle.flute_journal.proofs.Common.{Err, Fact}
-use Rattle.flute_journal.proofs.Common.{EntryHead, HeadIn, ReadsUpTo, HasRoom, IsBody, IsFact}
+use Rattle.flute_journal.proofs.Common.{EntryHead, HeadIn, ReadsUpTo, IsBody, IsFact}
 use Rattle.flute_journal.proofs.Common.{IsFactIn, IsFaultOf, IsFaultUpTo, IsSized, IsWithin, Key}
 use Rattle.flute_journal.proofs.Common.{Kind, List, Ok, Option, Parses, ReadFault, Reads, ReadsEnd}
-use Rattle.flute_journal.proofs.Common.{Result, StaysWithin, SymbolId, SymbolIs, Version, [], ap}
-use Rattle.flute_journal.proofs.Common.{arith, at_place, body, body_fault, byte_of, cut_fault, end}
+use Rattle.flute_journal.proofs.Common.{Result, StaysWithin, SymbolId, Version, [], ap}
+use Rattle.flute_journal.proofs.Common.{arith, body, body_fault, byte_of, cut_fault, end}
 use Rattle.flute_journal.proofs.Common.{end_fault, entry_in, err_from_is_err_and, false, head_bytes}
 use Rattle.flute_journal.proofs.Common.{head_size, header_fault, header_in, in_bytes, inr, length}
 use Rattle.flute_journal.proofs.Common.{length-append, length-bytes_high_first, next_fault}
@@ -58,11 +58,9 @@ end_reads count u v false front (Ok x) a p = (
       (omega (arith, ap length p, length-bytes_high_first 8 count)) refl,
 )
 end_reads {T} count u v true front (Err f) a p =
-    fault_up_to (in_bytes 8 count) (end_fault count) u v _
-    (fault_found T true f a p)
+    fault_up_to (in_bytes 8 count) (end_fault count) u v _ (fault_found T true f a p)
 end_reads {T} count u v false front (Err f) a p =
-    fault_up_to (in_bytes 8 count) (end_fault count) u v f
-    (fault_found T false f a p)
+    fault_up_to (in_bytes 8 count) (end_fault count) u v f (fault_found T false f a p)
 
 -- a fault of the number at the end is a fault of the end, its first byte included
 pub end_stops : (limit : ℕ) (before : Before) (u v w : Option (List ℕ)) (f : ReadFault)
@@ -83,8 +81,7 @@ fixed_least version last k x h =
 -- the input ended within the bytes of a symbol
 pub symbol_stops : (version : Version) {last : Option Address} {k : Kind} {key : Key}
     {id : SymbolId} {n : ℕ} (u v w : Option (List ℕ)) {f : ReadFault}
-    {r : Result Fact ReadFault}
-    → r ≡ Err f → HeadIn version last k (Symbol key id n)
+    {r : Result Fact ReadFault} → r ≡ Err f → HeadIn version last k (Symbol key id n)
     → Consumes u v (head_bytes version (Symbol key id n)) → IsFaultOf (cut_fault n) v w f
     → Reads (body version) (BodyIn version last k) (body_fault version last k) u w r
 symbol_stops version {last = last} {k = k} {key = key} {id = id} {n = n} u v w {f = f} e s took h =
@@ -97,9 +94,8 @@ symbol_stops version {last = last} {k = k} {key = key} {id = id} {n = n} u v w {
     subst (Reads (body version) (BodyIn version last k) (body_fault version last k) u w) (sym e)
     fault
 
-pub symbol_ends : (version : Version) {last : Option Address} {k : Kind} {key : Key}
-    {id : SymbolId} {n : ℕ} (u v w : Option (List ℕ)) {f : ReadFault}
-    {r : Result Fact ReadFault}
+pub symbol_ends : (version : Version) {last : Option Address} {k : Kind} {key : Key} {id : SymbolId}
+    {n : ℕ} (u v w : Option (List ℕ)) {f : ReadFault} {r : Result Fact ReadFault}
     → r ≡ Err f → HeadIn version last k (Symbol key id n)
     → Consumes u v (head_bytes version (Symbol key id n)) → Advances v w n
     → StaysWithin (body version) (IsBody version k) u w r
@@ -146,8 +142,7 @@ body_stops limit before {k = k} {u = u} {v = v} w f read few h =
 pub body_ends : (version : Version) {k : Kind} {u v : Option (List ℕ)} (w : Option (List ℕ))
     (part : List ℕ) → KindRead k u v → Consumes v w part
     → IsWithin (body version) (IsBody version k) part
-    → (all : List ℕ) × Consumes u w all
-    × IsWithin (entry_in version) (IsFactIn version) all
+    → (all : List ℕ) × Consumes u w all × IsWithin (entry_in version) (IsFactIn version) all
 body_ends version {k = k} {u = u} {v = v} w part read rest h = (
   read.front ++ part,
   Consumes-trans u v w read.front part read.took rest,

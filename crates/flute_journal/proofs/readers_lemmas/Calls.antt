@@ -43,8 +43,7 @@ entry_wanted limit before {u = u} {v = v} few is same h =
     let fault = next_fault before limit in
     let asks : AsksMemory fault u v =
     asks_seen fault u v (entry_in before.version h.fact) same h.begins
-    (λ r. entry-passes limit before h.fact r h.valid few
-    h.in_order) in
+    (λ r. entry-passes limit before h.fact r h.valid few h.in_order) in
     let read : ReadsWithin journal_framing limit before u v (Err faults.OutOfMemory) =
     record {
       next = asks;

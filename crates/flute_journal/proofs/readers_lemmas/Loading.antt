@@ -150,10 +150,9 @@ journal-at limit u w es F s same =
     s.at_end (es, record { are_items = s.are_items; bytes_are = refl }, same)
 
 pub loaded_all : {s o y limit bound : ℕ} {u v : Option (List ℕ)} (w : Option (List ℕ))
-    {old : ReaderState Before} (new : ReaderState Before)
-    {F : List Fact} (given : Option Fact) → Loaded s o y limit u v old F
-    → bound ≡ limit → given ≡ None → Gives journal_framing bound old new v w (Ok given)
-    → IsLoaded limit u w F
+    {old : ReaderState Before} (new : ReaderState Before) {F : List Fact} (given : Option Fact)
+    → Loaded s o y limit u v old F → bound ≡ limit → given ≡ None
+    → Gives journal_framing bound old new v w (Ok given) → IsLoaded limit u w F
 loaded_all {limit = limit} {bound = bound} {u = u} {v = v} w {old = old} new {F = F} None l b e h =
     let end =
     side-from journal_sound w new None l.sofar
@@ -163,8 +162,7 @@ loaded_all {limit = limit} {bound = bound} {u = u} {v = v} w {old = old} new {F 
 loaded_all w new (Some f) l b e h = absurd cc
 
 pub loaded-stops : {s o y limit bound : ℕ} {u v w : Option (List ℕ)}
-    {old new : ReaderState Before}
-    {F : List Fact} {f : ReadFault} → Loaded s o y limit u v old F
+    {old new : ReaderState Before} {F : List Fact} {f : ReadFault} → Loaded s o y limit u v old F
     → bound ≡ limit → GivesFault journal_framing bound old new v w f
     → IsLoadFault s o y limit u w (Read f)
 loaded-stops {v = v} {w = w} {old = old} {new = new} {f = f} l b h = (
@@ -177,8 +175,7 @@ loaded-stops {v = v} {w = w} {old = old} {new = new} {f = f} l b h = (
 -- What was read where no store was.
 
 pub fault-part : {s o y limit bound : ℕ} {u v w : Option (List ℕ)}
-    {old new : ReaderState Before}
-    {F : List Fact} {f : ReadFault} → Loaded s o y limit u v old F
+    {old new : ReaderState Before} {F : List Fact} {f : ReadFault} → Loaded s o y limit u v old F
     → bound ≡ limit → GivesFault journal_framing bound old new v w f
     → ReadsNoMore s o y limit u w (Read f)
 fault-part {v = v} {w = w} {old = old} {new = new} {f = f} l b h = (

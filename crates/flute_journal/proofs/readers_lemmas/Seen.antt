@@ -56,8 +56,7 @@ pub symbol_begins : (v : Version) {last : Option Address} {key : Key} {id : Symb
     {bytes fixed symbol : List ℕ} → HeadIs last kinds.Symbol (Symbol key id n)
     → HasRoom v key.session → head_bytes v (Symbol key id n) ≡ fixed
     → LieInFront bytes n fixed symbol
-    → BeginsWithEntry v last bytes (facts.Symbol key id symbol)
-    (1 + length fixed + length symbol)
+    → BeginsWithEntry v last bytes (facts.Symbol key id symbol) (1 + length fixed + length symbol)
 symbol_begins v {last = last} {key = key} {id = id} {n = n} {bytes = bytes} {fixed = fixed}
     {symbol = symbol} s room head_is l =
     let first : l.first ≡ 3 = l.first_is in

@@ -52,8 +52,7 @@ part_at u x w (e ∷ es) {part = part} a took more (in_item rest is within) =
 reads_part : (limit : ℕ) (u x w : Option (List ℕ)) (es : List Fact) (f : ReadFault)
     → FaultAfter journal_framing limit u x w es f → ReadsPart limit u w es
 reads_part limit u x w es f i =
-    part_at u x w es i.are_items i.before_it i.at_fault.read
-    i.at_fault.is_part
+    part_at u x w es i.are_items i.before_it i.at_fault.read i.at_fault.is_part
 
 -- the source failed after these entries
 broken_at : (limit : ℕ) (u x w : Option (List ℕ)) (es : List Fact)

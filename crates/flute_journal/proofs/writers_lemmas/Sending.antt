@@ -26,9 +26,8 @@ next_one all place d e =
     )
 
 pub sent_next : {all : List (List ℕ)} {place : ℕ} {u v : Option (List ℕ)}
-    (w : Option (List ℕ)) {d : List ℕ}
-    → Sent all place u v → slice_get all place ≡ Some d → IsDatagram d
-    → Appends v w (record_of d) → Sent all (place + 1) u w
+    (w : Option (List ℕ)) {d : List ℕ} → Sent all place u v → slice_get all place ≡ Some d
+    → IsDatagram d → Appends v w (record_of d) → Sent all (place + 1) u w
 sent_next {place = place} {u = u} {v = v} w {d = d} s e valid h =
     let n : suc place ≡ place + 1 = omega arith in
     record {
@@ -42,8 +41,7 @@ sent_next {place = place} {u = u} {v = v} w {d = d} s e valid h =
     }
 
 pub sent-part : {all : List (List ℕ)} {place : ℕ} {u v : Option (List ℕ)}
-    (w : Option (List ℕ)) {d : List ℕ}
-    → Sent all place u v → slice_get all place ≡ Some d
+    (w : Option (List ℕ)) {d : List ℕ} → Sent all place u v → slice_get all place ≡ Some d
     → AppendsPart v w (record_of d) → AppendsPart u w (file_header ++ flat_map record_of all)
 sent-part {all = all} {place = place} {u = u} {v = v} w {d = d} s e h =
     let rest = drop (suc place) all in

@@ -22,7 +22,7 @@ use Rattle.flute_journal.specs.Framing.{GivesItem, GivesEnd, GivesFault, Sofar}
 use Rattle.flute_journal.specs.JournalFraming.{journal_framing}
 use Rattle.flute_journal.specs.declared.format.version.Version.TheVariants.{Two}
 use Rattle.flute_journal.proofs.Public.{loaded-over, side-from, journal_sound, sofar-next}
-use Rattle.flute_journal.proofs.Public.{sofar-none, sofar-stops}
+use Rattle.flute_journal.proofs.Public.{Loaded, sofar-none, sofar-stops}
 use Rattle.flutejoin.specs.ExtractAll.{ExtractsAll, CanPick, is_picked, picked_facts}
 use Rattle.flutejoin.specs.Gaps.{ReadsWithin}
 use Rattle.flutejoin.specs.Load.{LoadFails}
@@ -158,14 +158,14 @@ module _ {s o y : ℕ} (u v w : Option (List ℕ)) (from to : ReaderState Before
 
     pub full_read : Over (h.entries ++ f ∷ []) s o y → IfSome u (BeginsOverLimits (at_most s o y))
     full_read over =
-        loaded-over
-        (record {
+        let loaded : Loaded s o y MAX_ENTRIES u v from h.entries =
+        record {
           entries = h.entries;
           sofar = h.sofar;
           same = Same-itself h.entries;
-          fits =
-              h.counts.within;
-        }) g over
+          fits = h.counts.within;
+        } in
+        loaded-over loaded g over
 
   pub fault_read : (f : ReadFault) → GivesFault journal_framing MAX_ENTRIES from to v w f
       → LoadFails (at_most s o y) 1 u w (Input 1 f)

@@ -19,7 +19,7 @@ use Rattle.flute_streams.specs.Selections.{selects}
 use Rattle.flute_journal.specs.declared.format.version.Version.TheVariants.{Two}
 use Rattle.flute_streams.specs.declared.choice.selection.Selection.{Selection}
 use Rattle.flute_journal.proofs.Public.{loaded-over, side-from, journal_sound, sofar-next}
-use Rattle.flute_journal.proofs.Public.{sofar-none, sofar-stops}
+use Rattle.flute_journal.proofs.Public.{Loaded, sofar-none, sofar-stops}
 use Rattle.flutejoin.specs.Gaps.{ListsJournal, ReadsWithin}
 use Rattle.flutejoin.specs.Load.{LoadFails}
 use Rattle.flutejoin.specs.Listing.{CanAddSelected, Lists, ListsWith}
@@ -141,14 +141,14 @@ module _ {s o y : ℕ} {choice : Selection} {style : Style} {u v : Option (List 
 
     pub full_read : Over (h.entries ++ f ∷ []) s o y → IfSome u (BeginsOverLimits (at_most s o y))
     full_read over =
-        loaded-over
-        (record {
+        let loaded : Loaded s o y MAX_ENTRIES u v from h.entries =
+        record {
           entries = h.entries;
           sofar = h.sofar;
           same = Same-itself h.entries;
-          fits =
-              h.counts.within;
-        }) g over
+          fits = h.counts.within;
+        } in
+        loaded-over loaded g over
 
   pub fault_read : (f : ReadFault) → GivesFault journal_framing MAX_ENTRIES from to v w f
       → LoadFails (at_most s o y) 1 u w (Input 1 f)

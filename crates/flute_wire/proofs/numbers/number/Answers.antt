@@ -1,4 +1,4 @@
-use Rattle.std.proofs.Common.{arith, ◌∙◌, take, drop, length, ◌-◌}
+use Rattle.std.proofs.Common.{arith, ◌∙◌}
 use Rattle.std.proofs.lemmas.List.{take_rest}
 use Rattle.flute_wire.proofs.BigEndian.{below_word, reads_two}
 use Rattle.flute_wire.proofs.numbers.number.Goals as goal

@@ -43,8 +43,7 @@ returns-in_err-fact-clause-passed g c =
 pub returns-then-not-count-clause-passed : goal.returns-then-not-count-clause-passed
 returns-then-not-count-clause-passed g c =
     passing-full c.loop-fact.invariant.passing c.in-Some.fact
-    (given-entry _ _ _ _ c.loop-fact.invariant.limit c.in-Some.is
-    c.in_ok-fact.ensures.gives)
+    (given-entry _ _ _ _ c.loop-fact.invariant.limit c.in-Some.is c.in_ok-fact.ensures.gives)
     (λ F r k. c.count.ensures.over F c.in-Some.fact (sym c.address.ensures) r k c.if-not-count.true)
 
 pub loop-fact-preserved : goal.loop-fact-preserved
@@ -52,8 +51,7 @@ loop-fact-preserved g c =
     let i = c.loop-fact.invariant in
     record {
       passing =
-          passing-next i.passing c.in-Some.fact _ _ _
-          (given-entry _ _ _ _ i.limit c.in-Some.is
+          passing-next i.passing c.in-Some.fact _ _ _ (given-entry _ _ _ _ i.limit c.in-Some.is
           c.in_ok-fact.ensures.gives)
           (λ F r k. c.count.ensures.within F c.in-Some.fact (sym c.address.ensures) r k
           c.if-not-count.false) (λ P r h. c.pass.ensures.passed P _ r h);

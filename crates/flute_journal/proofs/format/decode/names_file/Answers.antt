@@ -23,8 +23,7 @@ returns-then-is_named-clause-spelled c = λ h.
       sender_is = c.sender_in.ensures;
     } in
     let same : c.number.result ≡ c.number-own.result =
-    eqb-true c.number.result c.number-own.result
-    h in
+    eqb-true c.number.result c.number-own.result h in
     let told : c.number.result ≡ c.sender_in.result = search rules in
     let own : c.number-own.result ≡ key.session.sender = search rules in
     key_named key split (sym told ∙ same ∙ own)

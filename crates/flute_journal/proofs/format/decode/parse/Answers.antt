@@ -8,8 +8,7 @@ use Rattle.flute_journal.proofs.format.decode.parse.Goals as goal
 pub returns-in_default-key_in : goal.returns-in_default-key_in
 returns-in_default-key_in c =
     key_wrong c.args.version c.args.kind c.args.last.now c.args.bytes.now
-    (omega (arith, c.sender_size.ensures.size)) c.in-Some.ensures.cases
-    c.in_default-key_in.ensures
+    (omega (arith, c.sender_size.ensures.size)) c.in-Some.ensures.cases c.in_default-key_in.ensures
 
 pub returns-in-Info : goal.returns-in-Info
 returns-in-Info c =
@@ -21,9 +20,7 @@ returns-in-Info c =
       size_is = omega (arith, c.sender_size.ensures.size);
       front = c.in-Some.field.now;
       split = c.in-Some.ensures.cases;
-      passes = key.ensures.0;
-      key_is = key.ensures.1;
-      valid = key.ensures.2;
+      found = key.ensures;
     } in
     parsed_at c.args.last.now c.information_at.result c.in-Info.is begins c.information_at.ensures
 
@@ -37,9 +34,7 @@ returns-in-InfoConflict c =
       size_is = omega (arith, c.sender_size.ensures.size);
       front = c.in-Some.field.now;
       split = c.in-Some.ensures.cases;
-      passes = key.ensures.0;
-      key_is = key.ensures.1;
-      valid = key.ensures.2;
+      found = key.ensures;
     } in
     parsed_at c.args.last.now c.information_conflict_at.result c.in-InfoConflict.is begins
     c.information_conflict_at.ensures
@@ -54,9 +49,7 @@ returns-in-Ok c =
       size_is = omega (arith, c.sender_size.ensures.size);
       front = c.in-Some.field.now;
       split = c.in-Some.ensures.cases;
-      passes = key.ensures.0;
-      key_is = key.ensures.1;
-      valid = key.ensures.2;
+      found = key.ensures;
     } in
     parsed_at c.args.last.now (Ok (Symbol key.key c.in-Ok.id c.in-Ok.length)) c.in-Symbol.is begins
     c.in-Ok.ensures
@@ -71,9 +64,7 @@ returns-in-Err c =
       size_is = omega (arith, c.sender_size.ensures.size);
       front = c.in-Some.field.now;
       split = c.in-Some.ensures.cases;
-      passes = key.ensures.0;
-      key_is = key.ensures.1;
-      valid = key.ensures.2;
+      found = key.ensures;
     } in
     parsed_at c.args.last.now (Err c.in-Err.fault) c.in-Symbol.is begins c.in-Err.ensures
 
@@ -87,9 +78,7 @@ returns-in-SymbolConflict c =
       size_is = omega (arith, c.sender_size.ensures.size);
       front = c.in-Some.field.now;
       split = c.in-Some.ensures.cases;
-      passes = key.ensures.0;
-      key_is = key.ensures.1;
-      valid = key.ensures.2;
+      found = key.ensures;
     } in
     parsed_at c.args.last.now c.symbol_conflict_at.result c.in-SymbolConflict.is begins
     c.symbol_conflict_at.ensures

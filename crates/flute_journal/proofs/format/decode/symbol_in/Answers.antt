@@ -14,9 +14,7 @@ returns-in-Ok c =
       size_is = omega (arith, c.sender_size.ensures.size);
       front = c.in_ok-field.field.now;
       split = c.in_ok-field.ensures.cases;
-      passes = key.ensures.0;
-      key_is = key.ensures.1;
-      valid = key.ensures.2;
+      found = key.ensures;
     } in
     parsed_at c.args.last.now (Ok (Symbol key.key c.in-Ok.id c.in-Ok.length)) refl begins
     c.in-Ok.ensures

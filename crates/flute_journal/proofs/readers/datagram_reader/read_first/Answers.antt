@@ -10,5 +10,4 @@ returns-in_err-read_header-clause-reads g c =
     let e = err_from_is_err_and c.from_residual.result c.from_residual.ensures.1 in
     let h = c.in_err-read_header.ensures in
     subst (ReadsFrom file_framing tt c.args.max_records Header _ _) (sym (e.1 ∙ ap Err e.2))
-    (reads_header file_sound c.args.max_records tt _ _ h.reads
-    h.memory h.faults h.advances)
+    (reads_header file_sound c.args.max_records tt _ _ h.reads h.memory h.faults h.advances)

@@ -20,5 +20,4 @@ returns-in_err-bytes-in-Symbol-clause-within g c =
     let fixed = rw c.in-Symbol.is at r.0 in
     symbol_ends c.args.version (g.R.Source.unread c.args.source.now)
     (g.R.Source.unread c.read_head.new.source) (g.R.Source.unread c.read_bytes.new.source)
-    (e.1 ∙ ap Err e.2) fixed
-    (rw c.in-Symbol.is at r.1) c.in_err-bytes-in-Symbol.ensures.advances
+    (e.1 ∙ ap Err e.2) fixed (rw c.in-Symbol.is at r.1) c.in_err-bytes-in-Symbol.ensures.advances

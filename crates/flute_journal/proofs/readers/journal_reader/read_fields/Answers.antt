@@ -9,8 +9,7 @@ returns-in-Header-clause-gives g c = rw c.in-Header.is c.read_first.ensures.give
 pub returns-in-Items-clause-gives : goal.returns-in-Items-clause-gives
 returns-in-Items-clause-gives g c =
     let at = c.in-Items in
-    rw at.is
-    (gives journal_framing c.args.max_entries at.before.version (Items at.before) _ _ _
+    rw at.is (gives journal_framing c.args.max_entries at.before.version (Items at.before) _ _ _
     c.state_after-next.ensures (
       refl,
       reads_entries c.args.max_entries at.before _ _ c.read_entry-given.result

@@ -11,9 +11,7 @@ pub returns : goal.returns
 returns c =
     let x = c.in_ok-key in
     let found = c.in_ok-symbol.ensures.lookup.0 in
-    symbol_begins c.args.version x.ensures.0.0 x.ensures.0.1
-    x.ensures.1
-    (record {
+    symbol_begins c.args.version x.ensures.0.0 x.ensures.0.1 x.ensures.1 (record {
       octets = octets c.args.bytes.now (λ i. (c.type_inv.bytes i).fits);
       first = c.in_ok-first.field-0-0.now;
       back = c.in_ok-first.rest.now;

@@ -11,9 +11,7 @@ returns-clause-begins c =
     let x = c.in_ok-id in
     let found = c.in_ok-symbol.ensures.lookup.0 in
     let told : c.args.length ≡ x.told = search rules in
-    symbol_begins Two x.ensures.0.0
-    x.ensures.0.1 x.ensures.1
-    (record {
+    symbol_begins Two x.ensures.0.0 x.ensures.0.1 x.ensures.1 (record {
       octets = octets c.args.bytes.now (λ i. (c.type_inv.bytes i).fits);
       first = c.in_ok-first.field-0-0.now;
       back = c.in_ok-first.rest.now;

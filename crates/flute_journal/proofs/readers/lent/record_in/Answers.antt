@@ -43,5 +43,4 @@ returns-clause-begins c =
     let kept : datagram ≡ c.in-Ok.datagram = search rules in
     subst (λ xs. BeginsWithRecord xs c.in-Ok.datagram) (sym (joined bytes number rest 2 split))
     (subst (BeginsWithRecord (number ++ rest)) kept
-    (record_begins n rest c.length_in.ensures.spelled (search rules) is size
-    (search rules) own))
+    (record_begins n rest c.length_in.ensures.spelled (search rules) is size (search rules) own))

@@ -56,8 +56,7 @@ pub returns-in_err-put-clause-fault : goal.returns-in_err-put-clause-fault
 returns-in_err-put-clause-fault g c =
     let e = err_from_is_err_and c.from_residual-in_err-put.result
     c.from_residual-in_err-put.ensures.1 in
-    rw (e.1 ∙ ap Err e.2)
-    (loaded-full _ _ c.loop-store.invariant.0
+    rw (e.1 ∙ ap Err e.2) (loaded-full _ _ c.loop-store.invariant.0
     (given-entry _ _ _ _ c.loop-store.invariant.1 c.in-Some.is c.in_ok-fact.ensures.gives)
     (λ full. c.in_err-put.ensures.full.0 (ap Err full)))
 

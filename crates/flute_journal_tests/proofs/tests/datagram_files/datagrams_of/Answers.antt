@@ -19,9 +19,7 @@ returns-in_err-datagram-clause-fault g c =
     subst (λ n. GivesFault file_framing n old new v w f) c.loop-datagrams.invariant.1
     c.in_err-datagram.ensures.gives in
     let e = err_from_is_err_and c.from_residual.result c.from_residual.ensures.1 in
-    rw (e.1 ∙ ap Err e.2)
-    (sofar-fault file_sound
-    c.loop-datagrams.invariant.0 gave)
+    rw (e.1 ∙ ap Err e.2) (sofar-fault file_sound c.loop-datagrams.invariant.0 gave)
 
 pub loop-datagrams-preserved : goal.loop-datagrams-preserved
 loop-datagrams-preserved g c =
