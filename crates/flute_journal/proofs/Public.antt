@@ -1,8 +1,8 @@
 -- What the proofs of the crates above may cite. Declares nothing.
 pub use Rattle.flute_journal.proofs.Each.{all_append, all_map, all_more, all_split}
 pub use Rattle.flute_journal.proofs.format_lemmas.Entries.{facts_of}
-pub use Rattle.flute_journal.proofs.format_lemmas.Prefixes.{BeginsWithAll, journal_parts, no_end}
-pub use Rattle.flute_journal.proofs.format_lemmas.Prefixes.{no_whole_end}
+pub use Rattle.flute_journal.proofs.format_lemmas.Prefixes.{BeginsWithJournal, journal_parts}
+pub use Rattle.flute_journal.proofs.format_lemmas.Prefixes.{no_end, no_whole_end}
 pub use Rattle.flute_journal.proofs.format_lemmas.Prefixes.{parts_journal, same_journal}
 pub use Rattle.flute_journal.proofs.format_lemmas.Prefixes.{spelling-injective, without_end-append}
 pub use Rattle.flute_journal.proofs.format_lemmas.Prefixes.{without_end-snoc, written-snoc}

@@ -31,13 +31,13 @@ written-snoc [] f = refl
 written-snoc (e ∷ es) f = refl
 
 -- bytes begin with a header of this version and these valid entries
-pub record BeginsWith (version : Version) (entries : List Fact) (rest bytes : List ℕ)
+pub record BeginsWithEntries (version : Version) (entries : List Fact) (rest bytes : List ℕ)
     : Type 0 where
   pub valid : AllByRecursion (IsFactIn version) entries
   pub bytes_are : bytes ≡ without_end_in version entries ++ rest
 
 -- they begin with a whole journal of valid entries
-pub record BeginsWithAll (version : Version) (entries : List Fact) (rest bytes : List ℕ)
+pub record BeginsWithJournal (version : Version) (entries : List Fact) (rest bytes : List ℕ)
     : Type 0 where
   pub valid : AllByRecursion (IsFactIn version) entries
   pub bytes_are : bytes ≡ spelling_in version entries ++ rest
@@ -45,7 +45,7 @@ pub record BeginsWithAll (version : Version) (entries : List Fact) (rest bytes :
 -- If two journals begin with the same bytes, they have one version; where the first ends after
 -- its own entries, these are the first entries of the second.
 pub without_end-both : {v w : Version} {fs es : List Fact} {x t bytes : List ℕ}
-    → BeginsWith v fs x bytes → BeginsWith w es t bytes
+    → BeginsWithEntries v fs x bytes → BeginsWithEntries w es t bytes
     → ((f : Fact) (y : List ℕ) → t ≡ entry_in v f ++ y → ⊥)
     → (v ≡ w) × GoesOn (entry_in v) fs es x t
 without_end-both {v = v} {w = w} {fs = fs} {es = es} {x = x} {t = t} p q none =
@@ -62,10 +62,10 @@ without_end-both {v = v} {w = w} {fs = fs} {es = es} {x = x} {t = t} p q none =
     )
 
 pub without_end-of_spelling : {v w : Version} {fs es : List Fact} {x y bytes : List ℕ}
-    → BeginsWith v fs x bytes → BeginsWithAll w es y bytes
+    → BeginsWithEntries v fs x bytes → BeginsWithJournal w es y bytes
     → (v ≡ w) × GoesOn (entry_in v) fs es x (end (length es) ++ y)
 without_end-of_spelling {v = v} {w = w} {es = es} {y = y} {bytes = bytes} p q =
-    let r : BeginsWith w es (end (length es) ++ y) bytes =
+    let r : BeginsWithEntries w es (end (length es) ++ y) bytes =
     record {
       valid = q.valid;
       bytes_are = q.bytes_are ∙ append_assoc (without_end_in w es) (end (length es)) y;
@@ -82,10 +82,10 @@ by_rest v fs es (f ∷ rest) x y s t =
 
 -- a journal is read in one way, whatever follows it
 pub spelling-injective : {v w : Version} {fs es : List Fact} {x y bytes : List ℕ}
-    → BeginsWithAll v fs x bytes → BeginsWithAll w es y bytes
+    → BeginsWithJournal v fs x bytes → BeginsWithJournal w es y bytes
     → (v ≡ w) × (es ≡ fs) × (x ≡ y)
 spelling-injective {v = v} {fs = fs} {es = es} {x = x} {y = y} {bytes = bytes} p q =
-    let begun : BeginsWith v fs (end (length fs) ++ x) bytes =
+    let begun : BeginsWithEntries v fs (end (length fs) ++ x) bytes =
     record {
       valid = p.valid;
       bytes_are = p.bytes_are ∙ append_assoc (without_end_in v fs) (end (length fs)) x;
@@ -131,9 +131,9 @@ pub written_journal : (bytes : List ℕ) (facts : List Fact) → Journal bytes f
 written_journal bytes facts j = (Two, j)
 
 -- the entries of a journal, which nothing follows
-pub begins_with_all : {v : Version} {bytes : List ℕ} {facts : List Fact}
-    → (j : JournalParts v bytes facts) → BeginsWithAll v j.entries [] bytes
-begins_with_all {v = v} j =
+pub begins_with_journal : {v : Version} {bytes : List ℕ} {facts : List Fact}
+    → (j : JournalParts v bytes facts) → BeginsWithJournal v j.entries [] bytes
+begins_with_journal {v = v} j =
     record {
       valid = j.valid;
       bytes_are = j.bytes_are ∙ sym (append-nil (spelling_in v j.entries));
@@ -145,7 +145,7 @@ pub same_journal : (v w : Version) (bytes : List ℕ) (F G : List Fact) → Jour
 same_journal v w bytes F G first second =
     let j = journal_parts v bytes F first in
     let k = journal_parts w bytes G second in
-    let one = spelling-injective (begins_with_all j) (begins_with_all k) in (
+    let one = spelling-injective (begins_with_journal j) (begins_with_journal k) in (
       one.0,
       record {
         each =
@@ -168,9 +168,9 @@ pub no_end : (M : List Fact) (bs more : List ℕ) → AllByRecursion IsFact M
     → bs ++ more ≡ without_end M → (facts : List Fact) → IsJournal bs facts → ⊥
 no_end M bs more all e facts (v, journal) =
     let j = journal_parts v bs facts journal in
-    let begun : BeginsWith Two M [] (bs ++ more) =
+    let begun : BeginsWithEntries Two M [] (bs ++ more) =
     record { valid = facts_two M all; bytes_are = e ∙ sym (append-nil (without_end M)) } in
-    let read : BeginsWithAll v j.entries more (bs ++ more) =
+    let read : BeginsWithJournal v j.entries more (bs ++ more) =
     record { valid = j.valid; bytes_are = ap (λ (x : List ℕ). x ++ more) j.bytes_are } in
     let f = without_end-of_spelling begun read in
     end_some (length j.entries) more (right_nil (flat_map entry f.1.more)
@@ -182,9 +182,9 @@ pub no_whole_end : (M : List Fact) (bs more : List ℕ) → AllByRecursion IsFac
     → IsJournal bs facts → ⊥
 no_whole_end M bs more all s e facts (v, journal) =
     let j = journal_parts v bs facts journal in
-    let read : BeginsWithAll v j.entries more (bs ++ more) =
+    let read : BeginsWithJournal v j.entries more (bs ++ more) =
     record { valid = j.valid; bytes_are = ap (λ (x : List ℕ). x ++ more) j.bytes_are } in
-    let whole : BeginsWithAll Two M [] (bs ++ more) =
+    let whole : BeginsWithJournal Two M [] (bs ++ more) =
     record { valid = facts_two M all; bytes_are = e ∙ sym (append-nil (spelling M)) } in
     let f = spelling-injective read whole in
     s f.2

@@ -14,7 +14,7 @@ use Rattle.flute_journal.proofs.Common.{same_Some, spelling_in, subst, sym, symb
 use Rattle.flute_journal.proofs.Common.{counted_bytes, true, ℕ, ◌++◌, ◌<◌, ◌^◌, ◌∙◌, ◌∷◌, ◌≡◌, ◌≤◌}
 use Rattle.flute_journal.proofs.framing_lemmas.Sequences.{IsStop, one_stop, stop_at_bound}
 use Rattle.flute_journal.proofs.framing_lemmas.Sequences.{Passes, PassesWithin}
-use Rattle.flute_journal.proofs.format_lemmas.Prefixes.{BeginsWith, without_end-both}
+use Rattle.flute_journal.proofs.format_lemmas.Prefixes.{BeginsWithEntries, without_end-both}
 use Rattle.flute_journal.proofs.format_lemmas.Prefixes.{journal_parts}
 use Rattle.flute_journal.proofs.Each.{all_split}
 use Rattle.flute_journal.proofs.Numbers.{number-in_bytes}
@@ -122,9 +122,9 @@ beyond v es {bytes = bytes} {f = f} p q small e (in_header none h) =
 beyond v {limit = limit} es {fs = fs} {bytes = bytes} {f = f} p q small e (after_items s) =
     let w = s.are_items.told in
     let n = length es in
-    let begun : BeginsWith w fs s.rest bytes =
+    let begun : BeginsWithEntries w fs s.rest bytes =
     record { valid = s.are_items.valid; bytes_are = s.whole } in
-    let whole : BeginsWith v es (end n) bytes = record { valid = p; bytes_are = e } in
+    let whole : BeginsWithEntries v es (end n) bytes = record { valid = p; bytes_are = e } in
     let b = without_end-both begun whole (λ x y. not_end w x (in_bytes 8 n) y) in
     stop_at_bound (entry_in w) (IsFactIn w) (entry_injective w)
     (λ l r. next_fault (before w l) limit r) limit f
@@ -144,8 +144,8 @@ pub without_end-below : (v w : Version) {bytes : List ℕ} (F es : List Fact) (r
 without_end-below v w {bytes = bytes} F es rest journal p e =
     let j = journal_parts v bytes F journal in
     let all = j.entries in
-    let begun : BeginsWith w es rest bytes = record { valid = p; bytes_are = e } in
-    let whole : BeginsWith v all (end (length all)) bytes =
+    let begun : BeginsWithEntries w es rest bytes = record { valid = p; bytes_are = e } in
+    let whole : BeginsWithEntries v all (end (length all)) bytes =
     record { valid = j.valid; bytes_are = j.bytes_are } in
     let b = without_end-both begun whole (λ x y. not_end w x (in_bytes 8 (length all)) y) in
     let low : Below es all = subst (Below es) (sym b.1.items) (Below-more es b.1.more) in

@@ -16,7 +16,7 @@ use Rattle.flute_journal.proofs.format_lemmas.Parts.{entry_within-short}
 use Rattle.flute_journal.proofs.Each.{all_split}
 use Rattle.flute_journal.proofs.format_lemmas.Prefixes.{without_end_in-snoc, within_entry}
 use Rattle.flute_journal.proofs.format_lemmas.Prefixes.{within_end, within_nil}
-use Rattle.flute_journal.proofs.format_lemmas.Prefixes.{BeginsWith, BeginsWithAll}
+use Rattle.flute_journal.proofs.format_lemmas.Prefixes.{BeginsWithEntries, BeginsWithJournal}
 use Rattle.flute_journal.proofs.format_lemmas.Prefixes.{without_end-of_spelling}
 use Rattle.flute_journal.proofs.format_lemmas.Rising.{Rises-second, Rises, rising-rises}
 use Rattle.flute_journal.specs.Whole.{in_header as part_in_header, after_entries as part_after}
@@ -187,8 +187,8 @@ ahead-read : (v : Version) (input left : Option (List ℕ)) (settled : List Fact
 ahead-read v None left settled p c w es q r e = absurd (none-some (spelling_in w es) e)
 ahead-read v (Some xs) None settled p c w es q r e = absurd c
 ahead-read v (Some xs) (Some ys) settled p c w es q r e =
-    let begun : BeginsWith v settled ys xs = record { valid = p; bytes_are = c } in
-    let whole : BeginsWithAll w es [] xs =
+    let begun : BeginsWithEntries v settled ys xs = record { valid = p; bytes_are = c } in
+    let whole : BeginsWithJournal w es [] xs =
     record {
       valid = q;
       bytes_are = same_Some xs (spelling_in w es) e ∙ sym (append-nil (spelling_in w es));

@@ -15,7 +15,7 @@ use Rattle.flute_streams.proofs.Common.{◌∷◌, ◌≡◌, ◌≤◌}
 use Rattle.flute_journal.proofs.Public.{ahead-sofar, reads-side, reads-sofar, reads-fault, AtEnd}
 use Rattle.flute_journal.proofs.Public.{whole-at, side-from, open_after, sofar-fault, journal_sound}
 use Rattle.flute_journal.proofs.Public.{one_given, all_split, fact_sized, spelling-injective}
-use Rattle.flute_journal.proofs.Public.{BeginsWithAll}
+use Rattle.flute_journal.proofs.Public.{BeginsWithJournal}
 use Rattle.flute_journal.specs.declared.fault.LoadFault.TheVariants as load
 use Rattle.flute_streams.specs.declared.streams.journal_stream.JournalStream.{JournalStream}
 
@@ -132,12 +132,12 @@ only_entries limit (Some xs) F K h k =
     let v = h.are_items.told in
     let w = k.version in
     let e : xs ≡ spelling_in w K = (let q = k.bytes_are in cc) in
-    let first : BeginsWithAll v F [] xs =
+    let first : BeginsWithJournal v F [] xs =
     record {
       valid = h.are_items.valid;
       bytes_are = h.bytes_are ∙ sym (append-nil (spelling_in v F));
     } in
-    let second : BeginsWithAll w K [] xs =
+    let second : BeginsWithJournal w K [] xs =
     record { valid = k.valid; bytes_are = e ∙ sym (append-nil (spelling_in w K)) } in
     (spelling-injective first second).1
 
