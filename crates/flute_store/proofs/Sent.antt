@@ -141,12 +141,13 @@ module _ (F : List Fact) (key : Key) (info : Information) (content : List ℕ)
       ap (take info.transfer_length) joined
       ∙ take_all info.transfer_length content (omega (arith, whole))
 
-pub datagrams_give_the_object : (F : List Fact) (key : Key) (info : Information) (content : List ℕ)
+pub datagrams_give_the_object : (F : List Fact) (key : Key) {info : Information}
+    (content : List ℕ)
     (datagrams : List (List ℕ)) → IsValid info → length content ≡ info.transfer_length
     → AllZip IsWritten datagrams (packets_of key info content)
     → SameMembers (facts_at_key key F) (flat_map (facts key.session.sender) datagrams)
     → Whole F key info × (object F key info ≡ content)
-datagrams_give_the_object F key info content datagrams v whole written same =
+datagrams_give_the_object F key {info = info} content datagrams v whole written same =
     let sent : SameMembers (facts_at_key key F) (facts_sent key info content) =
     subst (SameMembers (facts_at_key key F)) (facts_are_sent key info content datagrams written)
     same in
