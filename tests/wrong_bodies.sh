@@ -105,7 +105,8 @@ told 'a proof that does not fit shows nothing' '^flute_join/copied_is_fresh: UNF
 told 'what calls its function is proved by the clauses' \
     '^flute_join/calls_alone: FAILED: still proved: .*::Cell::wrong_is_conflict_calls_alone$'
 told 'five of nine are refused' '^wrong bodies: 5 refused, 1 unfit, 3 failed$'
-told 'the method of a trait waits' '^flute_join: 9 wrong bodies in 2 checks$'
+told 'two are tried again: that method, and alone what an invariant does not fit' \
+    '^flute_join: 9 wrong bodies in 3 checks$'
 
 # An edit outside functions is tried alone, with the function that it names.
 edit outside/a_comment src/cell.rt '//! A cell: nothing, one value, or a conflict.' '//! A cell.'
