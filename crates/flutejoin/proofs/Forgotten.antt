@@ -31,8 +31,8 @@ module _ {R : Type 0} (unread : R → Option (List ℕ)) (failures : R → ℕ) 
   abbrev rests : Behaviour (Chosen (OwnedJournalStream R) AllBut)
   rests = chosen_behaviour (λ c. leaves c.0) (owned_behaviour unread failures)
 
-  module _ (s t : Chosen (OwnedJournalStream R) AllBut) (limit : owned_limit s.stream ≡ MAX_ENTRIES)
-      (old new : Option (List ℕ)) where
+  module _ (s t : Chosen (OwnedJournalStream R) AllBut)
+      (limit : owned_limit s.stream ≡ MAX_ENTRIES) where
     journal_of : (input : Option (List ℕ)) (all : List Fact) → s.others ≡ 0
         → (s.others + others_of (leaves s.choice.0) all < 2 ^ 64
         → t.others ≡ s.others + others_of (leaves s.choice.0) all)
@@ -47,12 +47,15 @@ module _ {R : Type 0} (unread : R → Option (List ℕ)) (failures : R → ℕ) 
         let count = counts (omega (arith, none, few, within.are_items.few)) in
         (within, omega (arith, count, none, same))
 
-    pub forgets : (count : ℕ) → s.others ≡ 0 → WritesAll rests s t old new count
+  module _ {s : Chosen (OwnedJournalStream R) AllBut}
+      (limit : owned_limit s.stream ≡ MAX_ENTRIES) {old new : Option (List ℕ)} where
+    pub forgets : {t : Chosen (OwnedJournalStream R) AllBut} {count : ℕ} → s.others ≡ 0
+        → WritesAll rests s t old new count
         → Forgets s.choice.0 (record { forgotten = t.others; entries = count })
         (unread s.stream.source) old new
-    forgets count none w = record {
+    forgets {t = t} {count = count} none w = record {
       entries = w.ends.0;
-      journal = journal_of (unread s.stream.source) w.ends.0 none w.ends.1.1 w.ends.1.0;
+      journal = journal_of s t limit (unread s.stream.source) w.ends.0 none w.ends.1.1 w.ends.1.0;
       writes = subst
           (λ (facts : List Fact). WritesJournal old new facts count)
           w.ends.2 w.writes;

@@ -30,10 +30,10 @@ use Rattle.flutejoin.proofs.SelectedFacts.{few_selected, selected_more}
 
 -- The end of a journal, after its entries.
 
-pub whole : (u v w : Option (List ℕ)) (from to : ReaderState Before) (es : List Fact)
+pub whole : {u v w : Option (List ℕ)} {from to : ReaderState Before} {es : List Fact}
     → Sofar journal_framing MAX_ENTRIES u v from es → GivesEnd journal_framing from to v w
     → IfSome u (λ x. IsJournalWithin MAX_ENTRIES x es)
-whole u v w from to es h g =
+whole {u = u} {w = w} {to = to} {es = es} h g =
     whole-at journal_sound MAX_ENTRIES u w es (side-from journal_sound w to None h g)
 
 -- these entries were read, and the lines of those that are selected written, and nothing else
@@ -51,8 +51,8 @@ lines_more choice es f =
     sym (ap entry_lines (selected_more choice f es)
     ∙ flat_map-append fact_line (selected choice es) (selected choice (f ∷ [])))
 
-module _ {choice : Selection} {u v : Option (List ℕ)} (w : Option (List ℕ))
-    {from : ReaderState Before} (to : ReaderState Before) {s t : Option (List ℕ)} {count : ℕ}
+module _ {choice : Selection} {u v : Option (List ℕ)} {from : ReaderState Before}
+    {s t : Option (List ℕ)} {count : ℕ}
     (h : Shown choice u v from s t count) where
   -- no more lines than entries
   pub few_shown : count ≤ 16777216
@@ -61,12 +61,12 @@ module _ {choice : Selection} {u v : Option (List ℕ)} (w : Option (List ℕ))
       let most : length h.entries ≤ 16777216 = h.sofar.are_items.few in
       omega (arith, h.counted, few, most)
 
-  module _ (f : Fact) (g : GivesItem journal_framing MAX_ENTRIES from to v w f)
-      (t' : Option (List ℕ)) where
-    pub shown-next : (lines : ℕ) → lines ≡ length (selected choice (f ∷ []))
+  module _ {w : Option (List ℕ)} {to : ReaderState Before} {f : Fact}
+      (g : GivesItem journal_framing MAX_ENTRIES from to v w f) {t' : Option (List ℕ)} where
+    pub shown-next : {lines : ℕ} → lines ≡ length (selected choice (f ∷ []))
         → Appends t t' (entry_lines (selected choice (f ∷ [])))
         → Shown choice u w to s t' (count + lines)
-    shown-next lines are line = record {
+    shown-next are line = record {
       entries = h.entries ++ f ∷ [];
       sofar = sofar-next journal_sound h.sofar g;
       counted =
@@ -91,22 +91,23 @@ module _ {choice : Selection} {u v : Option (List ℕ)} (w : Option (List ℕ))
         (entry_lines (selected choice (f ∷ []))) h.written part))
 
   -- A fault after the entries.
-  pub shown-fault : (f : ReadFault) → GivesFault journal_framing MAX_ENTRIES from to v w f
-      → ShowsUntil choice u w s t f
-  shown-fault f g = record {
+  pub shown-fault : {w : Option (List ℕ)} {to : ReaderState Before} {f : ReadFault}
+      → GivesFault journal_framing MAX_ENTRIES from to v w f → ShowsUntil choice u w s t f
+  shown-fault {w = w} {to = to} {f = f} g = record {
     entries = h.entries;
     are_items = h.sofar.are_items;
     stops = (sofar-stops h.sofar g).0;
     written = h.written;
   }
 
-  module _ (g : GivesEnd journal_framing from to v w) (t' : Option (List ℕ)) where
+  module _ {w : Option (List ℕ)} {to : ReaderState Before}
+      (g : GivesEnd journal_framing from to v w) {t' : Option (List ℕ)} where
     pub shown-all : Appends t t' (entries_line count) → ShowsAll choice u s t'
     shown-all line =
         let chosen = selected choice h.entries in
         record {
           entries = h.entries;
-          journal = whole u v w from to h.entries h.sofar g;
+          journal = whole h.sofar g;
           written =
               Appends-trans s t t' (entry_lines chosen) (entries_line (length chosen)) h.written
               (subst (λ n. Appends t t' (entries_line n)) h.counted line);
@@ -115,37 +116,40 @@ module _ {choice : Selection} {u v : Option (List ℕ)} (w : Option (List ℕ))
     pub shown-cut : AppendsPart t t' (entries_line count) → ShowsPart choice u w s t'
     shown-cut part =
         let chosen = selected choice h.entries in
-        of_journal h.entries (whole u v w from to h.entries h.sofar g)
+        of_journal h.entries (whole h.sofar g)
         (AppendsPart-second s t t' (entry_lines chosen) (entries_line (length chosen)) h.written
         (subst (λ n. AppendsPart t t' (entries_line n)) h.counted part))
 
 -- What a call of the reader gave, and a write did.
 
-pub entry_given : (limit : ℕ) (from to : ReaderState Before) (v w : Option (List ℕ))
-    (r : Result (Option Fact) ReadFault) (f : Fact) → Gives journal_framing limit from to v w r
-    → limit ≡ MAX_ENTRIES → r ≡ Ok (Some f) → GivesItem journal_framing MAX_ENTRIES from to v w f
-entry_given limit from to v w r f h l e =
+pub entry_given : {limit : ℕ} (from to : ReaderState Before) (v w : Option (List ℕ))
+    {r : Result (Option Fact) ReadFault} {f : Fact} → Gives journal_framing limit from to v w r
+    → limit ≡ MAX_ENTRIES → r ≡ Ok (Some f)
+    → GivesItem journal_framing MAX_ENTRIES from to v w f
+entry_given {limit = limit} from to v w {f = f} h l e =
     subst (λ n. Gives journal_framing n from to v w (Ok (Some f))) l
     (subst (λ (x : Result (Option Fact) ReadFault). Gives journal_framing limit from to v w x) e h)
 
 pub end_given : (limit : ℕ) (from to : ReaderState Before) (v w : Option (List ℕ))
-    (r : Result (Option Fact) ReadFault) → Gives journal_framing limit from to v w r → r ≡ Ok None
+    {r : Result (Option Fact) ReadFault} → Gives journal_framing limit from to v w r
+    → r ≡ Ok None
     → GivesEnd journal_framing from to v w
-end_given limit from to v w r h e =
+end_given limit from to v w h e =
     subst (λ (x : Result (Option Fact) ReadFault). Gives journal_framing limit from to v w x) e h
 
-pub fault_given : (limit : ℕ) (from to : ReaderState Before) (v w : Option (List ℕ))
-    (r : Result (Option Fact) ReadFault) (f : ReadFault) → Gives journal_framing limit from to v w r
-    → limit ≡ MAX_ENTRIES → r ≡ Err f → GivesFault journal_framing MAX_ENTRIES from to v w f
-fault_given limit from to v w r f h l e =
+pub fault_given : {limit : ℕ} (from to : ReaderState Before) (v w : Option (List ℕ))
+    {r : Result (Option Fact) ReadFault} {f : ReadFault}
+    → Gives journal_framing limit from to v w r → limit ≡ MAX_ENTRIES → r ≡ Err f
+    → GivesFault journal_framing MAX_ENTRIES from to v w f
+fault_given {limit = limit} from to v w {f = f} h l e =
     subst (λ n. Gives journal_framing n from to v w (Err f)) l
     (subst (λ (x : Result (Option Fact) ReadFault). Gives journal_framing limit from to v w x) e h)
 
-pub no_read_failure : (r : Result (Option Fact) ReadFault) (o : Option Fact) (b : Bool) (n m k : ℕ)
-    → r ≡ Ok o → FailsIf b m n r → m ≡ k → n ≡ k
-no_read_failure (Ok x) o true n m k e h i = omega (arith, h, i)
-no_read_failure (Ok x) o false n m k e h i = omega (arith, h, i)
-no_read_failure (Err x) o b n m k e h i = absurd cc
+pub no_read_failure : (r : Result (Option Fact) ReadFault) {o : Option Fact} (b : Bool)
+    {n m k : ℕ} → r ≡ Ok o → FailsIf b m n r → m ≡ k → n ≡ k
+no_read_failure (Ok x) true e h i = omega (arith, h, i)
+no_read_failure (Ok x) false e h i = omega (arith, h, i)
+no_read_failure (Err x) b e h i = absurd cc
 
 pub fails_same : (T X : Type 0) (f : ReadFault) (n m : ℕ) → Fails {T = T} n m (Err f)
     → Fails {T = X} n m (Err f)
@@ -153,11 +157,12 @@ fails_same T X faults.Read n m h = h
 fails_same T X f n m h = h
 
 -- a fault that the reader met now
-pub read_failures : (T : Type 0) (u v : Option (List ℕ)) (state : ReaderState Before)
-    (es : List Fact) (r : Result (Option Fact) ReadFault) (f : ReadFault) (number n m k : ℕ)
-    → Sofar journal_framing MAX_ENTRIES u v state es → r ≡ Err f → FailsIf (is_open state) m n r
-    → m ≡ k → FailsToRead {T = T} k n (Err (Input number f))
-read_failures T u v state es r f number n m k h is fails e =
+pub read_failures : (T : Type 0) {u v : Option (List ℕ)} {state : ReaderState Before}
+    {es : List Fact} {r : Result (Option Fact) ReadFault} {f : ReadFault} (number n : ℕ)
+    {m k : ℕ} → Sofar journal_framing MAX_ENTRIES u v state es → r ≡ Err f
+    → FailsIf (is_open state) m n r → m ≡ k → FailsToRead {T = T} k n (Err (Input number f))
+read_failures T {u = u} {v = v} {state = state} {es = es} {r = r} {f = f} number n
+    {m = m} h is fails e =
     let P : Bool → Type 0 = λ b. FailsIf b m n r in
     let now : Fails m n r = subst P (open_after MAX_ENTRIES u v state es h) fails in
     let Q : Result (Option Fact) ReadFault → Type 0 = λ x. Fails m n x in

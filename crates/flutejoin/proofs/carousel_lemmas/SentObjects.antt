@@ -49,18 +49,38 @@ of_input : (input : Option (List ℕ)) (size : ℕ) (P Q : List ℕ → Type 0) 
 of_input None size P Q h go p = tt
 of_input (Some content) size P Q h go p = go content h (p content refl h)
 
-module _ (input mid old now : Option (List ℕ)) (left : ℕ) where
-  -- how far an object of this size was sent
-  abbrev pub Sent : Key → Information → ℕ → Result ℕ CommandFault → Type 0
-  Sent key i size sent = UnlessRead sent (ReadsOf input mid size left)
-      × OfSize input size (λ content. SendsPackets (packets_of key i content) old now sent)
+-- how far the packets of an object of this size were sent
+pub record Sent (input mid old now : Option (List ℕ)) (left : ℕ) (key : Key)
+    (symbol block size : ℕ) (sent : Result ℕ CommandFault) : Type 0 where
+  pub info : Information
+  pub is : info ≡ information size symbol block
+  pub sound : info_fault info ≡ None
+  pub reads : UnlessRead sent (ReadsOf input mid size left)
+  pub sends : OfSize input size
+      (λ content. SendsPackets (packets_of key info content) old now sent)
 
-  -- the same for equal values of the key, the information and the size
-  pub sent_same : (k key : Key) (j i : Information) (n size : ℕ) (sent : Result ℕ CommandFault)
-      → (k ≡ key) × (j ≡ i) × (n ≡ size) → Sent k j n sent → Sent key i size sent
-  sent_same k key j i n size sent e s =
-      subst (λ x. Sent key i x sent) e.2
-      (subst (λ x. Sent x i n sent) e.0 (subst (λ x. Sent k x n sent) e.1 s))
+-- so it was for equal values of the key, the information and the size
+pub sent_of : {input mid old now : Option (List ℕ)} {left : ℕ} {k key : Key} {j i : Information}
+    {n size symbol block : ℕ} {sent : Result ℕ CommandFault}
+    → (k ≡ key) × (j ≡ i) × (n ≡ size) → i ≡ information size symbol block
+    → info_fault i ≡ None
+    → UnlessRead sent (ReadsOf input mid n left)
+    → OfSize input n (λ content. SendsPackets (packets_of k j content) old now sent)
+    → Sent input mid old now left key symbol block size sent
+sent_of {input = input} {mid = mid} {old = old} {now = now} {left = left} {k = k} {key = key}
+    {i = i} {n = n} {sent = sent} e is sound reads sends = record {
+      info = i;
+      is = is;
+      sound = sound;
+      reads = subst (λ x. UnlessRead sent (ReadsOf input mid x left)) e.2 reads;
+      sends =
+          subst (λ x. OfSize input x
+          (λ content. SendsPackets (packets_of key i content) old now sent)) e.2
+          (subst (λ x. OfSize input n
+          (λ content. SendsPackets (packets_of x i content) old now sent)) e.0
+          (subst (λ x. OfSize input n
+          (λ content. SendsPackets (packets_of k x content) old now sent)) e.1 sends));
+    }
 
 module _ (key : Key) (symbol block size : ℕ) (i : Information)
     (is : i ≡ information size symbol block) (sound : info_fault i ≡ None) where
@@ -107,75 +127,84 @@ module _ (key : Key) (symbol block size : ℕ) (i : Information)
         of_packets key j content refl ∙ ap (option_map (λ f. Write f)) none,
       )
 
-  module _ (input mid old now : Option (List ℕ)) (left : ℕ) where
-    -- how far the object was sent
-    abbrev pub IsSent : Result ℕ CommandFault → Type 0
-    IsSent = Sent input mid old now left key i size
+module _ {input mid old now : Option (List ℕ)} {left : ℕ} {key : Key}
+    {symbol block size : ℕ} where
+  -- what send_to returns: all was sent; a failed write; a fault
+  pub told_sent : {sent : Result ℕ CommandFault} (result : Result ℕ CommandFault)
+      → Ends mid left sent result → Sent input mid old now left key symbol block size sent
+      → IfOk result (λ n. SendsInput input key symbol block n old now)
+  told_sent (Err e) ends s = tt
+  told_sent (Ok n) (inl h) s = absurd (cc)
+  told_sent (Ok n) (inr h) s =
+      let ok = subst (Sent input mid old now left key symbol block size) (sym h.0) s in
+      let rest = subst (λ r. UnlessRead r (HasLeft mid left)) (sym h.0) h.1 in
+      of_input input size (λ content. SendsPackets (packets_of key ok.info content) old now (Ok n))
+      (λ content. OfDatagrams key symbol block content (λ d. WritesFile d n old now))
+      (has_size input mid size left ok.reads rest)
+      (object_of key symbol block size ok.info ok.is ok.sound (λ d. WritesFile d n old now))
+      ok.sends
 
-    -- what send_to returns: all was sent; a failed write; a fault
-    pub told_sent : (result sent : Result ℕ CommandFault) → Ends mid left sent result → IsSent sent
-        → IfOk result (λ n. SendsInput input key symbol block n old now)
-    told_sent (Err e) sent ends s = tt
-    told_sent (Ok n) sent (inl h) s = absurd (cc)
-    told_sent (Ok n) sent (inr h) s =
-        let ok = subst IsSent (sym h.0) s in
-        let rest = subst (λ r. UnlessRead r (HasLeft mid left)) (sym h.0) h.1 in
-        of_input input size (λ content. SendsPackets (packets_of key i content) old now (Ok n))
-        (λ content. OfDatagrams key symbol block content (λ d. WritesFile d n old now))
-        (has_size input mid size left ok.0 rest) (object_of (λ d. WritesFile d n old now)) ok.1
+  told_part : Sent input mid old now left key symbol block size (Err CannotWrite)
+      → HasLeft mid left
+      → OfInput input key symbol block (λ d. AppendsPart old now
+      (file_header ++ flat_map record_of d))
+  told_part s rest =
+      of_input input size
+      (λ content. SendsPackets (packets_of key s.info content) old now (Err CannotWrite))
+      (λ content. OfDatagrams key symbol block content
+      (λ d. AppendsPart old now (file_header ++ flat_map record_of d)))
+      (has_size input mid size left s.reads rest)
+      (object_of key symbol block size s.info s.is s.sound
+      (λ d. AppendsPart old now (file_header ++ flat_map record_of d))) s.sends
 
-    told_part : IsSent (Err CannotWrite) → HasLeft mid left
-        → OfInput input key symbol block (λ d. AppendsPart old now
-        (file_header ++ flat_map record_of d))
-    told_part s rest =
-        of_input input size
-        (λ content. SendsPackets (packets_of key i content) old now (Err CannotWrite))
-        (λ content. OfDatagrams key symbol block content
-        (λ d. AppendsPart old now (file_header ++ flat_map record_of d)))
-        (has_size input mid size left s.0 rest)
-        (object_of (λ d. AppendsPart old now (file_header ++ flat_map record_of d))) s.1
+  pub told_failed_write : {sent : Result ℕ CommandFault} (result : Result ℕ CommandFault)
+      → Ends mid left sent result → Sent input mid old now left key symbol block size sent
+      → result ≡ Err CannotWrite
+      → OfInput input key symbol block (λ d. AppendsPart old now
+      (file_header ++ flat_map record_of d))
+  told_failed_write result (inl h) s e = absurd (cc)
+  told_failed_write {sent = sent} result (inr h) s e =
+      let so : sent ≡ Err CannotWrite = sym h.0 ∙ e in
+      told_part (subst (Sent input mid old now left key symbol block size) so s)
+      (subst (λ r. UnlessRead r (HasLeft mid left)) so h.1)
 
-    pub told_failed_write : (result sent : Result ℕ CommandFault) → Ends mid left sent result
-        → IsSent sent → result ≡ Err CannotWrite
-        → OfInput input key symbol block (λ d. AppendsPart old now
-        (file_header ++ flat_map record_of d))
-    told_failed_write result sent (inl h) s e = absurd (cc)
-    told_failed_write result sent (inr h) s e =
-        let so : sent ≡ Err CannotWrite = sym h.0 ∙ e in
-        told_part (subst IsSent so s) (subst (λ r. UnlessRead r (HasLeft mid left)) so h.1)
+  fault_of : (e : CommandFault) → IsSendingFault e
+      → Sent input mid old now left key symbol block size (Err e)
+      → UnlessRead {T = ℕ} (Err e) (HasLeft mid left) → SendFails input key symbol block e
+  fault_of (CannotSend f) only s rest =
+      of_input input size
+      (λ content. SendsPackets (packets_of key s.info content) old now (Err (CannotSend f)))
+      (λ content. carousel_fault key (info_of symbol block content) content ≡ Some (Write f))
+      (has_size input mid size left s.reads rest)
+      (λ content. not_sent key symbol block size s.info s.is s.sound content f) s.sends
+  fault_of (Input n f) (inl only) s rest = (cc, cc)
+  fault_of (Input n f) (inr only) s rest = absurd (cc)
+  fault_of CannotWrite only s rest =
+      kept input (told_part s rest)
+    where
+      kept : (o : Option (List ℕ)) → OfInput o key symbol block
+          (λ d. AppendsPart old now (file_header ++ flat_map record_of d))
+          → OfInput o key symbol block (λ d. ⊤)
+      kept None p = tt
+      kept (Some content) p = (p.0, p.1, tt)
+  fault_of OutOfMemory only s rest =
+      of_input input size
+      (λ content. SendsPackets (packets_of key s.info content) old now (Err OutOfMemory))
+      (λ content. (info_fault (info_of symbol block content) ≡ None)
+      × (carousel_fault key (info_of symbol block content) content ≡ None))
+      (has_size input mid size left s.reads rest)
+      (all_could key symbol block size s.info s.is s.sound) s.sends
+  fault_of _ (inl only) s rest = absurd only
+  fault_of _ (inr only) s rest = absurd (cc)
 
-    fault_of : (e : CommandFault) → IsSendingFault e → IsSent (Err e)
-        → UnlessRead {T = ℕ} (Err e) (HasLeft mid left) → SendFails input key symbol block e
-    fault_of (CannotSend f) only s rest =
-        of_input input size
-        (λ content. SendsPackets (packets_of key i content) old now (Err (CannotSend f)))
-        (λ content. carousel_fault key (info_of symbol block content) content ≡ Some (Write f))
-        (has_size input mid size left s.0 rest) (λ content. not_sent content f) s.1
-    fault_of (Input n f) (inl only) s rest = (cc, cc)
-    fault_of (Input n f) (inr only) s rest = absurd (cc)
-    fault_of CannotWrite only s rest =
-        kept input (told_part s rest)
-      where
-        kept : (o : Option (List ℕ)) → OfInput o key symbol block
-            (λ d. AppendsPart old now (file_header ++ flat_map record_of d))
-            → OfInput o key symbol block (λ d. ⊤)
-        kept None p = tt
-        kept (Some content) p = (p.0, p.1, tt)
-    fault_of OutOfMemory only s rest =
-        of_input input size
-        (λ content. SendsPackets (packets_of key i content) old now (Err OutOfMemory))
-        (λ content. (info_fault (info_of symbol block content) ≡ None)
-        × (carousel_fault key (info_of symbol block content) content ≡ None))
-        (has_size input mid size left s.0 rest) all_could s.1
-    fault_of _ (inl only) s rest = absurd only
-    fault_of _ (inr only) s rest = absurd (cc)
-
-    pub told_failed : (result sent : Result ℕ CommandFault) → Ends mid left sent result
-        → IsSent sent → IfErr sent IsSendingFault → IfErr result (SendFails input key symbol block)
-    told_failed (Ok n) sent ends s only = tt
-    told_failed (Err e) sent (inl h) s only =
-        let is : e ≡ Input 1 Read = cc in
-        subst (SendFails input key symbol block) (sym is) (refl, refl)
-    told_failed (Err e) sent (inr h) s only =
-        fault_of e (subst (λ r. IfErr r IsSendingFault) (sym h.0) only) (subst IsSent (sym h.0) s)
-        (subst (λ r. UnlessRead r (HasLeft mid left)) (sym h.0) h.1)
+  pub told_failed : {sent : Result ℕ CommandFault} (result : Result ℕ CommandFault)
+      → Ends mid left sent result → Sent input mid old now left key symbol block size sent
+      → IfErr sent IsSendingFault → IfErr result (SendFails input key symbol block)
+  told_failed (Ok n) ends s only = tt
+  told_failed (Err e) (inl h) s only =
+      let is : e ≡ Input 1 Read = cc in
+      subst (SendFails input key symbol block) (sym is) (refl, refl)
+  told_failed (Err e) (inr h) s only =
+      fault_of e (subst (λ r. IfErr r IsSendingFault) (sym h.0) only)
+      (subst (Sent input mid old now left key symbol block size) (sym h.0) s)
+      (subst (λ r. UnlessRead r (HasLeft mid left)) (sym h.0) h.1)

@@ -36,10 +36,11 @@ no_fault r d None e h = refl
 no_fault r d (Some f) e h = absurd (cc)
 
 -- what was read is the next piece, and the rest is left
-pub taken : (u v : Option (List ℕ)) (bytes rest : List ℕ) (left size : ℕ) → u ≡ Some rest
-    → length rest ≡ left → Consumes u v bytes → length bytes ≡ min left size
+pub taken : {u : Option (List ℕ)} (v : Option (List ℕ)) (bytes : List ℕ) {rest : List ℕ}
+    {left : ℕ} (size : ℕ) → u ≡ Some rest → length rest ≡ left → Consumes u v bytes
+    → length bytes ≡ min left size
     → (bytes ≡ take size rest) × (v ≡ Some (drop size rest))
-taken u v bytes rest left size known whole read count =
+taken v bytes {rest = rest} {left = left} size known whole read count =
     of_rest v (subst (λ x. Consumes x v bytes) known read)
   where
     of_rest : (v : Option (List ℕ)) → Consumes (Some rest) v bytes

@@ -3,7 +3,7 @@ use Rattle.std.proofs.Common.{◌≡◌, ℕ, ◌+◌, ◌*◌, ◌==◌, ◌<�
 use Rattle.std.proofs.Common.{◌++◌, length, take, drop, Bool, true, false, cond, Option, Some, None}
 use Rattle.std.proofs.Common.{Err, refl, sym, ap, subst, ◌∙◌, arith}
 use Rattle.std.proofs.Common.{append-nil, length-append, take_all, drop-drop}
-use Rattle.std.specs.Prelude.{◌⊎◌, slice_get, flat_map}
+use Rattle.std.specs.Prelude.{◌⊎◌, flat_map}
 use Rattle.std.specs.Io.KnownBytes.{Appends, Consumes}
 use Rattle.std.specs.List.{AllZip, AllByRecursion}
 use Rattle.std.proofs.KnownBytes.{Appends-nil, Appends-trans, Consumes-nil, Consumes-trans}
@@ -52,13 +52,14 @@ file_whole [] h = absurd (omega (arith, h))
 file_whole (d ∷ ds) h = refl
 
 -- the sink has the next bytes too, or has failed
-pub grows_on : (f g : Bool) (a b c : Option (List ℕ)) (front more : List ℕ) → Grows f a b front
-    → GrowsOn f g b c more → Grows g a c (front ++ more)
-grows_on true g a b c front more p q =
-    subst (λ h. Grows h a c (front ++ more)) (sym q.0)
-    (subst (λ x. AppendsPart a x (front ++ more)) (sym q.1) (AppendsPart-first a b front more p))
-grows_on false false a b c front more p q = Appends-trans a b c front more p q
-grows_on false true a b c front more p q = AppendsPart-second a b c front more p q
+pub grows_on : (f g : Bool) (a b c : Option (List ℕ)) (front more : List ℕ)
+    → Grows f a b front × GrowsOn f g b c more → Grows g a c (front ++ more)
+grows_on true g a b c front more p =
+    subst (λ h. Grows h a c (front ++ more)) (sym p.1.0)
+    (subst (λ x. AppendsPart a x (front ++ more)) (sym p.1.1)
+    (AppendsPart-first a b front more p.0))
+grows_on false false a b c front more p = Appends-trans a b c front more p.0 p.1
+grows_on false true a b c front more p = AppendsPart-second a b c front more p.0 p.1
 
 -- ---- what was read
 
@@ -74,9 +75,9 @@ reads_on u v w a b c p q = record {
 }
 
 -- as many bytes are left as were not read
-pub left_are : (content rest : List ℕ) (u v : Option (List ℕ)) (a b : ℕ) → ReadsOf u v a b
+pub left_are : {content rest : List ℕ} {u v : Option (List ℕ)} {a b : ℕ} → ReadsOf u v a b
     → u ≡ Some content → v ≡ Some rest → length content ≡ a → length rest ≡ b
-left_are content rest u v a b r known now whole =
+left_are {content = content} {rest = rest} {v = v} r known now whole =
     let e : content ≡ r.bytes ++ rest =
     subst (λ y. Consumes (Some content) y r.bytes) now
     (subst (λ x. Consumes x v r.bytes) known r.read) in
@@ -108,55 +109,9 @@ module _ (key : Key) (i : Information) (content : List ℕ) where
         (let e : 0 ≡ 0 * i.symbol_length = omega arith in e);
   }
 
-  -- One packet more: it was sent, or it was not.
-  module _ (valid : IsValid i) (place : ℕ) (within : place < max (length (ids i)) 1) where
-    abbrev pub packet : Content
-    packet = packet_with key i place (piece i content place)
-
-    here : slice_get (packets_of key i content) place ≡ Some packet
-    here = packet_there key i content place valid within
-
-    pub sent_next : {u v old mid now : Option (List ℕ)} {f g : Bool} (d : List ℕ)
-        → SentSoFar place u f old mid → IsWritten d packet × (write_fault packet ≡ None)
-        → IsDatagram d → GrowsOn f g mid now (record_at place d)
-        → v ≡ Some (drop i.symbol_length (drop (place * i.symbol_length) content))
-        → SentSoFar (place + 1) v g old now
-    sent_next {u = u} {v = v} {old = old} {mid = mid} {now = now} {f = f} {g = g} d s made is put
-        left =
-        let cs = packets_of key i content in
-        let more = take_one_more cs place packet here in
-        let next : drop i.symbol_length (drop (place * i.symbol_length) content)
-        ≡ drop ((place + 1) * i.symbol_length) content =
-        drop-drop i.symbol_length (place * i.symbol_length) content
-        ∙ ap (λ n. drop n content) (let e : place * i.symbol_length + i.symbol_length
-        ≡ (place + 1) * i.symbol_length = grind arith in e) in
-        record {
-          datagrams = s.datagrams ++ d ∷ [];
-          written = subst (AllZip IsWritten (s.datagrams ++ d ∷ [])) (sym more)
-              (both_more s.datagrams (take place cs) d packet s.written made.0);
-          sound = subst (λ xs. first_object_fault xs ≡ None) (sym more)
-              (none_more (take place cs) packet s.sound made.1);
-          valid = all_more IsDatagram s.datagrams d s.valid is;
-          counted = omega (arith, s.counted, length-append s.datagrams (d ∷ []));
-          grown = subst (Grows g old now) (sym (file_more place s.datagrams d s.counted))
-              (grows_on f g old mid now (file_up_to s.datagrams) (record_at place d) s.grown put);
-          rest = left ∙ ap (λ x. Some x) next;
-        }
-
-    pub fails_at : {u old mid : Option (List ℕ)} {f : Bool} (fault : CommandFault)
-        → length content ≡ i.transfer_length → SentSoFar place u f old mid
-        → IsReadFault fault ⊎ IsPacketFault packet fault
-        → SendsPackets (packets_of key i content) old mid (Err fault)
-    fails_at (CannotSend w) whole s (inl h) = absurd (cc)
-    fails_at (CannotSend w) whole s (inr h) =
-        first_at (packets_of key i content) place packet w s.sound here h
-    fails_at (Input n w) whole s h = tt
-    fails_at OutOfMemory whole s (inl h) = absurd (cc)
-    fails_at OutOfMemory whole s (inr h) =
-        none_fails key i content valid whole place within s.sound h
-    fails_at CannotWrite whole s (inl h) = absurd (cc)
-    fails_at CannotWrite whole s (inr h) = absurd h
-    fails_at _ whole s h = tt
+  -- the packet at a place
+  abbrev pub packet : ℕ → Content
+  packet place = packet_with key i place (piece i content place)
 
   -- All packets were sent, or the sink failed.
   module _ (valid : IsValid i) (count : ℕ) (all : count ≡ max (length (ids i)) 1) where
@@ -186,6 +141,56 @@ module _ (key : Key) (i : Information) (content : List ℕ) where
           subst (AllZip IsWritten s.datagrams) whole s.written,
           subst (AppendsPart old now) is s.grown,
         )
+
+-- One packet more: it was sent, or it was not.
+module _ {key : Key} {i : Information} {content : List ℕ} (valid : IsValid i) {place : ℕ}
+    (within : place < max (length (ids i)) 1) where
+  pub sent_next : {u v old mid now : Option (List ℕ)} {f g : Bool} (d : List ℕ)
+      → SentSoFar key i content place u f old mid → IsWritten d (packet key i content place)
+      × (write_fault (packet key i content place) ≡ None)
+      → IsDatagram d → GrowsOn f g mid now (record_at place d)
+      → v ≡ Some (drop i.symbol_length (drop (place * i.symbol_length) content))
+      → SentSoFar key i content (place + 1) v g old now
+  sent_next {u = u} {v = v} {old = old} {mid = mid} {now = now} {f = f} {g = g} d s made is put
+      left =
+      let cs = packets_of key i content in
+      let one = packet key i content place in
+      let here = packet_there key i content place valid within in
+      let more = take_one_more cs place one here in
+      let next : drop i.symbol_length (drop (place * i.symbol_length) content)
+      ≡ drop ((place + 1) * i.symbol_length) content =
+      drop-drop i.symbol_length (place * i.symbol_length) content
+      ∙ ap (λ n. drop n content) (let e : place * i.symbol_length + i.symbol_length
+      ≡ (place + 1) * i.symbol_length = grind arith in e) in
+      record {
+        datagrams = s.datagrams ++ d ∷ [];
+        written = subst (AllZip IsWritten (s.datagrams ++ d ∷ [])) (sym more)
+            (both_more s.datagrams (take place cs) d one s.written made.0);
+        sound = subst (λ xs. first_object_fault xs ≡ None) (sym more)
+            (none_more (take place cs) one s.sound made.1);
+        valid = all_more IsDatagram s.datagrams d s.valid is;
+        counted = omega (arith, s.counted, length-append s.datagrams (d ∷ []));
+        grown = subst (Grows g old now) (sym (file_more place s.datagrams d s.counted))
+            (grows_on f g old mid now (file_up_to s.datagrams) (record_at place d)
+            (s.grown, put));
+        rest = left ∙ ap (λ x. Some x) next;
+      }
+
+  pub fails_at : {u old mid : Option (List ℕ)} {f : Bool} (fault : CommandFault)
+      → length content ≡ i.transfer_length → SentSoFar key i content place u f old mid
+      → IsReadFault fault ⊎ IsPacketFault (packet key i content place) fault
+      → SendsPackets (packets_of key i content) old mid (Err fault)
+  fails_at (CannotSend w) whole s (inl h) = absurd (cc)
+  fails_at (CannotSend w) whole s (inr h) =
+      first_at (packets_of key i content) place (packet key i content place) w s.sound
+      (packet_there key i content place valid within) h
+  fails_at (Input n w) whole s h = tt
+  fails_at OutOfMemory whole s (inl h) = absurd (cc)
+  fails_at OutOfMemory whole s (inr h) =
+      none_fails key i content valid whole place within s.sound h
+  fails_at CannotWrite whole s (inl h) = absurd (cc)
+  fails_at CannotWrite whole s (inr h) = absurd h
+  fails_at _ whole s h = tt
 
 -- ---- results with a fault
 

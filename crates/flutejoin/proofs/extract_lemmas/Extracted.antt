@@ -129,10 +129,10 @@ module _ {a b d : ℕ} {u v w : Option (List ℕ)} {from to : ReaderState Before
 
 -- What a call of the reader gave.
 
-pub given-fault : (limit bound : ℕ) (v w : Option (List ℕ)) (old new : ReaderState Before)
-    (f : ReadFault) → bound ≡ limit → GivesFault journal_framing bound old new v w f
+pub given-fault : {limit bound : ℕ} {v w : Option (List ℕ)} {old new : ReaderState Before}
+    {f : ReadFault} → bound ≡ limit → GivesFault journal_framing bound old new v w f
     → GivesFault journal_framing limit old new v w f
-given-fault limit bound v w old new f e h =
+given-fault {v = v} {w = w} {old = old} {new = new} {f = f} e h =
     subst (λ n. GivesFault journal_framing n old new v w f) e h
 
 pub given-end : (bound : ℕ) (v w : Option (List ℕ)) (old new : ReaderState Before)
@@ -143,11 +143,11 @@ given-end bound v w old new given e h =
 
 -- What the command returns.
 
-pub of_source : {R : Type 0} {most : Limits} (unread : R → Option (List ℕ)) (x y : R) (left :
-    Option (List ℕ))
-    (writer : ObjectWriter) (s t : Option (List ℕ)) (r : Result (Unit {0}) LoadFault) → x ≡ y
-    → PassesAll most (unread x) left writer s t r → PassesAll most (unread y) left writer s t r
-of_source {R} {most} unread x y left writer s t r e p =
+pub of_source : {R : Type 0} {most : Limits} (unread : R → Option (List ℕ)) {x y : R}
+    {left : Option (List ℕ)} {writer : ObjectWriter} {s t : Option (List ℕ)}
+    {r : Result (Unit {0}) LoadFault} → x ≡ y → PassesAll most (unread x) left writer s t r
+    → PassesAll most (unread y) left writer s t r
+of_source {R} {most} unread {left = left} {writer = writer} {s = s} {t = t} {r = r} e p =
     subst (λ (z : R). PassesAll most (unread z) left writer s t r) e p
 
 pub if_err : (r : Result ℕ CommandFault) (X : Type 0) → X → IfErr r (λ _. X)
@@ -244,15 +244,14 @@ module _ {W : Type 0} (written : W → Option (List ℕ)) (key : Key) (old new :
   read_none F (Err fault) h k m e = e
 
   -- the result that the writer gives once the journal was read
-  pub answers : {most : Limits} (input left : Option (List ℕ)) (writer : ObjectWriter)
-      (x : Unit {0}) (r : Result ℕ CommandFault)
-      → PassesAll most input left writer (written old) (written new) (Ok x)
-      → writer.key ≡ key
+  pub answers : {most : Limits} {input left : Option (List ℕ)} {writer : ObjectWriter}
+      {x : Unit {0}} (r : Result ℕ CommandFault)
+      → PassesAll most input left writer (written old) (written new) (Ok x) → writer.key ≡ key
       → (WritesNothing writer.found → new ≡ old)
-      → ((P : List Fact) (start now : Option (List ℕ)) → IsRising P → Stands P writer start now
-      → Extracts (λ x. x) P writer.key start now r) → IfErr r (TellsUntouched writer.found)
-      → Answers most input left r
-  answers input left writer x r p is same tells t =
+      → ((P : List Fact) (start now : Option (List ℕ)) → IsRising P
+      → Stands P writer start now → Extracts (λ x. x) P writer.key start now r)
+      → IfErr r (TellsUntouched writer.found) → Answers most input left r
+  answers {input = input} {left = left} {writer = writer} {x = x} r p is same tells t =
       let F = p.entries in
       let here =
       subst (λ k. Extracts (λ x. x) F k (written old) (written new) r) is
@@ -282,12 +281,11 @@ module _ {W : Type 0} (written : W → Option (List ℕ)) (key : Key) (old new :
         reads = read_none F r h;
       }
 
-  pub first_part : {most : Limits} (input left : Option (List ℕ)) (writer : ObjectWriter)
-      (r : Result (Unit {0}) LoadFault)
-      → PassesAll most input left writer (written old) (written new) r
-      → writer.key ≡ key
+  pub first_part : {most : Limits} {input left : Option (List ℕ)} {writer : ObjectWriter}
+      {r : Result (Unit {0}) LoadFault}
+      → PassesAll most input left writer (written old) (written new) r → writer.key ≡ key
       → (WritesNothing writer.found → new ≡ old) → WritesFirst written input key old new
-  first_part input left writer r p is same =
+  first_part {input = input} {writer = writer} p is same =
       elim (wrote-some p.entries writer.key writer.failed (written old) (written new) writer.found
       p.stands) [
         | inl none ↦ inl (same none)
@@ -326,11 +324,11 @@ sink_fails n m true (Err fault) e f = inr e
 
 -- The fault is that of the journal.
 
-pub journal_fault : {most : Limits} (input left : Option (List ℕ)) (writer : ObjectWriter)
-    (s t : Option (List ℕ)) (f : LoadFault) (fault : CommandFault) → fault ≡ of_load 1 f
-    → (P : List Fact → Type 0)
-    → PassesAll most input left writer s t (Err f) → AnswersFrom most input left P (Err fault)
-journal_fault {most} input left writer s t f fault e P p =
+pub journal_fault : {most : Limits} {input left : Option (List ℕ)} {writer : ObjectWriter}
+    {s t : Option (List ℕ)} {f : LoadFault} {fault : CommandFault} → fault ≡ of_load 1 f
+    → (P : List Fact → Type 0) → PassesAll most input left writer s t (Err f)
+    → AnswersFrom most input left P (Err fault)
+journal_fault {most} {input = input} {left = left} {writer = writer} {s = s} {t = t} {f = f} e P p =
     subst (λ x. AnswersFrom most input left P (Err x)) (sym e) (told f p)
   where
     told : (g : LoadFault) → PassesAll most input left writer s t (Err g)

@@ -1,5 +1,6 @@
 -- extract --all: the file name of an object, piece by piece (specs/FileNames).
-use Rattle.std.proofs.Common.{◌≡◌, ℕ, List, [], ◌++◌, codes, decimal, ap, ◌∙◌, append_assoc}
+use Rattle.std.proofs.Common.{◌≡◌, ℕ, List, ◌++◌, codes, decimal, ap, ◌∙◌}
+use Rattle.std.proofs.Common.{append_assoc}
 use Rattle.std.specs.Int.{bytes_high_first}
 use Rattle.hex.specs.Hex.{encode_lower}
 use Rattle.flute_parts.specs.declared.key.Key.{Key}
@@ -10,16 +11,15 @@ four d a b e n =
     append_assoc ((d ++ a) ++ b) e n ∙ append_assoc (d ++ a) b (e ++ n) ∙ append_assoc d a
     (b ++ (e ++ n))
 
-pub name_pieces : (key : Key) (t t1 t2 t3 t4 t5 digits : List ℕ) (tsi : ℕ) → digits ≡ encode_lower
-    (bytes_high_first 16 key.session.sender) → tsi ≡ key.session.tsi
-    → t ≡ [] → t1 ≡ t ++ digits → t2 ≡ t1 ++ codes "-" → t3 ≡ t2 ++ decimal tsi → t4 ≡ t3 ++ codes
-    "-" → t5 ≡ t4 ++ object_name key.object → t5 ≡ file_name key
+pub name_pieces : (key : Key) {t1 t2 t3 t4 t5 digits : List ℕ} {tsi : ℕ}
+    → digits ≡ encode_lower (bytes_high_first 16 key.session.sender) → tsi ≡ key.session.tsi
+    → t1 ≡ digits → t2 ≡ t1 ++ codes "-" → t3 ≡ t2 ++ decimal tsi
+    → t4 ≡ t3 ++ codes "-" → t5 ≡ t4 ++ object_name key.object → t5 ≡ file_name key
 unfolding file_name
-name_pieces key t t1 t2 t3 t4 t5 digits tsi d s e e1 e2 e3 e4 e5 =
+name_pieces key {digits = digits} {tsi = tsi} d s e1 e2 e3 e4 e5 =
     e5
     ∙ ap (λ x. x ++ object_name key.object) (e4 ∙ ap (λ x. x ++ codes "-")
-    (e3 ∙ ap (λ x. x ++ decimal tsi) (e2 ∙ ap (λ x. x ++ codes "-")
-    (e1 ∙ ap (λ x. x ++ digits) e))))
+    (e3 ∙ ap (λ x. x ++ decimal tsi) (e2 ∙ ap (λ x. x ++ codes "-") e1)))
     ∙ four digits (codes "-") (decimal tsi) (codes "-") (object_name key.object)
     ∙ ap (λ x. x ++ (codes "-" ++ (decimal tsi ++ (codes "-" ++ object_name key.object)))) d
     ∙ ap (λ x. encode_lower (bytes_high_first 16 key.session.sender) ++

@@ -43,7 +43,8 @@ use Rattle.flutejoin.specs.Lines.{status_line}
 use Rattle.flutejoin.specs.Listing.{IsFirstOf}
 use Rattle.flutejoin.specs.Objects.{status_at}
 use Rattle.flutejoin.specs.ObjectFiles.{AreTaken, HasOpenFile, HasTaken, FileStateIs, Takes}
-use Rattle.flutejoin.specs.ObjectFiles.{TakesAll, Ends, Knows, file_wanting, file_at, object_file}
+use Rattle.flutejoin.specs.ObjectFiles.{TakesAll, StandsInto, Ends, Knows, file_wanting, file_at}
+use Rattle.flutejoin.specs.ObjectFiles.{object_file}
 use Rattle.flutejoin.specs.ObjectFiles.{first_line}
 use Rattle.flutejoin.specs.declared.extract.file_scan.FileState.{FileState}
 use Rattle.flutejoin.specs.declared.extract.file_scan.FileState.TheVariants.{NoInformation}
@@ -55,7 +56,7 @@ use Rattle.flutejoin.proofs.extract_lemmas.FolderSteps.{fills_nothing}
 use Rattle.flutejoin.proofs.gaps_lemmas.ObjectsListed.{in_nothing, holds-from, named-from}
 use Rattle.flutejoin.proofs.gaps_lemmas.ObjectsListed.{rising-back}
 use Rattle.flutejoin.proofs.gaps_lemmas.ObjectsListed.{stands_before, same_object_between}
-use Rattle.flutejoin.proofs.gaps_lemmas.ObjectsListed.{lesser_key}
+use Rattle.flutejoin.proofs.gaps_lemmas.ObjectsListed.{EndsIn, lesser_key}
 use Rattle.flutejoin.proofs.gaps_lemmas.ObjectsListed.{sorted_more, wants_same, status_same}
 use Rattle.flutejoin.proofs.gaps_lemmas.OpenObjects.{told_part}
 use Rattle.flutejoin.proofs.gaps_lemmas.StatusLines.{status_is}
@@ -113,12 +114,13 @@ all_kept f g (k ∷ ks) h =
 -- ---- objects follow one another
 
 -- the files and lines of the objects before, and of one more, of which all other facts are
-pub one_more_taken : (before mine : List Fact) (key : Key) (files : List NamedFile) (told : List ℕ)
-    → IsRising (before ++ mine) → AreTaken before files told → IsFirstOf before key
-    → ((f : Fact) → Contains mine f → (address f).key ≡ key) → (f : Fact) × Contains mine f
+pub one_more_taken : {before : List Fact} (mine : List Fact) (key : Key) {files : List NamedFile}
+    {told : List ℕ} → IsRising (before ++ mine) → AreTaken before files told
+    → IsFirstOf before key → ((f : Fact) → Contains mine f → (address f).key ≡ key)
+    → (f : Fact) × Contains mine f
     → AreTaken (before ++ mine) (files ++ object_file (before ++ mine) key)
     (told ++ first_line (before ++ mine) key)
-one_more_taken before mine key files told r l first own some =
+one_more_taken {before = before} mine key r l first own some =
     let all = before ++ mine in
     let earlier : (k : Key) → Contains l.keys k → (f : Fact) × (Contains before f) ×
     ((address f).key ≡ k) = λ k c. named-from before k ((l.held k).0 c) in
@@ -180,11 +182,11 @@ none_taken = record {
 
 -- ---- the object of the last fact
 
-pub first_of_others : (F : List Fact) (files : List NamedFile) (told : List ℕ) (last : ObjectFile)
-    (o : Option NamedFile) (key : Key) (f : Fact) → HasOpenFile F files told last o → IsRising
-    (F ++ f ∷ [])
-    → (address f).key ≡ key → (last.key ≡ key → ⊥) → IsFirstOf F key
-first_of_others F files told last o key f h r e apart g c k =
+pub first_of_others : {F : List Fact} {files : List NamedFile} {told : List ℕ} {last : ObjectFile}
+    {o : Option NamedFile} (key : Key) (f : Fact) → HasOpenFile F files told last o
+    → IsRising (F ++ f ∷ []) → (address f).key ≡ key → (last.key ≡ key → ⊥)
+    → IsFirstOf F key
+first_of_others {F = F} key f h r e apart g c k =
     let one = h.some in
     let d = subst (λ l. Contains l one.0) (sym h.all) (Contains-append_right h.before h.mine one.0
     one.1) in
@@ -199,11 +201,12 @@ first_of_others F files told last o key f h r e apart g c k =
           (k ∙ sym e) ∙ e)
     ]
 
-pub begun_file : (F : List Fact) (f : Fact) (files : List NamedFile) (told : List ℕ)
-    (object : ObjectFile) (o : Option NamedFile) → AreTaken F files told → IsFirstOf F object.key →
-    (address f).key ≡ object.key
-    → FileStateIs object.key (f ∷ []) object.state o → HasOpenFile (F ++ f ∷ []) files told object o
-begun_file F f files told object o l first e s = record {
+pub begun_file : {F : List Fact} (f : Fact) {files : List NamedFile} {told : List ℕ}
+    (object : ObjectFile) {o : Option NamedFile} → AreTaken F files told
+    → IsFirstOf F object.key → (address f).key ≡ object.key
+    → FileStateIs object.key (f ∷ []) object.state o
+    → HasOpenFile (F ++ f ∷ []) files told object o
+begun_file {F = F} f object l first e s = record {
   before = F;
   mine = f ∷ [];
   all = refl;
@@ -218,19 +221,19 @@ begun_file F f files told object o l first e s = record {
 }
 
 -- one more fact of the object
-pub mine_rising : (F : List Fact) (f : Fact) (files : List NamedFile) (told : List ℕ)
-    (object : ObjectFile) (o : Option NamedFile) (h : HasOpenFile F files told object o) → IsRising
-    (F ++ f ∷ []) → IsRising (h.mine ++ f ∷ [])
-mine_rising F f files told object o h r =
+pub mine_rising : {F : List Fact} (f : Fact) {files : List NamedFile} {told : List ℕ}
+    {object : ObjectFile} {o : Option NamedFile} (h : HasOpenFile F files told object o)
+    → IsRising (F ++ f ∷ []) → IsRising (h.mine ++ f ∷ [])
+mine_rising f h r =
     rising-back h.before (h.mine ++ f ∷ []) (subst IsRising
     (ap (λ l. l ++ f ∷ []) h.all ∙ append_assoc h.before h.mine (f ∷ [])) r)
 
-pub one_more_file : (F : List Fact) (f : Fact) (files : List NamedFile) (told : List ℕ)
-    (object : ObjectFile) (state : FileState) (o o' : Option NamedFile)
+pub one_more_file : {F : List Fact} (f : Fact) {files : List NamedFile} {told : List ℕ}
+    {object : ObjectFile} (state : FileState) {o : Option NamedFile} (o' : Option NamedFile)
     (h : HasOpenFile F files told object o) → (address f).key ≡ object.key
-    → FileStateIs object.key (h.mine ++ f ∷ []) state o' → HasOpenFile (F ++ f ∷ []) files told
-    (record object { state = state }) o'
-one_more_file F f files told object state o o' h e s = record {
+    → FileStateIs object.key (h.mine ++ f ∷ []) state o'
+    → HasOpenFile (F ++ f ∷ []) files told (record object { state = state }) o'
+one_more_file f state o' h e s = record {
   before = h.before;
   mine = h.mine ++ f ∷ [];
   all = ap (λ l. l ++ f ∷ []) h.all ∙ append_assoc h.before h.mine (f ∷ []);
@@ -244,9 +247,9 @@ one_more_file F f files told object state o o' h e s = record {
   state_is = s;
 }
 
-pub heard_open : (F : List Fact) (files : List NamedFile) (told : List ℕ) (object : ObjectFile)
-    (o : Option NamedFile) → HasOpenFile F files told object o → HoldsObject F object.key
-heard_open F files told object o h =
+pub heard_open : {F : List Fact} {files : List NamedFile} {told : List ℕ} {object : ObjectFile}
+    {o : Option NamedFile} → HasOpenFile F files told object o → HoldsObject F object.key
+heard_open {F = F} {object = object} h =
     let f = h.some in
     holds-from F f.0 object.key (subst (λ l. Contains l f.0) (sym h.all)
     (Contains-append_right h.before h.mine f.0 f.1)) (h.of_object f.0 f.1)
@@ -288,27 +291,28 @@ no_file_at : (F : List Fact) (key : Key) (o : Option Fact) → fact_at F (info_a
 unfolding object_file
 no_file_at F key o e n = ap (file_at F key) e ∙ n
 
-module _ (F before mine : List Fact) (key : Key) (all : F ≡ before ++ mine) (r : IsRising F)
-    (files : List NamedFile) (o : Option NamedFile) (p0 p : Option Places)
+module _ {F before mine : List Fact} {key : Key} (last : EndsIn F before mine)
+    {files : List NamedFile} {o : Option NamedFile} {p0 p : Option Places}
     (filled : LeadsTo (Fills files o) p0 p) where
   pub none_ends : HoldsObject F key → IsFirstOf before key → FileStateIs key mine NoInformation o →
       Ends F key Status.NoInformation false files p0 p
   none_ends heard first s =
       let none : fact_at F (info_address key) ≡ None = fact_at-none F (info_address key)
-      (λ f c e. elim (Contains-append_cases before mine f (subst (λ l. Contains l f) all c)) [
+      (λ f c e.
+      elim (Contains-append_cases before mine f (subst (λ l. Contains l f) last.all c)) [
         | inl d ↦ first f d (ap (λ (a : Address). a.key) e)
         | inr d ↦ s.0 f d (ap (λ (a : Address). a.part) e)
       ]) in
-      without F key files o p0 p filled Status.NoInformation (heard, none) s.1
+      without filled Status.NoInformation (heard, none) s.1
       (no_file_at F key None none refl)
 
   pub conflict_ends : FileStateIs key mine ConflictingInformation o → Ends F key
       Status.ConflictingInformation false files p0 p
   conflict_ends s =
       let one : fact_at F (info_address key) ≡ Some (InfoConflict key) = rising_tells F
-      (InfoConflict key) r (subst (λ l. Contains l (InfoConflict key)) (sym all)
+      (InfoConflict key) last.rising (subst (λ l. Contains l (InfoConflict key)) (sym last.all)
       (Contains-append_right before mine (InfoConflict key) s.0)) in
-      without F key files o p0 p filled Status.ConflictingInformation one s.1
+      without filled Status.ConflictingInformation one s.1
       (no_file_at F key (Some (InfoConflict key)) one refl)
 
 -- ---- all that was taken
@@ -342,19 +346,18 @@ none_known objects l = (
 )
 
 -- no object is open
-pub none_closed : (F : List Fact) (count : ℕ) (files : List NamedFile) (told : List ℕ)
-    (o : Option NamedFile) (p0 p : Option Places) (w0 w : Option (List ℕ)) → HasTaken F files told
-    None o
-    → LeadsTo (Fills files o) p0 p → Appends w0 w told → count ≡ length files → TakesAll F count p0
-    p w0 w
-none_closed F count files told o p0 p w0 w h filled written c = record {
-  files = files;
-  told = told;
-  taken = subst (λ x. AreTaken x files told) (sym h.0) (subst (λ x. AreTaken [] x told) (sym h.1)
+pub none_closed : {F : List Fact} {objects : ObjectFiles} {p0 p : Option Places}
+    {w0 w : Option (List ℕ)} (t : Takes F objects p0 p w0 w)
+    → HasTaken F t.files t.told None t.open_file → TakesAll F objects.written p0 p w0 w
+none_closed {p0 = p0} {p = p} t h = record {
+  files = t.files;
+  told = t.told;
+  taken = subst (λ x. AreTaken x t.files t.told) (sym h.0)
+      (subst (λ x. AreTaken [] x t.told) (sym h.1)
       (subst (λ x. AreTaken [] [] x) (sym h.2) none_taken));
-  filled = subst (λ x. LeadsTo (Fills files x) p0 p) h.3 filled;
-  written = written;
-  count_is = c;
+  filled = subst (λ x. LeadsTo (Fills t.files x) p0 p) h.3 t.filled;
+  written = t.written;
+  count_is = t.count;
 }
 
 pub byte_is : (n : ℕ) (b : Bool) → n + bool_byte b ≡ n + (if b then 1 else 0)
@@ -367,65 +370,66 @@ unfolding first_line
 line_is F key status s = ap (status_line key) (status_is F key status s)
 
 -- the last object was ended, and its line written
-pub one_closed : (F : List Fact) (n m : ℕ) (files : List NamedFile) (told : List ℕ)
-    (object : ObjectFile) (o : Option NamedFile) (status : Status) (is_written : Bool)
-    (p0 p : Option Places) (w0 w w' : Option (List ℕ))
-    → HasOpenFile F files told object o → IsRising F → Ends F object.key status is_written files p0
-    p → Appends w0 w told → Appends w w' (status_line object.key status)
-    → n ≡ length files → m ≡ n + (if is_written then 1 else 0) → TakesAll F m p0 p w0 w'
-one_closed F n m files told object o status is_written p0 p w0 w w' h r e written line c c' =
-    let all : AreTaken F (files ++ object_file F object.key) (told ++ first_line F object.key) =
-    subst (λ l. AreTaken l (files ++ object_file l object.key) (told ++ first_line l object.key))
+pub one_closed : {F : List Fact} {m : ℕ} {objects : ObjectFiles} {object : ObjectFile}
+    {status : Status} {is_written : Bool} {p0 p p' : Option Places} {w0 w w' : Option (List ℕ)}
+    (t : Takes F objects p0 p w0 w) (h : HasOpenFile F t.files t.told object t.open_file)
+    → IsRising F → Ends F object.key status is_written t.files p0 p'
+    → Appends w w' (status_line object.key status)
+    → m ≡ objects.written + (if is_written then 1 else 0) → TakesAll F m p0 p' w0 w'
+one_closed {F = F} {object = object} {status = status} {is_written = is_written} {w0 = w0} {w = w}
+    {w' = w'} t h r e line c =
+    let all : AreTaken F (t.files ++ object_file F object.key) (t.told ++ first_line F object.key) =
+    subst (λ l. AreTaken l (t.files ++ object_file l object.key)
+    (t.told ++ first_line l object.key))
     (sym h.all)
-    (one_more_taken h.before h.mine object.key files told (subst IsRising h.all r) h.taken h.first
-    h.of_object h.some) in
+    (one_more_taken h.mine object.key (subst IsRising h.all r) h.taken h.first h.of_object h.some)
+    in
     record {
-      files = files ++ object_file F object.key;
-      told = told ++ first_line F object.key;
+      files = t.files ++ object_file F object.key;
+      told = t.told ++ first_line F object.key;
       taken = all;
       filled = e.filled;
-      written = Appends-trans w0 w w' told (first_line F object.key) written
+      written = Appends-trans w0 w w' t.told (first_line F object.key) t.written
           (subst (Appends w w') (line_is F object.key status e.status_is) line);
-      count_is = c' ∙ ap (λ x. x + (if is_written then 1 else 0)) c ∙ ap (λ x. length files + x)
-          (sym e.count) ∙ sym (length-append files (object_file F object.key));
+      count_is = c ∙ ap (λ x. x + (if is_written then 1 else 0)) t.count
+          ∙ ap (λ x. length t.files + x) (sym e.count)
+          ∙ sym (length-append t.files (object_file F object.key));
     }
 
 -- the next object is begun, of which one fact came
-pub takes_next : (F : List Fact) (f : Fact) (object : ObjectFile) (closed new : ObjectFiles)
-    (o : Option NamedFile) (p0 p : Option Places) (w0 w : Option (List ℕ)) (files : List NamedFile)
-    (told : List ℕ)
-    → AreTaken F files told → LeadsTo (Fills files o) p0 p → Appends w0 w told → closed.written ≡
-    length files → new ≡ record closed { last = Some object }
-    → IsFirstOf F object.key → (address f).key ≡ object.key → FileStateIs object.key (f ∷ [])
-    object.state o → Takes (F ++ f ∷ []) new p0 p w0 w
-takes_next F f object closed new o p0 p w0 w files told taken filled written count is first e s =
-    record {
-      files = files;
-      told = told;
-      open_file = o;
-      taken = subst (λ (x : ObjectFiles). HasTaken (F ++ f ∷ []) files told x.last o) (sym is)
-          (begun_file F f files told object o taken first e s);
-      filled = filled;
-      written = written;
-      count = ap (λ (x : ObjectFiles). x.written) is ∙ count;
-    }
+pub takes_next : {F : List Fact} (f : Fact) {object : ObjectFile} {new : ObjectFiles} {n : ℕ}
+    {p0 p p' : Option Places} {w0 w : Option (List ℕ)} (all : TakesAll F n p0 p w0 w)
+    → new ≡ record { last = Some object; written = n } → IsFirstOf F object.key
+    → (address f).key ≡ object.key
+    → StandsInto object.key (f ∷ []) object.state all.files p0 p'
+    → Takes (F ++ f ∷ []) new p0 p' w0 w
+takes_next {F = F} f {object = object} all is first e s = record {
+  files = all.files;
+  told = all.told;
+  open_file = s.0;
+  taken = subst (λ (x : ObjectFiles). HasTaken (F ++ f ∷ []) all.files all.told x.last s.0)
+      (sym is)
+      (begun_file f object all.taken first e s.1);
+  filled = s.2;
+  written = all.written;
+  count = ap (λ (x : ObjectFiles). x.written) is ∙ all.count_is;
+}
 
 -- one fact more of the last object came
-pub takes_more : (F : List Fact) (f : Fact) (self : ObjectFiles) (object new : ObjectFile)
-    (o : Option NamedFile) (p0 p' : Option Places) (w0 w : Option (List ℕ))
-    (files : List NamedFile) (told : List ℕ) (was : Option NamedFile)
-    (h : HasOpenFile F files told object was) → Appends w0 w told → self.written ≡ length files →
-    new.key ≡ object.key → (address f).key ≡ object.key
-    → FileStateIs object.key (h.mine ++ f ∷ []) new.state o → LeadsTo (Fills files o) p0 p' → Takes
-    (F ++ f ∷ []) (record self { last = Some new }) p0 p' w0 w
-takes_more F f self object new o p0 p' w0 w files told was h written count k e s filled = record {
-  files = files;
-  told = told;
-  open_file = o;
-  taken = subst (λ (x : ObjectFile). HasOpenFile (F ++ f ∷ []) files told x o)
+pub takes_more : {F : List Fact} (f : Fact) {objects : ObjectFiles} {object : ObjectFile}
+    (new : ObjectFile) {p0 p p' : Option Places} {w0 w : Option (List ℕ)}
+    (t : Takes F objects p0 p w0 w) (h : HasOpenFile F t.files t.told object t.open_file)
+    → new.key ≡ object.key → (address f).key ≡ object.key
+    → StandsInto object.key (h.mine ++ f ∷ []) new.state t.files p0 p'
+    → Takes (F ++ f ∷ []) (record objects { last = Some new }) p0 p' w0 w
+takes_more {F = F} f new t h k e s = record {
+  files = t.files;
+  told = t.told;
+  open_file = s.0;
+  taken = subst (λ (x : ObjectFile). HasOpenFile (F ++ f ∷ []) t.files t.told x s.0)
       (ap (λ (x : Key). record { key = x; state = new.state }) (sym k))
-      (one_more_file F f files told object new.state was o h e s);
-  filled = filled;
-  written = written;
-  count = count;
+      (one_more_file f new.state s.0 h e s.1);
+  filled = s.2;
+  written = t.written;
+  count = t.count;
 }

@@ -34,7 +34,8 @@ use Rattle.flutejoin.specs.declared.extract.file_scan.FileScan.{FileScan}
 use Rattle.flutejoin.specs.declared.extract.file_scan.Passed.{Passed}
 use Rattle.flutejoin.specs.declared.extract.file_scan.Passed.TheVariants as passed
 use Rattle.flutejoin.proofs.extract_lemmas.ObjectWriters.{take-append}
-use Rattle.flutejoin.proofs.gaps_lemmas.Scanning.{Gave, gave_more, gave_all, can_pass}
+use Rattle.flutejoin.proofs.gaps_lemmas.ObjectsListed.{EndsIn}
+use Rattle.flutejoin.proofs.gaps_lemmas.Scanning.{passes_after, Gave, gave_more, gave_all, can_pass}
 
 -- ---- gaps before what comes next
 
@@ -58,8 +59,7 @@ pub gave_one : (s : Scanned) (next : Next) (scan scan' : ScanState) (gap : Gap)
     → (lines : List ℕ) × Gave gap_line s next scan' lines
 gave_one s next scan scan' gap h n = (
   h.0 ++ gap_line gap,
-  gave_more gap_line s next scan scan' h.0
-      (h.0 ++ gap_line gap) gap h.1 n refl,
+  gave_more h.1 n refl,
 )
 
 pub follows_still : (s : Scanned) (next : Next) (scan : ScanState)
@@ -68,10 +68,9 @@ pub follows_still : (s : Scanned) (next : Next) (scan : ScanState)
 follows_still s next scan h r = can_pass gap_line s next scan h.0 h.1 r
 
 -- after a gap the same symbol may still come
-pub gave_gap : (s : Scanned) (next : Next) (scan scan' : ScanState) (gap : Gap) → Scans scan s →
-    CanCome s next → (u : Scanned) → GaveGap s next gap u → Scans scan' u → CanFollow s next →
-    CanFollow u next × CanCome u next
-gave_gap s next scan scan' gap h c u g k r = (
+pub gave_gap : {s : Scanned} {next : Next} {gap : Gap} {u : Scanned} → GaveGap s next gap u
+    → CanFollow s next → CanFollow u next × CanCome u next
+gave_gap {s = s} {next = next} {u = u} g r = (
   passes_still s u next (ap (λ (x : Scanned). x.key) g.now) (ap (λ (x : Scanned). x.facts) g.now) r,
   subst (λ (x : Option (Option Fact)). IfSome x (λ coming. coming ≡ coming_fact u.key next))
       (sym (ap (λ (x : Scanned). x.coming) g.now)) (ap (λ k. coming_fact k next)
@@ -89,9 +88,8 @@ pub gave_then : (s : Scanned) (next : Next) (scan scan' : ScanState) (turn : Tur
     → (u : Scanned) × Turned h.1.t next turn u ×
     Scans scan' u
     → ((gap : Gap) → turn ≡ Turn.Gap gap → ⊥) → (t : Scanned) × Passes s next t × Scans scan' t
-gave_then s next scan scan' turn h n none = let u = gave_all gap_line s next scan scan' h.0 turn h.1
-    n none
-    in (u.0, u.1, u.2)
+gave_then s next scan scan' turn h n none =
+    let u = gave_all h.1 n none in (u.0, u.1, u.2)
 
 -- ---- how it was passed
 
@@ -161,16 +159,6 @@ turned_wanted s (Some n) scan h = (
 )
 
 -- a gap was given, and then all the others
-passes_after : (s u t : Scanned) (next : Next) → u.key ≡ s.key → u.facts ≡ s.facts → Passes u next
-    t → Passes s next t
-passes_after s u t None k f p = (p.0 ∙ k, p.1 ∙ f, p.2)
-passes_after s u t (Some n) k f p = (
-  p.0 ∙ k,
-  p.1 ∙ ap (λ x. x ++ next_fact u.key n ∷ []) f ∙ ap
-      (λ x. s.facts ++ next_fact x n ∷ []) k,
-  p.2,
-)
-
 broken_gap : (s u : Scanned) (next : Next) (gap : Gap) → GaveGap s next gap u → (t : Scanned) →
     PassedAs s next passed.Broken t
 broken_gap s u None gap g t = broken_by s None _ s.bytes g.first
@@ -201,9 +189,15 @@ broken_more : (key : Key) (mine : List Fact) (f : Fact) → IsBroken key mine �
 broken_more key mine f h = λ F before rest e r. h F before (f ∷ rest)
     (e ∙ ap (λ l. before ++ l) (append_assoc mine (f ∷ []) rest)) r
 
-module _ (key : Key) (mine : List Fact) (scan : FileScan) (o : Option NamedFile)
-    (n : SymbolId × Option (Bor (List ℕ))) (h : HasScanned key mine scan o)
-    (new : FileScan) (t : Scanned) (p : Passes h.scanned (Some n) t) (s : Scans new.scan t) where
+-- of the same object these bytes more came
+pub record HasMore (s t : Scanned) (more : List ℕ) : Type 0 where
+  pub key : t.key ≡ s.key
+  pub info : t.info ≡ s.info
+  pub bytes : t.bytes ≡ option_map (λ bytes. bytes ++ more) s.bytes
+
+module _ {key : Key} {mine : List Fact} {scan : FileScan} {o : Option NamedFile}
+    (n : SymbolId × Option (Bor (List ℕ))) (h : HasScanned key mine scan o) (new : FileScan)
+    {t : Scanned} (p : Passes h.scanned (Some n) t) (s : Scans new.scan t) where
   facts_now : t.facts ≡ mine ++ next_fact key n ∷ []
   facts_now = p.1 ∙ ap (λ x. x ++ next_fact h.scanned.key n ∷ []) h.facts_are ∙ ap
       (λ k. mine ++ next_fact k n ∷ []) h.of_key
@@ -251,13 +245,14 @@ module _ (key : Key) (mine : List Fact) (scan : FileScan) (o : Option NamedFile)
       (subst (IsBroken h.scanned.key) (sym p.1) here) in
       subst (λ (b : Bool). FileIs t new.left b None) (sym w') (refl, more)
 
+module _ {key : Key} {mine : List Fact} {scan : FileScan} {o : Option NamedFile}
+    (h : HasScanned key mine scan o) (new : FileScan) where
   -- the file has these bytes more
-  pub fits_on : scan.whole ≡ true → new.whole ≡ true → (more : List ℕ) → t.info ≡ h.scanned.info →
-      t.bytes ≡ option_map (λ bytes. bytes ++ more) h.scanned.bytes → new.left ≡ scan.left - length
-      more
+  pub fits_on : {t : Scanned} {more : List ℕ} → HasMore h.scanned t more → scan.whole ≡ true
+      → new.whole ≡ true → new.left ≡ scan.left - length more
       → (f : NamedFile) × (o ≡ Some f) × FileIs t new.left new.whole
       (Some (record f { bytes = f.bytes ++ take scan.left more }))
-  fits_on w w' more i e l =
+  fits_on {t = t} {more = more} came w w' l =
       let old = subst (λ (b : Bool). FileIs h.scanned scan.left b o) w h.file in
       let bytes = old.0 in
       let len = h.scanned.info.transfer_length in
@@ -267,19 +262,19 @@ module _ (key : Key) (mine : List Fact) (scan : FileScan) (o : Option NamedFile)
       let file : first_bytes t.key t.info (bytes ++ more) ≡ record f
       { bytes = f.bytes ++ take scan.left more } =
       λ j. record {
-        name = file_name (p.0 j);
+        name = file_name (came.key j);
         bytes = (ap
-            (λ (x : Information). take x.transfer_length (bytes ++ more)) i ∙ all) j;
+            (λ (x : Information). take x.transfer_length (bytes ++ more)) came.info ∙ all) j;
       } in
       let left : new.left ≡ t.info.transfer_length - length (bytes ++ more) =
-      let a = old.3 in let b = ap (λ (x : Information). x.transfer_length) i in omega
+      let a = old.3 in let b = ap (λ (x : Information). x.transfer_length) came.info in omega
       (arith, a, b, l, length-append bytes more) in (
         f,
         old.2,
         subst (λ (b : Bool). FileIs t new.left b (Some (record f
             { bytes = f.bytes ++ take scan.left more }))) (sym w') (
               bytes ++ more,
-              e ∙ ap (option_map (λ (x : List ℕ). x ++ more)) old.1,
+              came.bytes ∙ ap (option_map (λ (x : List ℕ). x ++ more)) old.1,
               ap Some
                   (sym file),
               left,
@@ -287,16 +282,18 @@ module _ (key : Key) (mine : List Fact) (scan : FileScan) (o : Option NamedFile)
       )
 
   -- the file stays as it is
-  pub beside_on : scan.whole ≡ true → new.whole ≡ true → t.info ≡ h.scanned.info → t.bytes ≡
-      h.scanned.bytes → new.left ≡ scan.left → FileIs t new.left new.whole o
-  beside_on w w' i e l =
+  pub beside_on : (t : Scanned) → t.key ≡ h.scanned.key → scan.whole ≡ true
+      → new.whole ≡ true
+      → (t.info ≡ h.scanned.info) × (t.bytes ≡ h.scanned.bytes) → new.left ≡ scan.left
+      → FileIs t new.left new.whole o
+  beside_on t k w w' same l =
       let old = subst (λ (b : Bool). FileIs h.scanned scan.left b o) w h.file in
       let file : first_bytes t.key t.info old.0 ≡ first_bytes h.scanned.key h.scanned.info old.0 =
-      λ j. first_bytes (p.0 j) (i j) old.0 in
+      λ j. first_bytes (k j) (same.0 j) old.0 in
       let left : new.left ≡ t.info.transfer_length - length old.0 = l ∙ old.3 ∙ ap
-      (λ (x : Information). x.transfer_length - length old.0) (sym i) in
+      (λ (x : Information). x.transfer_length - length old.0) (sym same.0) in
       subst (λ (b : Bool). FileIs t new.left b o) (sym w')
-      (old.0, e ∙ old.1, old.2 ∙ ap Some (sym file), left)
+      (old.0, same.1 ∙ old.1, old.2 ∙ ap Some (sym file), left)
 
 -- ---- the end of the object
 
@@ -321,24 +318,26 @@ whole_file F key info h =
     ap (file_at F key) h.information ∙ ap (file_wanting F key info) none
 
 -- What is known of the object at its end.
-module _ (F before mine : List Fact) (key : Key) (all : F ≡ before ++ mine) (r : IsRising F)
-    (scan : FileScan) (o : Option NamedFile) (h : HasScanned key mine scan o)
-    (t : Scanned) (p : Passes h.scanned None t) where
+module _ {F before mine : List Fact} {key : Key} (last : EndsIn F before mine) {scan : FileScan}
+    {o : Option NamedFile} (h : HasScanned key mine scan o) {t : Scanned}
+    (p : Passes h.scanned None t) where
   at_start : F ≡ before ++ (h.scanned.facts ++ [])
-  at_start = all ∙ ap (λ l. before ++ l) (sym (append-nil h.scanned.facts ∙ h.facts_are))
+  at_start =
+      last.all ∙ ap (λ l. before ++ l) (sym (append-nil h.scanned.facts ∙ h.facts_are))
 
   ends_at : Follows t None F
   ends_at = record {
     before = before;
     rest = [];
-    all = all ∙ ap (λ l. before ++ l)
+    all = last.all ∙ ap (λ l. before ++ l)
         (sym (append-nil t.facts ∙ p.1 ∙ h.facts_are));
-    rising = r;
+    rising = last.rising;
     come = tt;
   }
 
   starts_at : Follows h.scanned None F
-  starts_at = record { before = before; rest = []; all = at_start; rising = r; come = tt }
+  starts_at =
+      record { before = before; rest = []; all = at_start; rising = last.rising; come = tt }
 
   pub gave_all_now : GaveAll t F
   gave_all_now = p.2 F ends_at
@@ -350,7 +349,7 @@ module _ (F before mine : List Fact) (key : Key) (all : F ≡ before ++ mine) (r
   pub none_was : scan.whole ≡ false → (o ≡ None) × (object_file F key ≡ [])
   none_was w =
       let old = subst (λ (b : Bool). FileIs h.scanned scan.left b o) w h.file in
-      let first = old.1 F before [] at_start r in
+      let first = old.1 F before [] at_start last.rising in
       (old.0, not_whole_file F key first.0 (subst (λ k. IsNotWhole F k first.0) h.of_key first.1))
 
   pub none_now : scan.whole ≡ true → PassedAs h.scanned None passed.Broken t → object_file F key ≡
@@ -392,11 +391,11 @@ nothing_more None = refl
 nothing_more (Some x) = ap Some (append-nil x)
 
 -- the object has no file
-pub without : (F : List Fact) (key : Key) (files : List NamedFile) (o : Option NamedFile)
-    (p0 p : Option Places) → LeadsTo (Fills files o) p0 p → (status : Status) → TellsStatus F key
-    status → o ≡ None → object_file F key ≡ []
+pub without : {F : List Fact} {key : Key} {files : List NamedFile} {o : Option NamedFile}
+    {p0 p : Option Places} → LeadsTo (Fills files o) p0 p → (status : Status)
+    → TellsStatus F key status → o ≡ None → object_file F key ≡ []
     → Ends F key status false files p0 p
-without F key files o p0 p filled status s none e = record {
+without {files = files} {p0 = p0} {p = p} filled status s none e = record {
   status_is = s;
   filled = subst (λ x. LeadsTo (Fills (files ++ x) None) p0 p) (sym e)
       (subst (λ x. LeadsTo (Fills x None) p0 p) (sym (append-nil files))
@@ -405,11 +404,11 @@ without F key files o p0 p filled status s none e = record {
 }
 
 -- it has one
-pub with_one : (F : List Fact) (key : Key) (files : List NamedFile) (f : NamedFile)
-    (p0 p : Option Places) → LeadsTo (Fills (files ++ f ∷ []) None) p0 p → (status : Status) →
-    TellsStatus F key status → object_file F key ≡ f ∷ []
+pub with_one : {F : List Fact} {key : Key} {files : List NamedFile} {f : NamedFile}
+    {p0 p : Option Places} → LeadsTo (Fills (files ++ f ∷ []) None) p0 p → (status : Status)
+    → TellsStatus F key status → object_file F key ≡ f ∷ []
     → Ends F key status true files p0 p
-with_one F key files f p0 p filled status s e = record {
+with_one {files = files} {p0 = p0} {p = p} filled status s e = record {
   status_is = s;
   filled = subst (λ x. LeadsTo (Fills (files ++ x) None) p0 p) (sym e) filled;
   count = ap (λ x. length x) e;

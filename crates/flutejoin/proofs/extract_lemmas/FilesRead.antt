@@ -1,6 +1,6 @@
 -- extract --all: whole picked objects become files as the journal is read (specs/ExtractAll).
 use Rattle.std.proofs.Common.{◌≡◌, ℕ, ◌+◌, ◌<◌, ◌≤◌, ◌^◌, true, false, List, [], ◌∷◌, ◌++◌}
-use Rattle.std.proofs.Common.{length, arith, Option, None, Result, Ok, Err, inl, inr, refl, sym, ap}
+use Rattle.std.proofs.Common.{length, arith, Option, None, Result, Ok, Err, inl, inr, refl, ap}
 use Rattle.std.proofs.Common.{◌∙◌, subst, append-nil}
 use Rattle.std.specs.Prelude.{IfSome, IfOk, IfErr}
 use Rattle.std.specs.Io.KnownBytes.{IsAtEnd}
@@ -17,12 +17,10 @@ use Rattle.flute_output.specs.NewFolders.{Places}
 use Rattle.flute_journal.specs.declared.fault.ReadFault.{ReadFault}
 use Rattle.flute_journal.specs.declared.readers.reader_state.ReaderState.{ReaderState}
 use Rattle.flute_journal.specs.declared.readers.entry_fields.Before.{Before}
-use Rattle.flute_journal.specs.declared.readers.reader_state.ReaderState.TheVariants.{Header}
 use Rattle.flute_journal.specs.Framing.{GivesItem, GivesEnd, GivesFault, Sofar}
 use Rattle.flute_journal.specs.JournalFraming.{journal_framing}
-use Rattle.flute_journal.specs.declared.format.version.Version.TheVariants.{Two}
 use Rattle.flute_journal.proofs.Public.{loaded-over, side-from, journal_sound, sofar-next}
-use Rattle.flute_journal.proofs.Public.{Loaded, sofar-none, sofar-stops}
+use Rattle.flute_journal.proofs.Public.{Loaded, sofar-stops}
 use Rattle.flutejoin.specs.ExtractAll.{ExtractsAll, CanPick, is_picked, picked_facts}
 use Rattle.flutejoin.specs.Gaps.{ReadsWithin}
 use Rattle.flutejoin.specs.Load.{LoadFails}
@@ -80,25 +78,9 @@ pub record FilesRead {s o y : ℕ} (first now : Option (List ℕ)) (state : Read
   pub takes : Takes (picked_facts picked entries) objects places.0 places.1 lines.0 lines.1
   pub few : objects.written ≤ length entries
 
-pub none_read : {s o y : ℕ} (u v : Option (List ℕ)) (state : ReaderState Before)
-    (tally : Tally s o y)
-    (picked : Picked) (objects : ObjectFiles) (p : Option Places) (w : Option (List ℕ)) → v ≡ u →
-    state ≡ Header → Counts s o y [] tally
-    → Takes [] objects p p w w → objects.written ≡ 0 → FilesRead u v state tally picked objects
-    (p, p) (w, w)
-none_read u v state tally picked objects p w e is c l n = record {
-  entries = [];
-  sofar = subst (λ (x : Option (List ℕ)). Sofar journal_framing MAX_ENTRIES u x state []) (sym e)
-      (subst (λ (x : ReaderState Before). Sofar journal_framing MAX_ENTRIES u u x []) (sym is)
-      (sofar-none journal_sound Two MAX_ENTRIES u));
-  counts = c;
-  takes = l;
-  few = omega (arith, n);
-}
-
-module _ {s o y : ℕ} (u v w : Option (List ℕ)) (from to : ReaderState Before) (tally : Tally s o y)
-    (picked : Picked) (objects : ObjectFiles) (ps : Option Places × Option Places)
-    (ws : Option (List ℕ) × Option (List ℕ))
+module _ {s o y : ℕ} {u v : Option (List ℕ)} {from : ReaderState Before} {tally : Tally s o y}
+    {picked : Picked} {objects : ObjectFiles} {ps : Option Places × Option Places}
+    {ws : Option (List ℕ) × Option (List ℕ)}
     (h : FilesRead u v from tally picked objects ps ws) where
   pub known_some : KnowsSome objects
   known_some = (
@@ -114,7 +96,8 @@ module _ {s o y : ℕ} (u v w : Option (List ℕ)) (from to : ReaderState Before
       let most : length h.entries ≤ 16777216 = h.sofar.are_items.few in
       omega (arith, few, most)
 
-  module _ (f : Fact) (g : GivesItem journal_framing MAX_ENTRIES from to v w f) where
+  module _ {w : Option (List ℕ)} {to : ReaderState Before} {f : Fact}
+      (g : GivesItem journal_framing MAX_ENTRIES from to v w f) where
     pub entry_rises : IsRising (h.entries ++ f ∷ [])
     entry_rises = (sofar-next journal_sound h.sofar
         g).are_items.in_order
@@ -131,13 +114,12 @@ module _ {s o y : ℕ} (u v w : Option (List ℕ)) (from to : ReaderState Before
       ),
     )
 
-    module _ (tally' : Tally s o y) (c : Counts s o y (h.entries ++ f ∷ [])
-        tally') where
-      pub more_read : (objects' : ObjectFiles) (p' : Option Places) (w' : Option (List ℕ)) → Takes
-          (picked_facts picked (h.entries ++ f ∷ [])) objects' ps.0 p' ws.0 w' → objects'.written ≤
-          objects.written + 1
+    module _ {tally' : Tally s o y} (c : Counts s o y (h.entries ++ f ∷ []) tally') where
+      pub more_read : {objects' : ObjectFiles} {p' : Option Places} {w' : Option (List ℕ)}
+          → Takes (picked_facts picked (h.entries ++ f ∷ [])) objects' ps.0 p' ws.0 w'
+          → objects'.written ≤ objects.written + 1
           → FilesRead u w to tally' picked objects' (ps.0, p') (ws.0, w')
-      more_read objects' p' w' t n = record {
+      more_read t n = record {
         entries = h.entries ++ f ∷ [];
         sofar = sofar-next journal_sound h.sofar g;
         counts = c;
@@ -167,14 +149,16 @@ module _ {s o y : ℕ} (u v w : Option (List ℕ)) (from to : ReaderState Before
         } in
         loaded-over loaded g over
 
-  pub fault_read : (f : ReadFault) → GivesFault journal_framing MAX_ENTRIES from to v w f
+  pub fault_read : {w : Option (List ℕ)} {to : ReaderState Before} {f : ReadFault}
+      → GivesFault journal_framing MAX_ENTRIES from to v w f
       → LoadFails (at_most s o y) 1 u w (Input 1 f)
-  fault_read f g = (
+  fault_read {w = w} {to = to} {f = f} g = (
     refl,
     (h.entries, h.counts.within, (sofar-stops h.sofar g).0),
   )
 
-  module _ (g : GivesEnd journal_framing from to v w) where
+  module _ {w : Option (List ℕ)} {to : ReaderState Before}
+      (g : GivesEnd journal_framing from to v w) where
     end_read : IsAtEnd w
     end_read = (side-from journal_sound w to None h.sofar g).at_end
 
@@ -183,15 +167,15 @@ module _ {s o y : ℕ} (u v w : Option (List ℕ)) (from to : ReaderState Before
       entries = h.entries;
       are_items = h.sofar.are_items;
       within = h.counts.within;
-      read = inr (whole u v w from to h.entries h.sofar g, end_read);
+      read = inr (whole h.sofar g, end_read);
     }
 
-    pub all_read : (count : ℕ) (p : Option Places) (lines : Option (List ℕ)) → TakesAll
-        (picked_facts picked h.entries) count ps.0 p ws.0 lines
+    pub all_read : {count : ℕ} {p : Option Places} {lines : Option (List ℕ)}
+        → TakesAll (picked_facts picked h.entries) count ps.0 p ws.0 lines
         → ExtractsAll (at_most s o y) u w picked ps.0 p ws.0 lines count
-    all_read count p lines t = record {
+    all_read t = record {
       entries = h.entries;
-      journal = whole u v w from to h.entries h.sofar g;
+      journal = whole h.sofar g;
       read = end_read;
       within = h.counts.within;
       taken = t;

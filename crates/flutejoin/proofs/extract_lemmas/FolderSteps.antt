@@ -61,25 +61,27 @@ fills_nothing (Some p) h = record {
   stays = record { out = refl; past = refl; named = refl };
 }
 
--- what one call makes of a folder that was filled so far
-pub fills_on : (f : Places → Places) (files files' : List NamedFile) (o o' : Option NamedFile)
-    → ((p0 p : Places) → Fills files o p0 p → Fills files' o' p0 (f p))
-    → (p0 p q : Option Places) → LeadsTo (Fills files o) p0 p → Makes f p q → LeadsTo
-    (Fills files' o') p0 q
-fills_on f files files' o o' h None None None l m = tt
-fills_on f files files' o o' h None None (Some q) l m = absurd m
-fills_on f files files' o o' h None (Some p) q l m = absurd l
-fills_on f files files' o o' h (Some p0) None q l m = absurd l
-fills_on f files files' o o' h (Some p0) (Some p) None l m = absurd m
-fills_on f files files' o o' h (Some p0) (Some p) (Some q) l m = subst (Fills files' o' p0) (sym m)
-    (h p0 p l)
+-- a call that does so makes of a folder of which A holds one of which B holds
+abbrev pub Brings : (Places → Places) → (Places → Places → Type 0)
+    → (Places → Places → Type 0) → Type 0
+Brings f A B = (p0 p q : Option Places) → LeadsTo A p0 p → Makes f p q → LeadsTo B p0 q
+
+-- it does if it does so with a folder that is known
+brings : (f : Places → Places) (A B : Places → Places → Type 0)
+    → ((p0 p : Places) → A p0 p → B p0 (f p)) → Brings f A B
+brings f A B h None None None l m = tt
+brings f A B h None None (Some q) l m = absurd m
+brings f A B h None (Some p) q l m = absurd l
+brings f A B h (Some p0) None q l m = absurd l
+brings f A B h (Some p0) (Some p) None l m = absurd m
+brings f A B h (Some p0) (Some p) (Some q) l m = subst (B p0) (sym m) (h p0 p l)
 
 -- a file is begun, bytes are put into it, it is dropped, or it is kept
 pub fills_begins : (name : List ℕ) (files : List NamedFile) (o : Option NamedFile)
-    (p0 p q : Option Places) → LeadsTo (Fills files o) p0 p → Makes (begins name) p q
-    → LeadsTo (Fills files (Some (record { name = name; bytes = [] }))) p0 q
-fills_begins name files o = fills_on (begins name) files files o
-    (Some (record { name = name; bytes = [] }))
+    → Brings (begins name) (Fills files o)
+    (Fills files (Some (record { name = name; bytes = [] })))
+fills_begins name files o = brings (begins name) (Fills files o)
+    (Fills files (Some (record { name = name; bytes = [] })))
     (λ p0 p l. record {
       beside = l.beside;
       there = l.there;
@@ -88,10 +90,10 @@ fills_begins name files o = fills_on (begins name) files files o
           (begins name p) l.stays (begins_stay name p);
     })
 
-pub fills_puts : (more : List ℕ) (files : List NamedFile) (f : NamedFile) (p0 p q : Option Places)
-    → LeadsTo (Fills files (Some f)) p0 p → Makes (puts more) p q
-    → LeadsTo (Fills files (Some (with_bytes more f))) p0 q
-fills_puts more files f = fills_on (puts more) files files (Some f) (Some (with_bytes more f))
+pub fills_puts : (more : List ℕ) (files : List NamedFile) (f : NamedFile)
+    → Brings (puts more) (Fills files (Some f)) (Fills files (Some (with_bytes more f)))
+fills_puts more files f = brings (puts more) (Fills files (Some f))
+    (Fills files (Some (with_bytes more f)))
     (λ p0 p l. record {
       beside = l.beside;
       there = l.there;
@@ -101,9 +103,9 @@ fills_puts more files f = fills_on (puts more) files files (Some f) (Some (with_
           (puts_stay more p);
     })
 
-pub fills_leaves : (files : List NamedFile) (o : Option NamedFile) (p0 p q : Option Places) →
-    LeadsTo (Fills files o) p0 p → Makes leaves p q → LeadsTo (Fills files None) p0 q
-fills_leaves files o = fills_on leaves files files o None
+pub fills_leaves : (files : List NamedFile) (o : Option NamedFile)
+    → Brings leaves (Fills files o) (Fills files None)
+fills_leaves files o = brings leaves (Fills files o) (Fills files None)
     (λ p0 p l. record {
       beside = l.beside;
       there = l.there;
@@ -132,8 +134,8 @@ keeps_as files f p0 p l = record {
   stays = both_stay p0 p (keeps_open (Some f) p) l.stays (kept_stay (Some f) p);
 }
 
-pub fills_keeps : (files : List NamedFile) (f : NamedFile) (p0 p q : Option Places) → LeadsTo
-    (Fills files (Some f)) p0 p → Makes keeps p q → LeadsTo (Fills (files ++ f ∷ []) None) p0 q
-fills_keeps files f = fills_on keeps files (files ++ f ∷ []) (Some f) None
+pub fills_keeps : (files : List NamedFile) (f : NamedFile)
+    → Brings keeps (Fills files (Some f)) (Fills (files ++ f ∷ []) None)
+fills_keeps files f = brings keeps (Fills files (Some f)) (Fills (files ++ f ∷ []) None)
     (λ p0 p l. subst (λ (o : Option NamedFile). Fills (files ++ f ∷ []) None p0 (keeps_open o p))
     (sym l.open_is) (keeps_as files f p0 p l))

@@ -71,14 +71,13 @@ symbol-last key id e = go (key_cmp key key) (key_itself key) e
     go Equal t e = cc
     go Greater t e = false≢true t
 
-not-here : (key : Key) (f : Fact) (id : SymbolId) (rest : List Fact) (g : Fact)
+not-here : {key : Key} (f : Fact) {id : SymbolId} (rest : List Fact) (g : Fact)
     → StandAfter (address f) rest → address f ≡ record { key = key; part = SymbolPart id }
-    → address g ≡ info_address key
-    → Member g (f ∷ rest) → ⊥
+    → address g ≡ info_address key → Member g (f ∷ rest) → ⊥
 unfolding Member
-not-here key f id rest g after at same (inl s) = let e : SymbolPart id ≡ InfoPart =
+not-here f {id = id} rest g after at same (inl s) = let e : SymbolPart id ≡ InfoPart =
     ap (λ (a : Address). a.part) (sym at ∙ ap address (sym s) ∙ same) in cc
-not-here key f id rest g after at same (inr m) =
+not-here {key = key} f {id = id} rest g after at same (inr m) =
     symbol-last key id (subst (λ a. address_cmp a (info_address key) ≡ Less) at
     (subst (λ a. address_cmp (address f) a ≡ Less) same
     (member-after (address f) g rest after m)))
@@ -96,7 +95,7 @@ symbol-told key P f id others at = λ F rest e r.
     λ g c same.
     elim (Contains-append_cases P (f ∷ rest) g (subst (λ l. Contains l g) is c)) [
       | inl m ↦ others-none key P others g (Member-from P g m) (ap (λ (a : Address). a.key) same)
-      | inr m ↦ not-here key f id rest g after at same (Member-from (f ∷ rest) g m)
+      | inr m ↦ not-here f rest g after at same (Member-from (f ∷ rest) g m)
     ] in (
       (SymbolPart id, λ empty. none-some f (sym empty ∙ ap (fact_at F) (sym at) ∙ told)),
       fact_at-none F (info_address key) none,
@@ -104,11 +103,12 @@ symbol-told key P f id others at = λ F rest e r.
 
 -- The facts of an object are adjacent: once its information and then a fact of another object were
 -- read, no fact of it follows.
-pub together : (key : Key) (before symbols after : List Fact) (i f : Fact)
-    → (address i).key ≡ key → (address f).key ≡ key → AllByRecursion (IsOther key) after
+pub together : (before symbols after : List Fact) (i f : Fact)
+    → (address f).key ≡ (address i).key → AllByRecursion (IsOther (address i).key) after
     → IsRising ((before ++ (i ∷ symbols ++ after)) ++ f ∷ []) → after ≡ []
-together key before symbols [] i f is_i is_f others r = refl
-together key before symbols (g ∷ after) i f is_i is_f others r =
+together before symbols [] i f same others r = refl
+together before symbols (g ∷ after) i f same others r =
+    let key = (address i).key in
     let P = before ++ (i ∷ symbols ++ g ∷ after) in
     let within : Contains P g =
     Contains-append_right before (i ∷ symbols ++ g ∷ after) g
@@ -118,11 +118,10 @@ together key before symbols (g ∷ after) i f is_i is_f others r =
     (Member-from _ g (here symbols after g)) in
     let high = before-next P f g r (Member-from P g within) in
     let q : key_cmp key (address g).key ≡ Greater → ⊥ =
-    λ e. key-before (address i) (address g) low
-    (ap (λ k. key_cmp k (address g).key) is_i ∙ e) in
+    λ e. key-before (address i) (address g) low e in
     let p : key_cmp (address g).key key ≡ Greater → ⊥ =
     λ e. key-before (address g) (address f) high
-    (ap (λ k. key_cmp (address g).key k) is_f ∙ e) in
+    (ap (λ k. key_cmp (address g).key k) same ∙ e) in
     absurd (others.0 (key_same (address g).key key
     (ap is_eq (tied (key_cmp (address g).key key) (key_cmp key (address g).key)
     (key_total.antisymm (address g).key key) p q))))

@@ -12,8 +12,7 @@ use Rattle.std.proofs.lemmas.List.{length-append, take-append-drop}
 use Rattle.std.proofs.lemmas.List.Elements.{Contains-append_left}
 use Rattle.flute_parts.specs.Addresses.{address, info_address, symbol_address}
 use Rattle.flute_parts.specs.Facts.{IsRising}
-use Rattle.flute_parts.specs.Information.{Information, IsValid}
-use Rattle.flute_parts.specs.Partition.{ids}
+use Rattle.flute_parts.specs.Information.{IsValid}
 use Rattle.flute_parts.specs.declared.address.Address.{Address}
 use Rattle.flute_parts.specs.declared.fact.Fact.{Fact}
 use Rattle.flute_parts.specs.declared.fact.Fact.TheVariants.{Info}
@@ -27,7 +26,7 @@ use Rattle.flute_store.specs.declared.gap.Gap.{Gap}
 use Rattle.flute_store.specs.declared.turn.Turn.{Turn}
 use Rattle.flute_store.specs.declared.turn.Turn.TheVariants as turns
 use Rattle.flute_store.specs.Scan.{Scanned, Turned, next_fact, value_of, IsFirstPart, Follows}
-use Rattle.flute_store.specs.Scan.{CanCome, coming_fact, PassedNext, PartOf, GaveAll, at_begin}
+use Rattle.flute_store.specs.Scan.{CanCome, coming_fact, PassedNext, PartOf, GaveAll}
 use Rattle.flute_store.specs.Scans.{Scans}
 use Rattle.flute_journal.specs.JournalWriters.{Written, PutsBytes}
 use Rattle.flute_journal.proofs.Public.{all_more, written-more}
@@ -66,15 +65,16 @@ told-at key id (Some bytes) = refl
 told-at key id None = refl
 
 -- a fact of another object passes
-pub other-passes : (P : List Fact) (f : Fact) (key : Key) (failed : Bool)
+pub other-passes : (P : List Fact) (f : Fact) {key : Key} (failed : Bool)
     (start now : Option (List ℕ)) (what : Found) → IsOther key f
     → HasFound P key failed start now what → HasFound (P ++ f ∷ []) key failed start now what
-other-passes P f key failed start now found.Nothing o h = (all_more (IsOther key) P f h.0 o, h.1)
-other-passes P f key failed start now found.Symbols o h = (settled-more P f _ h.0, h.1)
-other-passes P f key failed start now found.Conflict o h = (settled-more P f _ h.0, h.1)
-other-passes P f key failed start now (found.NotWhole first) o h =
+other-passes P f {key = key} failed start now found.Nothing o h =
+    (all_more (IsOther key) P f h.0 o, h.1)
+other-passes P f failed start now found.Symbols o h = (settled-more P f _ h.0, h.1)
+other-passes P f failed start now found.Conflict o h = (settled-more P f _ h.0, h.1)
+other-passes P f {key = key} failed start now (found.NotWhole first) o h =
     (settled-more P f _ h.0, wrote-more P f key start now h.1)
-other-passes P f key failed start now (found.Whole object) o h = record {
+other-passes P f {key = key} failed start now (found.Whole object) o h = record {
   scanned = h.scanned;
   scans = h.scans;
   free = h.free;
@@ -116,7 +116,7 @@ module _ {P : List Fact} {key : Key} {failed : Bool} {start now : Option (List �
 
   -- a symbol of it directly follows those that were read, with no fact between
   pub nothing-after : (f : Fact) → (address f).key ≡ key → IsRising (P ++ f ∷ []) → h.after ≡ []
-  nothing-after f is r = together key h.before h.symbols h.after info_fact f refl is h.others
+  nothing-after f is r = together h.before h.symbols h.after info_fact f is h.others
       (subst (λ l. IsRising (l ++ f ∷ [])) all_are r)
 
   all_before : (f : Fact) → h.after ≡ [] → (rest : List Fact) → (P ++ f ∷ []) ++ rest ≡ h.before ++
@@ -215,47 +215,49 @@ module _ {P : List Fact} {key : Key} {failed : Bool} {start now : Option (List �
           (sym h.free) tt
 
       -- the symbol was passed
-      pub passed-next : (failed' : Bool) (now' : Option (List ℕ)) (new : WholeSoFar) (t : Scanned)
-          (more : List ℕ) → PassedNext h.scanned n (Some (h.bytes ++ more)) t → Scans new.scan t →
-          PartOf t
-          → new.size ≡ part.size → new.left ≡ part.left - length more → PutsBytes failed failed' now
-          now' (take part.left more)
+      pub passed-next : {failed' : Bool} {now' : Option (List ℕ)} {new : WholeSoFar} {t : Scanned}
+          (more : List ℕ) → PassedNext h.scanned n (Some (h.bytes ++ more)) t
+          → Scans new.scan t → PartOf t → new.size ≡ part.size
+          → new.left ≡ part.left - length more
+          → PutsBytes failed failed' now now' (take part.left more)
           → Scanning (P ++ next_fact key n ∷ []) key failed' start now' new
-      passed-next failed' now' new t more p scans first size left puts = record {
-        scanned = t;
-        scans = scans;
-        free = ap (λ (s : Scanned). s.coming) p.now;
-        part = first;
-        of_key = ap (λ (s : Scanned). s.key) p.now ∙ h.of_key;
-        valid = subst (λ (s : Scanned). IsValid s.info) (sym p.now) h.valid;
-        symbols = h.symbols ++ next_fact h.scanned.key n ∷ [];
-        begins = ap (λ (s : Scanned). s.facts) p.now ∙ ap (λ l. l ++ next_fact h.scanned.key n ∷ [])
-            h.begins ∙ ap (λ (s : Scanned). Info key s.info ∷
-            (h.symbols ++ next_fact h.scanned.key n ∷ [])) (sym p.now);
-        before = h.before;
-        after = [];
-        all =
-            sym (append-nil (P ++ next_fact key n ∷ [])) ∙ all_before (next_fact key n) none_between
-            []
-            ∙ ap (λ l. h.before ++ l)
-            (ap (λ f. h.scanned.facts ++ f ∷ []) (sym told_same) ∙ sym
-            (append-nil (h.scanned.facts ++ next_fact h.scanned.key n ∷ [])) ∙ ap
-            (λ (s : Scanned). s.facts ++ []) (sym p.now));
-        others = tt;
-        bytes = h.bytes ++ more;
-        values = ap (λ (s : Scanned). s.bytes) p.now;
-        size = size ∙ h.size ∙ ap (λ (s : Scanned). s.info.transfer_length) (sym p.now);
-        left = let l = h.left in omega (arith, left, l, size, length-append h.bytes more);
-        written =
-            subst (λ k. Written failed' start now' (take k (h.bytes ++ more))) (sym size)
-            (subst (Written failed' start now') (sym (take-append part.size h.bytes more))
-            (written-more failed failed' start now now' (take part.size h.bytes)
-            (take (part.size - length h.bytes) more) (
-              h.written,
-              subst (λ k. PutsBytes failed failed' now now' (take k more)) h.left
-                  puts,
-            )));
-      }
+      passed-next {failed' = failed'} {now' = now'} {t = t} more p scans first size left puts =
+          record {
+            scanned = t;
+            scans = scans;
+            free = ap (λ (s : Scanned). s.coming) p.now;
+            part = first;
+            of_key = ap (λ (s : Scanned). s.key) p.now ∙ h.of_key;
+            valid = subst (λ (s : Scanned). IsValid s.info) (sym p.now) h.valid;
+            symbols = h.symbols ++ next_fact h.scanned.key n ∷ [];
+            begins = ap (λ (s : Scanned). s.facts) p.now
+                ∙ ap (λ l. l ++ next_fact h.scanned.key n ∷ [])
+                h.begins ∙ ap (λ (s : Scanned). Info key s.info ∷
+                (h.symbols ++ next_fact h.scanned.key n ∷ [])) (sym p.now);
+            before = h.before;
+            after = [];
+            all =
+                sym (append-nil (P ++ next_fact key n ∷ []))
+                ∙ all_before (next_fact key n) none_between
+                []
+                ∙ ap (λ l. h.before ++ l)
+                (ap (λ f. h.scanned.facts ++ f ∷ []) (sym told_same) ∙ sym
+                (append-nil (h.scanned.facts ++ next_fact h.scanned.key n ∷ [])) ∙ ap
+                (λ (s : Scanned). s.facts ++ []) (sym p.now));
+            others = tt;
+            bytes = h.bytes ++ more;
+            values = ap (λ (s : Scanned). s.bytes) p.now;
+            size = size ∙ h.size ∙ ap (λ (s : Scanned). s.info.transfer_length) (sym p.now);
+            left = let l = h.left in omega (arith, left, l, size, length-append h.bytes more);
+            written =
+                subst (λ k. Written failed' start now' (take k (h.bytes ++ more))) (sym size)
+                (subst (Written failed' start now') (sym (take-append part.size h.bytes more))
+                (written-more failed failed' start now now' (take part.size h.bytes)
+                (take (part.size - length h.bytes) more) (
+                  h.written,
+                  subst (λ k. PutsBytes failed failed' now now' (take k more)) h.left puts,
+                )));
+          }
 
       -- it was the next of the partition, and its value was written
       pub fits-next : (t : Scanned) (more : List ℕ) → PassedNext h.scanned n
@@ -267,11 +269,12 @@ module _ {P : List Fact} {key : Key} {failed : Bool} {start now : Option (List �
           p
 
       -- or nothing was
-      pub idle-next : (new : WholeSoFar) (t : Scanned) → PassedNext h.scanned n h.scanned.bytes t →
+      pub idle-next : {new : WholeSoFar} {t : Scanned}
+          → PassedNext h.scanned n h.scanned.bytes t →
           Scans new.scan t → PartOf t → new.size ≡ part.size → new.left ≡ part.left
           → Scanning (P ++ next_fact key n ∷ []) key failed start now new
-      idle-next new t p scans first size left =
-          passed-next failed now new t [] (subst (λ o. PassedNext h.scanned n o t)
+      idle-next {t = t} p scans first size left =
+          passed-next [] (subst (λ o. PassedNext h.scanned n o t)
           (h.values ∙ ap Some (sym (append-nil h.bytes))) p) scans first size
           (omega (arith, left))
           (subst (PutsBytes failed failed now now) (sym (take-nil part.left)) (puts-nothing failed))
@@ -280,13 +283,14 @@ module _ {P : List Fact} {key : Key} {failed : Bool} {start now : Option (List �
           puts-nothing false = Appends-nil now
           puts-nothing true = Appends-nil now
 
-      pub idle-fits : (new : WholeSoFar) (t : Scanned) → value_of n ≡ [] → PassedNext h.scanned n
+      pub idle-fits : {new : WholeSoFar} {t : Scanned} → value_of n ≡ []
+          → PassedNext h.scanned n
           (option_map (λ bytes. bytes ++ value_of n) h.scanned.bytes) t → Scans new.scan t
           → PartOf t
           → new.size ≡ part.size → new.left ≡ part.left → Scanning (P ++ next_fact key n ∷ []) key
           failed start now new
-      idle-fits new t e p scans first size left =
-          idle-next new t (subst (λ o. PassedNext h.scanned n o t)
+      idle-fits {t = t} e p scans first size left =
+          idle-next (subst (λ o. PassedNext h.scanned n o t)
           (ap Some (append-nil h.bytes) ∙ sym h.values) (fits-next t [] p e)) scans first size
           left
 
@@ -358,65 +362,45 @@ pub wanted-turn : (s t : Scanned) (n : SymbolId × Option (Bor (List ℕ))) (tur
 wanted-turn s t n turn (inl e) h = (subst (λ x. Turned s (Some n) x t) e h).1
 wanted-turn s t n turn (inr e) h = absurd (subst (λ x. Turned s (Some n) x t) e h)
 
--- its information came first
-pub scan-begins : (P : List Fact) (key : Key) (info : Information) (start : Option (List ℕ))
-    (part : WholeSoFar) → Scans part.scan (at_begin key info) → IsValid info
-    → part.size ≡ info.transfer_length → part.left ≡ info.transfer_length → Scanning
-    (P ++ Info key info ∷ []) key false start start part
-scan-begins P key info start part scans valid size left = record {
-  scanned = at_begin key info;
-  scans = scans;
-  free = refl;
-  part = λ F before rest e r. record {
-    first = [];
-    others = ids info;
-    all = refl;
-    held = λ id c.
-        absurd (omega (arith, c.1));
-    values = refl;
-  };
-  of_key = refl;
-  valid = valid;
-  symbols = [];
-  begins = refl;
-  before = P;
-  after = [];
-  all = refl;
-  others = tt;
-  bytes = [];
-  values = refl;
-  size = size;
-  left = omega (arith, size, left);
-  written = subst (Appends start start) (sym (take-nil part.size)) (Appends-nil start);
-}
+-- the next fact is at the address of the object's information
+pub record IsInformation (P : List Fact) (f : Fact) (key : Key) : Type 0 where
+  pub at : address f ≡ info_address key
+  pub rising : IsRising (P ++ f ∷ [])
 
 -- its information is read at most once
-pub information-passes : (P : List Fact) (f : Fact) (key : Key) (failed : Bool)
-    (start now : Option (List ℕ)) (what : Found) → (what ≡ found.Nothing → ⊥) → address f ≡
-    info_address key
-    → IsRising (P ++ f ∷ []) → HasFound P key failed start now what → HasFound (P ++ f ∷ []) key
-    failed start now what
-information-passes P f key failed start now found.Nothing some at r h = absurd (some refl)
-information-passes P f key failed start now found.Symbols some at r h =
+pub information-passes : {P : List Fact} {f : Fact} {key : Key} (failed : Bool)
+    (start now : Option (List ℕ)) {what : Found} → (what ≡ found.Nothing → ⊥)
+    → IsInformation P f key → HasFound P key failed start now what
+    → HasFound (P ++ f ∷ []) key failed start now what
+information-passes failed start now {what = found.Nothing} some next h = absurd (some refl)
+information-passes {P = P} {f = f} failed start now {what = found.Symbols} some next h =
     (settled-more P f _ h.0, h.1)
-information-passes P f key failed start now found.Conflict some at r h =
+information-passes {P = P} {f = f} failed start now {what = found.Conflict} some next h =
     (settled-more P f _ h.0, h.1)
-information-passes P f key failed start now (found.NotWhole first) some at r h =
+information-passes {P = P} {f = f} {key = key} failed start now {what = found.NotWhole first} some
+    next h =
     (settled-more P f _ h.0, wrote-more P f key start now h.1)
-information-passes P f key failed start now (found.Whole object) some at r h = absurd
-    (no-information h f at r)
+information-passes {f = f} failed start now {what = found.Whole object} some next h =
+    absurd (no-information h f next.at next.rising)
+
+-- nothing more is to be known: something was found, and no object that may be whole
+pub record IsKnown (what : Found) : Type 0 where
+  pub some : what ≡ found.Nothing → ⊥
+  pub not_whole : (part : WholeSoFar) → what ≡ found.Whole part → ⊥
 
 -- a symbol passes where nothing more is to be known
 pub symbol-passes : (P : List Fact) (f : Fact) (key : Key) (failed : Bool)
-    (start now : Option (List ℕ)) (what : Found) → (what ≡ found.Nothing → ⊥) →
-    ((part : WholeSoFar) → what ≡ found.Whole part → ⊥)
+    (start now : Option (List ℕ)) {what : Found} → IsKnown what
     → HasFound P key failed start now what → HasFound (P ++ f ∷ []) key failed start now what
-symbol-passes P f key failed start now found.Nothing some part h = absurd (some refl)
-symbol-passes P f key failed start now found.Symbols some part h = (settled-more P f _ h.0, h.1)
-symbol-passes P f key failed start now found.Conflict some part h = (settled-more P f _ h.0, h.1)
-symbol-passes P f key failed start now (found.NotWhole first) some part h =
+symbol-passes P f key failed start now {what = found.Nothing} is h = absurd (is.some refl)
+symbol-passes P f key failed start now {what = found.Symbols} is h =
+    (settled-more P f _ h.0, h.1)
+symbol-passes P f key failed start now {what = found.Conflict} is h =
+    (settled-more P f _ h.0, h.1)
+symbol-passes P f key failed start now {what = found.NotWhole first} is h =
     (settled-more P f _ h.0, wrote-more P f key start now h.1)
-symbol-passes P f key failed start now (found.Whole object) some part h = absurd (part object refl)
+symbol-passes P f key failed start now {what = found.Whole object} is h =
+    absurd (is.not_whole object refl)
 
 -- what was written, whatever was found
 pub wrote-some : (P : List Fact) (key : Key) (failed : Bool) (start now : Option (List ℕ))

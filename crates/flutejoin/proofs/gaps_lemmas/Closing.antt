@@ -108,25 +108,31 @@ pub are_summed : {style : Style} {objects : List Told} {lines : List ℕ} {close
 are_summed {style} {objects} {lines} {closed} e h =
     subst (λ b. AreTheirs style b (listed_by style objects) lines closed.sums) e h.theirs
 
+-- the object is listed, and is whole or is not
+pub record IsListed (style : Style) (t : Told) (whole : Bool) : Type 0 where
+  pub told : is_told style t.status ≡ true
+  pub whole_is : whole ≡ is_whole t.status
+
 -- an object that is listed, with its session
-pub told_summed : (known : Bool) {style : Style} {objects : List Told} {lines : List ℕ} (t : Told)
-    {closed : ClosedObjects} (whole : Bool) (sums : Option SessionSums) (s : Option (List ℕ))
-    (r : Result (Unit {0}) DeviceFault) → style.summary ≡ true → is_told style t.status ≡ true
-    → whole ≡ is_whole t.status → AreClosed style objects lines closed
+pub told_summed : (known : Bool) {style : Style} {objects : List Told} {lines : List ℕ} {t : Told}
+    {closed : ClosedObjects} {whole : Bool} (sums : Option SessionSums) (s : Option (List ℕ))
+    (r : Result (Unit {0}) DeviceFault) → style.summary ≡ true → IsListed style t whole
+    → AreClosed style objects lines closed
     → OnOk r (AreSummedUp known (listed_by style objects ++ t ∷ []) s sums)
     → OnOk r (ArePut known style (objects ++ t ∷ []) (flat_map (shown_gap style) t.gaps) s
     (record { all_whole = closed.all_whole && whole; sums = sums }))
-told_summed known t whole sums s (Err x) y e w h m = tt
-told_summed known {style} {objects} {lines} t {closed} whole sums s (Ok x) y e w h m =
+told_summed known sums s (Err x) y is h m = tt
+told_summed known {style} {objects} {lines} {t} {closed} {whole} sums s (Ok x) y is h m =
     let gaps = flat_map (shown_gap style) t.gaps in
-    let more = told_more style objects t e in
+    let more = told_more style objects t is.told in
     let none : m.lines ≡ m.lines ++ gaps =
     sym (append-nil m.lines) ∙ ap (λ l. m.lines ++ l) (sym (none_shown style t.gaps y)) in
     record {
       lines = m.lines;
       lines_known = m.lines_known;
       are_closed = record {
-        all_whole = whole_more style objects t closed.all_whole whole e h.all_whole w;
+        all_whole = whole_more style objects t closed.all_whole whole is.told h.all_whole
+            is.whole_is;
         theirs = subst (λ b. AreTheirs style b (listed_by style (objects ++ t ∷ []))
             (m.lines ++ gaps) sums) (sym y)
             (subst (λ l. AreSummed l (m.lines ++ gaps) sums) (sym more)
@@ -135,16 +141,16 @@ told_summed known {style} {objects} {lines} t {closed} whole sums s (Ok x) y e w
     }
 
 -- or with a line of its own
-pub told_lined : {known : Bool} {style : Style} {objects : List Told} {lines : List ℕ} (t : Told)
-    {closed : ClosedObjects} (whole : Bool) {s : Option (List ℕ)} (s' : Option (List ℕ))
-    (r : Result (Unit {0}) DeviceFault) → style.summary ≡ false → is_told style t.status ≡ true
-    → whole ≡ is_whole t.status → AreClosed style objects lines closed → Knows known s lines
+pub told_lined : {known : Bool} {style : Style} {objects : List Told} {lines : List ℕ} {t : Told}
+    {closed : ClosedObjects} {whole : Bool} {s : Option (List ℕ)} (s' : Option (List ℕ))
+    (r : Result (Unit {0}) DeviceFault) → style.summary ≡ false → IsListed style t whole
+    → AreClosed style objects lines closed → Knows known s lines
     → Writes s s' (status_line t.key t.status) r
     → OnOk r (ArePut known style (objects ++ t ∷ []) (flat_map (shown_gap style) t.gaps) s'
     (record { all_whole = closed.all_whole && whole; sums = closed.sums }))
 unfolding told_lines
-told_lined t whole s' (Err x) n e w h k a = tt
-told_lined {known} {style} {objects} {lines} t {closed} whole {s} s' (Ok x) n e w h k a =
+told_lined s' (Err x) n is h k a = tt
+told_lined {known} {style} {objects} {lines} {t} {closed} {whole} {s} s' (Ok x) n is h k a =
     let gaps = flat_map (shown_gap style) t.gaps in
     let line = status_line t.key t.status in
     let old = subst (λ b. AreTheirs style b (listed_by style objects) lines closed.sums) n
@@ -154,12 +160,13 @@ told_lined {known} {style} {objects} {lines} t {closed} whole {s} s' (Ok x) n e 
     append_assoc lines line gaps
     ∙ ap (λ l. l ++ (line ++ gaps)) old.0
     ∙ flat_map_more (told_lines style) [] (listed_by style objects) t
-    ∙ ap (flat_map (told_lines style)) (sym (told_more style objects t e)) in
+    ∙ ap (flat_map (told_lines style)) (sym (told_more style objects t is.told)) in
     record {
       lines = lines ++ line;
       lines_known = knows_more line k a;
       are_closed = record {
-        all_whole = whole_more style objects t closed.all_whole whole e h.all_whole w;
+        all_whole = whole_more style objects t closed.all_whole whole is.told h.all_whole
+            is.whole_is;
         theirs = subst (λ b. AreTheirs style b (listed_by style (objects ++ t ∷ []))
             ((lines ++ line) ++ gaps) closed.sums) (sym n) (all, old.1);
       };

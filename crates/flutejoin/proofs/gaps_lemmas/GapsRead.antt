@@ -96,8 +96,7 @@ none_read choice style {u} {v} {state} {tally} {listing} empty e is c l = record
 }
 
 module _ {s o y : ℕ} {choice : Selection} {style : Style} {u v : Option (List ℕ)}
-    (w : Option (List ℕ)) {from : ReaderState Before} (to : ReaderState Before)
-    {tally : Tally s o y} {listing : Listing} {empty aside : PutAside}
+    {from : ReaderState Before} {tally : Tally s o y} {listing : Listing} {empty aside : PutAside}
     (h : ListsRead choice style u v from tally listing empty aside) where
   -- what the open object is, whatever is known of what was put aside
   pub is_open : (lines gap_lines : List ℕ)
@@ -106,18 +105,19 @@ module _ {s o y : ℕ} {choice : Selection} {style : Style} {u v : Option (List 
       let l = h.lists false (λ is. absurd cc) in
       (l.lines, l.gap_lines, l.lists)
 
-  module _ (f : Fact) (g : GivesItem journal_framing MAX_ENTRIES from to v w f) where
+  module _ {w : Option (List ℕ)} {to : ReaderState Before} {f : Fact}
+      (g : GivesItem journal_framing MAX_ENTRIES from to v w f) where
     pub entry_rises : IsRising (h.entries ++ f ∷ [])
     entry_rises = (sofar-next journal_sound h.sofar
         g).are_items.in_order
 
-    pub one_more_read : (tally' : Tally s o y) (listing' : Listing) (aside' : PutAside)
+    pub one_more_read : {tally' : Tally s o y} {listing' : Listing} {aside' : PutAside}
         → Counts s o y (h.entries ++ f ∷ []) tally'
         → ((known : Bool)
         → Lists style known (selected choice h.entries) listing aside.lines aside.gap_lines
         → Lists style known (selected choice (h.entries ++ f ∷ [])) listing' aside'.lines
         aside'.gap_lines) → ListsRead choice style u w to tally' listing' empty aside'
-    one_more_read tally' listing' aside' c l = record {
+    one_more_read c l = record {
       entries = h.entries ++ f ∷ [];
       sofar = sofar-next journal_sound h.sofar g;
       counts = c;
@@ -128,9 +128,9 @@ module _ {s o y : ℕ} {choice : Selection} {style : Style} {u v : Option (List 
     can_add = (h.entries, entry_rises, h.sofar.are_items.few, is_open)
 
     -- an entry more was read, within the limits
-    pub within_read : (tally' : Tally s o y)
+    pub within_read : {tally' : Tally s o y}
         → Counts s o y (h.entries ++ f ∷ []) tally' → ReadsWithin (at_most s o y) u w
-    within_read tally' c =
+    within_read c =
         let all = sofar-next journal_sound h.sofar g in
         record {
           entries = h.entries ++ f ∷ [];
@@ -150,14 +150,16 @@ module _ {s o y : ℕ} {choice : Selection} {style : Style} {u v : Option (List 
         } in
         loaded-over loaded g over
 
-  pub fault_read : (f : ReadFault) → GivesFault journal_framing MAX_ENTRIES from to v w f
+  pub fault_read : {w : Option (List ℕ)} {to : ReaderState Before} {f : ReadFault}
+      → GivesFault journal_framing MAX_ENTRIES from to v w f
       → LoadFails (at_most s o y) 1 u w (Input 1 f)
-  fault_read f g = (
+  fault_read {w = w} {to = to} {f = f} g = (
     refl,
     (h.entries, h.counts.within, (sofar-stops h.sofar g).0),
   )
 
-  module _ (g : GivesEnd journal_framing from to v w) where
+  module _ {w : Option (List ℕ)} {to : ReaderState Before}
+      (g : GivesEnd journal_framing from to v w) where
     pub end_read : IsAtEnd w
     end_read = (side-from journal_sound w to None h.sofar g).at_end
 
@@ -166,7 +168,7 @@ module _ {s o y : ℕ} {choice : Selection} {style : Style} {u v : Option (List 
       entries = h.entries;
       are_items = h.sofar.are_items;
       within = h.counts.within;
-      read = inr (whole u v w from to h.entries h.sofar g, end_read);
+      read = inr (whole h.sofar g, end_read);
     }
 
     pub all_read : {P : List Told → Type 0} (objects : List Told)
@@ -174,7 +176,7 @@ module _ {s o y : ℕ} {choice : Selection} {style : Style} {u v : Option (List 
         → ListsJournal (at_most s o y) choice u P
     all_read objects l p = record {
       entries = h.entries;
-      journal = whole u v w from to h.entries h.sofar g;
+      journal = whole h.sofar g;
       within = h.counts.within;
       objects = objects;
       told = l;

@@ -178,13 +178,18 @@ told_kept F G (k ∷ ks) h =
     let others = told_kept F G ks (λ x c. h x (Contains-append_right (k ∷ []) ks x c)) in
     λ i. one i ∷ others i
 
+-- the facts rise, and these are the last of them
+pub record EndsIn (F before mine : List Fact) : Type 0 where
+  pub all : F ≡ before ++ mine
+  pub rising : IsRising F
+
 -- the report of the objects before, and of one more, of which all other facts are
-pub one_more_told : (before mine : List Fact) (key : Key) (objects : List Told) → IsRising
-    (before ++ mine) → AreTold before objects → IsFirstOf before key →
-    ((f : Fact) → Contains mine f → (address f).key ≡ key)
-    → (f : Fact) × Contains mine f → AreTold (before ++ mine)
-    (objects ++ told_of (before ++ mine) key ∷ [])
-one_more_told before mine key objects r l first own some =
+pub one_more_told : {before : List Fact} (mine : List Fact) (key : Key) {objects : List Told}
+    → IsRising (before ++ mine) → AreTold before objects → IsFirstOf before key
+    → ((f : Fact) → Contains mine f → (address f).key ≡ key)
+    → (f : Fact) × Contains mine f
+    → AreTold (before ++ mine) (objects ++ told_of (before ++ mine) key ∷ [])
+one_more_told {before = before} mine key r l first own some =
     let all = before ++ mine in
     let earlier : (k : Key) → Contains l.keys k → (f : Fact) × (Contains before f) ×
     ((address f).key ≡ k) = λ k c. named-from before k ((l.held k).0 c) in

@@ -40,7 +40,7 @@ use Rattle.flutejoin.specs.Listing.{AllClosed, IsFirstOf, StateIs, HasOpen, Pass
 use Rattle.flutejoin.proofs.gaps_lemmas.ObjectsListed.{in_nothing, holds-from, rising-back}
 use Rattle.flutejoin.proofs.gaps_lemmas.ObjectsListed.{stands_before}
 use Rattle.flutejoin.proofs.gaps_lemmas.ObjectsListed.{same_object_between, information_first}
-use Rattle.flutejoin.proofs.gaps_lemmas.ObjectsListed.{one_more_told}
+use Rattle.flutejoin.proofs.gaps_lemmas.ObjectsListed.{EndsIn, one_more_told}
 use Rattle.flutejoin.proofs.gaps_lemmas.ObjectsListed.{none_told}
 
 -- ---- a held symbol as a fact
@@ -88,11 +88,11 @@ pub begins_symbol : (style : Style) (key : Key) (n : SymbolId × Option (Bor (Li
 begins_symbol style key n = (no_information [] n key (λ f c i. in_nothing f c), refl)
 
 -- the object that was open is another
-pub first_of_others : (style : Style) (F : List Fact) (lines gap_lines : List ℕ)
-    (closed : ClosedObjects) (object : OpenObject) (key : Key) (f : Fact)
-    → HasOpen style F lines gap_lines closed object → IsRising (F ++ f ∷ []) → (address f).key ≡ key
-    → (object.key ≡ key → ⊥) → IsFirstOf F key
-first_of_others style F lines gap_lines closed object key f h r e apart g c k =
+pub first_of_others : {style : Style} {F : List Fact} {lines gap_lines : List ℕ}
+    {closed : ClosedObjects} {object : OpenObject} (key : Key) (f : Fact)
+    → HasOpen style F lines gap_lines closed object → IsRising (F ++ f ∷ [])
+    → (address f).key ≡ key → (object.key ≡ key → ⊥) → IsFirstOf F key
+first_of_others {F = F} key f h r e apart g c k =
     let one = h.some in
     let d = subst (λ l. Contains l one.0) (sym h.all)
     (Contains-append_right h.before h.mine one.0 one.1) in
@@ -110,13 +110,12 @@ first_of_others style F lines gap_lines closed object key f h r e apart g c k =
 pub none_first : (F : List Fact) (key : Key) → F ≡ [] → IsFirstOf F key
 none_first F key e f c k = in_nothing f (subst (λ l. Contains l f) e c)
 
-pub begun : (style : Style) (F : List Fact) (f : Fact) (closed : ClosedObjects)
-    (object : OpenObject) (lines_aside gap_lines_aside : Option (List ℕ)) (known : Bool)
+pub begun : {style : Style} {F : List Fact} (f : Fact) {closed : ClosedObjects}
+    (object : OpenObject) {lines_aside gap_lines_aside : Option (List ℕ)} {known : Bool}
     (q : AllClosed style known F closed lines_aside gap_lines_aside) → IsFirstOf F object.key
-    → (address f).key ≡ object.key
-    → StateIs style object.key (f ∷ []) [] object.state
+    → (address f).key ≡ object.key → StateIs style object.key (f ∷ []) [] object.state
     → HasOpen style (F ++ f ∷ []) q.lines [] closed object
-begun style F f closed object s t known q first e state = record {
+begun {F = F} f object q first e state = record {
   before = F;
   mine = f ∷ [];
   all = refl;
@@ -135,11 +134,11 @@ begun style F f closed object s t known q first e state = record {
 
 -- ---- one more fact of the object
 
-pub mine_rising : (style : Style) (F : List Fact) (f : Fact) (lines gap_lines : List ℕ)
-    (closed : ClosedObjects) (object : OpenObject) (h : HasOpen style F lines gap_lines closed
-    object)
-    → IsRising (F ++ f ∷ []) → IsRising (h.mine ++ f ∷ [])
-mine_rising style F f lines gap_lines closed object h r =
+pub mine_rising : {style : Style} {F : List Fact} (f : Fact) {lines gap_lines : List ℕ}
+    {closed : ClosedObjects} {object : OpenObject}
+    (h : HasOpen style F lines gap_lines closed object) → IsRising (F ++ f ∷ [])
+    → IsRising (h.mine ++ f ∷ [])
+mine_rising f h r =
     rising-back h.before (h.mine ++ f ∷ []) (subst IsRising
     (ap (λ l. l ++ f ∷ []) h.all ∙ append_assoc h.before h.mine (f ∷ [])) r)
 
@@ -170,6 +169,11 @@ pub on_ok : {T E A B : Type 0} (r : Result T E) → (A → B) → OnOk r A → O
 on_ok (Ok x) f h = f h
 on_ok (Err x) f h = h
 
+pub on_both : {T E A B C : Type 0} (r : Result T E) → (A → B → C) → OnOk r A → OnOk r B
+    → OnOk r C
+on_both (Ok x) f a b = f a b
+on_both (Err x) f a b = tt
+
 pub passes_none : (style : Style) (mine : List Fact) (n : SymbolId × Option (Bor (List ℕ)))
     (key : Key) (gap_lines : List ℕ) → StateIs style key mine gap_lines NoInformation
     → StateIs style key (mine ++ next_fact key n ∷ []) gap_lines NoInformation
@@ -191,12 +195,12 @@ pub scan_rising : (mine : List Fact) (n : SymbolId × Option (Bor (List ℕ))) (
 scan_rising mine n key s e m r = subst (λ k. IsRising (s.facts ++ next_fact k n ∷ [])) (sym e)
     (subst (λ l. IsRising (l ++ next_fact key n ∷ [])) (sym m) r)
 
-pub passes_scan : (style : Style) (mine : List Fact) (n : SymbolId × Option (Bor (List ℕ)))
-    (key : Key) (gap_lines : List ℕ) (scan : ScanState) (s t : Scanned) → s.key ≡ key
-    → s.facts ≡ mine → Passes s (Some n) t → Scans scan t
+pub passes_scan : (style : Style) {mine : List Fact} (n : SymbolId × Option (Bor (List ℕ)))
+    {key : Key} {gap_lines : List ℕ} {scan : ScanState} (s : Scanned) {t : Scanned}
+    → s.key ≡ key → s.facts ≡ mine → Passes s (Some n) t → Scans scan t
     → gap_lines ≡ flat_map (shown_gap style) t.given
     → StateIs style key (mine ++ next_fact key n ∷ []) gap_lines (OneInformation scan)
-passes_scan style mine n key gap_lines scan s t e m p h g = (
+passes_scan style {mine = mine} n s {t = t} e m p h g = (
   t,
   h,
   p.0 ∙ e,
@@ -208,51 +212,54 @@ passes_scan style mine n key gap_lines scan s t e m p h g = (
 
 -- ---- the end of the object
 
-module _ (style : Style) (F before mine : List Fact) (key : Key) (all : F ≡ before ++ mine)
-    (r : IsRising F) where
-  pub no_information_told : (gap_lines : List ℕ) → HoldsObject F key → IsFirstOf before key
-      → StateIs style key mine gap_lines NoInformation
+module _ {F before mine : List Fact} (last : EndsIn F before mine) where
+  pub no_information_told : (style : Style) {key : Key} {gap_lines : List ℕ} → HoldsObject F key
+      → IsFirstOf before key → StateIs style key mine gap_lines NoInformation
       → TellsAll style F key Status.NoInformation gap_lines
-  no_information_told gap_lines heard first s =
+  no_information_told style {key = key} heard first s =
       let none : fact_at F (info_address key) ≡ None = fact_at-none F (info_address key)
-      (λ f c e. elim (Contains-append_cases before mine f (subst (λ l. Contains l f) all c)) [
+      (λ f c e.
+      elim (Contains-append_cases before mine f (subst (λ l. Contains l f) last.all c)) [
         | inl d ↦ first f d (ap (λ (a : Address). a.key) e)
         | inr d ↦ s.0 f d (ap (λ (a : Address). a.part) e)
       ]) in
       ((heard, none), s.1 ∙ ap (λ o. flat_map (shown_gap style) (gaps_at F key o)) (sym none))
 
-  pub conflict_told : (gap_lines : List ℕ) → StateIs style key mine gap_lines ConflictingInformation
+  pub conflict_told : (style : Style) (key : Key) (gap_lines : List ℕ)
+      → StateIs style key mine gap_lines ConflictingInformation
       → TellsAll style F key Status.ConflictingInformation gap_lines
-  conflict_told gap_lines s =
+  conflict_told style key gap_lines s =
       let one : fact_at F (info_address key) ≡ Some (InfoConflict key) = rising_tells F
-      (InfoConflict key) r (subst (λ l. Contains l (InfoConflict key)) (sym all)
+      (InfoConflict key) last.rising (subst (λ l. Contains l (InfoConflict key)) (sym last.all)
       (Contains-append_right before mine (InfoConflict key) s.0)) in
       (one, s.1 ∙ ap (λ o. flat_map (shown_gap style) (gaps_at F key o)) (sym one))
 
   -- nothing of the object follows
-  ends : (s t : Scanned) → s.facts ≡ mine → Passes s None t → Follows t None F
-  ends s t m p = record {
+  ends : (s : Scanned) {t : Scanned} → s.facts ≡ mine → Passes s None t → Follows t None F
+  ends s {t = t} m p = record {
     before = before;
     rest = [];
-    all = all ∙ ap (λ l. before ++ l) (sym (append-nil t.facts ∙ p.1 ∙ m));
-    rising = r;
+    all = last.all ∙ ap (λ l. before ++ l) (sym (append-nil t.facts ∙ p.1 ∙ m));
+    rising = last.rising;
     come = tt;
   }
 
-  pub scan_gave : (s t : Scanned) → s.facts ≡ mine → Passes s None t → GaveAll t F
-  scan_gave s t m p = p.2 F (ends s t m p)
+  pub scan_gave : (s : Scanned) {t : Scanned} → s.facts ≡ mine → Passes s None t
+      → GaveAll t F
+  scan_gave s m p = p.2 F (ends s m p)
 
-  pub scan_told : (gap_lines : List ℕ) (status : Status) (s t : Scanned) → s.key ≡ key
-      → s.facts ≡ mine → Passes s None t → gap_lines ≡ flat_map (shown_gap style) t.given
-      → TellsStatus F t.key status → TellsAll style F key status gap_lines
-  scan_told gap_lines status s t e m p g next_fact =
-      let gave = scan_gave s t m p in
-      let key_is : t.key ≡ key = p.0 ∙ e in
+  pub scan_told : (style : Style) {key : Key} {gap_lines : List ℕ} (status : Status) (s : Scanned)
+      {t : Scanned} → (s.key ≡ key) × (s.facts ≡ mine) → Passes s None t
+      → gap_lines ≡ flat_map (shown_gap style) t.given → TellsStatus F t.key status
+      → TellsAll style F key status gap_lines
+  scan_told style {key = key} {gap_lines = gap_lines} status s {t = t} is p g told =
+      let gave = scan_gave s is.1 p in
+      let key_is : t.key ≡ key = p.0 ∙ is.0 in
       let here : gap_lines ≡ flat_map (shown_gap style)
       (gaps_at F t.key (fact_at F (info_address t.key))) =
       g ∙ ap (flat_map (shown_gap style)) (sym gave.gaps_are) ∙ ap
       (λ o. flat_map (shown_gap style) (gaps_at F t.key o)) (sym gave.information) in
-      subst (λ k. TellsAll style F k status gap_lines) key_is (next_fact, here)
+      subst (λ k. TellsAll style F k status gap_lines) key_is (told, here)
 
 -- the report of the open object, with those before it
 pub one_more_closed : {style : Style} {F : List Fact} {lines gap_lines : List ℕ}
@@ -260,7 +267,7 @@ pub one_more_closed : {style : Style} {F : List Fact} {lines gap_lines : List �
     object)
     → IsRising F → AreTold F (h.objects ++ told_of F object.key ∷ [])
 one_more_closed {style} {F} {lines} {gap_lines} {closed} {object} h r =
-    let all = one_more_told h.before h.mine object.key h.objects (subst IsRising h.all r) h.told
+    let all = one_more_told h.mine object.key (subst IsRising h.all r) h.told
     h.first h.of_object h.some in
     subst (λ l. AreTold l (h.objects ++ told_of l object.key ∷ [])) (sym h.all) all
 

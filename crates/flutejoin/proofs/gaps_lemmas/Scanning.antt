@@ -56,11 +56,11 @@ pub can_pass : (line : Gap → List ℕ) (s : Scanned) (next : Next) (scan : Sca
     (h : Gave line s next scan lines) → CanFollow s next → CanFollow h.t next
 can_pass line s next scan lines h r = passes_same s h.t next h.same_key h.same_facts r
 
-pub gave_more : (line : Gap → List ℕ) (s : Scanned) (next : Next) (scan scan' : ScanState)
-    (lines lines' : List ℕ) (gap : Gap) (h : Gave line s next scan lines)
+pub gave_more : {line : Gap → List ℕ} {s : Scanned} {next : Next} {scan scan' : ScanState}
+    {lines lines' : List ℕ} {gap : Gap} (h : Gave line s next scan lines)
     → (u : Scanned) × GaveGap h.t next gap u × Scans scan' u → lines' ≡ lines ++ line gap
     → Gave line s next scan' lines'
-gave_more line s next scan scan' lines lines' gap h n e =
+gave_more {line = line} {next = next} {gap = gap} h n e =
     let u = n.0 in
     let now = n.1.now in
     record {
@@ -76,42 +76,48 @@ gave_more line s next scan scan' lines lines' gap h n e =
           (flat_map line) (sym (ap (λ (x : Scanned). x.given) now));
     }
 
--- the symbol was passed
-passed_next : (s t u : Scanned) (n : SymbolId × Option (Bor (List ℕ))) → t.key ≡ s.key
-    → t.facts ≡ s.facts → u.key ≡ t.key → u.facts ≡ t.facts ++ next_fact t.key n ∷ []
-    → u.coming ≡ None → Passes s (Some n) u
-passed_next s t u n k f p q c = (
-  p ∙ k,
-  q ∙ ap (λ x. x ++ next_fact t.key n ∷ []) f ∙ ap
-      (λ x. s.facts ++ next_fact x n ∷ []) k,
-  c,
+-- gaps were given, and then the rest was passed
+pub passes_after : (s t u : Scanned) (next : Next) → t.key ≡ s.key → t.facts ≡ s.facts
+    → Passes t next u → Passes s next u
+passes_after s t u None k f p = (p.0 ∙ k, p.1 ∙ f, p.2)
+passes_after s t u (Some n) k f p = (
+  p.0 ∙ k,
+  p.1 ∙ ap (λ x. x ++ next_fact t.key n ∷ []) f
+      ∙ ap (λ x. s.facts ++ next_fact x n ∷ []) k,
+  p.2,
 )
 
 -- it was no gap
-passed : (s t u : Scanned) (next : Next) (turn : Turn) → t.key ≡ s.key → t.facts ≡ s.facts
+passed : (s t u : Scanned) (next : Next) {turn : Turn} → t.key ≡ s.key → t.facts ≡ s.facts
     → Turned t next turn u → ((gap : Gap) → turn ≡ Turn.Gap gap → ⊥)
     → Passes s next u × (u.given ≡ t.given)
-passed s t u next (Turn.Gap gap) k f h none = absurd (none gap refl)
-passed s t u (Some n) Turn.Fitting k f h none = (
-  passed_next s t u n k f
-      (ap (λ (x : Scanned). x.key) h.now) (ap (λ (x : Scanned). x.facts) h.now)
-      (ap (λ (x : Scanned). x.coming) h.now),
+passed s t u next {turn = Turn.Gap gap} k f h none = absurd (none gap refl)
+passed s t u (Some n) {turn = Turn.Fitting} k f h none = (
+  passes_after s t u (Some n) k f (
+    ap (λ (x : Scanned). x.key) h.now,
+    ap (λ (x : Scanned). x.facts) h.now,
+    ap (λ (x : Scanned). x.coming) h.now,
+  ),
   ap (λ (x : Scanned). x.given) h.now,
 )
-passed s t u (Some n) Turn.Passed k f h none = (
-  passed_next s t u n k f
-      (ap (λ (x : Scanned). x.key) h.now) (ap (λ (x : Scanned). x.facts) h.now)
-      (ap (λ (x : Scanned). x.coming) h.now),
+passed s t u (Some n) {turn = Turn.Passed} k f h none = (
+  passes_after s t u (Some n) k f (
+    ap (λ (x : Scanned). x.key) h.now,
+    ap (λ (x : Scanned). x.facts) h.now,
+    ap (λ (x : Scanned). x.coming) h.now,
+  ),
   ap (λ (x : Scanned). x.given) h.now,
 )
-passed s t u (Some n) Turn.Wanted k f h none = (
-  passed_next s t u n k f
-      (ap (λ (x : Scanned). x.key) h.0.now) (ap (λ (x : Scanned). x.facts) h.0.now)
-      (ap (λ (x : Scanned). x.coming) h.0.now),
+passed s t u (Some n) {turn = Turn.Wanted} k f h none = (
+  passes_after s t u (Some n) k f (
+    ap (λ (x : Scanned). x.key) h.0.now,
+    ap (λ (x : Scanned). x.facts) h.0.now,
+    ap (λ (x : Scanned). x.coming) h.0.now,
+  ),
   ap (λ (x : Scanned). x.given) h.0.now,
 )
-passed s t u (Some n) Turn.End k f h none = absurd h
-passed s t u None Turn.End k f h none = (
+passed s t u (Some n) {turn = Turn.End} k f h none = absurd h
+passed s t u None {turn = Turn.End} k f h none = (
   (
     ap (λ (x : Scanned). x.key) h.0 ∙ k,
     ap
@@ -120,16 +126,16 @@ passed s t u None Turn.End k f h none = (
   ),
   ap (λ (x : Scanned). x.given) h.0,
 )
-passed s t u None Turn.Fitting k f h none = absurd h
-passed s t u None Turn.Passed k f h none = absurd h
-passed s t u None Turn.Wanted k f h none = absurd h
+passed s t u None {turn = Turn.Fitting} k f h none = absurd h
+passed s t u None {turn = Turn.Passed} k f h none = absurd h
+passed s t u None {turn = Turn.Wanted} k f h none = absurd h
 
 -- no gap is left before what comes next
-pub gave_all : (line : Gap → List ℕ) (s : Scanned) (next : Next) (scan scan' : ScanState)
-    (lines : List ℕ) (turn : Turn) (h : Gave line s next scan lines)
+pub gave_all : {line : Gap → List ℕ} {s : Scanned} {next : Next} {scan scan' : ScanState}
+    {lines : List ℕ} {turn : Turn} (h : Gave line s next scan lines)
     → (u : Scanned) × Turned h.t next turn u × Scans scan' u
     → ((gap : Gap) → turn ≡ Turn.Gap gap → ⊥)
     → (u : Scanned) × Passes s next u × Scans scan' u × (lines ≡ flat_map line u.given)
-gave_all line s next scan scan' lines turn h n none =
-    let p = passed s h.t n.0 next turn h.same_key h.same_facts n.1 none in
+gave_all {line = line} {s = s} {next = next} {turn = turn} h n none =
+    let p = passed s h.t n.0 next h.same_key h.same_facts n.1 none in
     (n.0, p.0, n.2, h.lines_are ∙ ap (flat_map line) (sym p.1))

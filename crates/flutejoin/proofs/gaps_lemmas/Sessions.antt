@@ -2,7 +2,7 @@
 use Rattle.std.proofs.Common.{◌≡◌, ◌≤◌, ◌+◌, ℕ, Bool, true, false, List, [], ◌∷◌, ◌++◌}
 use Rattle.std.proofs.Common.{Option, Some, None, if◌then◌else◌, refl, sym, ap, ◌∙◌, subst, arith}
 use Rattle.std.proofs.Common.{append_assoc, append-nil}
-use Rattle.std.specs.Prelude.{IfSome, OnOk, Result, Ok, Err}
+use Rattle.std.specs.Prelude.{IfSome}
 use Rattle.std.specs.Io.KnownBytes.{Appends}
 use Rattle.std.specs.List.{flat_map, sum_by, AllByRecursion}
 use Rattle.std.proofs.lemmas.Grind.{flat_map-append}
@@ -10,7 +10,6 @@ use Rattle.std.proofs.lemmas.List.Sums.{sum_by-append}
 use Rattle.flute_parts.specs.Session.{Session}
 use Rattle.flute_parts.specs.Order.{same_session}
 use Rattle.flute_parts.specs.Equality.{session_itself, session_same}
-use Rattle.flute_parts.specs.declared.device.DeviceFault.{DeviceFault}
 use Rattle.flutejoin.specs.Listing.{AreFew, AreSummed, AreSummedUp, BeginsSession, HasSums}
 use Rattle.flutejoin.specs.Listing.{Knows, last_line}
 use Rattle.flutejoin.specs.Sums.{AddsObject, AreWithin, IsNone, by_session, conflicting_in}
@@ -307,14 +306,12 @@ begun_sums objects lines t None (Some sums) h o b =
 begun_sums objects lines t (Some old) (Some sums) h o b =
     next_summed objects lines t old sums h o (sums_one t b.1.0 sums b.1.1 b.1.2)
 
-pub begun_known : (known : Bool) (objects : List Told) (lines : List ℕ) (t : Told)
-    (old new : Option SessionSums) {s : Option (List ℕ)} (s' : Option (List ℕ))
-    (r : Result (Unit {0}) DeviceFault)
+pub begun_known : {known : Bool} (objects : List Told) {lines : List ℕ} (t : Told)
+    (old : Option SessionSums) {new : Option SessionSums} {s s' : Option (List ℕ)}
     → AreSummed objects lines old × IsOfOthers t.key.session old → Knows known s lines
-    → OnOk r (BeginsSession t.key.session t.status new) → OnOk r (Appends s s' (last_line old))
-    → OnOk r (AreSummedUp known (objects ++ t ∷ []) s' new)
-begun_known known objects lines t old new s' (Err x) h k b a = tt
-begun_known known objects lines t old new {s} s' (Ok x) h k b a = record {
+    → BeginsSession t.key.session t.status new → Appends s s' (last_line old)
+    → AreSummedUp known (objects ++ t ∷ []) s' new
+begun_known objects {lines = lines} t old {new = new} h k b a = record {
   lines = lines ++ last_line old;
   lines_known = knows_more (last_line old) k a;
   summed = begun_sums objects lines t old new h.0 h.1 b;

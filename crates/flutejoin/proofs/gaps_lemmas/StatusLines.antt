@@ -17,11 +17,11 @@ use Rattle.flute_store.specs.Status.{how_many, TellsStatus}
 use Rattle.flute_store.proofs.Public.{runs-listed, whole-gapless}
 use Rattle.flutejoin.specs.Objects.{status_wanting, status_at}
 
-partial_is : (info : Information) (ws : List (SymbolId × Reason)) (m c f : ℕ) → ws ≢ []
+partial_is : (info : Information) (ws : List (SymbolId × Reason)) {m c f : ℕ} → ws ≢ []
     → m ≡ how_many Missing ws → c ≡ how_many Conflicting ws → f ≡ how_many Misfit ws
     → Partial m c f ≡ status_wanting info ws
-partial_is info [] m c f some p q r = absurd (some refl)
-partial_is info (w ∷ ws) m c f some p q r = λ i. Partial (p i) (q i) (r i)
+partial_is info [] some p q r = absurd (some refl)
+partial_is info (w ∷ ws) some p q r = λ i. Partial (p i) (q i) (r i)
 
 -- a status says how much is held exactly as the facts do
 pub status_is : (F : List Fact) (key : Key) (status : Status) → TellsStatus F key status
@@ -29,7 +29,7 @@ pub status_is : (F : List Fact) (key : Key) (status : Status) → TellsStatus F 
 status_is F key NoInformation h = sym (ap (status_at F key) h.1)
 status_is F key ConflictingInformation h = sym (ap (status_at F key) h)
 status_is F key (Partial m c f) h =
-    partial_is h.info (wants F key h.info) m c f h.some h.missing_are h.conflicting_are h.misfit_are
+    partial_is h.info (wants F key h.info) h.some h.missing_are h.conflicting_are h.misfit_are
     ∙ sym (ap (status_at F key) h.information)
 status_is F key (Whole n) h =
     let none : wants F key h.0 ≡ [] =

@@ -107,7 +107,7 @@ module _ {R : Type 0} (unread : R → Option (List ℕ)) (failures : R → ℕ) 
       two (F ∷ G ∷ H ∷ told) h = absurd h.1.1
 
       -- Both were joined.
-      module _ (most : Limits) (joined : MergedJournal) (w w' : Option (List ℕ))
+      module _ {most : Limits} {joined : MergedJournal} {w w' : Option (List ℕ)}
           (m : MergedAll both inputs most.sessions most.objects most.symbols joined w w') where
         t : Two m.told
         t = two m.told m.tell
@@ -159,10 +159,10 @@ module _ {R : Type 0} (unread : R → Option (List ℕ)) (failures : R → ℕ) 
       journal_stops most facts load.OutOfMemory limit h = absurd h
 
       pub first_fails : (most : Limits) (facts : List Fact)
-          (after : List (Either (LentStream R) S)) (first : InputFault)
+          {after : List (Either (LentStream R) S)} {first : InputFault}
           → limit_of j.reader.now ≡ MAX_ENTRIES → FirstFault both inputs after first
           → InfoFails most bytes_of facts (of_load (first.number + 1) first.fault)
-      first_fails most facts after first limit h =
+      first_fails most facts {first = first} limit h =
           let o = stop_at first.number first.fault h.stopped.new h.stopped.was
           h.stopped.stop.stops in
           subst (λ n. InfoFails most bytes_of facts (of_load (n + 1) first.fault)) (sym o.0)
@@ -186,9 +186,9 @@ module _ {R : Type 0} (unread : R → Option (List ℕ)) (failures : R → ℕ) 
             absurd (goes_on fault (subst (λ z. both.stops z fault) p h.stops))
         failed_at (suc (suc number)) fault s was h = absurd (let e : None ≡ Some s = was in cc)
 
-        pub failed_as : (first : InputFault) → FirstFault both inputs new first
+        pub failed_as : {first : InputFault} → FirstFault both inputs new first
             → journals.fails j j' (Some first.fault)
-        failed_as first h =
+        failed_as {first = first} h =
             failed_at first.number first.fault h.stopped.new h.stopped.was h.stopped.stop
 
 -- how often the source failed that a fault of reading is of

@@ -101,12 +101,12 @@ same_numbers info n x y z =
     ∙ ap (λ k. information info.transfer_length info.symbol_length k) z
 
 -- the numbers that were read are those of the information
-pub numbers_found : (r : Option InfoNumbers) (info : Information) (l s b : ℕ)
+pub numbers_found : (r : Option InfoNumbers) (info : Information) {l s b : ℕ}
     → l ≡ info.transfer_length → s ≡ info.symbol_length → b ≡ info.max_block_length
     → MatchOption r ⊥ (λ n. (n.length ≡ l) × (n.symbol ≡ s) × (n.block ≡ b))
     → MatchOption r ⊥ (λ n. numbers_of n ≡ info)
-numbers_found None info l s b x y z h = h
-numbers_found (Some n) info l s b x y z h =
+numbers_found None info x y z h = h
+numbers_found (Some n) info x y z h =
     same_numbers info n (h.0 ∙ x) (h.1 ∙ y) (h.2 ∙ z)
 
 pub same_session : (v : Session) (sender tsi : ℕ) → sender ≡ v.sender → tsi ≡ v.tsi → session

@@ -11,7 +11,7 @@ use Rattle.std.proofs.KnownBytes.{Consumes-trans}
 use Rattle.std.proofs.lemmas.Fmt.{length-decimal-le_wide}
 use Rattle.std.proofs.lemmas.Grind.{flat_map-append}
 use Rattle.std.proofs.lemmas.List.{take-append-drop, take_more}
-use Rattle.std.proofs.lemmas.List.Elements.{All-nil, All-push}
+use Rattle.std.proofs.lemmas.List.Elements.{All-nil}
 use Rattle.flute_journal.specs.declared.fault.ReadFault.TheVariants.{Read}
 use Rattle.flute_parts.specs.Facts.{Same}
 use Rattle.flute_parts.specs.Information.{Information, HasInfoFields, info_fault}
@@ -81,15 +81,16 @@ ended_text lines bytes words more e =
     ∙ sym (append_assoc (flat_map line lines) (line words) more)
     ∙ ap (λ (l : List ℕ). l ++ more) (sym (text_more lines words))
 
-pub begins_more : (bytes : List ℕ) (number : ℕ) (facts : List Fact) (words : List ℕ)
-    (here : List Fact) (more : List ℕ) → BeginsLine bytes number facts words → IsOneLine words
+pub begins_more : {bytes : List ℕ} {number : ℕ} {facts : List Fact} {words : List ℕ}
+    {here : List Fact} (more : List ℕ) → BeginsLine bytes number facts words → IsOneLine words
     → LineTells words here → BeginsLine (bytes ++ 10 ∷ more) (number + 1) (facts ++ here) more
-begins_more bytes number facts words here more b one tells = record {
-  lines = b.lines ++ words ∷ [];
-  text = ended_text b.lines bytes words more b.text;
-  tell = tell_more b.lines facts words here b.tell one tells;
-  number_is = omega (arith, b.number_is, length-append b.lines (words ∷ []));
-}
+begins_more {bytes = bytes} {facts = facts} {words = words} {here = here} more b one tells =
+    record {
+      lines = b.lines ++ words ∷ [];
+      text = ended_text b.lines bytes words more b.text;
+      tell = tell_more b.lines facts words here b.tell one tells;
+      number_is = omega (arith, b.number_is, length-append b.lines (words ∷ []));
+    }
 
 begins_at : (bytes : List ℕ) (number : ℕ) (facts : List Fact) (words more : List ℕ)
     → BeginsLine bytes number facts words
@@ -274,7 +275,7 @@ line_ended old new bytes kept long number took h =
       words = [];
       begins =
           subst (λ n. BeginsLine (bytes ++ 10 ∷ []) n (h.facts ++ t.0) []) (sym number)
-          (begins_more bytes old.number h.facts h.words t.0 [] h.begins h.one_line t.1);
+          (begins_more [] h.begins h.one_line t.1);
       one_line = All-nil (λ byte. byte ≢ 10);
       kept = kept_nothing new.long new.line long kept;
       content =
@@ -309,35 +310,13 @@ line_failed most old bytes more fault why h = go (why h.words h.kept)
       facts = h.facts ++ facts;
       rest = more;
       begins =
-          begins_more bytes old.number h.facts h.words facts more h.begins h.one_line tells;
+          begins_more more h.begins h.one_line tells;
       over =
           Over-below (old.told ++ facts) (h.facts ++ facts) most.sessions most.objects most.symbols
           (Below-from_Same (old.told ++ facts) (h.facts ++ facts)
           (Same-append old.told h.facts facts facts h.content (Same-itself facts))) full;
     })
     go (no_memory_for e) = no_memory e
-
--- one byte of a line was kept, or dropped after 512
-pub pushed : {s o y : ℕ} (old new : InformationList s o y) (bytes : List ℕ) (byte : ℕ) → byte ≢ 10
-    → new.number ≡ old.number → new.told ≡ old.told
-    → ((words : List ℕ) → IsKept old.long old.line words
-    → IsKept new.long new.line (words ++ byte ∷ []))
-    → HoldsList old bytes → HoldsList new (bytes ++ byte ∷ [])
-pushed old new bytes byte other number told keeps h = record {
-  facts = h.facts;
-  words = h.words ++ byte ∷ [];
-  begins = record {
-    lines = h.begins.lines;
-    text =
-        ap (λ (l : List ℕ). l ++ byte ∷ []) h.begins.text
-        ∙ append_assoc (flat_map line h.begins.lines) h.words (byte ∷ []);
-    tell = h.begins.tell;
-    number_is = number ∙ h.begins.number_is;
-  };
-  one_line = All-push (λ b. b ≢ 10) h.words byte h.one_line other;
-  kept = keeps h.words h.kept;
-  content = subst (λ F. Same F h.facts) (sym told) h.content;
-}
 
 -- the list ends after a line: all its facts are held
 pub all_told : {s o y : ℕ} (list : InformationList s o y) (bytes : List ℕ) → list.line ≡ [] →
@@ -416,13 +395,13 @@ at_end (Some all) (Some left) bytes P read end p =
     subst P (sym (read ∙ ap (λ (l : List ℕ). bytes ++ l) end ∙ append-nil bytes)) p
 
 pub within : (u v w : Option (List ℕ)) (bytes piece : List ℕ) (P : List ℕ → Type 0)
-    → Consumes u v bytes → Consumes v w piece → ((more : List ℕ) → P (bytes ++ (piece ++ more)))
-    → IfSome u P
-within None v w bytes piece P read next p = tt
-within (Some all) None w bytes piece P read next p = absurd read
-within (Some all) (Some left) None bytes piece P read next p = absurd next
-within (Some all) (Some left) (Some rest) bytes piece P read next p =
-    subst P (sym (read ∙ ap (λ (l : List ℕ). bytes ++ l) next)) (p rest)
+    → Consumes u v bytes × Consumes v w piece
+    → ((more : List ℕ) → P (bytes ++ (piece ++ more))) → IfSome u P
+within None v w bytes piece P read p = tt
+within (Some all) None w bytes piece P read p = absurd read.0
+within (Some all) (Some left) None bytes piece P read p = absurd read.1
+within (Some all) (Some left) (Some rest) bytes piece P read p =
+    subst P (sym (read.0 ∙ ap (λ (l : List ℕ). bytes ++ l) read.1)) (p rest)
 
 pub read_end : (u v w : Option (List ℕ)) (bytes piece : List ℕ) → Consumes u v bytes
     → Consumes v w piece → piece ≡ [] → Consumes u w bytes
@@ -438,25 +417,24 @@ too_many bytes piece more number many = too_long number refl
     (omega (arith, length-append bytes (piece ++ more), length-append piece more))
 
 pub ends_told : {s o y : ℕ} (u v : Option (List ℕ)) (r : Result (List Fact) CommandFault)
-    (list : InformationList s o y) (bytes : List ℕ) → Consumes u v bytes → IsAtEnd v
+    {list : InformationList s o y} {bytes : List ℕ} → Consumes u v bytes → IsAtEnd v
     → HoldsList list bytes
     → IfOk r (λ shelf. (all : List ℕ) → HoldsList list all
     → (facts : List Fact) × ListTells all facts × Same shelf facts)
     → IfOk r (λ shelf. IfSome u (λ all.
     (facts : List Fact) × ListTells all facts × Same shelf facts))
-ends_told u v (Ok shelf) list bytes read end holds h =
+ends_told u v (Ok shelf) {bytes = bytes} read end holds h =
     at_end u v bytes (λ all. (facts : List Fact) × ListTells all facts × Same shelf facts)
     read end (h bytes holds)
-ends_told u v (Err fault) list bytes read end holds h = tt
+ends_told u v (Err fault) read end holds h = tt
 
-pub ends_failed : {s o y : ℕ} (most : Limits) (u v : Option (List ℕ)) (r : Result (List Fact)
-    CommandFault)
-    (list : InformationList s o y) (bytes : List ℕ) → Consumes u v bytes → IsAtEnd v
-    → HoldsList list bytes
+pub ends_failed : {s o y : ℕ} (most : Limits) (u v : Option (List ℕ))
+    (r : Result (List Fact) CommandFault) {list : InformationList s o y} {bytes : List ℕ}
+    → Consumes u v bytes → IsAtEnd v → HoldsList list bytes
     → IfErr r (λ fault. (all : List ℕ) → HoldsList list all → ListFails most all fault)
     → IfErr r (λ fault. (fault ≡ Input 2 Read) ⊎ IfSome u (λ all. ListFails most all fault))
-ends_failed most u v (Ok shelf) list bytes read end holds h = tt
-ends_failed most u v (Err fault) list bytes read end holds h =
+ends_failed most u v (Ok shelf) read end holds h = tt
+ends_failed most u v (Err fault) {bytes = bytes} read end holds h =
     inr (at_end u v bytes (λ all. ListFails most all fault) read end (h bytes holds))
 
 -- How often its source failed.
@@ -476,13 +454,12 @@ quiet_fails {most} old new bytes fault h same = go h
     go (over e x) = subst P (sym e) same
     go (no_memory e) = subst P (sym e) same
 
-pub ends_quiet : {s o y : ℕ} (most : Limits) (old new : ℕ)
-    (r : Result (List Fact) CommandFault) (list : InformationList s o y)
-    (bytes : List ℕ) → new ≡ old → HoldsList list bytes
+pub ends_quiet : {s o y : ℕ} (most : Limits) {old new : ℕ} (r : Result (List Fact) CommandFault)
+    {list : InformationList s o y} {bytes : List ℕ} → new ≡ old → HoldsList list bytes
     → IfErr r (λ fault. (all : List ℕ) → HoldsList list all → ListFails most all fault)
     → FailsToRead old new r
-ends_quiet most old new (Ok shelf) list bytes same holds h = same
-ends_quiet most old new (Err fault) list bytes same holds h =
+ends_quiet most (Ok shelf) same holds h = same
+ends_quiet most {old = old} {new = new} (Err fault) {bytes = bytes} same holds h =
     quiet_fails old new bytes fault (h bytes holds) same
 
 pub failed_once : (old now new : ℕ) (fault : CommandFault) → fault ≡ Input 2 Read → now ≡ old

@@ -2,7 +2,7 @@
 use Rattle.std.proofs.Common.{◌≡◌, ℕ, ◌+◌, Bool, true, false, cond, List, [], ◌∷◌, ◌++◌, count_by}
 use Rattle.std.proofs.Common.{Result, Ok, Err, inl, inr, refl, sym, ap, subst, ◌∙◌, arith}
 use Rattle.std.proofs.Common.{append-nil, append_assoc}
-use Rattle.std.specs.Prelude.{OnOk, Option, Some, None, IsSome, MatchResult, length}
+use Rattle.std.specs.Prelude.{Option, Some, None, IsSome, MatchResult, length}
 use Rattle.std.specs.Prelude.{option_to_list, ◌<◌, ◌≤◌}
 use Rattle.flute_journal.specs.declared.fault.ReadFault.{ReadFault}
 use Rattle.flute_journal.specs.Input.{FailsIf}
@@ -31,6 +31,26 @@ store_over : (most : Limits) (F : List Fact) (fault : CommandFault) → StoreFai
     → fault ≡ Full → IsOver most F
 store_over most F fault (inl full) is = full.1
 store_over most F fault (inr memory) is = let e = sym memory ∙ is in absurd cc
+
+-- the datagram is of a session that is not taken: nothing of it is held, and it is not refused
+pub record IsPassed (choice : Choice) (d : List ℕ) : Type 0 where
+  pub none : facts_by choice d ≡ []
+  pub kept : is_refused d ≡ false
+  pub other : is_of_others choice d ≡ true
+
+-- the last run was taken from those that there were, of which there was at most one
+pub record IsPopped {R : Type 0} (runs rest : List (OwnedJournalStream R))
+    (popped : Option (OwnedJournalStream R)) : Type 0 where
+  pub few : length runs ≤ 1
+  pub split : runs ≡ rest ++ option_to_list popped
+  pub some : 0 < length runs → IsSome popped
+
+-- nothing but what does not count was changed
+pub record IsUnchanged {R : Type 0} {s o y : ℕ} (old new : HeldFiles s o y R) : Type 0 where
+  pub told : new.told ≡ old.told
+  pub fits : new.fits ≡ old.fits
+  pub others : new.others ≡ old.others
+  pub runs : new.runs ≡ old.runs
 
 -- the last of three in the middle
 turn : (F G H : List Fact) → Same ((F ++ G) ++ H) ((F ++ H) ++ G)
@@ -120,21 +140,23 @@ module _ {R : Type 0} (unread : R → Option (List ℕ)) (choice : Choice) where
       → b ≡ c → HoldsAll unread choice b held ds → HoldsAll unread choice c held ds
   held_as b c held ds e h = subst (λ x. HoldsAll unread choice x held ds) e h
 
-  -- before the first datagram nothing is held
-  module _ {s o y : ℕ} (held : HeldFiles s o y R) (ds : List (List ℕ))
+module _ {R : Type 0} {unread : R → Option (List ℕ)} {choice : Choice} where
+  -- all facts are held if they fit, and else they are over the limits
+  module _ {s o y : ℕ} {held : HeldFiles s o y R} {ds : List (List ℕ)}
       (h : HoldsDatagrams unread choice held ds) where
     pub all_held : held.fits ≡ true → HoldsFacts unread choice held ds
-    all_held fits = held_as held.fits true held ds fits h.holds
+    all_held fits = held_as unread choice held.fits true held ds fits h.holds
 
     pub all_over : held.fits ≡ false → IsOver choice.most (flat_map (facts_by choice) ds)
-    all_over over = held_as held.fits false held ds over h.holds
+    all_over over = held_as unread choice held.fits false held ds over h.holds
 
+  -- before the first datagram nothing is held
   pub holds_none : {s o y : ℕ} (file : HeldFiles s o y R) → file.told.store ≡ []
       → file.told.datagrams ≡ 0 → file.told.refused ≡ 0 → file.others ≡ 0
       → file.fits ≡ true → file.runs.items ≡ [] → HoldsDatagrams unread choice file []
   holds_none file store datagrams refused others fits none = record {
     others = λ e. others;
-    holds = holding file.fits true file [] fits (record {
+    holds = holding unread choice file.fits true file [] fits (record {
       aside = [];
       runs = subst (λ runs. AreRunsOf unread runs []) (sym none) refl;
       content = rw store (Same-itself []);
@@ -144,91 +166,88 @@ module _ {R : Type 0} (unread : R → Option (List ℕ)) (choice : Choice) where
   }
 
   -- a datagram more was taken
-  pub holds_more : {s o y : ℕ} (old new : HeldFiles s o y R) (ds : List (List ℕ)) (d : List ℕ)
+  pub holds_more : {s o y : ℕ} {old new : HeldFiles s o y R} {ds : List (List ℕ)} {d : List ℕ}
       → old.fits ≡ true → new.fits ≡ true → new.runs ≡ old.runs
       → TakesDatagram (facts_by choice d) old.told d new.told
       → new.others ≡ old.others + cond (is_of_others choice d) 1 0
       → HoldsDatagrams unread choice old ds → HoldsDatagrams unread choice new (ds ++ d ∷ [])
-  holds_more old new ds d fits still same one count h = record {
+  holds_more {old = old} {new = new} {ds = ds} {d = d} fits still same one count h = record {
     others = λ e. count ∙ ap (λ n. n + cond (is_of_others choice d) 1 0) (h.others fits) ∙ sym
         (sum_by_push (λ x. cond (is_of_others choice x) 1 0) ds d);
     holds =
-        holding new.fits true new (ds ++ d ∷ []) still
-        (takes_more old new ds d (all_held old ds h fits) same one);
+        holding unread choice new.fits true new (ds ++ d ∷ []) still
+        (takes_more unread choice old new ds d (all_held h fits) same one);
   }
 
   -- it found no room
-  pub holds_over : {s o y : ℕ} (old new : HeldFiles s o y R) (ds : List (List ℕ)) (d : List ℕ)
-      (told : List Fact) (fault : CommandFault) → old.fits ≡ true → new.fits ≡ false
+  pub holds_over : {s o y : ℕ} {old new : HeldFiles s o y R} {ds : List (List ℕ)} (d : List ℕ)
+      {told : List Fact} {fault : CommandFault} → old.fits ≡ true → new.fits ≡ false
       → facts_by choice d ≡ told → StoreFails choice.most (old.told.store ++ told) fault
       → fault ≡ Full → HoldsDatagrams unread choice old ds
       → HoldsDatagrams unread choice new (ds ++ d ∷ [])
-  holds_over old new ds d told fault fits over e fails full h = record {
+  holds_over {old = old} {new = new} {ds = ds} d {fault = fault} fits over e fails full h = record {
     others = λ fitting. absurd (false≢true (sym over ∙ fitting));
-    holds = holding new.fits false new (ds ++ d ∷ []) over
-        (over_with old ds d (all_held old ds h fits)
+    holds = holding unread choice new.fits false new (ds ++ d ∷ []) over
+        (over_with unread choice old ds d (all_held h fits)
         (subst (λ F. IsOver choice.most (old.told.store ++ F)) (sym e) (store_over choice.most _
         fault fails full)));
   }
 
   -- there had been none before
-  pub holds_past : {s o y : ℕ} (file : HeldFiles s o y R) (ds : List (List ℕ)) (d : List ℕ)
+  pub holds_past : {s o y : ℕ} {file : HeldFiles s o y R} {ds : List (List ℕ)} (d : List ℕ)
       → file.fits ≡ false → HoldsDatagrams unread choice file ds
       → HoldsDatagrams unread choice file (ds ++ d ∷ [])
-  holds_past file ds d fits h = record {
+  holds_past {file = file} {ds = ds} d fits h = record {
     others = λ fitting. absurd (false≢true (sym fits ∙ fitting));
-    holds = holding file.fits false file (ds ++ d ∷ []) fits
-        (over_more ds d (all_over file ds h fits));
+    holds = holding unread choice file.fits false file (ds ++ d ∷ []) fits
+        (over_more unread choice ds d (all_over h fits));
   }
 
   -- a datagram of another session was counted
-  pub holds_passed : {s o y : ℕ} (old new : HeldFiles s o y R) (ds : List (List ℕ))
-      (d : List ℕ) → old.fits ≡ true → new.fits ≡ true → new.runs ≡ old.runs
-      → facts_by choice d ≡ [] → is_refused d ≡ false
+  pub holds_passed : {s o y : ℕ} {old new : HeldFiles s o y R} {ds : List (List ℕ)}
+      {d : List ℕ} → old.fits ≡ true → new.fits ≡ true → new.runs ≡ old.runs
+      → IsPassed choice d
       → new.told ≡ record {
         store = old.told.store;
         datagrams = old.told.datagrams + 1;
         refused = old.told.refused;
       }
-      → new.others ≡ old.others + 1 → is_of_others choice d ≡ true
-      → HoldsDatagrams unread choice old ds → HoldsDatagrams unread choice new (ds ++ d ∷ [])
-  holds_passed old new ds d fits still same none kept is count other h =
-      holds_more old new ds d fits still same
+      → new.others ≡ old.others + 1 → HoldsDatagrams unread choice old ds
+      → HoldsDatagrams unread choice new (ds ++ d ∷ [])
+  holds_passed {old = old} fits still same passed is count h =
+      holds_more fits still same
       (record {
-        content = rw (none, is, append-nil old.told.store) (Same-itself old.told.store);
+        content = rw (passed.none, is, append-nil old.told.store) (Same-itself old.told.store);
         datagrams = ap (λ t. t.datagrams) is;
-        refused = rw kept (ap (λ t. t.refused) is);
+        refused = rw passed.kept (ap (λ t. t.refused) is);
       })
-      (rw other count) h
+      (rw passed.other count) h
 
-  -- the state after a datagram that was taken
-  pub holds_taken : {s o y : ℕ} (r : Result (Unit {0}) CommandFault) (old new : HeldFiles s o y R)
-      (d : List ℕ) (told : List Fact) → old.fits ≡ true → new.fits ≡ true
-      → new.runs ≡ old.runs
-      → facts_by choice d ≡ told → new.others ≡ old.others
-      → is_of_others choice d ≡ false → OnOk r (TakesDatagram told old.told d new.told)
-      → OnOk r ((ds : List (List ℕ)) → HoldsDatagrams unread choice old ds
-      → HoldsDatagrams unread choice new (ds ++ d ∷ []))
-  holds_taken (Ok t) old new d told fits still runs e same taken h = λ ds holds.
-      holds_more old new ds d fits still runs
-      (subst (λ F. TakesDatagram F old.told d new.told) (sym e) h)
-      (rw taken (omega (arith, same))) holds
-  holds_taken (Err f) old new d told fits still runs e same taken h = tt
+  -- it was taken
+  pub holds_taken : {s o y : ℕ} {old new : HeldFiles s o y R} {ds : List (List ℕ)}
+      {d : List ℕ} {told : List Fact} → old.fits ≡ true → new.fits ≡ true
+      → new.runs ≡ old.runs → facts_by choice d ≡ told → new.others ≡ old.others
+      → is_of_others choice d ≡ false → TakesDatagram told old.told d new.told
+      → HoldsDatagrams unread choice old ds → HoldsDatagrams unread choice new (ds ++ d ∷ [])
+  holds_taken {old = old} {new = new} {d = d} fits still runs e same own taken h =
+      holds_more fits still runs
+      (subst (λ F. TakesDatagram F old.told d new.told) (sym e) taken)
+      (rw own (omega (arith, same))) h
 
   -- the store was put aside
-  pub holds_aside : {s o y : ℕ} (old new : HeldFiles s o y R) → old.fits ≡ true
+  pub holds_aside : {s o y : ℕ} {old new : HeldFiles s o y R} → old.fits ≡ true
       → new.fits ≡ true → new.told.store ≡ [] → new.told.datagrams ≡ old.told.datagrams
       → new.told.refused ≡ old.told.refused → new.others ≡ old.others
       → ((facts : List Fact) → AreRunsOf unread old.runs.items facts
       → HoldTogether unread new.runs.items (facts ++ old.told.store))
       → HoldsMore unread choice old new []
-  holds_aside old new fits still empty datagrams refused others runs ds h =
-      let all = all_held old ds h fits in
+  holds_aside {old = old} {new = new} fits still empty datagrams refused others runs ds h =
+      let all = all_held h fits in
       let files = flat_map (facts_by choice) ds in
       let more = runs all.aside all.runs in
       subst (HoldsDatagrams unread choice new) (sym (append-nil ds)) (record {
         others = λ e. others ∙ h.others fits;
-        holds = holding new.fits true new ds still (record {
+        holds = holding unread choice new.fits true new ds still (record {
           aside = more.0;
           runs = more.1;
           content =
@@ -242,28 +261,26 @@ module _ {R : Type 0} (unread : R → Option (List ℕ)) (choice : Choice) where
       })
 
   -- all was put aside, in one run
-  pub holds_run : {s o y : ℕ} (old : HeldFiles s o y R) (popped : Option (OwnedJournalStream R))
-      (rest : List (OwnedJournalStream R)) (runs : List (OwnedJournalStream R))
-      (store : List Fact) → old.fits ≡ true → old.told.store ≡ [] → store ≡ []
+  pub holds_run : {s o y : ℕ} {old : HeldFiles s o y R} {popped : Option (OwnedJournalStream R)}
+      {rest runs : List (OwnedJournalStream R)} {ds : List (List ℕ)}
+      → old.fits ≡ true → old.told.store ≡ []
       → ((facts : List Fact) → AreRunsOf unread old.runs.items facts
       → HoldTogether unread runs facts)
-      → length runs ≤ 1 → runs ≡ rest ++ option_to_list popped
-      → (0 < length runs → IsSome popped) → (ds : List (List ℕ))
-      → HoldsDatagrams unread choice old ds
-      → (facts : List Fact) × AreHeld unread store popped facts
+      → IsPopped runs rest popped → HoldsDatagrams unread choice old ds
+      → (facts : List Fact) × AreHeld unread old.told.store popped facts
       × Same facts (flat_map (facts_by choice) ds)
-  holds_run old popped rest runs store fits empty none merged few split some ds h =
-      let all = all_held old ds h fits in
+  holds_run {old = old} {popped = popped} {rest = rest} {ds = ds} fits empty merged last h =
+      let all = all_held h fits in
       let files = flat_map (facts_by choice) ds in
       let in_runs : Same all.aside files =
       subst (λ l. Same (l ++ all.aside) files) empty all.content in
       let one = merged all.aside all.runs in
       let told : Same one.0 files = Same-trans one.0 all.aside files one.2 in_runs in
       let held =
-      held_in popped rest one.0 (subst (λ l. length l ≤ 1) split few)
-      (subst (λ l. 0 < length l → IsSome popped) split some)
-      (subst (λ l. AreRunsOf unread l one.0) split one.1) in
-      (one.0, subst (λ l. AreHeld unread l popped one.0) (sym none) held, told)
+      held_in popped rest one.0 (subst (λ l. length l ≤ 1) last.split last.few)
+      (subst (λ l. 0 < length l → IsSome popped) last.split last.some)
+      (subst (λ l. AreRunsOf unread l one.0) last.split one.1) in
+      (one.0, subst (λ l. AreHeld unread l popped one.0) (sym empty) held, told)
     where
       held_in : (popped : Option (OwnedJournalStream R)) (rest : List (OwnedJournalStream R))
           (facts : List Fact) → length (rest ++ option_to_list popped) ≤ 1
@@ -279,37 +296,31 @@ module _ {R : Type 0} (unread : R → Option (List ℕ)) (choice : Choice) where
       held_in (Some run) (first ∷ rest) facts few some holds =
           let more = length-append rest (run ∷ []) in absurd (omega (arith, few, more))
 
-  -- nothing but what does not count was changed
-  pub holds_still : {s o y : ℕ} (old new : HeldFiles s o y R) → new.told ≡ old.told
-      → new.fits ≡ old.fits → new.others ≡ old.others → new.runs ≡ old.runs
+  pub holds_still : {s o y : ℕ} {old new : HeldFiles s o y R} → IsUnchanged old new
       → (ds : List (List ℕ)) → HoldsDatagrams unread choice old ds
       → HoldsDatagrams unread choice new ds
-  holds_still old new told fits others runs ds h = record {
-    others = λ e. others ∙ h.others (sym fits ∙ e);
-    holds = holding new.fits old.fits new ds fits (still old.fits h.holds);
+  holds_still {old = old} {new = new} same ds h = record {
+    others = λ e. same.others ∙ h.others (sym same.fits ∙ e);
+    holds = holding unread choice new.fits old.fits new ds same.fits (still old.fits h.holds);
   }
     where
       still : (b : Bool) → HoldsAll unread choice b old ds → HoldsAll unread choice b new ds
       still true all = record {
         aside = all.aside;
-        runs = subst (λ r. AreRunsOf unread r.items all.aside) (sym runs) all.runs;
+        runs = subst (λ r. AreRunsOf unread r.items all.aside) (sym same.runs) all.runs;
         content =
-            subst (λ t. Same (t.store ++ all.aside) (flat_map (facts_by choice) ds)) (sym told)
+            subst (λ t. Same (t.store ++ all.aside) (flat_map (facts_by choice) ds))
+            (sym same.told)
             all.content;
-        count = ap (λ t. t.datagrams) told ∙ all.count;
-        refused = ap (λ t. t.refused) told ∙ all.refused;
+        count = ap (λ t. t.datagrams) same.told ∙ all.count;
+        refused = ap (λ t. t.refused) same.told ∙ all.refused;
       }
       still false over = over
 
   -- so it was before something was done
-  pub holds_after : {s o y : ℕ} (done : Result (Unit {0}) CommandFault)
-      (first old new : HeldFiles s o y R) → old.told ≡ first.told → old.fits ≡ first.fits
-      → old.others ≡ first.others → old.runs ≡ first.runs
-      → OnOk done (HoldsMore unread choice old new [])
-      → OnOk done (HoldsMore unread choice first new [])
-  holds_after (Ok x) first old new told fits others runs h = λ before holds.
-      h before (holds_still first old told fits others runs before holds)
-  holds_after (Err e) first old new told fits others runs h = tt
+  pub holds_after : {s o y : ℕ} {first old new : HeldFiles s o y R} → IsUnchanged first old
+      → HoldsMore unread choice old new [] → HoldsMore unread choice first new []
+  holds_after same h = λ before holds. h before (holds_still same before holds)
 
 -- A record that was read as the input with this number.
 

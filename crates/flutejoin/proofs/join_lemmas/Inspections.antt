@@ -110,7 +110,7 @@ module _ (choice : Choice) {R : Type 0} (unread : R → Option (List ℕ)) where
       (contents : List (List ℕ)) → Finds unread choice xs contents held → held.fits ≡ true
       → 0 < held.told.datagrams → WantsAside contents
   finds_wants held xs contents found fits some =
-      let all = all_held unread choice held found.0 found.2 fits in
+      let all = all_held found.2 fits in
       wants_aside xs contents found.0 found.1 (subst (λ n. 0 < n) all.count some)
 
   -- one input more was inspected
@@ -154,11 +154,13 @@ module _ (choice : Choice) {R : Type 0} (unread : R → Option (List ℕ)) where
       pub sound : IsSound unread failures held
       pub none_failed : NoneFailed failures start now
 
-    pub inspected_none : {s o y : ℕ} (told : Bool) (start : List (JoinInput R))
-        (held : HeldFiles s o y R) → ((c : Choice) → HoldsDatagrams unread c held [])
+module _ {choice : Choice} {R : Type 0} {unread : R → Option (List ℕ)} {failures : R → ℕ}
+  where
+    pub inspected_none : {s o y : ℕ} {told : Bool} {start : List (JoinInput R)}
+        {held : HeldFiles s o y R} → ((c : Choice) → HoldsDatagrams unread c held [])
         → IsSound unread failures held → held.told.datagrams ≡ 0
-        → InspectedSoFar told start start held 0
-    inspected_none told start held holds sound none = record {
+        → InspectedSoFar choice unread failures told start start held 0
+    inspected_none {start = start} holds sound none = record {
       as_many = refl;
       later = λ j past. refl;
       ready = tt;
@@ -173,8 +175,9 @@ module _ (choice : Choice) {R : Type 0} (unread : R → Option (List ℕ)) where
     }
 
     module _ {s o y : ℕ} {told : Bool} {start now : List (JoinInput R)}
-        {held : HeldFiles s o y R} {k : ℕ} (h : InspectedSoFar told start now held k)
-        (one : JoinInput R)
+        {held : HeldFiles s o y R} {k : ℕ}
+        (h : InspectedSoFar choice unread failures told start now held k)
+        {one : JoinInput R}
         (at : slice_get now k ≡ Some one) where
       was : slice_get start k ≡ Some one
       was = sym (h.later k (omega arith)) ∙ at
@@ -211,15 +214,15 @@ module _ (choice : Choice) {R : Type 0} (unread : R → Option (List ℕ)) where
                 ];
           }
 
-      pub inspected_more : (new : JoinInput R) (after : HeldFiles s o y R)
+      pub inspected_more : (new : JoinInput R) {after : HeldFiles s o y R}
           → IsReady unread failures new
           → (told ≡ true → (bytes : List ℕ) → IsInput unread one bytes
           → (datagrams : List (List ℕ)) × IsInspected unread choice new bytes datagrams
           × HoldsMore unread choice held after datagrams)
           → CountsUpTo unread failures 16777216 held after
           → failures_of failures new ≡ failures_of failures one
-          → InspectedSoFar told start (set now k new) after (k + 1)
-      inspected_more new after ready looks counts failed =
+          → InspectedSoFar choice unread failures told start (set now k new) after (k + 1)
+      inspected_more new ready looks counts failed =
           let next : suc k ≡ k + 1 = omega arith in
           record {
             as_many = length-set now k new ∙ h.as_many;
@@ -237,7 +240,8 @@ module _ (choice : Choice) {R : Type 0} (unread : R → Option (List ℕ)) where
                   subst
                       (λ n. AreInspected unread choice (take n (set now k new)) (take n contents)
                       (all.0 ++ more.0)) next
-                      (one_more new more.0 more.1 k now contents all.0 at own.1 all.1),
+                      (one_more choice unread new more.0 more.1 k now contents all.0 at own.1
+                      all.1),
                   more.2 all.0 all.2,
                 );
             few = omega (arith, counts.0, h.few);
@@ -255,7 +259,8 @@ module _ (choice : Choice) {R : Type 0} (unread : R → Option (List ℕ)) where
           let all = h.finds is contents inputs in (
             k + 1,
             first_at HasKnownKind (λ bytes. InspectionFails (k + 1) bytes fault) contents k own.0
-                own.1 (all_known (take k now) (take k contents) all.0 all.1) (fails own.0 own.2),
+                own.1 (all_known choice unread (take k now) (take k contents) all.0 all.1)
+                (fails own.0 own.2),
           )
 
       -- the inspection of input k + 1 failed: the fault is that of this input
@@ -292,7 +297,8 @@ module _ (choice : Choice) {R : Type 0} (unread : R → Option (List ℕ)) where
 
     -- after the last input all were inspected
     module _ {s o y : ℕ} {told : Bool} {start now : List (JoinInput R)}
-        {held : HeldFiles s o y R} {k : ℕ} (h : InspectedSoFar told start now held k)
+        {held : HeldFiles s o y R} {k : ℕ}
+        (h : InspectedSoFar choice unread failures told start now held k)
         (past : length start ≤ k) where
       all_of_them : take k now ≡ now
       all_of_them = take_all k now (omega (arith, past, h.as_many))

@@ -330,11 +330,11 @@ module _ {R : Type 0} (unread : R → Option (List ℕ)) (failures : R → ℕ) 
       ap (failures_of failures) (sym c) ∙ fails_none z v h.0 ∙ ap (failures_of failures) a
   none_at (z ∷ xs) (v ∷ ys) h (suc k) x y was is = none_at xs ys h.1 k x y was is
 
-  pub none_failed : (w now : S) (xs ys : List (JoinInput R)) → length xs ≤ 64
+  pub none_failed : (w now : S) {xs ys : List (JoinInput R)} → length xs ≤ 64
       → length ys ≡ length xs
       → NoneFails all (chained w (taken xs)) (chained now (taken ys))
       → NoneFailed failures xs ys
-  none_failed w now xs ys many same f =
+  none_failed w now {xs = xs} {ys = ys} many same f =
       let h =
       subst (λ l. NoneFails all (chained w l) (chained now ys)) (all_taken xs many)
       (subst (λ l. NoneFails all (chained w (taken xs)) (chained now l))
@@ -342,8 +342,8 @@ module _ {R : Type 0} (unread : R → Option (List ℕ)) (failures : R → ℕ) 
       record { as_many = same; each = none_at xs ys h.1 }
 
   -- one stream failed: only the source of that input did
-  module _ {w : S} (now : S) (xs ys : List (JoinInput R)) (many : length xs ≤ 64)
-      (same : length ys ≡ length xs) (first : InputFault) where
+  module _ {w now : S} {xs ys : List (JoinInput R)} (many : length xs ≤ 64)
+      (same : length ys ≡ length xs) {first : InputFault} where
     pub read_failed : FirstFault all (chained w (taken xs)) (chained now (taken ys)) first
         → (number : ℕ) → of_stop first.number first.fault ≡ Input number Read
         → OneFailed failures number xs ys
@@ -466,6 +466,16 @@ others_few choice (bytes ∷ inputs) (x ∷ told) h =
         let few = count_by-le-length (is_of_others choice) datagrams in
         omega (arith, few, k.are_items.few)
 
+-- what was counted: the entries that were written, and the datagrams of the files
+pub record HasCounted (choice : Choice) (datagrams : List (List ℕ)) (passed : ℕ)
+    (joined : MergedJournal) (counts : JoinCounts) : Type 0 where
+  pub entries : counts.entries ≡ joined.entries
+  pub datagrams_are : counts.datagrams ≡ length datagrams
+  pub refused : counts.refused ≡ count_by is_refused datagrams
+  pub of_files : ℕ
+  pub of_files_are : of_files ≡ count_by (is_of_others choice) datagrams
+  pub others : counts.others ≡ min (of_files + passed) (2 ^ 64 - 1)
+
 -- the datagram files alone are over the limits
 pub full_of_files : {choice : Choice} {inputs datagrams : List (List ℕ)} {store : List Fact}
     {passed : ℕ} {joined : MergedJournal} {w w' : Option (List ℕ)}
@@ -520,14 +530,10 @@ module _ {choice : Choice} {inputs datagrams : List (List ℕ)} {facts : List Fa
         of_sink refl
         (record { told = h.told; tell = h.tell; together = within_limits true within })
 
-    pub joins_to : length inputs ≤ 64 → joined.within ≡ true → joined.cut ≡ false
-        → (counts : JoinCounts) → counts.entries ≡ joined.entries
-        → counts.datagrams ≡ length datagrams
-        → counts.refused ≡ count_by is_refused datagrams → (of_files : ℕ)
-        → of_files ≡ count_by (is_of_others choice) datagrams
-        → counts.others ≡ min (of_files + passed) (2 ^ 64 - 1)
+    pub joins_to : {counts : JoinCounts} → length inputs ≤ 64 → joined.within ≡ true
+        → joined.cut ≡ false → HasCounted choice datagrams passed joined counts
         → JoinsTo choice inputs counts w w'
-    joins_to few within whole counts entries all refused of_files counted sum =
+    joins_to few within whole counted =
         let puts = subst (λ c. PutsJournal c w w' written joined.entries) whole h.puts in
         record {
           told = h.told;
@@ -545,12 +551,12 @@ module _ {choice : Choice} {inputs datagrams : List (List ℕ)} {facts : List Fa
               puts.journal.2,
               puts.journal.3,
             );
-            entries = entries ∙ puts.entries;
+            entries = counted.entries ∙ puts.entries;
             appended = puts.appended;
           };
-          datagrams = all ∙ ap length (sym h.datagrams_are);
-          refused = refused ∙ ap (count_by is_refused) (sym h.datagrams_are);
+          datagrams = counted.datagrams_are ∙ ap length (sym h.datagrams_are);
+          refused = counted.refused ∙ ap (count_by is_refused) (sym h.datagrams_are);
           others =
               let total = others_few choice inputs h.told h.tell in
-              omega (arith, sum, counted, h.others, total, few);
+              omega (arith, counted.others, counted.of_files_are, h.others, total, few);
         }

@@ -124,33 +124,39 @@ module _ (one : OneReading) where
       append_cancel_left j.1 bytes j.2.writes.bytes j.2.writes.appended in
       subst (λ l. Journal l (facts_told choice j.2.told)) (sym is) j.2.writes.journal
 
-  pub wrote_told : (choice : Choice) (inputs : List (List ℕ)) (told : List InputContent)
-      (bytes : List ℕ) → TellAll inputs told → Joined choice inputs bytes
+  -- inputs that tell this were joined into these bytes
+  pub record JoinedAs (choice : Choice) (inputs : List (List ℕ)) (told : List InputContent)
+      (bytes : List ℕ) : Type 0 where
+    pub tell : TellAll inputs told
+    pub joined : Joined choice inputs bytes
+
+  pub wrote_told : {choice : Choice} {inputs : List (List ℕ)} {told : List InputContent}
+      {bytes : List ℕ} → JoinedAs choice inputs told bytes
       → (facts : List Fact) × Journal bytes facts × Same facts (facts_told choice told)
-  wrote_told choice inputs told bytes h j = (
-    facts_told choice j.2.told,
-    wrote choice inputs bytes j,
-    tell_same choice inputs j.2.told told j.2.tell h,
+  wrote_told {choice = choice} {inputs = inputs} {told = told} {bytes = bytes} j = (
+    facts_told choice j.joined.2.told,
+    wrote choice inputs bytes j.joined,
+    tell_same choice inputs j.joined.2.told told j.joined.2.tell j.tell,
   )
 
-  pub same_bytes : (a b : Choice) (inputs others : List (List ℕ)) (told further : List InputContent)
-      (bs cs : List ℕ) → TellAll inputs told → TellAll others further
-      → Same (facts_told a told) (facts_told b further) → Joined a inputs bs → Joined b others cs
+  pub same_bytes : {a b : Choice} {inputs others : List (List ℕ)}
+      {told further : List InputContent} {bs cs : List ℕ} → JoinedAs a inputs told bs
+      → JoinedAs b others further cs → Same (facts_told a told) (facts_told b further)
       → bs ≡ cs
-  same_bytes a b inputs others told further bs cs h k same j l =
-      let x = wrote_told a inputs told bs h j in
-      let y = wrote_told b others further cs k l in
+  same_bytes {a = a} {b = b} {told = told} {further = further} {bs = bs} {cs = cs} j l same =
+      let x = wrote_told j in
+      let y = wrote_told l in
       Journal-only bs cs x.0 y.0
       (Same-trans x.0 (facts_told a told) y.0 x.2
       (Same-trans (facts_told a told) (facts_told b further) y.0 same
       (Same-sym y.0 (facts_told b further) y.2))) x.1 y.1
 
   -- the written journal contains the facts of the inputs that were joined
-  pub read_same : (choice : Choice) (inputs : List (List ℕ)) (told : List InputContent)
-      (bytes : List ℕ) (held : List Fact) → TellAll inputs told → Joined choice inputs bytes
+  pub read_same : {choice : Choice} {inputs : List (List ℕ)} {told : List InputContent}
+      {bytes : List ℕ} {held : List Fact} → JoinedAs choice inputs told bytes
       → IsJournal bytes held → Same held (facts_told choice told)
-  read_same choice inputs told bytes held h j is =
-      let x = wrote_told choice inputs told bytes h j in
+  read_same {choice = choice} {told = told} {bytes = bytes} {held = held} j is =
+      let x = wrote_told j in
       Same-trans held x.0 (facts_told choice told)
       (Same-from_journals bytes held x.0 is (written_journal bytes x.0 x.1)) x.2
 
@@ -187,14 +193,20 @@ module _ (one : OneReading) where
       (Same-trans es (facts_told own j.told) (leaf_facts own below) read below_is))
       (made_same choice others xs h.2 k.1)
 
-  pub same_trees : (a b : Choice) (inputs others : Inputs) (bs cs : List ℕ) → AreMade inputs
-      → AreMade others → Same (leaf_facts a inputs) (leaf_facts b others)
-      → Joined a (bytes_of inputs) bs → Joined b (bytes_of others) cs → bs ≡ cs
-  same_trees a b inputs others bs cs h k same j l =
+  -- inputs, each a leaf or made by joins, were joined into these bytes
+  pub record IsTree (choice : Choice) (inputs : Inputs) (bytes : List ℕ) : Type 0 where
+    pub made : AreMade inputs
+    pub joined : Joined choice (bytes_of inputs) bytes
+
+  pub same_trees : {a b : Choice} {inputs others : Inputs} {bs cs : List ℕ} → IsTree a inputs bs
+      → IsTree b others cs → Same (leaf_facts a inputs) (leaf_facts b others) → bs ≡ cs
+  same_trees {a = a} {b = b} {inputs = inputs} {others = others} {bs = bs} {cs = cs} h k same =
+      let j = h.joined in
+      let l = k.joined in
       let F = facts_told a j.2.told in
       let G = facts_told b l.2.told in
-      let x : Same F (leaf_facts a inputs) = made_same a inputs j.2.told h j.2.tell in
-      let y : Same G (leaf_facts b others) = made_same b others l.2.told k l.2.tell in
+      let x : Same F (leaf_facts a inputs) = made_same a inputs j.2.told h.made j.2.tell in
+      let y : Same G (leaf_facts b others) = made_same b others l.2.told k.made l.2.tell in
       Journal-only bs cs F G
       (Same-trans F (leaf_facts a inputs) G x
       (Same-trans (leaf_facts a inputs) (leaf_facts b others) G same
@@ -202,12 +214,13 @@ module _ (one : OneReading) where
       (wrote a (bytes_of inputs) bs j) (wrote b (bytes_of others) cs l)
 
   -- the bytes are a journal of the facts of all leaves
-  pub tree_told : (choice : Choice) (inputs : Inputs) (bytes : List ℕ) (held : List Fact)
-      → AreMade inputs → Joined choice (bytes_of inputs) bytes → IsJournal bytes held
+  pub tree_told : {choice : Choice} {inputs : Inputs} {bytes : List ℕ} {held : List Fact}
+      → IsTree choice inputs bytes → IsJournal bytes held
       → Same held (leaf_facts choice inputs)
-  tree_told choice inputs bytes held h j is =
+  tree_told {choice = choice} {inputs = inputs} {bytes = bytes} {held = held} h is =
+      let j = h.joined in
       let F = facts_told choice j.2.told in
       Same-trans held F (leaf_facts choice inputs)
       (Same-from_journals bytes held F is
       (written_journal bytes F (wrote choice (bytes_of inputs) bytes j)))
-      (made_same choice inputs j.2.told h j.2.tell)
+      (made_same choice inputs j.2.told h.made j.2.tell)

@@ -28,19 +28,20 @@ unfolding encode_with
 encode_lower-nil = refl
 
 -- n bytes more were put into digits: the digits of a front and of a piece are those of both
-pub front_more : (bytes front rest piece later : List ℕ) (n : ℕ) → bytes ≡ front ++ rest
-    → piece ≡ take n rest → later ≡ drop n rest → bytes ≡ (front ++ piece) ++ later
-front_more bytes front rest piece later n is p l =
+pub front_more : {bytes : List ℕ} (front rest : List ℕ) {piece later : List ℕ} (n : ℕ)
+    → bytes ≡ front ++ rest → piece ≡ take n rest → later ≡ drop n rest
+    → bytes ≡ (front ++ piece) ++ later
+front_more front rest {piece = piece} {later = later} n is p l =
     is ∙ ap (λ (x : List ℕ). front ++ x) (sym (take-append-drop n rest))
     ∙ ap (λ (x : List ℕ). front ++ (x ++ drop n rest)) (sym p)
     ∙ ap (λ (x : List ℕ). front ++ (piece ++ x)) (sym l) ∙ sym (append_assoc front piece later)
 
 -- a failure leaves a part of the digits of all bytes
-pub digits_cut : (bytes front piece later digits : List ℕ) (old mid new : Option (List ℕ))
-    → bytes ≡ (front ++ piece) ++ later → digits ≡ encode_lower piece
-    → Appends old mid (encode_lower front) → AppendsPart mid new digits
-    → AppendsPart old new (encode_lower bytes)
-digits_cut bytes front piece later digits old mid new is are done part =
+pub digits_cut : {bytes : List ℕ} (front piece later : List ℕ) {digits : List ℕ}
+    {old mid new : Option (List ℕ)} → bytes ≡ (front ++ piece) ++ later
+    → digits ≡ encode_lower piece → Appends old mid (encode_lower front)
+    → AppendsPart mid new digits → AppendsPart old new (encode_lower bytes)
+digits_cut {bytes = bytes} front piece later {old = old} {mid = mid} {new = new} is are done part =
     let all : encode_lower bytes ≡ (encode_lower front ++ encode_lower piece)
     ++ encode_lower later =
     ap encode_lower is ∙ encode_lower-append (front ++ piece) later
@@ -48,11 +49,10 @@ digits_cut bytes front piece later digits old mid new is are done part =
     let part' = subst (λ (x : List ℕ). AppendsPart mid new x) are part in
     rw all (AppendsPart-first old new _ _ (AppendsPart-second old mid new _ _ done part'))
 
-pub digits_more : (front piece digits : List ℕ) (old mid new : Option (List ℕ))
+pub digits_more : (front piece : List ℕ) {digits : List ℕ} (old mid new : Option (List ℕ))
     → digits ≡ encode_lower piece → Appends old mid (encode_lower front)
-    → Appends mid new digits
-    → Appends old new (encode_lower (front ++ piece))
-digits_more front piece digits old mid new are done more =
+    → Appends mid new digits → Appends old new (encode_lower (front ++ piece))
+digits_more front piece old mid new are done more =
     let more' = subst (λ (x : List ℕ). Appends mid new x) are more in
     rw (encode_lower-append front piece) (Appends-trans old mid new _ _ done more')
 

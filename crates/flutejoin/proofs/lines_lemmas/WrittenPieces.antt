@@ -53,30 +53,30 @@ fact_pieces (SymbolConflict key id) = words_alone (fact_words (SymbolConflict ke
 
 -- words and bytes that were written are the lines that they are pieces of
 pieces_written : {T E : Type 0} (old new : Option (List ℕ))
-    (lines words bytes words' bytes' : List ℕ) (r : Result T E)
-    → lines ≡ words ++ (encode_lower bytes ++ codes "\n")
-    → words' ≡ words → bytes' ≡ bytes
-    → Writes old new (words' ++ (encode_lower bytes' ++ codes "\n")) r
+    {lines words bytes words' bytes' : List ℕ} (r : Result T E)
+    → lines ≡ words ++ (encode_lower bytes ++ codes "\n") → words' ≡ words
+    → bytes' ≡ bytes → Writes old new (words' ++ (encode_lower bytes' ++ codes "\n")) r
     → Writes old new lines r
-pieces_written old new lines words bytes words' bytes' r is w b done =
+pieces_written old new {lines = lines} {words = words} {words' = words'}
+    {bytes' = bytes'} r is w b done =
     let same : words' ++ (encode_lower bytes' ++ codes "\n") ≡ lines =
     ap (λ (x : List ℕ). x ++ (encode_lower bytes' ++ codes "\n")) w
     ∙ ap (λ (x : List ℕ). words ++ (encode_lower x ++ codes "\n")) b ∙ sym is in
     subst (λ (x : List ℕ). Writes old new x r) same done
 
 pub packet_written : {T E : Type 0} (c : Content) (old new : Option (List ℕ))
-    (words bytes : List ℕ) (r : Result T E) → words ≡ packet_head c
+    {words bytes : List ℕ} (r : Result T E) → words ≡ packet_head c
     → bytes ≡ payload c.symbol
     → Writes old new (words ++ (encode_lower bytes ++ codes "\n")) r
     → Writes old new (packet_lines c) r
-packet_written c old new words bytes r w b done =
-    pieces_written old new (packet_lines c) (packet_head c) (payload c.symbol) words bytes r
+packet_written c old new r w b done =
+    pieces_written old new r
     (packet_pieces c) w b done
 
-pub fact_written : {T E : Type 0} (f : Fact) (old new : Option (List ℕ)) (words bytes : List ℕ)
+pub fact_written : {T E : Type 0} (f : Fact) (old new : Option (List ℕ)) {words bytes : List ℕ}
     (r : Result T E) → words ≡ fact_head f → bytes ≡ fact_bytes f
     → Writes old new (words ++ (encode_lower bytes ++ codes "\n")) r
     → Writes old new (fact_line f) r
-fact_written f old new words bytes r w b done =
-    pieces_written old new (fact_line f) (fact_head f) (fact_bytes f) words bytes r
+fact_written f old new r w b done =
+    pieces_written old new r
     (fact_pieces f) w b done

@@ -1,7 +1,7 @@
 -- send_to: what its result says of the packets that were sent.
 use Rattle.std.proofs.Common.{◌∙◌, ap, subst}
 use Rattle.flutejoin.specs.Sending.{ReadFailures}
-use Rattle.flutejoin.proofs.carousel_lemmas.SentObjects.{sent_same, told_sent, told_failed}
+use Rattle.flutejoin.proofs.carousel_lemmas.SentObjects.{sent_of, told_sent, told_failed}
 use Rattle.flutejoin.proofs.carousel_lemmas.SentObjects.{told_failed_write}
 use Rattle.flutejoin.proofs.carousel_lemmas.SentReads.{told_reads}
 use Rattle.flutejoin.proofs.carousel.send_to.Goals as goal
@@ -10,59 +10,36 @@ pub returns-clause-sent : goal.returns-clause-sent
 returns-clause-sent g c =
     let sent = c.send_symbols-sent in
     let new = c.new-sending.ensures in
-    told_sent c.args.key.now c.args.symbol c.args.block c.args.size c.in-Ok.info
-    c.in-Ok.ensures.0 c.in-Ok.ensures.1 (g.R.Source.unread c.args.source.now)
-    (g.R.Source.unread sent.new.source) (g.W.Sink.written c.args.sink.now)
-    (g.W.Sink.written sent.new.sink) sent.new.sending.left c.at_end-2.result sent.result
-    c.at_end-2.ensures.ends (sent_same (g.R.Source.unread c.args.source.now)
-    (g.R.Source.unread sent.new.source) (g.W.Sink.written c.args.sink.now)
-    (g.W.Sink.written sent.new.sink) sent.new.sending.left _ _ _ _ _ _ sent.result
-    (new.key, new.info, new.left ∙ ap (λ i. i.transfer_length) c.in-Ok.ensures.0)
-    (sent.ensures.reads, sent.ensures.sends))
+    told_sent c.at_end-2.result c.at_end-2.ensures.ends
+    (sent_of (new.key, new.info, new.left ∙ ap (λ i. i.transfer_length) c.in-Ok.ensures.0)
+    c.in-Ok.ensures.0 c.in-Ok.ensures.1 sent.ensures.reads sent.ensures.sends)
 
 pub returns-clause-failed : goal.returns-clause-failed
 returns-clause-failed g c =
     let sent = c.send_symbols-sent in
     let new = c.new-sending.ensures in
-    told_failed c.args.key.now c.args.symbol c.args.block c.args.size c.in-Ok.info
-    c.in-Ok.ensures.0 c.in-Ok.ensures.1 (g.R.Source.unread c.args.source.now)
-    (g.R.Source.unread sent.new.source) (g.W.Sink.written c.args.sink.now)
-    (g.W.Sink.written sent.new.sink) sent.new.sending.left c.at_end-2.result sent.result
-    c.at_end-2.ensures.ends (sent_same (g.R.Source.unread c.args.source.now)
-    (g.R.Source.unread sent.new.source) (g.W.Sink.written c.args.sink.now)
-    (g.W.Sink.written sent.new.sink) sent.new.sending.left _ _ _ _ _ _ sent.result
-    (new.key, new.info, new.left ∙ ap (λ i. i.transfer_length) c.in-Ok.ensures.0)
-    (sent.ensures.reads, sent.ensures.sends)) sent.ensures.only
+    told_failed c.at_end-2.result c.at_end-2.ensures.ends
+    (sent_of (new.key, new.info, new.left ∙ ap (λ i. i.transfer_length) c.in-Ok.ensures.0)
+    c.in-Ok.ensures.0 c.in-Ok.ensures.1 sent.ensures.reads sent.ensures.sends) sent.ensures.only
 
 pub returns-clause-part : goal.returns-clause-part
 returns-clause-part g c =
     let sent = c.send_symbols-sent in
     let new = c.new-sending.ensures in
-    told_failed_write c.args.key.now c.args.symbol c.args.block c.args.size c.in-Ok.info
-    c.in-Ok.ensures.0 c.in-Ok.ensures.1 (g.R.Source.unread c.args.source.now)
-    (g.R.Source.unread sent.new.source) (g.W.Sink.written c.args.sink.now)
-    (g.W.Sink.written sent.new.sink) sent.new.sending.left c.at_end-2.result sent.result
-    c.at_end-2.ensures.ends (sent_same (g.R.Source.unread c.args.source.now)
-    (g.R.Source.unread sent.new.source) (g.W.Sink.written c.args.sink.now)
-    (g.W.Sink.written sent.new.sink) sent.new.sending.left _ _ _ _ _ _ sent.result
-    (new.key, new.info, new.left ∙ ap (λ i. i.transfer_length) c.in-Ok.ensures.0)
-    (sent.ensures.reads, sent.ensures.sends))
+    told_failed_write c.at_end-2.result c.at_end-2.ensures.ends
+    (sent_of (new.key, new.info, new.left ∙ ap (λ i. i.transfer_length) c.in-Ok.ensures.0)
+    c.in-Ok.ensures.0 c.in-Ok.ensures.1 sent.ensures.reads sent.ensures.sends)
 
 pub returns-clause-reads : goal.returns-clause-reads
 returns-clause-reads g c =
     let sent = c.send_symbols-sent in
     let new = c.new-sending.ensures in
     let so_far =
-    sent_same (g.R.Source.unread c.args.source.now)
-    (g.R.Source.unread sent.new.source) (g.W.Sink.written c.args.sink.now)
-    (g.W.Sink.written sent.new.sink) sent.new.sending.left _ _ _ _ _ _ sent.result
-    (new.key, new.info, new.left ∙ ap (λ i. i.transfer_length) c.in-Ok.ensures.0)
-    (sent.ensures.reads, sent.ensures.sends) in
+    sent_of (new.key, new.info, new.left ∙ ap (λ i. i.transfer_length) c.in-Ok.ensures.0)
+    c.in-Ok.ensures.0 c.in-Ok.ensures.1 sent.ensures.reads sent.ensures.sends in
     told_reads (g.R.Source.failures c.args.source.now) (g.R.Source.failures sent.new.source)
-    (g.R.Source.failures c.at_end-2.new.source) c.args.size sent.new.sending.left
-    (g.R.Source.unread c.args.source.now) (g.R.Source.unread sent.new.source)
-    c.at_end-2.result sent.result c.at_end-2.ensures.ends
+    (g.R.Source.failures c.at_end-2.new.source) c.at_end-2.result c.at_end-2.ensures.ends
     (subst (λ n. ReadFailures (g.R.Source.failures c.args.source.now)
     (g.R.Source.failures sent.new.source) (g.R.Source.unread c.args.source.now) n sent.result)
     (new.left ∙ ap (λ i. i.transfer_length) c.in-Ok.ensures.0) sent.ensures.reading)
-    so_far.0 c.at_end-2.ensures.reads
+    so_far c.at_end-2.ensures.reads

@@ -15,9 +15,9 @@ returns-in-Ok-clause-extracts g c =
     let old = c.args.sink.now in
     let new = c.read_into.new.sink in
     let r = c.end.result in
-    let p = of_source g.R.Source.unread _ _ _ _ _ _ _ c.new-reader.ensures.unread
+    let p = of_source g.R.Source.unread c.new-reader.ensures.unread
     c.in-Ok.ensures.passed in
-    let a = answers g.W.Sink.written c.args.key.now old new _ _ _ _ r p
+    let a = answers g.W.Sink.written c.args.key.now old new r p
     (c.in-Ok.ensures.same_key ∙ c.new-writer.ensures.key) c.in-Ok.ensures.untouched
     c.end.ensures.extracts c.end.ensures.untouched in
     let P : Option (List ℕ) → Type 0 = λ left. AnswersFrom (at_most g.row.SESSIONS g.row.OBJECTS
@@ -33,9 +33,9 @@ returns-in-Ok-clause-as_others g c = λ others.
     let old = c.args.sink.now in
     let new = c.read_into.new.sink in
     let r = c.end.result in
-    let p = of_source g.R.Source.unread _ _ _ _ _ _ _ c.new-reader.ensures.unread
+    let p = of_source g.R.Source.unread c.new-reader.ensures.unread
     c.in-Ok.ensures.passed in
-    let a = answers g.W.Sink.written c.args.key.now old new _ _ _ _ r p
+    let a = answers g.W.Sink.written c.args.key.now old new r p
     (c.in-Ok.ensures.same_key ∙ c.new-writer.ensures.key) c.in-Ok.ensures.untouched
     c.end.ensures.extracts c.end.ensures.untouched in
     let P : Option (List ℕ) → Type 0 = λ left. AnswersFrom (at_most g.row.SESSIONS g.row.OBJECTS
@@ -49,17 +49,17 @@ returns-in-Ok-clause-as_others g c = λ others.
 
 pub returns-in-Ok-clause-short : goal.returns-in-Ok-clause-short
 returns-in-Ok-clause-short g c =
-    let p = of_source g.R.Source.unread _ _ _ _ _ _ _ c.new-reader.ensures.unread
+    let p = of_source g.R.Source.unread c.new-reader.ensures.unread
     c.in-Ok.ensures.passed in
     if_err c.end.result _ (first_part g.W.Sink.written c.args.key.now c.args.sink.now
-    c.read_into.new.sink _ _ _ _ p (c.in-Ok.ensures.same_key ∙ c.new-writer.ensures.key)
+    c.read_into.new.sink p (c.in-Ok.ensures.same_key ∙ c.new-writer.ensures.key)
     c.in-Ok.ensures.untouched)
 
 pub returns-in-Err-clause-short : goal.returns-in-Err-clause-short
 returns-in-Err-clause-short g c =
-    let p = of_source g.R.Source.unread _ _ _ _ _ _ _ c.new-reader.ensures.unread
+    let p = of_source g.R.Source.unread c.new-reader.ensures.unread
     c.in-Err.ensures.passed in
-    first_part g.W.Sink.written c.args.key.now c.args.sink.now c.read_into.new.sink _ _ _ _ p
+    first_part g.W.Sink.written c.args.key.now c.args.sink.now c.read_into.new.sink p
     (c.in-Err.ensures.same_key ∙ c.new-writer.ensures.key) c.in-Err.ensures.untouched
 
 pub returns-in-Ok-clause-read_failures : goal.returns-in-Ok-clause-read_failures
@@ -67,9 +67,9 @@ returns-in-Ok-clause-read_failures g c =
     let old = c.args.sink.now in
     let new = c.read_into.new.sink in
     let r = c.end.result in
-    let p = of_source g.R.Source.unread _ _ _ _ _ _ _ c.new-reader.ensures.unread
+    let p = of_source g.R.Source.unread c.new-reader.ensures.unread
     c.in-Ok.ensures.passed in
-    let a = answers g.W.Sink.written c.args.key.now old new _ _ _ _ r p
+    let a = answers g.W.Sink.written c.args.key.now old new r p
     (c.in-Ok.ensures.same_key ∙ c.new-writer.ensures.key) c.in-Ok.ensures.untouched
     c.end.ensures.extracts c.end.ensures.untouched in
     let P : ℕ → Type 0 = λ n. FailsToRead {T = ℕ} (g.R.Source.failures c.args.source.now) n r in
@@ -84,7 +84,7 @@ returns-in-Ok-clause-read_failures g c =
 pub returns-in-Err-clause-extracts : goal.returns-in-Err-clause-extracts
 returns-in-Err-clause-extracts g c =
     let f : Result ℕ CommandFault = Err c.load_fault.result in
-    let p = of_source g.R.Source.unread _ _ _ _ _ _ _ c.new-reader.ensures.unread
+    let p = of_source g.R.Source.unread c.new-reader.ensures.unread
     c.in-Err.ensures.passed in
     let P : Option (List ℕ) → Type 0 = λ left. AnswersFrom (at_most g.row.SESSIONS g.row.OBJECTS
     g.row.SYMBOLS) (g.R.Source.unread c.args.source.now) left (λ F. Extracts g.W.Sink.written F
@@ -92,7 +92,7 @@ returns-in-Err-clause-extracts g c =
     let at : (x : g.row.R.Denot) → c.read_into.new.reader.source.now ≡ x
     → P (g.R.Source.unread x) =
     λ x same. subst (λ (y : g.row.R.Denot). P (g.R.Source.unread y)) same
-    (journal_fault _ _ _ _ _ c.in-Err.fault c.load_fault.result c.load_fault.ensures
+    (journal_fault c.load_fault.ensures
     (λ F. Extracts g.W.Sink.written F c.args.key.now c.args.sink.now c.read_into.new.sink f)
     p) in
     at _ (search rules)
@@ -100,7 +100,7 @@ returns-in-Err-clause-extracts g c =
 pub returns-in-Err-clause-as_others : goal.returns-in-Err-clause-as_others
 returns-in-Err-clause-as_others g c = λ others.
     let f : Result ℕ CommandFault = Err c.load_fault.result in
-    let p = of_source g.R.Source.unread _ _ _ _ _ _ _ c.new-reader.ensures.unread
+    let p = of_source g.R.Source.unread c.new-reader.ensures.unread
     c.in-Err.ensures.passed in
     let Q : List Fact → Type 0 =
     λ F. Same F others
@@ -111,5 +111,5 @@ returns-in-Err-clause-as_others g c = λ others.
     let at : (x : g.row.R.Denot) → c.read_into.new.reader.source.now ≡ x
     → P (g.R.Source.unread x) =
     λ x same. subst (λ (y : g.row.R.Denot). P (g.R.Source.unread y)) same
-    (journal_fault _ _ _ _ _ c.in-Err.fault c.load_fault.result c.load_fault.ensures Q p) in
+    (journal_fault c.load_fault.ensures Q p) in
     at _ (search rules)

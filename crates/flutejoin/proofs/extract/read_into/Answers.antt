@@ -37,7 +37,7 @@ returns-in_err-fact-clause-passed g c =
     let f = c.in_err-fact.field-0.0 in
     rw (e.1 ∙ ap Err e.2)
     (passing-fault c.loop-fact.invariant.passing f
-    (given-fault MAX_ENTRIES _ _ _ _ _ f c.loop-fact.invariant.limit
+    (given-fault c.loop-fact.invariant.limit
     c.in_err-fact.ensures.gives))
 
 pub returns-then-not-count-clause-passed : goal.returns-then-not-count-clause-passed

@@ -3,15 +3,13 @@ use Rattle.flutejoin.proofs.forget.write_rest.Goals as goal
 
 pub returns-in-Ok-clause-forgot : goal.returns-in-Ok-clause-forgot
 returns-in-Ok-clause-forgot g c =
-    forgets g.R.Source.unread g.R.Source.failures c.args.rest.now c.write_stream.new.stream
-    c.requires.limit _ _ c.in-Ok.entries c.requires.others c.in-Ok.ensures.written
+    forgets g.R.Source.unread g.R.Source.failures c.requires.limit c.requires.others
+    c.in-Ok.ensures.written
 
 pub returns-in-Err-Input-clause-short : goal.returns-in-Err-Input-clause-short
 returns-in-Err-Input-clause-short g c =
-    forgets_part g.R.Source.unread g.R.Source.failures c.args.rest.now c.write_stream.new.stream
-    c.requires.limit _ _ c.in-Err-Input.ensures.short
+    forgets_part g.R.Source.unread g.R.Source.failures c.requires.limit c.in-Err-Input.ensures.short
 
 pub returns-in-Err-Write-clause-short : goal.returns-in-Err-Write-clause-short
 returns-in-Err-Write-clause-short g c =
-    forgets_part g.R.Source.unread g.R.Source.failures c.args.rest.now c.write_stream.new.stream
-    c.requires.limit _ _ c.in-Err-Write.ensures.short
+    forgets_part g.R.Source.unread g.R.Source.failures c.requires.limit c.in-Err-Write.ensures.short

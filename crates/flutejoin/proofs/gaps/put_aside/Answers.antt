@@ -33,9 +33,8 @@ returns-in_err-fact-clause-failed g c =
     let r = read_failed c.next_with.result c.at_input.result 1 c.in_err-fact.field-0.0
     c.at_input.ensures c.in_err-fact.was in
     let e = err_from_is_err_and c.from_residual.result c.from_residual.ensures.1 in
-    let here = fault_read w to h.read r.0
-    (fault_given c.loop-fact.reader.max_entries from to v w c.next_with.result r.0
-    c.next_with.ensures.gives h.limit r.1) in
+    let here = fault_read h.read
+    (fault_given from to v w c.next_with.ensures.gives h.limit r.1) in
     let P : Option (List ℕ) → Type 0 = λ left. LoadFails (at_most g.row.SESSIONS g.row.OBJECTS
     g.row.SYMBOLS) 1
     u left (Input 1 r.0) in
@@ -53,10 +52,9 @@ returns-then-not-count-clause-failed g c =
     let f = c.in-Some.fact in
     let r = read_done c.next_with.result c.at_input.result 1 c.in_ok-fact.field-0
     c.at_input.ensures c.in_ok-fact.was ∙ ap Ok c.in-Some.is in
-    let gave = entry_given c.loop-fact.reader.max_entries from to v w c.next_with.result f
-    c.next_with.ensures.gives h.limit r in
-    full_read w to h.read f gave
-    (c.count.ensures.over h.read.entries f (sym c.address.ensures) (entry_rises w to h.read f gave)
+    let gave = entry_given from to v w c.next_with.ensures.gives h.limit r in
+    full_read h.read gave
+    (c.count.ensures.over h.read.entries f (sym c.address.ensures) (entry_rises h.read gave)
     h.read.counts c.if-not-count.true)
 
 pub add_selected-requires : goal.add_selected-requires
@@ -66,12 +64,10 @@ add_selected-requires g c =
     let from = c.loop-fact.reader.state in
     let to = c.next_with.new.self.state in
     let h = c.loop-fact.invariant in
-    let f = c.in-Some.fact in
     let r = read_done c.next_with.result c.at_input.result 1 c.in_ok-fact.field-0
     c.at_input.ensures c.in_ok-fact.was ∙ ap Ok c.in-Some.is in
-    let gave = entry_given c.loop-fact.reader.max_entries from to v w c.next_with.result f
-    c.next_with.ensures.gives h.limit r in
-    can_add w to h.read f gave
+    let gave = entry_given from to v w c.next_with.ensures.gives h.limit r in
+    can_add h.read gave
 
 pub returns-in_err-at_aside-clause-failed : goal.returns-in_err-at_aside-clause-failed
 returns-in_err-at_aside-clause-failed g c =
@@ -86,11 +82,10 @@ returns-in_err-at_aside-clause-failed g c =
     c.from_residual-in_err-at_aside.ensures.1 in
     let r = read_done c.next_with.result c.at_input.result 1 c.in_ok-fact.field-0
     c.at_input.ensures c.in_ok-fact.was ∙ ap Ok c.in-Some.is in
-    let gave = entry_given c.loop-fact.reader.max_entries from to v w c.next_with.result f
-    c.next_with.ensures.gives h.limit r in
-    let here = within_read w to h.read f gave c.count.new.self
+    let gave = entry_given from to v w c.next_with.ensures.gives h.limit r in
+    let here = within_read h.read gave
     (c.count.ensures.within h.read.entries f (sym c.address.ensures)
-    (entry_rises w to h.read f gave) h.read.counts c.if-not-count.false) in
+    (entry_rises h.read gave) h.read.counts c.if-not-count.false) in
     let at : (x : g.row.R.Denot) → c.next_with.new.self.source.now ≡ x → ReadsWithin
     (at_most g.row.SESSIONS g.row.OBJECTS g.row.SYMBOLS) u
     (g.R.Source.unread x) = λ x same. subst (λ (y : g.row.R.Denot). ReadsWithin
@@ -118,38 +113,31 @@ loop-fact-preserved g c =
     let f = c.in-Some.fact in
     let r = read_done c.next_with.result c.at_input.result 1 c.in_ok-fact.field-0
     c.at_input.ensures c.in_ok-fact.was ∙ ap Ok c.in-Some.is in
-    let gave = entry_given c.loop-fact.reader.max_entries from to v w c.next_with.result f
-    c.next_with.ensures.gives h.limit r in
-    let rises = entry_rises w to h.read f gave in
+    let gave = entry_given from to v w c.next_with.ensures.gives h.limit r in
+    let rises = entry_rises h.read gave in
     let done : is_ok c.add_selected.result ≡ true = sym c.at_aside.ensures.same ∙ ap is_ok
     c.in_ok-at_aside.was in
     let none : ◌≡◌ {A = ℕ} (if is_ok c.add_selected.result then 0 else 1) 0 = ap
     (λ (b : Bool). if b then 0 else 1) done in
     record {
       read =
-          one_more_read w to h.read f gave c.count.new.self c.add_selected.new.listing
-          (record {
-            lines = g.A.Sink.written c.add_selected.new.lines;
-            gap_lines = g.A.Sink.written c.add_selected.new.gap_lines;
-          })
+          one_more_read h.read gave
           (c.count.ensures.within h.read.entries f (sym c.address.ensures) rises h.read.counts
           c.if-not-count.false)
           (λ known l. was_done c.add_selected.result done
           (c.add_selected.ensures.added known h.read.entries rises l));
       limit = c.next_with.ensures.limit ∙ h.limit;
       source = c.next_with.ensures.source ∙ h.source;
-      reads = no_read_failure c.next_with.result _ _ _ _ _ r c.next_with.ensures.failures h.reads;
+      reads = no_read_failure c.next_with.result _ r c.next_with.ensures.failures h.reads;
       failures = omega (arith, c.add_selected.ensures.failures, none, h.failures);
     }
 
 pub finish-requires : goal.finish-requires
 finish-requires g c =
-    let h = c.loop-fact.invariant in
-    let v = g.R.Source.unread c.loop-fact.reader.source.now in
-    let from = c.loop-fact.reader.state in (
+    let h = c.loop-fact.invariant in (
       selected c.args.selection.now h.read.entries,
-      few_read v from h.read,
-      is_open v from h.read,
+      few_read h.read,
+      is_open h.read,
     )
 
 pub returns-clause-listed : goal.returns-clause-listed
@@ -162,7 +150,7 @@ returns-clause-listed g c = λ none no_gaps.
     let h = c.loop-fact.invariant in
     let r = read_done c.next_with.result c.at_input.result 1 c.in_ok-fact.field-0
     c.at_input.ensures c.in_ok-fact.was ∙ ap Ok c.in_default.is in
-    let gave = end_given c.loop-fact.reader.max_entries from to v w c.next_with.result
+    let gave = end_given c.loop-fact.reader.max_entries from to v w
     c.next_with.ensures.gives r in
     let aside = g.A.Sink.written c.finish.new.lines in
     let P : Bool → List Told → Type 0 = λ all_whole objects.
@@ -171,9 +159,9 @@ returns-clause-listed g c = λ none no_gaps.
     c.args.selection.now (g.R.Source.unread c.args.source.now) (P x))
     c.at_aside-2.result c.finish.result c.at_aside-2.ensures.value
     (if_ok c.finish.result
-    (λ x l. all_read w to h.read gave l.objects l.told (l.lines_known refl, l.whole_is))
+    (λ x l. all_read h.read gave l.objects l.told (l.lines_known refl, l.whole_is))
     (c.finish.ensures.finished true (selected c.args.selection.now h.read.entries)
-    (read_rises w to h.read)
+    (read_rises h.read)
     (h.read.lists true (λ is. (none, no_gaps)))))
 
 pub returns-clause-whole : goal.returns-clause-whole
@@ -186,9 +174,9 @@ returns-clause-whole g c =
     let h = c.loop-fact.invariant in
     let r = read_done c.next_with.result c.at_input.result 1 c.in_ok-fact.field-0
     c.at_input.ensures c.in_ok-fact.was ∙ ap Ok c.in_default.is in
-    let gave = end_given c.loop-fact.reader.max_entries from to v w c.next_with.result
+    let gave = end_given c.loop-fact.reader.max_entries from to v w
     c.next_with.ensures.gives r in
-    let here = whole_read w to h.read gave in
+    let here = whole_read h.read gave in
     let at : (x : g.row.R.Denot) → c.next_with.new.self.source.now ≡ x → ReadsWithin
     (at_most g.row.SESSIONS g.row.OBJECTS g.row.SYMBOLS) u
     (g.R.Source.unread x) = λ x same. subst (λ (y : g.row.R.Denot). ReadsWithin
@@ -206,9 +194,9 @@ returns-clause-failed g c =
     let h = c.loop-fact.invariant in
     let r = read_done c.next_with.result c.at_input.result 1 c.in_ok-fact.field-0
     c.at_input.ensures c.in_ok-fact.was ∙ ap Ok c.in_default.is in
-    let gave = end_given c.loop-fact.reader.max_entries from to v w c.next_with.result
+    let gave = end_given c.loop-fact.reader.max_entries from to v w
     c.next_with.ensures.gives r in
-    let here = whole_read w to h.read gave in
+    let here = whole_read h.read gave in
     let at : (x : g.row.R.Denot) → c.next_with.new.self.source.now ≡ x → ReadsWithin
     (at_most g.row.SESSIONS g.row.OBJECTS g.row.SYMBOLS) u
     (g.R.Source.unread x) = λ x same. subst (λ (y : g.row.R.Denot). ReadsWithin

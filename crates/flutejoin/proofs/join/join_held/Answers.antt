@@ -28,8 +28,7 @@ pub returns-in-Ok-clause-none_failed : goal.returns-in-Ok-clause-none_failed
 returns-in-Ok-clause-none_failed g c =
     let b = g.S.Stream.behaviour in
     none_failed g.R.Source.unread g.R.Source.failures b c.args.held.now
-    c.join_chained.new.first c.args.inputs.now c.join_chained.new.inputs c.requires.few
-    c.join_chained.auto.inputs c.in-Ok.ensures.failures
+    c.join_chained.new.first c.requires.few c.join_chained.auto.inputs c.in-Ok.ensures.failures
 
 pub returns-in-Err-clause-failed : goal.returns-in-Err-clause-failed
 returns-in-Err-clause-failed g c = λ choice contents datagrams inspected why.
@@ -66,6 +65,5 @@ pub returns-in-Err-clause-read_failed : goal.returns-in-Err-clause-read_failed
 returns-in-Err-clause-read_failed g c =
     let b = g.S.Stream.behaviour in
     rw c.stop_fault.ensures
-    (read_failed g.R.Source.unread g.R.Source.failures b c.join_chained.new.first
-    c.args.inputs.now c.join_chained.new.inputs c.requires.few c.join_chained.auto.inputs
-    c.in-Err.fault c.in-Err.ensures.first)
+    (read_failed g.R.Source.unread g.R.Source.failures b c.requires.few
+    c.join_chained.auto.inputs c.in-Err.ensures.first)

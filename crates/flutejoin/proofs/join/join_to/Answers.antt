@@ -43,7 +43,7 @@ pub returns-then-not-held-clause-failed : goal.returns-then-not-held-clause-fail
 returns-then-not-held-clause-failed g c = λ told contents inputs.
     let found = c.in_ok-held.ensures.inspected told contents inputs in
     let over =
-    all_over g.R.Source.unread _ c.in_ok-held.held found.0 found.2 c.if-not-held.true in
+    all_over found.2 c.if-not-held.true in
     c.fault_or_full.ensures.failed _ contents found.0 refl found.1 over
 
 pub returns-then-not-held-clause-read_failed : goal.returns-then-not-held-clause-read_failed
@@ -109,15 +109,21 @@ returns-clause-joined g c = λ told contents inputs.
     let run =
     c.in_ok-run.ensures.held (c.inspect_all.ensures.same_tells ∙ told) _ found.0 found.2 in
     let fits = c.if-not-held.false in
-    let all = all_held g.R.Source.unread _ c.in_ok-held.held found.0 found.2 fits in
+    let all = all_held found.2 fits in
     let counts = c.in_ok-run.ensures.counts in
     joins_to
     (c.in_ok-joined.ensures.joined _ contents found.0 run.0 refl found.1 run.1)
     run.2
     (subst (λ n. n ≤ 64) inputs.as_many c.requires.few)
     (not_false c.in_ok-joined.joined.within c.if-not-joined.false) c.if-joined.false
-    _ refl (counts.0 ∙ all.count) (counts.1 ∙ all.refused) _ (counts.2 ∙ found.2.others fits)
-    c.others_of.ensures
+    (record {
+      entries = refl;
+      datagrams_are = counts.0 ∙ all.count;
+      refused = counts.1 ∙ all.refused;
+      of_files = _;
+      of_files_are = counts.2 ∙ found.2.others fits;
+      others = c.others_of.ensures;
+    })
 
 pub returns-clause-none_failed : goal.returns-clause-none_failed
 returns-clause-none_failed g c =

@@ -24,9 +24,8 @@ returns-in_err-fact-clause-failed g c =
     let r = read_failed c.next_with.result c.at_input.result 1 c.in_err-fact.field-0.0
     c.at_input.ensures c.in_err-fact.was in
     let e = err_from_is_err_and c.from_residual.result c.from_residual.ensures.1 in
-    let here = shown-fault w to h.shown r.0
-    (fault_given c.loop-fact.reader.max_entries from to v w c.next_with.result r.0
-    c.next_with.ensures.gives h.limit r.1) in
+    let here = shown-fault h.shown
+    (fault_given from to v w c.next_with.ensures.gives h.limit r.1) in
     let P : Option (List ℕ) → Type 0 = λ left. ShowsUntil c.args.selection.now u left s t r.0 in
     let at : (x : g.row.R.Denot) → c.next_with.new.self.source.now ≡ x → P (g.R.Source.unread x) =
     λ x same. subst (λ (y : g.row.R.Denot). P (g.R.Source.unread y)) same here in
@@ -38,7 +37,7 @@ returns-in_err-fact-clause-read_failures g c =
     let r = read_failed c.next_with.result c.at_input.result 1 c.in_err-fact.field-0.0
     c.at_input.ensures c.in_err-fact.was in
     let e = err_from_is_err_and c.from_residual.result c.from_residual.ensures.1 in
-    let here = read_failures (Unit {0}) _ _ _ h.shown.entries c.next_with.result r.0 1 _ _ _
+    let here = read_failures (Unit {0}) 1 _
     h.shown.sofar r.1 c.next_with.ensures.failures h.reads in
     let P : ℕ → Type 0 = λ n. FailsToRead {T = Unit {0}} (g.R.Source.failures c.args.source.now) n
     (Err (Input 1 r.0)) in
@@ -59,9 +58,8 @@ returns-in-Err-clause-failed g c =
     let h = c.loop-fact.invariant in
     let r = read_done c.next_with.result c.at_input.result 1 c.in_ok-fact.field-0
     c.at_input.ensures c.in_ok-fact.was ∙ ap Ok c.in-Some.is in
-    let gave = entry_given c.loop-fact.reader.max_entries from to v w c.next_with.result
-    c.in-Some.fact c.next_with.ensures.gives h.limit r in
-    let here = shown-part w to h.shown c.in-Some.fact gave t' c.in-Err.ensures.lines in
+    let gave = entry_given from to v w c.next_with.ensures.gives h.limit r in
+    let here = shown-part h.shown gave c.in-Err.ensures.lines in
     let P : Option (List ℕ) → Type 0 = λ left. ShowsPart c.args.selection.now u left s t' in
     let at : (x : g.row.R.Denot) → c.next_with.new.self.source.now ≡ x → P (g.R.Source.unread x) =
     λ x same. subst (λ (y : g.row.R.Denot). P (g.R.Source.unread y)) same here in
@@ -73,19 +71,17 @@ loop-fact-preserved g c =
     let w = g.R.Source.unread c.next_with.new.self.source.now in
     let from = c.loop-fact.reader.state in
     let to = c.next_with.new.self.state in
-    let t' = g.W.Sink.written c.write_selected.new.sink in
     let h = c.loop-fact.invariant in
     let r = read_done c.next_with.result c.at_input.result 1 c.in_ok-fact.field-0
     c.at_input.ensures c.in_ok-fact.was ∙ ap Ok c.in-Some.is in
-    let gave = entry_given c.loop-fact.reader.max_entries from to v w c.next_with.result
-    c.in-Some.fact c.next_with.ensures.gives h.limit r in
+    let gave = entry_given from to v w c.next_with.ensures.gives h.limit r in
     record {
       shown =
-          shown-next w to h.shown c.in-Some.fact gave t' c.in-Ok.lines c.in-Ok.ensures.count
+          shown-next h.shown gave c.in-Ok.ensures.count
           c.in-Ok.ensures.lines;
       limit = c.next_with.ensures.limit ∙ h.limit;
       source = c.next_with.ensures.source ∙ h.source;
-      reads = no_read_failure c.next_with.result _ _ _ _ _ r c.next_with.ensures.failures h.reads;
+      reads = no_read_failure c.next_with.result _ r c.next_with.ensures.failures h.reads;
       writes = omega (arith, c.in-Ok.ensures.failures, h.writes);
     }
 
@@ -101,9 +97,9 @@ returns-in-Err-write_count-clause-failed g c =
     let h = c.loop-fact.invariant in
     let r = read_done c.next_with.result c.at_input.result 1 c.in_ok-fact.field-0
     c.at_input.ensures c.in_ok-fact.was ∙ ap Ok c.in_default.is in
-    let gave = end_given c.loop-fact.reader.max_entries from to v w c.next_with.result
+    let gave = end_given c.loop-fact.reader.max_entries from to v w
     c.next_with.ensures.gives r in
-    let here = shown-cut w to h.shown gave t' c.in-Err-write_count.ensures.line in
+    let here = shown-cut h.shown gave c.in-Err-write_count.ensures.line in
     let P : Option (List ℕ) → Type 0 = λ left. ShowsPart c.args.selection.now u left s t' in
     let at : (x : g.row.R.Denot) → c.next_with.new.self.source.now ≡ x → P (g.R.Source.unread x) =
     λ x same. subst (λ (y : g.row.R.Denot). P (g.R.Source.unread y)) same here in
@@ -115,18 +111,16 @@ returns-in-Ok-write_count-clause-printed g c =
     let w = g.R.Source.unread c.next_with.new.self.source.now in
     let from = c.loop-fact.reader.state in
     let to = c.next_with.new.self.state in
-    let t' = g.W.Sink.written c.write_count.new.sink in
     let h = c.loop-fact.invariant in
     let r = read_done c.next_with.result c.at_input.result 1 c.in_ok-fact.field-0
     c.at_input.ensures c.in_ok-fact.was ∙ ap Ok c.in_default.is in
-    let gave = end_given c.loop-fact.reader.max_entries from to v w c.next_with.result
+    let gave = end_given c.loop-fact.reader.max_entries from to v w
     c.next_with.ensures.gives r in
-    shown-all w to h.shown gave t' c.in-Ok-write_count.ensures.line
+    shown-all h.shown gave c.in-Ok-write_count.ensures.line
 
 pub overflow_add-count : goal.overflow_add-count
 overflow_add-count g c =
-    let few = few_shown (g.R.Source.unread c.args.source.now) c.loop-fact.reader.state
-    c.loop-fact.invariant.shown in
+    let few = few_shown c.loop-fact.invariant.shown in
     let one : c.in-Ok.lines ≤ 1 = subst (λ n. n ≤ 1) (sym c.in-Ok.ensures.count)
     (few_selected c.args.selection.now (c.in-Some.fact ∷ [])) in
     omega (arith, few, one)

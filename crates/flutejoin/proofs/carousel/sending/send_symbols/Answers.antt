@@ -17,11 +17,11 @@ use Rattle.flutejoin.proofs.carousel_lemmas.SentSoFar.{sent_part, unless_on, sin
 use Rattle.flutejoin.proofs.carousel.sending.send_symbols.Goals as goal
 
 -- the packet made of equal keys and information is the same
-makes_same : (k key : Key) (j i : Information) (place : ℕ) (rest : List ℕ)
+makes_same : {k key : Key} {j i : Information} (place : ℕ) (rest : List ℕ)
     (r : Result (List ℕ) CommandFault) → (k ≡ key) × (j ≡ i)
     → Makes (packet_with k j place (take j.symbol_length rest)) r
     → Makes (packet_with key i place (take i.symbol_length rest)) r
-makes_same k key j i place rest r same made =
+makes_same {k = k} {i = i} place rest r same made =
     subst (λ x. Makes (packet_with x i place (take i.symbol_length rest)) r) same.0
     (subst (λ x. Makes (packet_with k x place (take x.symbol_length rest)) r) same.1 made)
 
@@ -48,15 +48,15 @@ returns-in_err-datagram-clause-sends g c = λ content known whole.
     let place = c.loop-place.place in
     let inv = c.loop-place.invariant in
     let s = inv.4 content known whole in
-    let left = left_are content _ _ _ _ _ inv.3 known s.rest whole in
+    let left = left_are inv.3 known s.rest whole in
     let count : c.symbols.result ≡ length (ids i) =
     c.symbols.ensures.value ∙ ap (λ (p : Information). length (ids p)) c.args.sending.now.same in
     let within : place < max (length (ids i)) 1 =
     omega (arith, c.loop-place-test.true, c.max-count.ensures, count) in
     subst (λ r. SendsPackets (packets_of key i content) (g.W.Sink.written c.args.sink.now)
     (g.W.Sink.written c.loop-place.sink) r) (sym is)
-    (fails_at key i content c.symbol.ensures.valid place within f (whole ∙ c.requires) s
-    (makes_same _ key _ i place _ (Err f) (inv.0, inv.1)
+    (fails_at c.symbol.ensures.valid within f (whole ∙ c.requires) s
+    (makes_same place _ (Err f) (inv.0, inv.1)
     (c.in_err-datagram.ensures.makes _ s.rest left)))
 
 pub returns-in_err-datagram-clause-failures : goal.returns-in_err-datagram-clause-failures
@@ -74,10 +74,9 @@ returns-in_err-datagram-clause-reading g c =
     let f = c.in_err-datagram.field-0.0 in
     let is : c.from_residual.result ≡ Err f = e.1 ∙ ap (λ x. Err x) e.2 in
     let u = g.R.Source.unread c.args.source.now in
-    let v = g.R.Source.unread c.loop-place.source in
     subst (ReadFailures (g.R.Source.failures c.args.source.now)
     (g.R.Source.failures c.next.new.source) u c.args.sending.now.left) (sym is)
-    (reads_back (List ℕ) ℕ f _ _ _ u v _ _
+    (reads_back (List ℕ) ℕ f _
     (c.loop-place.invariant.6, c.loop-place.invariant.3) c.in_err-datagram.ensures.reading)
 
 pub loop-place-preserved : goal.loop-place-preserved
@@ -102,9 +101,9 @@ loop-place-preserved g c =
       reads_on u v w _ _ _ inv.3 next.reads,
       λ content known whole.
           let s = inv.4 content known whole in
-          let left = left_are content _ _ _ _ _ inv.3 known s.rest whole in
-          sent_next key i content c.symbol.ensures.valid place within d s
-          (makes_same _ key _ i place _ (Ok d) (inv.0, inv.1) (next.makes _ s.rest left))
+          let left = left_are inv.3 known s.rest whole in
+          sent_next c.symbol.ensures.valid within d s
+          (makes_same place _ (Ok d) (inv.0, inv.1) (next.makes _ s.rest left))
           put.valid put.grows
           (subst (λ (x : Information). w ≡ Some (drop x.symbol_length
           (drop (place * i.symbol_length) content))) inv.1 (next.rest _ s.rest left)),

@@ -29,10 +29,8 @@ returns-in_err-fact-clause-failed g c =
     let r = read_failed c.next_with.result c.at_input.result 1 c.in_err-fact.field-0.0
     c.at_input.ensures c.in_err-fact.was in
     let e = err_from_is_err_and c.from_residual.result c.from_residual.ensures.1 in
-    let here = fault_read u v w from to c.loop-fact.tally c.args.picked.now c.loop-fact.files _ _
-    h.read r.0
-    (fault_given c.loop-fact.reader.max_entries from to v w c.next_with.result r.0
-    c.next_with.ensures.gives h.limit r.1) in
+    let here = fault_read h.read
+    (fault_given from to v w c.next_with.ensures.gives h.limit r.1) in
     let P : Option (List ℕ) → Type 0 = λ left. LoadFails (at_most g.row.SESSIONS g.row.OBJECTS
     g.row.SYMBOLS) 1
     u left (Input 1 r.0) in
@@ -42,7 +40,6 @@ returns-in_err-fact-clause-failed g c =
 
 pub returns-then-not-count-clause-failed : goal.returns-then-not-count-clause-failed
 returns-then-not-count-clause-failed g c =
-    let u = g.R.Source.unread c.args.source.now in
     let v = g.R.Source.unread c.loop-fact.reader.source.now in
     let w = g.R.Source.unread c.next_with.new.self.source.now in
     let from = c.loop-fact.reader.state in
@@ -51,11 +48,9 @@ returns-then-not-count-clause-failed g c =
     let f = c.in-Some.fact in
     let r = read_done c.next_with.result c.at_input.result 1 c.in_ok-fact.field-0
     c.at_input.ensures c.in_ok-fact.was ∙ ap Ok c.in-Some.is in
-    let gave = entry_given c.loop-fact.reader.max_entries from to v w c.next_with.result f
-    c.next_with.ensures.gives h.limit r in
-    let rises = entry_rises u v w from to c.loop-fact.tally c.args.picked.now c.loop-fact.files _ _
-    h.read f gave in
-    full_read u v w from to c.loop-fact.tally c.args.picked.now c.loop-fact.files _ _ h.read f gave
+    let gave = entry_given from to v w c.next_with.ensures.gives h.limit r in
+    let rises = entry_rises h.read gave in
+    full_read h.read gave
     (c.count.ensures.over h.read.entries f (sym c.address.ensures) rises h.read.counts
     c.if-not-count.true)
 
@@ -66,17 +61,13 @@ take_picked-requires-clause-next g c =
     let from = c.loop-fact.reader.state in
     let to = c.next_with.new.self.state in
     let h = c.loop-fact.invariant in
-    let f = c.in-Some.fact in
     let r = read_done c.next_with.result c.at_input.result 1 c.in_ok-fact.field-0
     c.at_input.ensures c.in_ok-fact.was ∙ ap Ok c.in-Some.is in
-    let gave = entry_given c.loop-fact.reader.max_entries from to v w c.next_with.result f
-    c.next_with.ensures.gives h.limit r in
-    can_pick _ v w from to c.loop-fact.tally c.args.picked.now c.loop-fact.files _ _ h.read f gave
+    let gave = entry_given from to v w c.next_with.ensures.gives h.limit r in
+    can_pick h.read gave
 
 pub take_picked-requires-clause-few : goal.take_picked-requires-clause-few
-take_picked-requires-clause-few g c = few_files _ _ (g.R.Source.unread
-    c.next_with.new.self.source.now) _ c.next_with.new.self.state _ _ _ _ _
-    c.loop-fact.invariant.read
+take_picked-requires-clause-few g c = few_files c.loop-fact.invariant.read
 
 pub returns-in_err-take_picked-clause-failed : goal.returns-in_err-take_picked-clause-failed
 returns-in_err-take_picked-clause-failed g c =
@@ -91,12 +82,9 @@ returns-in_err-take_picked-clause-failed g c =
     c.from_residual-in_err-take_picked.ensures.1 in
     let r = read_done c.next_with.result c.at_input.result 1 c.in_ok-fact.field-0
     c.at_input.ensures c.in_ok-fact.was ∙ ap Ok c.in-Some.is in
-    let gave = entry_given c.loop-fact.reader.max_entries from to v w c.next_with.result f
-    c.next_with.ensures.gives h.limit r in
-    let rises = entry_rises u v w from to c.loop-fact.tally c.args.picked.now c.loop-fact.files _ _
-    h.read f gave in
-    let here = within_read u v w from to c.loop-fact.tally c.args.picked.now c.loop-fact.files _ _
-    h.read f gave c.count.new.self
+    let gave = entry_given from to v w c.next_with.ensures.gives h.limit r in
+    let rises = entry_rises h.read gave in
+    let here = within_read h.read gave
     (c.count.ensures.within h.read.entries f (sym c.address.ensures) rises h.read.counts
     c.if-not-count.false) in
     let at : (x : g.row.R.Denot) → c.next_with.new.self.source.now ≡ x → ReadsWithin
@@ -108,7 +96,6 @@ returns-in_err-take_picked-clause-failed g c =
 
 pub loop-fact-preserved : goal.loop-fact-preserved
 loop-fact-preserved g c =
-    let u = g.R.Source.unread c.args.source.now in
     let v = g.R.Source.unread c.loop-fact.reader.source.now in
     let w = g.R.Source.unread c.next_with.new.self.source.now in
     let from = c.loop-fact.reader.state in
@@ -117,21 +104,18 @@ loop-fact-preserved g c =
     let f = c.in-Some.fact in
     let r = read_done c.next_with.result c.at_input.result 1 c.in_ok-fact.field-0
     c.at_input.ensures c.in_ok-fact.was ∙ ap Ok c.in-Some.is in
-    let gave = entry_given c.loop-fact.reader.max_entries from to v w c.next_with.result f
-    c.next_with.ensures.gives h.limit r in
-    let rises = entry_rises u v w from to c.loop-fact.tally c.args.picked.now c.loop-fact.files _ _
-    h.read f gave in
+    let gave = entry_given from to v w c.next_with.ensures.gives h.limit r in
+    let rises = entry_rises h.read gave in
     record {
       read =
-          more_read u v w from to c.loop-fact.tally c.args.picked.now c.loop-fact.files _ _ h.read
-          f gave c.count.new.self
+          more_read h.read gave
           (c.count.ensures.within h.read.entries f (sym c.address.ensures) rises h.read.counts
-          c.if-not-count.false) c.take_picked.new.files _ _
+          c.if-not-count.false)
           (c.in_ok-take_picked.ensures.taken h.read.entries _ _ rises h.read.takes)
           c.take_picked.ensures.few;
       limit = c.next_with.ensures.limit ∙ h.limit;
       source = c.next_with.ensures.source ∙ h.source;
-      reads = no_read_failure c.next_with.result _ _ _ _ _ r c.next_with.ensures.failures h.reads;
+      reads = no_read_failure c.next_with.result _ r c.next_with.ensures.failures h.reads;
       stays = stays_on _ _ _ h.stays c.take_picked.ensures.stays;
       failures = let e = c.in_ok-take_picked.ensures.failures in let i = h.failures in omega
           (arith, e, i);
@@ -139,10 +123,7 @@ loop-fact-preserved g c =
 
 pub finish-requires-clause-known : goal.finish-requires-clause-known
 finish-requires-clause-known g c =
-    known_some (g.R.Source.unread c.args.source.now) (g.R.Source.unread
-    c.loop-fact.reader.source.now) (g.R.Source.unread c.next_with.new.self.source.now)
-    c.loop-fact.reader.state c.next_with.new.self.state c.loop-fact.tally
-    c.args.picked.now c.loop-fact.files _ _ c.loop-fact.invariant.read
+    known_some c.loop-fact.invariant.read
 
 pub returns-clause-extracted : goal.returns-clause-extracted
 returns-clause-extracted g c =
@@ -155,19 +136,18 @@ returns-clause-extracted g c =
     let picked = c.args.picked.now in
     let r = read_done c.next_with.result c.at_input.result 1 c.in_ok-fact.field-0
     c.at_input.ensures c.in_ok-fact.was ∙ ap Ok c.in_default.is in
-    let gave = end_given c.loop-fact.reader.max_entries from to v w c.next_with.result
+    let gave = end_given c.loop-fact.reader.max_entries from to v w
     c.next_with.ensures.gives r in
     let all = c.finish.ensures.finished (picked_facts picked h.read.entries)
     (g.D.NewFolder.places c.args.folder.now) (g.W.Sink.written c.args.lines.now)
-    (read_rises u v w from to c.loop-fact.tally picked c.loop-fact.files _ _ h.read)
+    (read_rises h.read)
     h.read.takes in
     let P : Option (List ℕ) → Type 0 = λ left.
     IfOk c.finish.result (ExtractsAll (at_most g.row.SESSIONS g.row.OBJECTS g.row.SYMBOLS) u left
     picked (g.D.NewFolder.places c.args.folder.now)
     (g.D.NewFolder.places c.finish.new.folder) (g.W.Sink.written c.args.lines.now)
     (g.W.Sink.written c.finish.new.lines)) in
-    let here : P w = if_ok c.finish.result (λ count t. all_read u v w from to c.loop-fact.tally
-    picked c.loop-fact.files _ _ h.read gave count _ _ t) all in
+    let here : P w = if_ok c.finish.result (λ count t. all_read h.read gave t) all in
     let at : (x : g.row.R.Denot) → c.next_with.new.self.source.now ≡ x → P (g.R.Source.unread x) =
     λ x same. subst (λ (y : g.row.R.Denot). P (g.R.Source.unread y)) same here in
     at _ (search rules)
@@ -182,10 +162,9 @@ returns-clause-failed g c =
     let h = c.loop-fact.invariant in
     let r = read_done c.next_with.result c.at_input.result 1 c.in_ok-fact.field-0
     c.at_input.ensures c.in_ok-fact.was ∙ ap Ok c.in_default.is in
-    let gave = end_given c.loop-fact.reader.max_entries from to v w c.next_with.result
+    let gave = end_given c.loop-fact.reader.max_entries from to v w
     c.next_with.ensures.gives r in
-    let within = whole_read u v w from to c.loop-fact.tally c.args.picked.now c.loop-fact.files _ _
-    h.read gave in
+    let within = whole_read h.read gave in
     let P : Option (List ℕ) → Type 0 = λ left. IfErr c.finish.result (ExtractAllFails (at_most
     g.row.SESSIONS g.row.OBJECTS g.row.SYMBOLS) u left) in
     let here : P w = if_err c.finish.result (λ f e. subst

@@ -7,10 +7,10 @@ use Rattle.flutejoin.proofs.extract.file_names.file_name.Goals as goal
 pub returns-clause-name : goal.returns-clause-name
 returns-clause-name c =
     let digits = rw c.unwrap.ensures at c.encode_to_slice.ensures.written in
-    name_pieces c.args.key.now c.new-text.result c.push_bytes.new.self c.push.new.self
-    c.push_number.new.self c.push-2.new.self c.push_name.new.text _ c.tsi.result
+    name_pieces c.args.key.now
     (digits ∙ ap encode_lower (c.as_slice.ensures ∙ c.to_be_bytes.ensures ∙ ap
     (bytes_high_first 16) (c.number-address.ensures.value ∙ c.sender.ensures)))
     c.tsi.ensures.value
-    c.new-text.ensures c.push_bytes.ensures.text c.push.ensures.text c.push_number.ensures.text
+    (rw c.new-text.ensures at c.push_bytes.ensures.text) c.push.ensures.text
+    c.push_number.ensures.text
     c.push-2.ensures.text c.push_name.ensures.text

@@ -35,5 +35,5 @@ pub returns-in-Gap : goal.returns-in-Gap
 returns-in-Gap c = λ s h r e.
     let first = comes_first s c.args.next e in
     let u = c.in-Gap.ensures.turned s h r first in
-    let g = gave_gap s c.args.next c.args.scan.now c.next.new.self _ h first u.0 u.1 u.2 r in
+    let g = gave_gap u.1 r in
     after_gaps s u.0 c.args.next _ c.pass_gaps.new.scan u.1 (c.pass_gaps.ensures u.0 u.2 g.0 g.1)

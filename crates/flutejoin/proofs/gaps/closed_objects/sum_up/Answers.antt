@@ -7,6 +7,7 @@ use Rattle.flutejoin.specs.Listing.{AreSummed, BeginsSession}
 use Rattle.flutejoin.specs.Sums.{AddsObject}
 use Rattle.flutejoin.specs.declared.gaps.session_sums.SessionSums.{SessionSums}
 use Rattle.flutejoin.proofs.gaps_lemmas.Keys.{equal_sessions, other_sessions}
+use Rattle.flutejoin.proofs.gaps_lemmas.OpenObjects.{on_both}
 use Rattle.flutejoin.proofs.gaps_lemmas.Sessions.{IsOfOthers, begun_known, more_known}
 use Rattle.flutejoin.proofs.gaps.closed_objects.sum_up.Goals as goal
 use Rattle.flutejoin.proofs.gaps.closed_objects.sum_up.Goals.{in_default-via-in-Some+else-eq}
@@ -46,5 +47,4 @@ returns-in_default-clause-summed g c = λ known objects bytes t e is h k.
     (sym e) (subst (λ (s : Status). OnOk r
     (BeginsSession c.args.session s c.begin_session.new.sums)) (sym is)
     c.begin_session.ensures.begun) in
-    begun_known known objects bytes t old c.begin_session.new.sums
-    (g.A.Sink.written c.begin_session.new.lines) r here k begun c.begin_session.ensures.line
+    on_both r (λ b a. begun_known objects t old here k b a) begun c.begin_session.ensures.line

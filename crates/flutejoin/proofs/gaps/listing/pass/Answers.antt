@@ -36,8 +36,7 @@ loop-gap-preserved g c = record {
       let gave = m.1 in
       let more = m.0 ++ shown_gap c.args.style c.in-Gap.gap in (
         more,
-        gave_more (shown_gap c.args.style) s c.args.next c.loop-gap.scan c.next.new.self m.0 more
-            c.in-Gap.gap gave
+        gave_more gave
             (c.in-Gap.ensures.turned gave.t gave.scans
             (can_pass (shown_gap c.args.style) s c.args.next c.loop-gap.scan m.0
             gave
@@ -58,8 +57,7 @@ returns g c = record {
   passed = λ known s gaps h r e l k.
       let m = c.loop-gap.invariant.gave known s gaps h r e l k in
       let gave = m.1 in
-      let all = gave_all (shown_gap c.args.style) s c.args.next c.loop-gap.scan c.next.new.self m.0
-      c.next.result gave
+      let all = gave_all gave
       (c.next.ensures.turned gave.t gave.scans (can_pass (shown_gap c.args.style) s c.args.next
       c.loop-gap.scan m.0 gave r)
       gave.comes) c.in_default.not-Gap in (

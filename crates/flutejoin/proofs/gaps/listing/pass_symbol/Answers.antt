@@ -19,7 +19,7 @@ returns-in-OneInformation-clause-passed g c = λ known key mine gaps r s k.
     on_ok c.pass.result
     (λ t.
     let all = flat_map (shown_gap style) t.0.given in
-    (all, passes_scan style mine n key all c.pass.new.scan q.0 t.0 q.2 q.3 t.1 t.2 refl, t.3))
+    (all, passes_scan style n q.0 q.2 q.3 t.1 t.2 refl, t.3))
     (c.pass.ensures.passed known q.0 gaps q.1 (scan_rising mine n key q.0 q.2 q.3 r) q.4 q.5 k)
 
 pub returns-in-NoInformation-2-clause-passed : goal.returns-in-NoInformation-2-clause-passed

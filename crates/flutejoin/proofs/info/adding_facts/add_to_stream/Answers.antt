@@ -19,21 +19,19 @@ returns-in-Err-clause-failed g c = λ told same.
     rw c.load_fault.ensures
     (first_fails g.R.Source.unread g.R.Source.failures g.S.Stream.behaviour c.args.journal.now
     c.args.facts.now c.requires.in_memory.goes_on (at_most g.row.SESSIONS g.row.OBJECTS
-    g.row.SYMBOLS)
-    told _ c.in-Err.fault c.requires.limit
-    c.in-Err.ensures.first)
+    g.row.SYMBOLS) told c.requires.limit c.in-Err.ensures.first)
 
 pub returns-in-Err-clause-loans : goal.returns-in-Err-clause-loans
 returns-in-Err-clause-loans g c =
     (failed_as g.R.Source.unread g.R.Source.failures g.S.Stream.behaviour c.args.journal.now
     c.args.facts.now c.requires.in_memory.goes_on c.join_two.new.first c.join_two.new.second
-    c.in-Err.fault c.in-Err.ensures.first).1
+    c.in-Err.ensures.first).1
 
 pub returns-in-Err-clause-same_source : goal.returns-in-Err-clause-same_source
 returns-in-Err-clause-same_source g c =
     (failed_as g.R.Source.unread g.R.Source.failures g.S.Stream.behaviour c.args.journal.now
     c.args.facts.now c.requires.in_memory.goes_on c.join_two.new.first c.join_two.new.second
-    c.in-Err.fault c.in-Err.ensures.first).0.same_source
+    c.in-Err.ensures.first).0.same_source
 
 pub returns-in-Err-clause-failures : goal.returns-in-Err-clause-failures
 returns-in-Err-clause-failures g c =
@@ -41,25 +39,22 @@ returns-in-Err-clause-failures g c =
     (load_failures _ _ _ c.in-Err.fault.fault
     (failed_as g.R.Source.unread g.R.Source.failures g.S.Stream.behaviour c.args.journal.now
     c.args.facts.now c.requires.in_memory.goes_on c.join_two.new.first c.join_two.new.second
-    c.in-Err.fault c.in-Err.ensures.first).0.failed_as)
+    c.in-Err.ensures.first).0.failed_as)
 
 pub returns-in-Ok-clause-failed : goal.returns-in-Ok-clause-failed
 returns-in-Ok-clause-failed g c = λ told same.
     over_with g.R.Source.unread g.R.Source.failures g.S.Stream.behaviour c.args.journal.now
-    c.args.facts.now told same c.requires.limit
-    (at_most g.row.SESSIONS g.row.OBJECTS g.row.SYMBOLS) c.in-Ok.joined _ _ c.in-Ok.ensures.merged
+    c.args.facts.now told same c.requires.limit c.in-Ok.ensures.merged
     (not_true c.in-Ok.joined.within c.if-not-joined.true)
 
 pub returns-in-Ok-3-clause-added : goal.returns-in-Ok-3-clause-added
 returns-in-Ok-3-clause-added g c = λ told same.
     adds_facts g.R.Source.unread g.R.Source.failures g.S.Stream.behaviour c.args.journal.now
-    c.args.facts.now told same c.requires.limit
-    (at_most g.row.SESSIONS g.row.OBJECTS g.row.SYMBOLS) c.in-Ok.joined _ _ c.in-Ok.ensures.merged
+    c.args.facts.now told same c.requires.limit c.in-Ok.ensures.merged
     c.if-joined.false
 
 pub returns-in-Ok-2-clause-failed : goal.returns-in-Ok-2-clause-failed
 returns-in-Ok-2-clause-failed g c = λ told same.
     within_with g.R.Source.unread g.R.Source.failures g.S.Stream.behaviour c.args.journal.now
-    c.args.facts.now told same c.requires.limit
-    (at_most g.row.SESSIONS g.row.OBJECTS g.row.SYMBOLS) c.in-Ok.joined _ _ c.in-Ok.ensures.merged
+    c.args.facts.now told same c.requires.limit c.in-Ok.ensures.merged
     (not_false c.in-Ok.joined.within c.if-not-joined.false)

@@ -40,8 +40,7 @@ returns c = record {
       (omega (arith, fields.1.0)) refl a.1 in
       let d = c.in-Some-number_after-2.ensures.finds info.max_block_length []
       (omega (arith, fields.1.1)) refl b.1 in
-      numbers_found c.numbers_in.result info c.in-Some.length c.in-Some-number_after.symbol
-      c.in-Some-number_after-2.block a.0 b.0 d.0
+      numbers_found c.numbers_in.result info a.0 b.0 d.0
       (c.numbers_in.ensures.finds (omega (arith, a.0, fields.0)) (omega (arith, b.0, fields.1.0))
       (omega (arith, d.0, fields.1.1)));
 }

@@ -15,7 +15,7 @@ use Rattle.flutejoin.proofs.info.information_list.read_list.Goals as goal
 pub returns-then-count-eq0-clause-told : goal.returns-then-count-eq0-clause-told
 returns-then-count-eq0-clause-told g c =
     let so = c.loop-list.invariant.so_far in
-    ends_told _ (g.R.Source.unread c.read_piece.new.source) c.finish.result c.loop-list.list so.0
+    ends_told _ (g.R.Source.unread c.read_piece.new.source) c.finish.result
     (read_end _ _ _ so.0 (take c.in_ok-count.count c.read_piece.new.piece) so.1
     c.in_ok-count.ensures.bytes
     (ap (λ n. take n c.read_piece.new.piece) c.if-count-eq0.true))
@@ -27,7 +27,7 @@ pub returns-then-count-eq0-clause-failed : goal.returns-then-count-eq0-clause-fa
 returns-then-count-eq0-clause-failed g c =
     let so = c.loop-list.invariant.so_far in
     ends_failed (at_most g.row.SESSIONS g.row.OBJECTS g.row.SYMBOLS) _ (g.R.Source.unread
-    c.read_piece.new.source) c.finish.result c.loop-list.list so.0
+    c.read_piece.new.source) c.finish.result
     (read_end _ _ _ so.0 (take c.in_ok-count.count c.read_piece.new.piece) so.1
     c.in_ok-count.ensures.bytes
     (ap (λ n. take n c.read_piece.new.piece) c.if-count-eq0.true))
@@ -38,8 +38,7 @@ returns-then-count-eq0-clause-failed g c =
 pub returns-then-count-eq0-clause-failures : goal.returns-then-count-eq0-clause-failures
 returns-then-count-eq0-clause-failures g c =
     let so = c.loop-list.invariant.so_far in
-    ends_quiet (at_most g.row.SESSIONS g.row.OBJECTS g.row.SYMBOLS)
-    _ _ c.finish.result c.loop-list.list so.0
+    ends_quiet (at_most g.row.SESSIONS g.row.OBJECTS g.row.SYMBOLS) c.finish.result
     (c.in_ok-count.ensures.failures ∙ c.loop-list.invariant.failures) so.2
     c.finish.ensures.failed
 
@@ -51,8 +50,8 @@ returns-then-count-taken-clause-failed g c =
     let long =
     length-take-le c.in_ok-count.count c.read_piece.new.piece c.in_ok-count.ensures.bound in
     inr (within _ _ (g.R.Source.unread c.read_piece.new.source) so.0 part
-    (λ all. ListFails (at_most g.row.SESSIONS g.row.OBJECTS g.row.SYMBOLS) all fault) so.1
-    c.in_ok-count.ensures.bytes
+    (λ all. ListFails (at_most g.row.SESSIONS g.row.OBJECTS g.row.SYMBOLS) all fault)
+    (so.1, c.in_ok-count.ensures.bytes)
     (λ more. too_many so.0 part more c.loop-list.list.number
     (omega (arith, long, so.3, c.if-count-taken.true, c.loop-list.invariant.few))))
 
@@ -65,7 +64,7 @@ returns-in_err-take-clause-failed g c =
     (inr (within _ _ (g.R.Source.unread c.read_piece.new.source) so.0
     (take c.in_ok-count.count c.read_piece.new.piece)
     (λ all. ListFails (at_most g.row.SESSIONS g.row.OBJECTS g.row.SYMBOLS) all
-    c.in_err-take.field-0.0) so.1 c.in_ok-count.ensures.bytes
+    c.in_err-take.field-0.0) (so.1, c.in_ok-count.ensures.bytes)
     (λ more. c.in_err-take.ensures.failed so.0 more so.2)))
 
 pub returns-in_err-take-clause-failures : goal.returns-in_err-take-clause-failures

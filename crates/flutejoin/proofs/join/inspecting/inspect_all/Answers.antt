@@ -10,9 +10,7 @@ use Rattle.flutejoin.proofs.join.inspecting.inspect_all.Goals as goal
 pub loop-k-init : goal.loop-k-init
 loop-k-init g c = record {
   inspected =
-      inspected_none _ g.R.Source.unread g.R.Source.failures
-      (g.A.Asides.tells c.args.asides.now) c.args.inputs.now c.new-held.result
-      c.new-held.ensures.held c.new-held.ensures.sound c.new-held.ensures.none;
+      inspected_none c.new-held.ensures.held c.new-held.ensures.sound c.new-held.ensures.none;
   same_tells = refl;
   made = omega arith;
 }
@@ -23,7 +21,7 @@ returns-in_err-inspect-clause-failed g c = λ told contents inputs.
     let within : c.loop-k.k < length c.loop-k.inputs =
     omega (arith, c.loop-k.auto.inputs, c.loop-k-test.true) in
     rw (e.1, e.2)
-    (inspect_fails _ g.R.Source.unread g.R.Source.failures c.loop-k.invariant.inspected _
+    (inspect_fails c.loop-k.invariant.inspected
     (slice_get-get_or c.loop-k.inputs c.loop-k.k c.index-inputs-k.result within)
     c.in_err-inspect.field-0.0 c.in_err-inspect.ensures.failed told contents inputs)
 
@@ -33,7 +31,7 @@ returns-in_err-inspect-clause-names g c =
     let within : c.loop-k.k < length c.loop-k.inputs =
     omega (arith, c.loop-k.auto.inputs, c.loop-k-test.true) in
     rw (e.1, e.2)
-    (inspect_names _ g.R.Source.unread g.R.Source.failures c.loop-k.invariant.inspected _
+    (inspect_names c.loop-k.invariant.inspected
     (slice_get-get_or c.loop-k.inputs c.loop-k.k c.index-inputs-k.result within)
     c.in_err-inspect.field-0.0 c.in_err-inspect.ensures.names)
 
@@ -49,7 +47,7 @@ returns-in_err-inspect-clause-one_failed g c =
     let within : c.loop-k.k < length c.loop-k.inputs =
     omega (arith, c.loop-k.auto.inputs, c.loop-k-test.true) in
     rw (e.1, e.2)
-    (inspect_failed _ g.R.Source.unread g.R.Source.failures c.loop-k.invariant.inspected _
+    (inspect_failed c.loop-k.invariant.inspected
     (slice_get-get_or c.loop-k.inputs c.loop-k.k c.index-inputs-k.result within)
     c.inspect.new.input c.in_err-inspect.field-0.0 c.in_err-inspect.ensures.names
     c.in_err-inspect.ensures.failures)
@@ -60,9 +58,9 @@ loop-k-preserved g c =
     omega (arith, c.loop-k.auto.inputs, c.loop-k-test.true) in
     record {
       inspected =
-          inspected_more _ g.R.Source.unread g.R.Source.failures c.loop-k.invariant.inspected _
+          inspected_more c.loop-k.invariant.inspected
           (slice_get-get_or c.loop-k.inputs c.loop-k.k c.index-inputs-k.result within)
-          c.inspect.new.input c.inspect.new.held c.in_ok-inspect.ensures.ready
+          c.inspect.new.input c.in_ok-inspect.ensures.ready
           (λ told. c.in_ok-inspect.ensures.inspected (c.loop-k.invariant.same_tells ∙ told))
           c.in_ok-inspect.ensures.few c.in_ok-inspect.ensures.failures;
       same_tells = c.inspect.ensures.same_tells ∙ c.loop-k.invariant.same_tells;
@@ -71,7 +69,7 @@ loop-k-preserved g c =
 
 pub returns-clause-inspected : goal.returns-clause-inspected
 returns-clause-inspected g c =
-    finds_all _ g.R.Source.unread g.R.Source.failures c.loop-k.invariant.inspected (omega (
+    finds_all c.loop-k.invariant.inspected (omega (
       arith,
       c.loop-k.auto.inputs,
       c.loop-k-test.false,

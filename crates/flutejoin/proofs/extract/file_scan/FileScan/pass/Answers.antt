@@ -8,6 +8,7 @@ use Rattle.flute_store.specs.Scan.{value_of}
 use Rattle.flutejoin.specs.ObjectFiles.{PassedAs}
 use Rattle.flutejoin.specs.declared.extract.file_scan.FileScan.{FileScan}
 use Rattle.flutejoin.specs.declared.extract.file_scan.Passed.{Passed}
+use Rattle.flutejoin.proofs.extract_lemmas.FileScans.{HasMore}
 use Rattle.flutejoin.proofs.extract_lemmas.FileScans.{told_rising, scanned_on, still_broken}
 use Rattle.flutejoin.proofs.extract_lemmas.FileScans.{now_broken, fits_on}
 use Rattle.flutejoin.proofs.extract_lemmas.FileScans.{beside_on, nothing_more}
@@ -28,10 +29,10 @@ returns-then-not-self-clause-passed g c = λ mine key files p0 r q.
       whole =
           self.whole;
     } in
-    let b = still_broken key mine self q.0 n h new t.0 t.1 t.2 c.if-not-self.true
+    let b = still_broken n h new t.1 t.2 c.if-not-self.true
     c.if-not-self.true in (
       None,
-      scanned_on key mine self q.0 n h new t.0 t.1 t.2 None b.1,
+      scanned_on n h new t.1 t.2 None b.1,
       subst
           (λ (x : Option NamedFile). LeadsTo (Fills files x) p0
           (g.D.NewFolder.places c.args.folder.now)) b.0 q.2,
@@ -54,15 +55,16 @@ returns-in-Fitting-Some-clause-passed g c = λ mine key files p0 r q.
     in
     let value = how.1 ∙ ap (λ v. option_map (λ (x : List ℕ). x ++ value_of (c.args.id, v))
     h.scanned.bytes) c.in-Fitting-Some.is-1 in
-    let f = fits_on key mine self q.0 n h new t.0 t.1 t.2 c.if-not-self.false c.if-not-self.false
-    bytes how.0 value c.put_first.ensures.left in
+    let came : HasMore h.scanned t.0 bytes =
+    record { key = t.1.0; info = how.0; bytes = value } in
+    let f = fits_on h new came c.if-not-self.false c.if-not-self.false c.put_first.ensures.left in
     let now = record f.0 { bytes = f.0.bytes ++ take self.left bytes } in
     let before = subst (λ (x : Option NamedFile). LeadsTo (Fills files x) p0
     (g.D.NewFolder.places c.args.folder.now)) f.1 q.2 in
     on_ok c.put_first.result
     (λ put. (
       Some now,
-      scanned_on key mine self q.0 n h new t.0 t.1 t.2 (Some now) f.2,
+      scanned_on n h new t.1 t.2 (Some now) f.2,
       fills_puts
           (take self.left bytes) files f.0 p0 _ _ before put,
     ))
@@ -83,10 +85,10 @@ returns-in-Broken-default-clause-passed g c = λ mine key files p0 r q.
     } in
     let how = subst (λ (x : Passed). PassedAs h.scanned (Some n) x t.0) c.in-Broken-default.is-0
     t.3 in
-    let file = now_broken key mine self q.0 n h new t.0 t.1 t.2 c.if-not-self.false refl how in
+    let file = now_broken n h new t.1 t.2 c.if-not-self.false refl how in
     on_ok c.leave.result (λ left. (
       None,
-      scanned_on key mine self q.0 n h new t.0 t.1 t.2 None
+      scanned_on n h new t.1 t.2 None
           file,
       fills_leaves files q.0 p0 _ _ q.2 left,
     )) c.leave.ensures.left
@@ -107,9 +109,9 @@ returns-in_default-clause-passed g c = λ mine key files p0 r q.
     let how = subst (λ (x : Passed). PassedAs h.scanned (Some n) x t.0) c.in_default.is-0 t.3 in
     let value = how.1 ∙ ap (λ v. option_map (λ (x : List ℕ). x ++ value_of (c.args.id, v))
     h.scanned.bytes) c.in_default.is-1 ∙ nothing_more h.scanned.bytes in
-    let file = beside_on key mine self q.0 n h new t.0 t.1 t.2 c.if-not-self.false
-    c.if-not-self.false how.0 value refl in
-    (q.0, scanned_on key mine self q.0 n h new t.0 t.1 t.2 q.0 file, q.2)
+    let file = beside_on h new t.0 t.1.0 c.if-not-self.false c.if-not-self.false (how.0, value)
+    refl in
+    (q.0, scanned_on n h new t.1 t.2 q.0 file, q.2)
 
 pub returns-in_default-2-clause-passed : goal.returns-in_default-2-clause-passed
 returns-in_default-2-clause-passed g c = λ mine key files p0 r q.
@@ -125,6 +127,5 @@ returns-in_default-2-clause-passed g c = λ mine key files p0 r q.
           self.whole;
     } in
     let how = subst (λ (x : Passed). PassedAs h.scanned (Some n) x t.0) c.in_default.is-0 t.3 in
-    let file = beside_on key mine self q.0 n h new t.0 t.1 t.2 c.if-not-self.false
-    c.if-not-self.false how.0 how.1 refl in
-    (q.0, scanned_on key mine self q.0 n h new t.0 t.1 t.2 q.0 file, q.2)
+    let file = beside_on h new t.0 t.1.0 c.if-not-self.false c.if-not-self.false how refl in
+    (q.0, scanned_on n h new t.1 t.2 q.0 file, q.2)

@@ -7,7 +7,7 @@ use Rattle.flutejoin.proofs.extract.file_scan.FileState.end.Goals as goal
 pub returns-in-NoInformation-clause-ended : goal.returns-in-NoInformation-clause-ended
 returns-in-NoInformation-clause-ended g c = λ F before mine key files p0 all r heard first q.
     let s = subst (λ (x : FileState). FileStateIs key mine x q.0) c.in-NoInformation.is q.1 in
-    none_ends F before mine key all r files q.0 p0 _ q.2 heard first s
+    none_ends (record { all = all; rising = r }) q.2 heard first s
 
 pub returns-in-ConflictingInformation-clause-ended :
     goal.returns-in-ConflictingInformation-clause-ended
@@ -15,7 +15,7 @@ returns-in-ConflictingInformation-clause-ended g c = λ F before mine key files 
     q.
     let s = subst (λ (x : FileState). FileStateIs key mine x q.0) c.in-ConflictingInformation.is
     q.1 in
-    conflict_ends F before mine key all r files q.0 p0 _ q.2 s
+    conflict_ends (record { all = all; rising = r }) q.2 s
 
 pub returns-in-OneInformation-clause-ended : goal.returns-in-OneInformation-clause-ended
 returns-in-OneInformation-clause-ended g c = λ F before mine key files p0 all r heard first q.

@@ -6,6 +6,4 @@ use Rattle.flutejoin.proofs.extract.object_files.ObjectFiles.begin.Goals as goal
 pub returns-clause-taken : goal.returns-clause-taken
 returns-clause-taken g c = λ F f p0 w0 r first e s t.
     let all = c.in_ok-close.ensures.closed F p0 w0 (rising-front F (f ∷ []) r) t in
-    takes_next F f (record { key = c.args.key; state = c.args.state }) c.close.new.self
-    c.set_last.new.self None p0 _ w0 _ all.files all.told all.taken all.filled all.written
-    all.count_is c.set_last.ensures first e s
+    takes_next f all c.set_last.ensures first e (None, s, all.filled)

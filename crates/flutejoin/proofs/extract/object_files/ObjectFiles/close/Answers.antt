@@ -1,6 +1,5 @@
 -- ObjectFiles::close: the last object is ended, if there is one.
-use Rattle.std.proofs.Common.{◌+◌, Option, sym, ◌∙◌, subst}
-use mir.Val.{bool_byte}
+use Rattle.std.proofs.Common.{Option, sym, ◌∙◌, subst}
 use Rattle.std.specs.Io.KnownBytes.{Appends}
 use Rattle.flutejoin.specs.Lines.{line}
 use Rattle.flutejoin.specs.ObjectFiles.{HasTaken}
@@ -13,8 +12,7 @@ pub returns-in_default-clause-closed : goal.returns-in_default-clause-closed
 returns-in_default-clause-closed g c = λ F p0 w0 r t.
     let q = subst (λ (x : Option ObjectFile). HasTaken F t.files t.told x t.open_file)
     (sym c.take.ensures.value ∙ c.in_default.is) t.taken in
-    none_closed F c.args.self.now.written t.files t.told t.open_file p0 _ w0 _ q t.filled t.written
-    t.count
+    none_closed t q
 
 pub returns-clause-closed : goal.returns-clause-closed
 returns-clause-closed g c = λ F p0 w0 r t.
@@ -23,13 +21,10 @@ returns-clause-closed g c = λ F p0 w0 r t.
     let q = subst (λ (x : Option ObjectFile). HasTaken F t.files t.told x t.open_file)
     (sym c.take.ensures.value ∙ c.in-Some.is) t.taken in
     let ends = c.in_ok-status.ensures.ended F q.before q.mine key t.files p0 q.all r
-    (heard_open F t.files t.told object t.open_file q) q.first
+    (heard_open q) q.first
     (t.open_file, q.state_is, t.filled) in
     let old = g.W.Sink.written c.args.lines.now in
     let new = g.W.Sink.written c.write_words.new.sink in
     if_written c.write_words.result old new (line c.status_text.result) c.write_words.ensures.line
-    (λ told. one_closed F c.args.self.now.written (c.args.self.now.written + bool_byte
-    c.in_ok-status.is_written) t.files t.told object t.open_file c.in_ok-status.status
-    c.in_ok-status.is_written p0 _ w0 old new q r ends t.written
-    (subst (Appends old new) c.status_text.ensures.line told) t.count
+    (λ told. one_closed t q r ends (subst (Appends old new) c.status_text.ensures.line told)
     (byte_is c.args.self.now.written c.in_ok-status.is_written))

@@ -2,7 +2,6 @@
 use Rattle.std.proofs.Common.{[], ◌∷◌, refl}
 use Rattle.flute_parts.specs.declared.fact.Fact.TheVariants.{Info}
 use Rattle.flute_parts.proofs.Public.{rising-front}
-use Rattle.flutejoin.specs.declared.extract.file_scan.FileState.TheVariants.{OneInformation}
 use Rattle.flutejoin.proofs.extract_lemmas.FileObjects.{takes_next}
 use Rattle.flutejoin.proofs.gaps_lemmas.OpenObjects.{first_information}
 use Rattle.flutejoin.proofs.extract.object_files.ObjectFiles.information.Goals as goal
@@ -21,7 +20,4 @@ returns-in-Ok-clause-taken g c = λ F p0 w0 r t.
     let f = Info key c.args.info.now in
     let all = c.in_ok-close.ensures.closed F p0 w0 (rising-front F (f ∷ []) r) t in
     let scan = c.in-Ok.ensures.begun all.files p0 all.filled in
-    takes_next F f (record { key = key; state = OneInformation c.in-Ok.scan }) c.close.new.self
-    c.set_last.new.self scan.0 p0 _ w0 _ all.files all.told all.taken scan.2 all.written
-    all.count_is c.set_last.ensures
-    (first_information F f key r refl) refl scan.1
+    takes_next f all c.set_last.ensures (first_information F f key r refl) refl scan

@@ -30,7 +30,7 @@ pass-requires g c =
       object.key,
       h.mine,
       k.2,
-      mine_rising F (next_fact object.key n) k.0 k.1 object k.2 h r,
+      mine_rising (next_fact object.key n) h r,
       h.state_is,
     )
 
@@ -48,11 +48,10 @@ returns-in-Some-clause-taken g c = λ F p0 w0 r t.
     subst (λ (x : Key). Takes (F ++ next_fact x n ∷ [])
     (record c.args.self.now { last = Some c.pass.new.self }) p0
     (g.D.NewFolder.places c.pass.new.folder) w0 (g.W.Sink.written c.args.lines.now)) same
-    (takes_more F (next_fact object.key n) c.args.self.now object c.pass.new.self s.0 p0 _ w0 _
-    t.files t.told t.open_file h t.written t.count c.pass.ensures.key (told_key object.key n)
-    s.1 s.2))
+    (takes_more (next_fact object.key n) c.pass.new.self t h c.pass.ensures.key
+    (told_key object.key n) s))
     (c.pass.ensures.passed h.mine object.key t.files p0
-    (mine_rising F (next_fact object.key n) t.files t.told object t.open_file h r')
+    (mine_rising (next_fact object.key n) h r')
     (t.open_file, h.state_is, t.filled))
 
 pub begin-requires-clause-known : goal.begin-requires-clause-known
@@ -89,7 +88,7 @@ returns-in_default-clause-taken g c = λ F p0 w0 r t.
           let q = subst (λ (x : Option ObjectFile). HasTaken F t.files t.told x t.open_file)
           w.in-Some.is t.taken in
           let apart = other_keys object.key key w.if-eq.ensures in (
-            first_of_others F t.files t.told object t.open_file key (next_fact key n) q r
+            first_of_others key (next_fact key n) q r
                 (told_key key n) apart,
             subst (λ (x : ObjectFiles). Takes F x p0 (g.D.NewFolder.places c.args.folder.now) w0
                 (g.W.Sink.written c.args.lines.now)) (sym w.self-is)

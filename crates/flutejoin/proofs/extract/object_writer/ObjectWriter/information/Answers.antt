@@ -4,4 +4,5 @@ use Rattle.flutejoin.proofs.extract.object_writer.ObjectWriter.information.Goals
 
 pub returns-in_default-clause-passed : goal.returns-in_default-clause-passed
 returns-in_default-clause-passed c =
-    λ P start now r h. information-passes P _ _ _ start now _ c.in_default.not-Nothing refl r h
+    λ P start now r h. information-passes _ start now c.in_default.not-Nothing
+    (record { at = refl; rising = r }) h

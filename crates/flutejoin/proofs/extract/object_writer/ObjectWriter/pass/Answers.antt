@@ -6,6 +6,6 @@ use Rattle.flutejoin.proofs.extract.object_writer.ObjectWriter.pass.Goals as goa
 
 pub returns-else-eq-clause-passed : goal.returns-else-eq-clause-passed
 returns-else-eq-clause-passed g c = λ P start r h.
-    other-passes P c.args.fact.now _ _ start _ _
+    other-passes P c.args.fact.now _ start _ _
     (λ e. not-same _ _ c.if-eq.ensures (ap (λ (a : Address). a.key) c.address.ensures ∙ e))
     h

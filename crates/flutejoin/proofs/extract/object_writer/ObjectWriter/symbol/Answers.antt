@@ -18,4 +18,5 @@ returns-in-Nothing-clause-passed g c = λ P start r h.
 pub returns-in_default-clause-passed : goal.returns-in_default-clause-passed
 returns-in_default-clause-passed g c =
     λ P start r h.
-    symbol-passes P _ _ _ start _ _ c.in_default.not-Nothing c.in_default.not-Whole h
+    symbol-passes P _ _ _ start _
+    (record { some = c.in_default.not-Nothing; not_whole = c.in_default.not-Whole }) h

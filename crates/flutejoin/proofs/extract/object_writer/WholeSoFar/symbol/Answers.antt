@@ -13,7 +13,7 @@ returns-in-Some-clause-passed g c = λ P key start r h.
     let n : SymbolId × Option (Bor (List ℕ)) = (c.args.id, c.args.value) in
     let t = c.in-Fitting.ensures.turned h.scanned h.scans (next-rises h n r) (can-come h n r) in
     let bytes = c.in-Some.bytes.now in
-    passed-next h n r _ _ _ t.0 bytes (fits-next h n r t.0 bytes t.1
+    passed-next h n r bytes (fits-next h n r t.0 bytes t.1
     (ap (λ v. value_of (c.args.id, v)) c.in-Some.is)) t.2
     (c.next.ensures.part t.0 t.2) refl c.write_first.ensures.left c.write_first.ensures.written
 
@@ -21,14 +21,14 @@ pub returns-in_default-clause-passed : goal.returns-in_default-clause-passed
 returns-in_default-clause-passed g c = λ P key start r h.
     let n : SymbolId × Option (Bor (List ℕ)) = (c.args.id, c.args.value) in
     let t = c.in-Fitting.ensures.turned h.scanned h.scans (next-rises h n r) (can-come h n r) in
-    idle-fits h n r _ t.0 (ap (λ v. value_of (c.args.id, v)) c.in_default.is) t.1 t.2
+    idle-fits h n r (ap (λ v. value_of (c.args.id, v)) c.in_default.is) t.1 t.2
     (c.next.ensures.part t.0 t.2) refl refl
 
 pub returns-in-Passed-clause-passed : goal.returns-in-Passed-clause-passed
 returns-in-Passed-clause-passed g c = λ P key start r h.
     let n : SymbolId × Option (Bor (List ℕ)) = (c.args.id, c.args.value) in
     let t = c.in-Passed.ensures.turned h.scanned h.scans (next-rises h n r) (can-come h n r) in
-    idle-next h n r _ t.0 t.1 t.2 (c.next.ensures.part t.0 t.2) refl refl
+    idle-next h n r t.1 t.2 (c.next.ensures.part t.0 t.2) refl refl
 
 pub returns-in-Gap-clause-passed : goal.returns-in-Gap-clause-passed
 returns-in-Gap-clause-passed g c = λ P key start r h.

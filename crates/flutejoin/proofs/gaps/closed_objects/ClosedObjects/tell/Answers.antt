@@ -10,9 +10,11 @@ use Rattle.flutejoin.proofs.gaps.closed_objects.ClosedObjects.tell.Goals as goal
 pub returns-then-style-clause-told : goal.returns-then-style-clause-told
 returns-then-style-clause-told g c = λ known objects bytes t e is told h k.
     let style = c.args.style in
-    told_summed known t c.is_whole.result c.sum_up.new.sums (g.A.Sink.written c.sum_up.new.lines)
-    c.sum_up.result c.if-style.true (ap (is_told style) is ∙ told)
-    (c.is_whole.ensures ∙ ap is_whole (sym is)) h
+    told_summed known c.sum_up.new.sums (g.A.Sink.written c.sum_up.new.lines)
+    c.sum_up.result c.if-style.true (record {
+      told = ap (is_told style) is ∙ told;
+      whole_is = c.is_whole.ensures ∙ ap is_whole (sym is);
+    }) h
     (c.sum_up.ensures.summed known (listed_by style objects) bytes t
     (ap (λ (x : Key). x.session) e) is (are_summed c.if-style.true h) k)
 
@@ -26,6 +28,8 @@ returns-else-style-clause-told g c = λ known objects bytes t e is told h k.
     c.write_words.ensures.line in
     let own : status_line c.args.key.now c.args.status ≡ status_line t.key t.status =
     λ i. status_line (sym e i) (sym is i) in
-    told_lined t c.is_whole.result s' r c.if-style.false (ap (is_told style) is ∙ told)
-    (c.is_whole.ensures ∙ ap is_whole (sym is)) h k
+    told_lined s' r c.if-style.false (record {
+      told = ap (is_told style) is ∙ told;
+      whole_is = c.is_whole.ensures ∙ ap is_whole (sym is);
+    }) h k
     (subst (λ (x : List ℕ). Writes s s' x r) own line)

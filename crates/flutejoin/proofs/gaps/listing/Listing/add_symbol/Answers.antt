@@ -30,7 +30,7 @@ pass_symbol-requires g c =
       object.key,
       h.mine,
       w.3.1,
-      mine_rising style w.0 (next_fact object.key n) w.3.0 w.3.1 closed object h r,
+      mine_rising (next_fact object.key n) h r,
       h.state_is,
     )
 
@@ -62,7 +62,7 @@ returns-in-Some-clause-added g c = λ known F r l.
       gap_lines_known = p.2;
     }))
     (c.pass_symbol.ensures.passed known object.key h.mine l.gap_lines
-    (mine_rising style F (next_fact object.key n) l.lines l.gap_lines closed object h rises)
+    (mine_rising (next_fact object.key n) h rises)
     h.state_is l.gap_lines_known)
 
 pub begin-requires : goal.begin-requires
@@ -94,7 +94,7 @@ returns-in_default-clause-added g c = λ known F r l.
           let q = subst (λ (o : Option OpenObject). ListsWith style F l.lines l.gap_lines closed o)
           w.in-Some.is l.lists in
           let apart = other_keys object.key key w.if-eq.ensures in (
-            first_of_others style F l.lines l.gap_lines closed object key (next_fact key n) q r
+            first_of_others key (next_fact key n) q r
                 (told_key key n) apart,
             subst (λ (x : Listing). Lists style known F x s t) (sym w.self-is)
                 (record {

@@ -10,7 +10,7 @@ returns-clause-begun g c = λ known F f r l first e s.
       lines = q.lines;
       gap_lines = [];
       lists =
-          begun c.args.style F f _ (record { key = c.args.key; state = c.args.state }) _ _ known q
+          begun f (record { key = c.args.key; state = c.args.state }) q
           first e s;
       lines_known = q.lines_known;
       gap_lines_known = q.gap_lines_known;

@@ -5,5 +5,5 @@ use Rattle.flutejoin.proofs.join.held_files.HeldFiles.put_aside.Goals as goal
 
 pub returns-clause-held : goal.returns-clause-held
 returns-clause-held g c = λ told choice.
-    holds_aside g.R.Source.unread choice c.args.self.now _ c.requires.fits c.requires.fits
+    holds_aside c.requires.fits c.requires.fits
     c.new.ensures refl refl refl (c.in_ok-put_store.ensures.held told)

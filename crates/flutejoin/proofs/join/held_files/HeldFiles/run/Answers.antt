@@ -10,11 +10,11 @@ returns-clause-held g c = λ told choice datagrams holds.
     let aside =
     subst (HoldsDatagrams unread choice c.put_aside.new.self) (append-nil datagrams)
     (c.in_ok-put_aside.ensures.held told choice datagrams holds) in
-    holds_run unread choice c.put_aside.new.self c.pop.result c.pop.new.self.items
-    c.merge_beyond.new.runs.items c.put_aside.new.self.told.store c.in_ok-put_aside.ensures.fits
-    c.in_ok-put_aside.ensures.empty c.in_ok-put_aside.ensures.empty
+    holds_run c.in_ok-put_aside.ensures.fits c.in_ok-put_aside.ensures.empty
     (λ facts runs.
     c.in_ok-merge_beyond.ensures.held (c.put_aside.ensures.same_tells ∙ told) facts runs)
-    c.in_ok-merge_beyond.ensures.few c.pop.ensures.items
-    (λ some. c.pop.ensures.variant.1 (omega (arith, some, c.merge_beyond.new.runs.ok)))
-    datagrams aside
+    (record {
+      few = c.in_ok-merge_beyond.ensures.few;
+      split = c.pop.ensures.items;
+      some = λ some. c.pop.ensures.variant.1 (omega (arith, some, c.merge_beyond.new.runs.ok));
+    }) aside

@@ -14,10 +14,8 @@ returns-in_err-write_all-clause-digits g c =
     let e = err_from_is_err_and c.from_residual.result c.from_residual.ensures.1 in
     let w = c.loop-rest.invariant.1 in
     let s = c.split_at.result in
-    rw e.1 (digits_cut c.args.bytes.now w.0 s.0.now s.1.now c.put.new.room
-    (g.W.Sink.written c.args.sink.now) (g.W.Sink.written c.loop-rest.sink)
-    (g.W.Sink.written c.write_all.new.self)
-    (front_more c.args.bytes.now w.0 c.loop-rest.rest.now s.0.now s.1.now c.min.result w.1
+    rw e.1 (digits_cut w.0 s.0.now s.1.now
+    (front_more w.0 c.loop-rest.rest.now c.min.result w.1
     c.split_at.ensures.front c.split_at.ensures.back)
     c.put.ensures w.2 c.in_err-write_all.ensures.bytes)
 
@@ -31,9 +29,9 @@ loop-rest-preserved g c =
       room_kept s.0.now c.put.new.room c.loop-rest.digits is room ∙ c.loop-rest.invariant.0,
       (
         w.0 ++ s.0.now,
-        front_more c.args.bytes.now w.0 c.loop-rest.rest.now s.0.now s.1.now c.min.result w.1
+        front_more w.0 c.loop-rest.rest.now c.min.result w.1
             c.split_at.ensures.front c.split_at.ensures.back,
-        digits_more w.0 s.0.now c.put.new.room (g.W.Sink.written c.args.sink.now)
+        digits_more w.0 s.0.now (g.W.Sink.written c.args.sink.now)
             (g.W.Sink.written c.loop-rest.sink)
             (g.W.Sink.written c.write_all.new.self) is w.2 c.in_ok-write_all.ensures.bytes,
       ),
