@@ -103,26 +103,26 @@ module _ {K X : Type 0} {cmp : K → K → Ordering} (order : IsTotalOrder cmp) 
   all_tied k h l [] a = tt
   all_tied k h l (x ∷ xs) a = (order.congr k h x l ∙ a.0, all_tied k h l xs a.1)
 
-  ordered_first : (e f : K × X) (es fs : List (K × X)) (r : Ordering) → cmp e.0 f.0 ≡ r
+  ordered_first : (e f : K × X) (es fs : List (K × X)) {r : Ordering} → cmp e.0 f.0 ≡ r
       → IsOrdered cmp (e ∷ es) → IsOrdered cmp (f ∷ fs)
       → IsOrdered cmp (map_join cmp join es (f ∷ fs))
-      → IsOrdered cmp (map_join cmp join es fs)
-      → IsOrdered cmp (map_join cmp join (e ∷ es) fs)
+      × IsOrdered cmp (map_join cmp join es fs)
+      × IsOrdered cmp (map_join cmp join (e ∷ es) fs)
       → IsOrdered cmp (map_join cmp join (e ∷ es) (f ∷ fs))
   unfolding IsStrictlySortedBy
-  ordered_first e f es fs Less l s t a b c =
+  ordered_first e f es fs {r = Less} l s t (a, b, c) =
       rw (first_less cmp join e f es fs l) (
         all_keys cmp join (λ y. cmp e.0 y ≡ Less) es (f ∷ fs) s.0
             (l, all_above e.0 f.0 l (keys_of fs) t.0),
         a,
       )
-  ordered_first e f es fs Equal l s t a b c =
+  ordered_first e f es fs {r = Equal} l s t (a, b, c) =
       rw (first_equal cmp join e f es fs l) (
         all_keys cmp join (λ y. cmp e.0 y ≡ Less) es fs s.0
             (all_tied e.0 f.0 l (keys_of fs) t.0),
         b,
       )
-  ordered_first e f es fs Greater l s t a b c =
+  ordered_first e f es fs {r = Greater} l s t (a, b, c) =
       let u : cmp f.0 e.0 ≡ Less = order.antisymm f.0 e.0 ∙ ap ordering_reverse l in
       rw (first_greater cmp join e f es fs l) (
         all_keys cmp join (λ y. cmp f.0 y ≡ Less) (e ∷ es) fs
@@ -137,8 +137,7 @@ module _ {K X : Type 0} {cmp : K → K → Ordering} (order : IsTotalOrder cmp) 
   ordered_past e es s ih [] t = subst (IsOrdered cmp) (sym (join_nothing cmp join (e ∷ es))) s
   ordered_past e es s ih (f ∷ fs) t =
       let u = sorted_tail cmp f.0 (keys_of fs) t in
-      ordered_first e f es fs (cmp e.0 f.0) refl s t (ih (f ∷ fs) t) (ih fs u)
-      (ordered_past e es s ih fs u)
+      ordered_first e f es fs refl s t (ih (f ∷ fs) t, ih fs u, ordered_past e es s ih fs u)
 
   pub ordered-map_join : (es fs : List (K × X)) → IsOrdered cmp es → IsOrdered cmp fs
       → IsOrdered cmp (map_join cmp join es fs)

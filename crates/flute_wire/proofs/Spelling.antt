@@ -191,12 +191,12 @@ spells {d = d} {fti = fti} {fdt = fdt} {cenc = cenc} p f one two three four =
 
 pub spells_content : {d tail : List ℕ} (fti fdt : Option (List ℕ)) (c : Content)
     → Spells d (content_at d fti fdt) → tail ≡ after_header d
-    → c.tsi ≡ tsi_in d → c.toi ≡ toi_in d
+    → (c.tsi ≡ tsi_in d) × (c.toi ≡ toi_in d)
     → c.instance ≡ cond (eqb c.toi 0) (option_map fdt_instance fdt) None
-    → c.info ≡ option_map fti_information fti → c.symbol ≡ tail_symbol tail
+    → (c.info ≡ option_map fti_information fti) × (c.symbol ≡ tail_symbol tail)
     → Spells d c
 unfolding content_at
-spells_content {d = d} fti fdt c s is one two three four five =
+spells_content {d = d} fti fdt c s is (one, two) three (four, five) =
     let same : c ≡ content_at d fti fdt =
     same_content c (content_at d fti fdt) one two
     (three ∙ ap (λ (n : ℕ). cond (eqb n 0) (option_map fdt_instance fdt) None) two) four

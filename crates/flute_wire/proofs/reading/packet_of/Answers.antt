@@ -114,15 +114,16 @@ returns-clause-spelled c =
     c.in_ok-check_encoding.ensures.plain
     (subst (λ (t : List ℕ). (t ≡ []) ⊎ (4 ≤ length t)) c.in_ok-header.ensures.tail
     c.in_ok-symbol.ensures.taken) in
-    spells_content
-    (option_copied c.in_ok-known.known.fti)
-    (option_copied c.in_ok-known.known.fdt) c.new.result s
-    c.in_ok-header.ensures.tail
-    (ap (λ (x : Content). x.tsi) c.new.ensures ∙ c.in_ok-header.ensures.tsi)
-    (ap (λ (x : Content). x.toi) c.new.ensures ∙ c.in_ok-header.ensures.toi)
+    spells_content (option_copied c.in_ok-known.known.fti) (option_copied c.in_ok-known.known.fdt)
+    c.new.result s
+    c.in_ok-header.ensures.tail (
+      ap (λ (x : Content). x.tsi) c.new.ensures ∙ c.in_ok-header.ensures.tsi,
+      ap (λ (x : Content). x.toi) c.new.ensures ∙ c.in_ok-header.ensures.toi,
+    )
     (ap (λ (x : Content). x.instance) c.new.ensures ∙ c.in_ok-instance.ensures.value
     ∙ ap (λ (n : ℕ). cond (eqb n 0)
     (option_map fdt_instance (option_copied c.in_ok-known.known.fdt)) None)
-    (sym (ap (λ (x : Content). x.toi) c.new.ensures)))
-    (ap (λ (x : Content). x.info) c.new.ensures ∙ c.in_ok-info.ensures.value)
-    (ap (λ (x : Content). x.symbol) c.new.ensures ∙ c.in_ok-symbol.ensures.value)
+    (sym (ap (λ (x : Content). x.toi) c.new.ensures))) (
+      ap (λ (x : Content). x.info) c.new.ensures ∙ c.in_ok-info.ensures.value,
+      ap (λ (x : Content). x.symbol) c.new.ensures ∙ c.in_ok-symbol.ensures.value,
+    )
