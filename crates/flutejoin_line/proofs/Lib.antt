@@ -1,3 +1,4 @@
+mod CommandFound
 mod CommandWords
 mod JoinLines
 mod Options

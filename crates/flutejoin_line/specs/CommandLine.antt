@@ -205,17 +205,16 @@ IsFault name rows fault =
     ⊎ (((name ≡ codes "merge") × IsMergeFault rows fault)
     ⊎ (((name ≡ codes "forget") × IsChoiceFault rows fault)
     ⊎ (((name ≡ codes "show") × IsSelectionFault rows fault)
-    ⊎ (((name ≡ codes "gaps") × IsSelectionFault rows fault)
-    ⊎ ((is_command name ≡ false) × (fault ≡ OutOfMemory)))))))))
+    ⊎ ((name ≡ codes "gaps") × IsSelectionFault rows fault)))))))
 
 -- the line is what the parser found for its command
 abbrev pub IsLineOf : Option (List ℕ × List Row) → Line → Type 0
 IsLineOf None line = ⊥
 IsLineOf (Some found) line = IsLine found.0 found.1 line
 
--- why what it found is no line; of no command, which it never finds, memory is blamed
+-- why what it found is no line
 abbrev pub IsFaultOf : Option (List ℕ × List Row) → CommandFault → Type 0
-IsFaultOf None fault = fault ≡ OutOfMemory
+IsFaultOf None fault = ⊥
 IsFaultOf (Some found) fault = IsFault found.0 found.1 fault
 
 -- ---- words

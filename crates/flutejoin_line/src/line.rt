@@ -1,10 +1,11 @@
 //! The command line.
-ghost use Rattle.std.specs.Prelude.{◌≡◌, ◌≤◌, [], MatchResult, codes, length, map, string_bytes};
+ghost use Rattle.std.specs.Prelude.{◌≡◌, ◌≤◌, [], IsSomeAnd, MatchResult, codes, length, map};
+ghost use Rattle.std.specs.Prelude.{string_bytes, true};
 ghost use Rattle.clap.specs.Simple.{subcommand_rows_of};
 ghost use Rattle.flutejoin_line.specs.CommandLine.{IsFault, IsFaultIn, IsFaultOf, IsJoinFault};
 ghost use Rattle.flutejoin_line.specs.CommandLine.{IsKeyFault, IsLine, IsLineIn, IsLineOf};
-ghost use Rattle.flutejoin_line.specs.CommandLine.{IsManyInputs};
-ghost use Rattle.flutejoin_line.specs.CommandLine.{IsMergeFault, IsParserFault, IsRefusal};
+ghost use Rattle.flutejoin_line.specs.CommandLine.{IsManyInputs, IsMergeFault, IsParserFault};
+ghost use Rattle.flutejoin_line.specs.CommandLine.{IsRefusal, is_command};
 ghost use Rattle.flutejoin_line.specs.Options.{IsZero, carousel_options, found_rows};
 ghost use Rattle.flutejoin_line.specs.Parser.{command_in, refusals_of};
 ghost use Rattle.flutejoin_line.specs.Selecting.{IsSelectionFault};
@@ -138,6 +139,7 @@ pub enum Line<'a> {
 /// hexadecimal digits nor an address; `BadKey` if `--fdt` does not go with `--toi`; `TooManyInputs`
 /// if `join` has more than 64 inputs; `OutputIsInput` if `merge` is to write one of its inputs; and
 /// `OutOfMemory`.
+#[tactic(auto, using(crate::proofs::CommandFound::command_known))]
 pub fn line_of(alloc: Global, words: &[String]) -> Result<Line<'_>, CommandFault>
     ensures read { let texts = map string_bytes words.now in
         MatchResult result (IsLineIn texts) (IsFaultIn texts) }
@@ -156,15 +158,16 @@ fn matches_in(alloc: Global, words: &[String]) -> Result<ArgMatches<'_>, Command
     command.try_get_matches_from(words).map_err(parser_fault)
 }
 
-// The line that follows from what the parser found.
+// The line that follows from what the parser found, which is one of its commands.
 fn line_in<'a>(alloc: Global, matches: &ArgMatches<'a>) -> Result<Line<'a>, CommandFault>
+    requires { IsSomeAnd (subcommand_rows_of matches.now)
+        (λ found. is_command found.0 ≡ true) }
     ensures { let found = subcommand_rows_of matches.now in
         MatchResult result (IsLineOf found) (IsFaultOf found) }
 {
     match matches.subcommand() {
         Some((name, matches)) => line_by_name(alloc, name, matches),
-        // The parser takes no line without a command.
-        None => Err(CommandFault::OutOfMemory),
+        None => unreachable!(),
     }
 }
 
@@ -175,6 +178,7 @@ fn line_by_name<'a>(
     name: &str,
     matches: &ArgMatches<'a>,
 ) -> Result<Line<'a>, CommandFault>
+    requires { is_command name.now ≡ true }
     ensures { let rows = found_rows matches.now in
         MatchResult result (IsLine name.now rows) (IsFault name.now rows) }
 {
@@ -190,8 +194,7 @@ fn line_by_name<'a>(
         "merge" => merge_of(matches),
         "forget" => forget_of(matches),
         "carousel" => carousel_of(matches),
-        // The parser knows no other command.
-        _ => Err(CommandFault::OutOfMemory),
+        _ => unreachable!(),
     }
 }
 

@@ -7,8 +7,8 @@ use Rattle.flutejoin_line.specs.Options.{found_rows}
 use Rattle.flutejoin_line.proofs.CommandWords.{command_found}
 use Rattle.flutejoin_line.proofs.line.line_in.Goals as goal
 
-pub returns-in-Some : goal.returns-in-Some
-returns-in-Some c =
+pub returns : goal.returns
+returns c =
     subst (λ (o : Option (Text × List Row)).
     MatchResult c.line_by_name.result (IsLineOf o) (IsFaultOf o))
     (command_found (out-ArgMatches c.args.matches.now).subcommand c.in-Some.name.now
