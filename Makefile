@@ -77,6 +77,7 @@ test-program:
 test-tools:
 	tests/wrong_bodies.sh
 	tests/python.py
+	tests/test_lemmas.py
 	tests/test_capture.py
 	tests/capture_cases.py
 	tests/test_values.py
