@@ -37,11 +37,6 @@ all_before P (suc k) (x ∷ xs) each = (
       (λ j y below e. each (suc j) y (omega (arith, below)) e),
 )
 
-pub all_at : {X : Type 0} (P : X → Type 0) (xs : List X)
-    → ((j : ℕ) (x : X) → slice_get xs j ≡ Some x → P x) → AllByRecursion P xs
-all_at P [] each = tt
-all_at P (x ∷ xs) each = (each 0 x refl, all_at P xs (λ j y e. each (suc j) y e))
-
 -- the input at a place is the first with P, where all before it have Q
 pub first_at : (Q P : List ℕ → Type 0) (inputs : List (List ℕ)) (k : ℕ) (bytes : List ℕ)
     → slice_get inputs k ≡ Some bytes → AllByRecursion Q (take k inputs) → P bytes

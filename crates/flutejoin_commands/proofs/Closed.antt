@@ -1,5 +1,5 @@
 -- What became of an output that was closed (specs/Closings).
-use Rattle.std.proofs.Common.{◌≡◌, ℕ, List, Option, Some, None, inl, inr, refl, subst}
+use Rattle.std.proofs.Common.{◌≡◌, ℕ, List, Option, Some, None, inl, inr, refl}
 use Rattle.flute_output.specs.Entries.{Entries}
 use Rattle.flutejoin_commands.specs.Closings.{Closing, ClosesWhole, IsNoted}
 use Rattle.flutejoin_commands.specs.Commands.{IsWholeAlways}
@@ -19,11 +19,3 @@ closed_whole (Some old) first (Some e) h w n = inr (record {
   is = n;
   whole = (first, h, w);
 })
-
--- the same, stated of the files and closed outputs before
-pub closes_since : {name : List ℕ} {files now : Option Files}
-    {old between new : Option (List Closing)} → now ≡ files → between ≡ old
-    → ClosesWhole name now between new → ClosesWhole name files old new
-closes_since {name = name} {now = now} {old = old} {new = new} same kept h =
-    subst (λ f. ClosesWhole name f old new) same
-    (subst (λ c. ClosesWhole name now c new) kept h)

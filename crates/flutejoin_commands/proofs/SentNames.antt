@@ -1,7 +1,7 @@
 -- carousel: what was sent of an opened input, stated of its name.
 use Rattle.std.proofs.Common.{rules, ◌⊎◌, ℕ, List, Option, Some, None, Result, Ok, Err}
 use Rattle.std.proofs.Common.{IfErr}
-use Rattle.std.proofs.Common.{inl, inr, sym, subst}
+use Rattle.std.proofs.Common.{inr, sym, subst}
 use Rattle.std.specs.Prelude.{OnOk}
 use Rattle.flute_parts.specs.declared.key.Key.{Key}
 use Rattle.flutejoin_commands.specs.Works.{SendsRead, SendReadFails}
@@ -22,11 +22,6 @@ again_has (Some files) name (Some bytes) new h a =
 
 module _ (files : Option Files) (name : List ℕ) (known : Option (List ℕ))
     (h : HasBytes files name known) (key : Key) (symbol block : ℕ) where
-  pub not_measured : (fault : CommandFault) → MeasureFails known fault
-      → SendNameFails files name key symbol block fault
-  not_measured fault m = inr (told_of files name known h
-      (λ k. MeasureFails k fault ⊎ SendReadFails k key symbol block fault) (inl m))
-
   module _ (out : List ℕ) (old new : Outside) (r : Result (Unit {0}) CommandFault) where
     pub sent : OnOk r (Leaves (SendsRead known key symbol block)
         (SendsRead known key symbol block) datagrams_line out old new)

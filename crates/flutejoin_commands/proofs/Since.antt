@@ -3,7 +3,7 @@ use Rattle.std.proofs.Common.{◌≡◌, ◌+◌, ◌<◌, ℕ, List, [], ◌∷
 use Rattle.std.proofs.Common.{None, Result, Ok, Err, IfOk, IfErr, inr, refl, sym, ap, subst}
 use Rattle.std.proofs.Common.{◌∙◌, arith}
 use Rattle.std.specs.Prelude.{option_map, OnOk, OnErr, is_ok, if◌then◌else◌}
-use Rattle.flute_output.specs.Entries.{Entries, Leads, Does, created, OutIsAsFound, OutBecomes}
+use Rattle.flute_output.specs.Entries.{Entries, Leads, Does, created, OutBecomes}
 use Rattle.flute_output.specs.Entries.{IsEitherAlways, Ends, found_in, named_in, taken, whole}
 use Rattle.flute_output.specs.declared.output.FinishFault.{FinishFault}
 use Rattle.flute_output.specs.declared.output.FinishFault.TheVariants.{Work, Write, NotOnDisk}
@@ -34,22 +34,6 @@ either_since (Some made) None new n h = absurd cc
 either_since (Some made) (Some now) None n h = h
 either_since (Some made) (Some now) (Some new) n h =
     (taken now, either_at (taken now) made now new (some_same now.named made.named n) h)
-
-pub as_found_since : (made now new : Option Entries)
-    → option_map found_in now ≡ option_map found_in made
-    → option_map named_in now ≡ option_map named_in made
-    → Leads OutIsAsFound now new → Leads OutIsAsFound made new
-as_found_since None None None f n h = h
-as_found_since None None (Some new) f n h = h
-as_found_since None (Some now) new f n h = absurd cc
-as_found_since (Some made) None new f n h = absurd cc
-as_found_since (Some made) (Some now) None f n h = h
-as_found_since (Some made) (Some now) (Some new) f n h = record {
-  out = h.out ∙ some_same now.found made.found f;
-  found = h.found ∙ some_same now.found made.found f;
-  past = h.past;
-  named = h.named ∙ some_same now.named made.named n;
-}
 
 -- these entries are of one output: OUT was found alike, and its name is the same
 pub record AreOfOne (made now : Option Entries) : Type 0 where

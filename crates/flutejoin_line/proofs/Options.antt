@@ -1,35 +1,18 @@
 -- Options of the command line, and their faults (specs/Options).
-use Rattle.std.proofs.Common.{◌≡◌, ℕ, true, false, List, ◌∷◌, Option, Some, None, Result, Ok, Err}
-use Rattle.std.proofs.Common.{refl, sym, ap, ◌∙◌}
+use Rattle.std.proofs.Common.{◌≡◌, ℕ, true, List, ◌∷◌, Option, Some, None, Result, Ok, Err}
+use Rattle.std.proofs.Common.{refl, ap, ◌∙◌}
 use Rattle.std.proofs.lemmas.Bool.{lt-ltb}
 use Rattle.std.specs.Prelude.{IsErrAnd, MatchOption, MatchResult, ok_or}
 use Rattle.clap.specs.Walk.{Row}
 use Rattle.flutejoin.specs.Sender.{NamesSender}
-use Rattle.flutejoin_line.specs.Options.{IsBadNumber, IsFirstWrong, IsNumber, IsSource}
-use Rattle.flutejoin_line.specs.Options.{first_wrong, has_number, is_below}
+use Rattle.flutejoin_line.specs.Options.{IsNumber, IsSource}
+use Rattle.flutejoin_line.specs.Options.{has_number, is_below}
 use Rattle.flutejoin.specs.declared.command_fault.CommandFault.{CommandFault}
-use Rattle.flutejoin.specs.declared.command_fault.CommandFault.TheVariants.{BadNumber, BadSource}
+use Rattle.flutejoin.specs.declared.command_fault.CommandFault.TheVariants.{BadSource}
 
 pub number_there : (option : List ℕ) (limit : ℕ) (rows : List Row) (n : ℕ)
     → IsNumber option limit rows n → has_number option limit rows ≡ true
 number_there option limit rows n is = ap (is_below limit) is.0 ∙ lt-ltb n limit is.1
-
-pub wrong_here : (option : List ℕ) (limit : ℕ) (rest : List (List ℕ × ℕ)) (rows : List Row)
-    (fault : CommandFault) → IsBadNumber option fault → has_number option limit rows ≡ false
-    → IsFirstWrong ((option, limit) ∷ rest) rows fault
-wrong_here option limit rest rows (BadNumber name) is none = rw none (ap Some (sym is))
-wrong_here option limit rest rows _ is none = absurd is
-
-pub wrong_later : (option : List ℕ) (limit : ℕ) (rest : List (List ℕ × ℕ)) (rows : List Row)
-    (fault : CommandFault) → has_number option limit rows ≡ true → IsFirstWrong rest rows fault
-    → IsFirstWrong ((option, limit) ∷ rest) rows fault
-wrong_later option limit rest rows (BadNumber name) some is = rw some is
-wrong_later option limit rest rows _ some is = absurd is
-
-pub none_wrong : (option : List ℕ) (limit : ℕ) (rest : List (List ℕ × ℕ)) (rows : List Row)
-    → has_number option limit rows ≡ true → first_wrong rest rows ≡ None
-    → first_wrong ((option, limit) ∷ rest) rows ≡ None
-none_wrong option limit rest rows some is = rw some is
 
 pub no_source : (given : Option (List ℕ)) (sender : ℕ) → given ≡ None → sender ≡ 0
     → IsSource given sender

@@ -1,10 +1,9 @@
 -- sessions_of: the sessions that several words name (specs/Options: HasSessions).
 use Rattle.std.proofs.Common.{◌≡◌, ◌<◌, ◌≤◌, ◌^◌, ◌+◌, ℕ, Bool, false, List, [], ◌∷◌, ◌++◌, length}
-use Rattle.std.proofs.Common.{take, map, get_or, Some, Bor, refl, sym, ap, ap₂, ◌∙◌, arith}
+use Rattle.std.proofs.Common.{take, map, get_or, Some, Bor, sym, ap₂, ◌∙◌}
 use Rattle.std.specs.List.{list_all}
-use Rattle.std.proofs.lemmas.Bool.{lt-leb}
 use Rattle.std.proofs.Math.Bool.{and-false}
-use Rattle.std.proofs.lemmas.List.{length-map, length-take-le, map-append, take_more, take_all}
+use Rattle.std.proofs.lemmas.List.{map-append, take_more}
 use Rattle.std.proofs.lemmas.List.Elements.{All-push}
 use Rattle.std.proofs.lemmas.List.Folds.{list_all-map, list_all_at}
 use Rattle.flutejoin_line.specs.Options.{AreNumbers, are_sessions, is_below, number_in}
@@ -40,26 +39,3 @@ wrong_session texts i d lt is =
     let some : list_all p (map text_of texts) ≡ false = list_all-map p text_of texts
     ∙ list_all_at (λ t. p t.now) texts i d lt is in
     rw some (and-false _)
-
--- as many words as there are numbers
-numbers_length : (limit : ℕ) (texts : List (List ℕ)) (numbers : List ℕ)
-    → AreNumbers limit texts numbers → length texts ≡ length numbers
-numbers_length limit texts numbers are = sym (length-map texts number_in) ∙ ap length are.0
-    ∙ length-map numbers Some
-
--- more than are taken
-pub many_sessions : (limit : ℕ) (texts : List (Bor (List ℕ))) (i : ℕ) (listed : List ℕ)
-    → i < length texts → AreNumbers limit (map text_of (take i texts)) listed → length listed ≡ 64
-    → are_sessions (map text_of texts) ≡ false
-many_sessions limit texts i listed lt are full =
-    let all = numbers_length limit (map text_of (take i texts)) listed are in
-    let short : length (map text_of (take i texts)) ≡ i = length-map (take i texts) text_of
-    ∙ length-take-le i texts (omega arith) in
-    let long : 64 < length (map text_of texts) = simp length-map (omega arith) in
-    rw (lt-leb (length (map text_of texts)) 64 long) refl
-
--- all of them
-pub all_numbers : (limit : ℕ) (texts : List (Bor (List ℕ))) (i : ℕ) (listed : List ℕ)
-    → length texts ≤ i → AreNumbers limit (map text_of (take i texts)) listed
-    → AreNumbers limit (map text_of texts) listed
-all_numbers limit texts i listed le are = rw take_all at are

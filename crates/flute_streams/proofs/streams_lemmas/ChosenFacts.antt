@@ -5,9 +5,8 @@ use Rattle.flute_streams.proofs.Common.{List, [], ◌∷◌, ◌++◌, Option, S
 use Rattle.flute_streams.proofs.Common.{sym, ap, ◌∙◌}
 use Rattle.flute_streams.proofs.Common.{subst, append-nil, length, arith, ◌+◌, ◌-◌, ◌^◌}
 use Rattle.flute_streams.proofs.Common.{◌≤◌, ◌<◌}
-use Rattle.flute_streams.proofs.Common.{cases_Bool, address, IsRising, StandAfter, Fact, LoadFault}
-use Rattle.flute_streams.proofs.Common.{Behaviour, Continues, Gave, option_list, GoesOn, Stopped}
-use Rattle.flute_streams.proofs.Common.{StopsAt}
+use Rattle.flute_streams.proofs.Common.{cases_Bool, address, IsRising, StandAfter, Fact}
+use Rattle.flute_streams.proofs.Common.{Behaviour, Continues, Gave, option_list, GoesOn}
 use Rattle.std.specs.Prelude.{cond, filter, min}
 use Rattle.std.proofs.Common.{inl, inr}
 use Rattle.std.proofs.lemmas.List.Elements.{filter-append}
@@ -138,16 +137,6 @@ module _ {C : Type 0} (takes : C → Fact → Bool) (s : C) where
               omega (arith, one, other, was, m, least);
         }
 
-    -- one fact fewer is left
-    pub passed_fewer : (now next : S) → is_passed_over takes s (b.held now) ≡ true
-        → GoesOn b now next → b.most next < b.most now
-    passed_fewer now next o g = fewer (b.held now) o g.fewer
-      where
-        fewer : (held : Option Fact) → is_passed_over takes s held ≡ true
-            → b.most next + length (option_list held) ≤ b.most now → b.most next < b.most now
-        fewer None e h = absurd (false≢true e)
-        fewer (Some f) e h = omega (arith, h)
-
   module _ {S : Type 0} (b : Behaviour S) (x t : Chosen S C) (was : x.choice ≡ s)
       (same : t.choice ≡ s) where
     abbrev w : Behaviour (Chosen S C)
@@ -254,43 +243,9 @@ module _ {C : Type 0} (takes : C → Fact → Bool) (s : C) where
                 (j.0, q.1.known j.0 j.1, j.2);
           }
 
-      -- Chosen stops at the first fault of the stream
-      stops_first : (fault : LoadFault) → StopsAt b x.stream t.stream fault
-          → Stopped w start t given fault
-      stops_first fault h =
-          let q = h start.stream passed.0 passed.1.0 in
-          record {
-            reads = of_start (b.reads start.stream t.stream)
-                given (passed.0 ++ option_list (b.held x.stream), q.reads, given_is);
-            fails = q.fails;
-            stops = q.stops;
-          }
-
-      stops_later : (now : S) (fault : LoadFault) → PassesOthers b x.stream now
-          → is_passed_over takes s (b.held now) ≡ true → StopsAt b now t.stream fault
-          → Stopped w start t given fault
-      stops_later now fault h o g =
-          let r = gave_given now h in
-          let q = g start.stream r.0 r.1.passes in
-          record {
-            reads = of_start (b.reads start.stream t.stream) given
-                (r.0 ++ option_list (b.held now), q.reads, and_other r.0 given (b.held now) r.2 o);
-            fails = q.fails;
-            stops = q.stops;
-          }
-
     pub chosen_goes_on : CountsPassed b x.stream t.stream x.others t.others
         → is_passed_over takes s (b.held t.stream) ≡ false → GoesOn w x t
     chosen_goes_on h o = record { gave = λ start F p. goes start F p h o; fewer = h.passes.fewer }
-
-    pub chosen_stops : (fault : LoadFault) → StopsAt b x.stream t.stream fault → StopsAt w x t fault
-    chosen_stops fault h = λ start F p. stops_first start F p fault h
-
-    pub chosen_stops_later : (now : S) (fault : LoadFault) (counted : ℕ)
-        → CountsPassed b x.stream now x.others counted → is_passed_over takes s (b.held now) ≡ true
-        → StopsAt b now t.stream fault → StopsAt w x t fault
-    chosen_stops_later now fault counted h o g = λ start F p. stops_later start F p now fault
-        h.passes o g
 
 -- whether a stream's head is passed over is whether the fact that it holds is
 pub answered : {C : Type 0} (takes : C → Fact → Bool) {s z : C} {head held : Option Fact}

@@ -1,5 +1,5 @@
 -- A stream whose parts are lent is advanced as one that owns them (specs/Loans).
-use Rattle.flute_streams.proofs.Common.{Result, Ok, Err, OnOk, IfErr, LoadFault, Behaviour, GoesOn}
+use Rattle.flute_streams.proofs.Common.{LoadFault, Behaviour, GoesOn}
 use Rattle.flute_streams.proofs.Common.{StopsAt}
 use Rattle.flute_streams.specs.Loans.{lent_as}
 
@@ -28,13 +28,3 @@ module _ {S L : Type 0} (whole : L → S) (Same : L → L → Type 0) (b : Behav
   lent_stops f h = λ start F p.
       let g = h (whole start) F p.0 in
       record { reads = g.reads; fails = (g.fails, same start p.1); stops = g.stops }
-
-  pub lent_on_ok : (r : Result (Unit {0}) LoadFault) → OnOk r (GoesOn b (whole s) (whole t))
-      → OnOk r (GoesOn (lent_as whole Same b) s t)
-  lent_on_ok (Ok done) h = lent_goes_on h
-  lent_on_ok (Err fault) h = tt
-
-  pub lent_on_err : (r : Result (Unit {0}) LoadFault) → IfErr r (StopsAt b (whole s) (whole t))
-      → IfErr r (StopsAt (lent_as whole Same b) s t)
-  lent_on_err (Ok done) h = tt
-  lent_on_err (Err fault) h = lent_stops fault h

@@ -3,7 +3,6 @@ use Rattle.std.proofs.Common.{◌≡◌, ℕ, ◌+◌, ◌<◌, ◌≤◌, inl, 
 use Rattle.std.proofs.Common.{List, length, Option, Some, None, Result, Ok, Err, IfErr}
 use Rattle.std.proofs.Common.{sym, ap, subst, ◌∙◌, arith, length-append}
 use Rattle.std.specs.Prelude.{◌⊎◌, IfSome}
-use Rattle.flute_journal.specs.Input.{Fills}
 use Rattle.flute_journal.specs.declared.fault.ReadFault.{ReadFault}
 use Rattle.flute_journal.specs.declared.fault.ReadFault.TheVariants.{Read}
 use Rattle.flute_parts.specs.declared.key.Key.{Key}
@@ -13,14 +12,6 @@ use Rattle.flutejoin.specs.Sending.{ReadFailures, ReadsOf}
 use Rattle.flutejoin.specs.declared.command_fault.CommandFault.{CommandFault}
 use Rattle.flutejoin.specs.declared.command_fault.CommandFault.TheVariants.{Input}
 use Rattle.flutejoin.proofs.carousel_lemmas.SentObjects.{Sent}
-
--- the input ended before so many bytes
-pub short_read : (u v : Option (List ℕ)) (bytes : List ℕ) (n : ℕ) → Fills u v n bytes
-    → length bytes < n → IfSome u (λ all. length all < n)
-short_read None v bytes n f h = tt
-short_read (Some all) None bytes n f h = absurd f.read
-short_read (Some all) (Some rest) bytes n f h =
-    omega (arith, h, ap length f.read, length-append bytes rest, ap length (f.fewer h))
 
 pub not_left : (u : Option (List ℕ)) (n left : ℕ) → n ≤ left → IfSome u (λ all. length all < n)
     → HasNot u left

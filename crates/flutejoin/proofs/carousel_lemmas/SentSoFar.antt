@@ -6,7 +6,7 @@ use Rattle.std.proofs.Common.{append-nil, length-append, take_all, drop-drop}
 use Rattle.std.specs.Prelude.{◌⊎◌, flat_map}
 use Rattle.std.specs.Io.KnownBytes.{Appends, Consumes}
 use Rattle.std.specs.List.{AllZip, AllByRecursion}
-use Rattle.std.proofs.KnownBytes.{Appends-nil, Appends-trans, Consumes-nil, Consumes-trans}
+use Rattle.std.proofs.KnownBytes.{Appends-trans, Consumes-trans}
 use Rattle.std.proofs.lemmas.Bool.Decides.{nat_tests}
 use Rattle.std.proofs.lemmas.List.{flat_map_more}
 use Rattle.flute_parts.specs.Devices.{AppendsPart, times_failed}
@@ -63,9 +63,6 @@ grows_on false true a b c front more p = AppendsPart-second a b c front more p.0
 
 -- ---- what was read
 
-pub nothing_read : (u : Option (List ℕ)) (left : ℕ) → ReadsOf u u left left
-nothing_read u left = record { bytes = []; read = Consumes-nil u; counted = omega arith }
-
 pub reads_on : (u v w : Option (List ℕ)) (a b c : ℕ) → ReadsOf u v a b → ReadsOf v w b c
     → ReadsOf u w a c
 reads_on u v w a b c p q = record {
@@ -96,18 +93,6 @@ module _ (key : Key) (i : Information) (content : List ℕ) where
     pub counted : place ≡ length datagrams
     pub grown : Grows failed old now (file_up_to datagrams)
     pub rest : unread ≡ Some (drop (place * i.symbol_length) content)
-
-  pub nothing_sent : (u old : Option (List ℕ)) → u ≡ Some content → SentSoFar 0 u false old old
-  nothing_sent u old known = record {
-    datagrams = [];
-    written = tt;
-    sound = refl;
-    valid = tt;
-    counted = refl;
-    grown = Appends-nil old;
-    rest = known ∙ ap (λ (n : ℕ). Some (drop n content))
-        (let e : 0 ≡ 0 * i.symbol_length = omega arith in e);
-  }
 
   -- the packet at a place
   abbrev pub packet : ℕ → Content

@@ -17,7 +17,7 @@ use Rattle.flute_parts.specs.Limits.{Over}
 use Rattle.flute_store.proofs.Public.{gaps-same, object-same, Whole-same}
 use Rattle.flute_journal.specs.JournalFraming.{journal_framing}
 use Rattle.flute_journal.specs.Framing.{Gives, GivesItem, GivesEnd, GivesFault, Sofar}
-use Rattle.flute_journal.specs.Stores.{BeginsWith, FailsToLoad}
+use Rattle.flute_journal.specs.Stores.{BeginsWith}
 use Rattle.flute_journal.specs.declared.fault.LoadFault.{LoadFault}
 use Rattle.flute_journal.specs.declared.fault.LoadFault.TheVariants as load
 use Rattle.flute_journal.specs.declared.fault.ReadFault.{ReadFault}
@@ -41,7 +41,6 @@ use Rattle.flutejoin.specs.declared.limits.TheConstants.{MAX_ENTRIES}
 use Rattle.flutejoin.specs.declared.extract.object_writer.Found.{Found}
 use Rattle.flutejoin.specs.declared.extract.object_writer.ObjectWriter.{ObjectWriter}
 use Rattle.flutejoin.proofs.extract_lemmas.ObjectWriters.{wrote-some}
-use Rattle.flutejoin.proofs.Shown.{fails_same}
 
 -- these entries were read, counted and passed, and nothing else
 pub record Passing {a b d : ℕ} (input left : Option (List ℕ)) (state : ReaderState Before)
@@ -336,18 +335,3 @@ journal_fault {most} {input = input} {left = left} {writer = writer} {s = s} {t 
     told (load.Read g) p = (refl, p.ended)
     told load.Full p = p.ended
     told load.OutOfMemory p = absurd p.ended
-
-pub fault_reads : (n m : ℕ) (f : LoadFault) → FailsToLoad {T = Unit {0}} n m (Err f)
-    → FailsToRead {T = ℕ} n m (Err (of_load 1 f))
-fault_reads n m (load.Read f) h = fails_same (Unit {0}) ℕ f n m h
-fault_reads n m load.Full h = h
-fault_reads n m load.OutOfMemory h = h
-
-pub fault_fails : (n m : ℕ) (failed : Bool) (f : LoadFault) → m ≡ n + times_failed failed
-    → SinkFails n m (Err (of_load 1 f))
-fault_fails n m false (load.Read f) e = inl (omega (arith, e))
-fault_fails n m true (load.Read f) e = inr e
-fault_fails n m false load.Full e = inl (omega (arith, e))
-fault_fails n m true load.Full e = inr e
-fault_fails n m false load.OutOfMemory e = inl (omega (arith, e))
-fault_fails n m true load.OutOfMemory e = inr e

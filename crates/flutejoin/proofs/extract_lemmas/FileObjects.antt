@@ -2,14 +2,14 @@
 use Rattle.std.proofs.Common.{◌≡◌, ℕ, ◌+◌, Bool, true, false, List, [], ◌∷◌, ◌++◌, length, take}
 use Rattle.std.proofs.Common.{Option, Some, None, Result, Ok, Err, refl, sym, ap, ◌∙◌, subst, inl}
 use Rattle.std.proofs.Common.{inr, append_assoc}
-use Rattle.std.specs.Prelude.{Contains, IfSome, OnOk, if◌then◌else◌}
+use Rattle.std.specs.Prelude.{Contains, OnOk, if◌then◌else◌}
 use Rattle.std.specs.List.{flat_map}
 use mir.Val.{bool_byte}
 use Rattle.std.specs.List.Sorted.{IsStrictlySortedBy}
 use Rattle.std.specs.Io.KnownBytes.{Appends}
 use Rattle.std.specs.Borrow.{Bor}
 use Rattle.std.specs.declared.cmp.Ordering.TheVariants.{Less}
-use Rattle.std.proofs.KnownBytes.{Appends-nil, Appends-trans}
+use Rattle.std.proofs.KnownBytes.{Appends-trans}
 use Rattle.std.proofs.lemmas.List.{flat_map_more, length-append}
 use Rattle.std.proofs.lemmas.List.Elements.{Contains-append_left, Contains-append_right}
 use Rattle.std.proofs.lemmas.List.Elements.{Contains-append_cases, Contains-push}
@@ -31,7 +31,7 @@ use Rattle.flute_parts.specs.declared.fact.Fact.TheVariants.{Info, InfoConflict,
 use Rattle.flute_parts.specs.declared.fact.Fact.TheVariants.{SymbolConflict}
 use Rattle.flute_parts.proofs.Public.{fact_at-append, fact_at-none, joined, joined-none}
 use Rattle.flute_parts.proofs.Public.{rising-front, rising_tells}
-use Rattle.flute_output.specs.NewFolders.{NamedFile, Places, LeadsTo, Fills, IsReady}
+use Rattle.flute_output.specs.NewFolders.{NamedFile, Places, LeadsTo, Fills}
 use Rattle.flute_store.specs.declared.gap.Reason.{Reason}
 use Rattle.flute_store.specs.declared.status.Status.{Status}
 use Rattle.flute_store.specs.Held.{HoldsObject}
@@ -43,7 +43,7 @@ use Rattle.flutejoin.specs.Lines.{status_line}
 use Rattle.flutejoin.specs.Listing.{IsFirstOf}
 use Rattle.flutejoin.specs.Objects.{status_at}
 use Rattle.flutejoin.specs.ObjectFiles.{AreTaken, HasOpenFile, HasTaken, FileStateIs, Takes}
-use Rattle.flutejoin.specs.ObjectFiles.{TakesAll, StandsInto, Ends, Knows, file_wanting, file_at}
+use Rattle.flutejoin.specs.ObjectFiles.{TakesAll, StandsInto, Ends, file_wanting, file_at}
 use Rattle.flutejoin.specs.ObjectFiles.{object_file}
 use Rattle.flutejoin.specs.ObjectFiles.{first_line}
 use Rattle.flutejoin.specs.declared.extract.file_scan.FileState.{FileState}
@@ -52,7 +52,6 @@ use Rattle.flutejoin.specs.declared.extract.file_scan.FileState.TheVariants.{Con
 use Rattle.flutejoin.specs.declared.extract.object_files.ObjectFile.{ObjectFile}
 use Rattle.flutejoin.specs.declared.extract.object_files.ObjectFiles.{ObjectFiles}
 use Rattle.flutejoin.proofs.extract_lemmas.FileScans.{without}
-use Rattle.flutejoin.proofs.extract_lemmas.FolderSteps.{fills_nothing}
 use Rattle.flutejoin.proofs.gaps_lemmas.ObjectsListed.{in_nothing, holds-from, named-from}
 use Rattle.flutejoin.proofs.gaps_lemmas.ObjectsListed.{rising-back}
 use Rattle.flutejoin.proofs.gaps_lemmas.ObjectsListed.{stands_before, same_object_between}
@@ -321,29 +320,6 @@ pub if_written : {E B : Type 0} (r : Result (Unit {0}) E) (s t : Option (List �
     → Writes s t bytes r → (Appends s t bytes → B) → OnOk r B
 if_written (Ok x) s t bytes h f = f h
 if_written (Err e) s t bytes h f = tt
-
--- nothing came
-pub none_takes : (objects : ObjectFiles) (p : Option Places) (w : Option (List ℕ)) → objects.last ≡
-    None → objects.written ≡ 0 → IfSome p IsReady → Takes [] objects p p w w
-none_takes objects p w l n h = record {
-  files = [];
-  told = [];
-  open_file = None;
-  taken = subst (λ (x : Option ObjectFile). HasTaken [] [] [] x None) (sym l)
-      (refl, refl, refl, refl);
-  filled = fills_nothing p h;
-  written = Appends-nil w;
-  count = n;
-}
-
-pub none_known : (objects : ObjectFiles) → objects.last ≡ None → Knows [] objects
-none_known objects l = (
-  [],
-  [],
-  None,
-  subst (λ (x : Option ObjectFile). HasTaken [] [] [] x None)
-      (sym l) (refl, refl, refl, refl),
-)
 
 -- no object is open
 pub none_closed : {F : List Fact} {objects : ObjectFiles} {p0 p : Option Places}

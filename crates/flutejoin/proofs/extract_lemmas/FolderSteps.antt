@@ -6,10 +6,6 @@ use Rattle.flute_output.specs.NewFolders.{NamedFile, Filled, Places, LeadsTo, Ma
 use Rattle.flute_output.specs.NewFolders.{FolderStays, IsReady, begins, puts, keeps, keeps_open}
 use Rattle.flute_output.specs.NewFolders.{leaves, with_bytes, with_files, files_in, files_beside}
 
-pub stays_itself : (p : Option Places) → LeadsTo FolderStays p p
-stays_itself None = tt
-stays_itself (Some p) = record { out = refl; past = refl; named = refl }
-
 both_stay : (a b c : Places) → FolderStays a b → FolderStays b c → FolderStays a c
 both_stay a b c h g = record {
   out = g.out ∙ h.out;

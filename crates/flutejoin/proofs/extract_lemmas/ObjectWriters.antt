@@ -19,7 +19,7 @@ use Rattle.flute_parts.specs.declared.fact.Fact.TheVariants.{Info}
 use Rattle.flute_parts.specs.declared.key.Key.{Key}
 use Rattle.flute_parts.specs.declared.symbol_id.SymbolId.{SymbolId}
 use Rattle.flute_parts.proofs.Public.{rising_tells}
-use Rattle.flute_store.specs.Extract.{IsNotWhole, WritesWhole, WritesPart}
+use Rattle.flute_store.specs.Extract.{IsNotWhole, WritesWhole}
 use Rattle.flute_store.specs.Objects.{Whole, object}
 use Rattle.flute_store.proofs.Public.{object-length}
 use Rattle.flute_store.specs.declared.gap.Gap.{Gap}
@@ -427,9 +427,3 @@ whole-written P key start now part false e h =
       exact = object-length P key h.0
           h.3 h.1 ∙ sym h.2;
     }
-
-pub part-written : (P : List Fact) (key : Key) (start now : Option (List ℕ)) (part : WholeSoFar)
-    (failed : Bool) → failed ≡ true → EndsScan P key failed start now part None
-    → WritesPart (λ x. x) P key start now
-part-written P key start now part false e h = absurd cc
-part-written P key start now part true e h = record { info = h.0; whole = h.1; bytes = h.4 }

@@ -1,6 +1,6 @@
 -- put_aside: a journal whose objects are listed as it is read (specs/Gaps).
 use Rattle.std.proofs.Common.{◌≡◌, ◌≤◌, ℕ, Bool, true, false, List, [], ◌∷◌, ◌++◌, Option, Some}
-use Rattle.std.proofs.Common.{None, inl, inr, refl, sym, subst, length, arith}
+use Rattle.std.proofs.Common.{None, inl, inr, refl, length, arith}
 use Rattle.std.specs.Prelude.{IfSome, IsTrue}
 use Rattle.std.specs.Io.KnownBytes.{IsAtEnd}
 use Rattle.flute_parts.specs.Facts.{IsRising}
@@ -12,14 +12,12 @@ use Rattle.flute_parts.proofs.Public.{Same-itself}
 use Rattle.flute_journal.specs.declared.fault.ReadFault.{ReadFault}
 use Rattle.flute_journal.specs.declared.readers.reader_state.ReaderState.{ReaderState}
 use Rattle.flute_journal.specs.declared.readers.entry_fields.Before.{Before}
-use Rattle.flute_journal.specs.declared.readers.reader_state.ReaderState.TheVariants.{Header}
 use Rattle.flute_journal.specs.Framing.{GivesItem, GivesEnd, GivesFault, Sofar}
 use Rattle.flute_journal.specs.JournalFraming.{journal_framing}
 use Rattle.flute_streams.specs.Selections.{selects}
-use Rattle.flute_journal.specs.declared.format.version.Version.TheVariants.{Two}
 use Rattle.flute_streams.specs.declared.choice.selection.Selection.{Selection}
 use Rattle.flute_journal.proofs.Public.{loaded-over, side-from, journal_sound, sofar-next}
-use Rattle.flute_journal.proofs.Public.{Loaded, sofar-none, sofar-stops}
+use Rattle.flute_journal.proofs.Public.{Loaded, sofar-stops}
 use Rattle.flutejoin.specs.Gaps.{ListsJournal, ReadsWithin}
 use Rattle.flutejoin.specs.Load.{LoadFails}
 use Rattle.flutejoin.specs.Listing.{CanAddSelected, Lists, ListsWith}
@@ -29,7 +27,6 @@ use Rattle.flutejoin.specs.Told.{AreTold, Told}
 use Rattle.flutejoin.specs.declared.command_fault.CommandFault.TheVariants.{Input}
 use Rattle.flutejoin.specs.declared.limits.TheConstants.{MAX_ENTRIES}
 use Rattle.flutejoin.specs.declared.gaps.listing.Listing.{Listing}
-use Rattle.flutejoin.specs.declared.gaps.listing.OpenObject.{OpenObject}
 use Rattle.flutejoin.specs.declared.lines.style.Style.{Style}
 use Rattle.flutejoin.proofs.SelectedFacts.{few_selected, rising_picked}
 use Rattle.flutejoin.proofs.Shown.{whole}
@@ -63,37 +60,6 @@ pub record IsNew (listing : Listing) : Type 0 where
   pub none_open : listing.open ≡ None
   pub whole : listing.closed.all_whole ≡ true
   pub sums : listing.closed.sums ≡ None
-
-pub none_listed_yet : (style : Style) (listing : Listing) (empty : PutAside) → IsNew listing
-    → ListsAll style [] listing empty empty
-none_listed_yet style listing empty e = λ known is. record {
-  lines = [];
-  gap_lines = [];
-  lists =
-      subst (λ (o : Option OpenObject). ListsWith style [] [] [] listing.closed o) (sym e.none_open)
-      (record {
-        no_facts = refl;
-        no_lines = refl;
-        no_gap_lines = refl;
-        all_whole = e.whole;
-        no_sums = e.sums;
-      });
-  lines_known = λ k. (is k).0;
-  gap_lines_known = λ k. (is k).1;
-}
-
-pub none_read : {s o y : ℕ} (choice : Selection) (style : Style) {u v : Option (List ℕ)}
-    {state : ReaderState Before} {tally : Tally s o y} {listing : Listing}
-    (empty : PutAside) → v ≡ u → state ≡ Header → Counts s o y [] tally → IsNew listing
-    → ListsRead choice style u v state tally listing empty empty
-none_read choice style {u} {v} {state} {tally} {listing} empty e is c l = record {
-  entries = [];
-  sofar = subst (λ (x : Option (List ℕ)). Sofar journal_framing MAX_ENTRIES u x state []) (sym e)
-      (subst (λ (x : ReaderState Before). Sofar journal_framing MAX_ENTRIES u u x []) (sym is)
-      (sofar-none journal_sound Two MAX_ENTRIES u));
-  counts = c;
-  lists = none_listed_yet style listing empty l;
-}
 
 module _ {s o y : ℕ} {choice : Selection} {style : Style} {u v : Option (List ℕ)}
     {from : ReaderState Before} {tally : Tally s o y} {listing : Listing} {empty aside : PutAside}

@@ -27,7 +27,7 @@ use Rattle.flute_parts.proofs.Public.{Same-trans}
 use Rattle.flutejoin.specs.declared.command_fault.CommandFault.{CommandFault}
 use Rattle.flutejoin.specs.declared.command_fault.CommandFault.TheVariants.{Input, ListLine}
 use Rattle.flutejoin.specs.declared.info.information_list.InformationList.{InformationList}
-use Rattle.flutejoin.specs.InformationLines.{HasNumbers, IsPassedOver, Shows, LineTells, shown}
+use Rattle.flutejoin.specs.InformationLines.{HasNumbers, Shows, LineTells, shown}
 use Rattle.flutejoin.specs.InformationLines.{IsOneLine, LinesTell, ListTells, BeginsLine, HasLine}
 use Rattle.flutejoin.specs.InformationLines.{TellsNothing, TellsInvalid}
 use Rattle.flutejoin.specs.Limits.{Limits}
@@ -106,34 +106,6 @@ begins_at bytes number facts words more b = record {
 
 pub kept_nothing : (long : Bool) (kept : List ℕ) → long ≡ false → kept ≡ [] → IsKept long kept []
 kept_nothing long kept e f = subst (λ b. IsKept b kept []) (sym e) f
-
-pub kept_room : (long : Bool) (kept after words : List ℕ) (byte : ℕ) → length kept < 512
-    → after ≡ kept ++ byte ∷ [] → IsKept long kept words → IsKept long after (words ++ byte ∷ [])
-kept_room false kept after words byte room e h = e ∙ ap (λ (l : List ℕ). l ++ byte ∷ []) h
-kept_room true kept after words byte room e h = absurd (omega (arith, h.2))
-
-pub kept_past : (long : Bool) (kept words : List ℕ) (byte : ℕ) → 512 ≤ length kept
-    → IsKept long kept words → IsKept true kept (words ++ byte ∷ [])
-kept_past false kept words byte full h =
-    (byte ∷ [], ap (λ (l : List ℕ). l ++ byte ∷ []) (sym h), full, omega arith)
-kept_past true kept words byte full h = (
-  h.0 ++ byte ∷ [],
-  ap (λ (l : List ℕ). l ++ byte ∷ []) h.1 ∙ append_assoc kept h.0 (byte ∷ []),
-  full,
-  omega (arith, h.3, length-append h.0 (byte ∷ [])),
-)
-
-pub passed_of_kept : (long : Bool) (kept words : List ℕ) → IsKept long kept words
-    → IsPassedOver kept → IsPassedOver words
-passed_of_kept false kept words h p = subst IsPassedOver h p
-passed_of_kept true [] words h p = absurd (omega (arith, h.2))
-passed_of_kept true (byte ∷ kept) words h p = subst IsPassedOver (sym h.1) p
-
-pub kept_of_passed : (long : Bool) (kept words : List ℕ) → IsKept long kept words
-    → IsPassedOver words → IsPassedOver kept
-kept_of_passed false kept words h p = subst IsPassedOver (sym h) p
-kept_of_passed true [] words h p = absurd (omega (arith, h.2))
-kept_of_passed true (byte ∷ kept) words h p = subst IsPassedOver h.1 p
 
 none_kept : (long : Bool) (kept words : List ℕ) → kept ≡ [] → IsKept long kept words → words ≡ []
 none_kept false kept words e h = sym h ∙ e
@@ -461,12 +433,6 @@ pub ends_quiet : {s o y : ℕ} (most : Limits) {old new : ℕ} (r : Result (List
 ends_quiet most (Ok shelf) same holds h = same
 ends_quiet most {old = old} {new = new} (Err fault) {bytes = bytes} same holds h =
     quiet_fails old new bytes fault (h bytes holds) same
-
-pub failed_once : (old now new : ℕ) (fault : CommandFault) → fault ≡ Input 2 Read → now ≡ old
-    → FailsToRead {T = ℕ} now new (Err fault) → FailsToRead {T = List Fact} old new (Err fault)
-failed_once old now new fault e same h =
-    let k : new ≡ now + 1 = subst (λ f. FailsToRead {T = ℕ} now new (Err f)) e h in
-    subst (λ f. FailsToRead {T = List Fact} old new (Err f)) (sym e) (k ∙ ap (λ n. n + 1) same)
 
 -- Only the second input is reported.
 

@@ -150,21 +150,6 @@ module _ {R : Type 0} {unread : R → Option (List ℕ)} {choice : Choice} where
     pub all_over : held.fits ≡ false → IsOver choice.most (flat_map (facts_by choice) ds)
     all_over over = held_as unread choice held.fits false held ds over h.holds
 
-  -- before the first datagram nothing is held
-  pub holds_none : {s o y : ℕ} (file : HeldFiles s o y R) → file.told.store ≡ []
-      → file.told.datagrams ≡ 0 → file.told.refused ≡ 0 → file.others ≡ 0
-      → file.fits ≡ true → file.runs.items ≡ [] → HoldsDatagrams unread choice file []
-  holds_none file store datagrams refused others fits none = record {
-    others = λ e. others;
-    holds = holding unread choice file.fits true file [] fits (record {
-      aside = [];
-      runs = subst (λ runs. AreRunsOf unread runs []) (sym none) refl;
-      content = rw store (Same-itself []);
-      count = omega (arith, datagrams);
-      refused = omega (arith, refused);
-    });
-  }
-
   -- a datagram more was taken
   pub holds_more : {s o y : ℕ} {old new : HeldFiles s o y R} {ds : List (List ℕ)} {d : List ℕ}
       → old.fits ≡ true → new.fits ≡ true → new.runs ≡ old.runs

@@ -23,7 +23,7 @@ use Rattle.flutejoin.specs.declared.join.join_input.JoinInput.TheVariants.{Unkno
 use Rattle.flutejoin.specs.JoinInputs.{IsInput, AreInputs}
 use Rattle.flutejoin.specs.InputStreams.{failures_of, NoneFailed, OneFailed}
 use Rattle.flutejoin.specs.Joined.{Choice}
-use Rattle.flutejoin.specs.JoinFaults.{HasKnownKind, IsOfAKind, WantsAside}
+use Rattle.flutejoin.specs.JoinFaults.{HasKnownKind, WantsAside}
 use Rattle.flutejoin.specs.JoinParts.{HoldsDatagrams, HoldsMore}
 use Rattle.flutejoin.specs.JoinParts.{IsSound, CountsUpTo}
 use Rattle.flutejoin.specs.JoinParts.{NamesOnly, InspectionFails, SomeInspectionFails}
@@ -45,10 +45,6 @@ same_neither xs ys e h = λ kind is. h kind (same_kind kind ys xs (sym e) is)
 pub one_is : {X : Type 0} (xs : List X) (k : ℕ) (x y : X) → slice_get xs k ≡ Some x
     → slice_get xs k ≡ Some y → x ≡ y
 one_is xs k x y e h = some_same _ x y e h
-
-pub of_a_kind : (bytes : List ℕ) → HasKnownKind bytes → IsOfAKind bytes
-of_a_kind bytes (inl journal) = inl journal
-of_a_kind bytes (inr file) = inr (ap (take 4) file.1.bytes_are)
 
 pub inspect_reads : (k : ℕ) (fault : CommandFault) → NamesOnly (k + 1) fault
     → fault ≡ CannotWrite → ⊥
@@ -302,9 +298,6 @@ module _ {choice : Choice} {R : Type 0} {unread : R → Option (List ℕ)} {fail
         (past : length start ≤ k) where
       all_of_them : take k now ≡ now
       all_of_them = take_all k now (omega (arith, past, h.as_many))
-
-      pub ready_all : AllByRecursion (IsReady unread failures) now
-      ready_all = subst (AllByRecursion (IsReady unread failures)) all_of_them h.ready
 
       pub finds_all : told ≡ true → (contents : List (List ℕ))
           → AreInputs unread start contents → Finds unread choice now contents held

@@ -212,15 +212,3 @@ module _ (one : OneReading) where
       (Same-trans (leaf_facts a inputs) (leaf_facts b others) G same
       (Same-sym G (leaf_facts b others) y)))
       (wrote a (bytes_of inputs) bs j) (wrote b (bytes_of others) cs l)
-
-  -- the bytes are a journal of the facts of all leaves
-  pub tree_told : {choice : Choice} {inputs : Inputs} {bytes : List ℕ} {held : List Fact}
-      → IsTree choice inputs bytes → IsJournal bytes held
-      → Same held (leaf_facts choice inputs)
-  tree_told {choice = choice} {inputs = inputs} {bytes = bytes} {held = held} h is =
-      let j = h.joined in
-      let F = facts_told choice j.2.told in
-      Same-trans held F (leaf_facts choice inputs)
-      (Same-from_journals bytes held F is
-      (written_journal bytes F (wrote choice (bytes_of inputs) bytes j)))
-      (made_same choice inputs j.2.told h.made j.2.tell)

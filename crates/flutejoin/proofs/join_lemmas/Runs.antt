@@ -14,12 +14,12 @@ use Rattle.flute_journal.specs.Journal.{IsFactIn, IsJournalWithin, Journal}
 use Rattle.flute_streams.specs.OwnedStreams.{owned_behaviour, owned_limit}
 use Rattle.flute_streams.specs.StreamMerges.{all_of, Each}
 use Rattle.flute_streams.specs.Listed.{listed_behaviour}
-use Rattle.flute_streams.specs.Streams.{Behaviour, IsNew, most_of, option_list}
+use Rattle.flute_streams.specs.Streams.{Behaviour, most_of}
 use Rattle.flute_journal.specs.declared.format.version.Version.TheVariants.{Two}
 use Rattle.flute_streams.specs.declared.streams.owned_journal_stream.OwnedJournalStream.{OwnedJournalStream}
 use Rattle.flute_journal.proofs.Public.{journal_parts}
 use Rattle.flutejoin.specs.Asides.{AreRunsOf, HoldTogether, IsNewRun, IsRunOf}
-use Rattle.flutejoin.specs.JoinParts.{IsHeld, Ends}
+use Rattle.flutejoin.specs.JoinParts.{Ends}
 use Rattle.flutejoin.proofs.join_lemmas.Receptions.{IsJournal-from_bound, Same-from_journals}
 
 -- a journal that was written, within a bound
@@ -46,11 +46,6 @@ pub all_written : (bytes : List ℕ) (new : Option (List ℕ)) → Appends (Some
     → new ≡ Some bytes
 all_written bytes (Some all) e = ap Some e
 all_written bytes None e = absurd e
-
-pub all_and_one : {X : Type 0} (P : X → Type 0) (xs : List X) (x : X) → AllByRecursion P xs
-    → P x → AllByRecursion P (xs ++ x ∷ [])
-all_and_one P [] x h p = (p, tt)
-all_and_one P (y ∷ xs) x h p = (h.0, all_and_one P xs x h.1 p)
 
 module _ {R : Type 0} (unread : R → Option (List ℕ)) where
   -- one more run, with its own facts
@@ -116,11 +111,6 @@ module _ {R : Type 0} (unread : R → Option (List ℕ)) where
 -- What is held, as a stream.
 
 module _ {R : Type 0} (unread : R → Option (List ℕ)) (failures : R → ℕ) where
-  pub run_held : (run : OwnedJournalStream R) → IsNewRun unread failures run
-      → IsHeld (owned_behaviour unread failures) run
-  run_held run new =
-      record { new = new.0; few = let most = new.1 in omega (arith, most) }
-
   pub run_ends : (run : OwnedJournalStream R) (facts : List Fact)
       → IsNewRun unread failures run → IsRunOf unread run facts
       → Ends (owned_behaviour unread failures) run facts
@@ -135,16 +125,6 @@ module _ {R : Type 0} (unread : R → Option (List ℕ)) (failures : R → ℕ) 
       (IsJournal-from_bound (owned_limit run) limit is.0 facts is.2))
 
 module _ {W : Type 0} (held : W → Option Fact) (rest : W → List Fact) where
-  pub walk_held : (walk : W) (store : List Fact)
-      → IsNew (listed_behaviour held rest (λ _. Unit {0})) walk → rest walk ≡ store
-      → length store ≤ 2 ^ 63 → IsHeld (listed_behaviour held rest (λ _. Unit {0})) walk
-  walk_held walk store new is few = record {
-    new = new;
-    few =
-        let e = ap (λ o. length (option_list o)) new.held in
-        let size = ap length is in omega (arith, e, size, few);
-  }
-
   pub walk_ends : (walk : W) (store facts : List Fact) → rest walk ≡ store → facts ≡ store
       → Ends (listed_behaviour held rest (λ _. Unit {0})) walk facts
   walk_ends walk store facts is same = λ now given e. e ∙ is ∙ sym same
