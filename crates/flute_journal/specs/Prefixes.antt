@@ -23,7 +23,8 @@ written_up_to (f ∷ fs) = without_end (f ∷ fs)
 pub data IsCutAfter (entries : List Fact) (bytes : List ℕ) : Type 0 where
   cut_header : entries ≡ [] → IsProperPrefix bytes header → IsCutAfter entries bytes
   cut_entry : (next : Fact) → IsFact next → (part : List ℕ)
-      → IsProperPrefix part (entry next) → bytes ≡ without_end entries ++ part → IsCutAfter entries bytes
+      → IsProperPrefix part (entry next)
+      → bytes ≡ without_end entries ++ part → IsCutAfter entries bytes
   cut_end : (part : List ℕ) → IsProperPrefix part (end (length entries))
       → bytes ≡ without_end entries ++ part → IsCutAfter entries bytes
 

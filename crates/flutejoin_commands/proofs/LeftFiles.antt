@@ -3,6 +3,8 @@ use Rattle.std.proofs.Common.{◌≡◌, ℕ, List, Option, Some, None, Result, 
 use Rattle.std.proofs.Common.{refl, sym, ap, subst, ◌∙◌}
 use Rattle.std.specs.Prelude.{option_map, OnOk}
 use Rattle.flute_output.specs.Entries.{Entries, created}
+use Rattle.flute_output.specs.declared.place.Place.{Place}
+use Rattle.flute_output.specs.declared.place.Place.TheVariants.{File}
 use Rattle.flutejoin.specs.declared.command_fault.CommandFault.{CommandFault}
 use Rattle.flutejoin.specs.declared.command_fault.CommandFault.TheVariants as fault
 use Rattle.flutejoin_commands.specs.Commands.{BecomesWritten, IsForGood, OutIsKept, Succeeds, Fails}
@@ -11,6 +13,7 @@ use Rattle.flutejoin_commands.specs.Commands.{Devices, devices, with_beside}
 use Rattle.flutejoin_commands.specs.Files.{Files}
 use Rattle.flutejoin_commands.specs.Outlets.{Outlets, PutsOut, FailsHeld}
 use Rattle.flutejoin_commands.specs.Worlds.{HasOut, IsStandard, IsFileName, Closes, KeepsFiles}
+use Rattle.flutejoin_commands.specs.Worlds.{IsPlaced}
 use Rattle.flutejoin_commands.specs.Worlds.{FileIs, FileBecomes, Leaves, in_file, in_device}
 use Rattle.flutejoin_commands.specs.Worlds.{in_output, FailsToLeave, as_before, in_place, Outside}
 use Rattle.flutejoin_commands.specs.Worlds.{beside_name, bytes_of, outside}
@@ -26,6 +29,22 @@ pub record IsClosed (name : List ℕ) (old new : Option Files) (found left : Opt
     : Type 0 where
   pub had : HasOut old name found
   pub closed : Closes name left old new
+
+pub placed_file : {F D : Type 0} (entries : F → Option Entries) (files : Option Files)
+    (name : List ℕ) {place : Place F D} {folder : F} → place ≡ File folder
+    → IsPlaced entries files name place
+    → HasOut files name (entries folder) × IsFileName files name
+placed_file entries files name is h = subst (IsPlaced entries files name) is h
+
+pub closed_file : {F D : Type 0} (entries : F → Option Entries) {old then new : Option Files}
+    {name : List ℕ} {place : Place F D} {folder : F} {left : Option Entries}
+    → place ≡ File folder → IsPlaced entries old name place → then ≡ old
+    → Closes name left then new → IsClosed name old new (entries folder) left
+closed_file entries {old = old} {new = new} {name = name} {left = left} is h same closes =
+    record {
+      had = (placed_file entries old name is h).0;
+      closed = subst (λ f. Closes name left f new) same closes;
+    }
 
 kept_file : {name : List ℕ} (old new : Option Files) (found left : Option Entries)
     → IsClosed name old new found left → OutIsKept found left → KeepsFiles name old new

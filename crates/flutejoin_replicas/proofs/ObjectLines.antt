@@ -1,5 +1,7 @@
 -- gaps_to: the lines of an object are those of its facts.
-use Rattle.std.proofs.Common.{◌≡◌, ℕ, List, [], ◌++◌, Option, Result, sym, ap, ◌∙◌, subst}
+use Rattle.std.proofs.Common.{◌≡◌, ℕ, List, [], ◌++◌, Option, Some, Result, sym, ap, ◌∙◌}
+use Rattle.std.proofs.Common.{subst}
+use Rattle.std.specs.Prelude.{MatchOption}
 use Rattle.std.specs.List.{flat_map}
 use Rattle.std.specs.Io.KnownBytes.{Appends}
 use Rattle.std.proofs.lemmas.List.{append-nil}
@@ -15,6 +17,7 @@ use Rattle.flute_store.specs.declared.gaps.GapFault.TheVariants as faults
 use Rattle.flute_store.specs.declared.status.Status.{Status}
 use Rattle.flute_store.specs.GapsLeft.{GapsLeft}
 use Rattle.flute_store.specs.GapAnswers.{GivesGaps, TellsGapFault}
+use Rattle.flute_store.specs.Found.{IsUnheard}
 use Rattle.flute_store.specs.Status.{TellsStatus}
 use Rattle.flutejoin.specs.Lines.{status_line, gap_line}
 use Rattle.flutejoin.specs.Objects.{status_at, gaps_at, object_lines}
@@ -46,6 +49,18 @@ pub record StatusWritten (F : List Fact) (key : Key) (s t : Option (List ℕ)) :
   pub status : Status
   pub told : TellsStatus F key status
   pub line : Appends s t (status_line key status)
+
+pub status_written : (F : List Fact) (key : Key) {s t : Option (List ℕ)}
+    {found : Option Status} {status : Status} → found ≡ Some status
+    → MatchOption found (IsUnheard F key) (λ x. TellsStatus F key x)
+    → Appends s t (status_line key status) → StatusWritten F key s t
+status_written F key {status = status} is found line =
+    record {
+      status = status;
+      told = subst (λ (o : Option Status). MatchOption o (IsUnheard F key)
+          (λ x. TellsStatus F key x)) is found;
+      line = line;
+    }
 
 -- it is the line of the status that the facts give
 line_at : {F : List Fact} {key : Key} {s t : Option (List ℕ)} → StatusWritten F key s t

@@ -17,7 +17,7 @@ use Rattle.flute_journal.proofs.Common.{take-append-drop, take_all, take_at, or_
 use Rattle.flute_journal.proofs.Common.{version_bytes, version_fault, ℕ, ◌++◌, ◌-◌, ◌<◌, ◌^◌, ◌∙◌}
 use Rattle.flute_journal.proofs.Common.{◌∷◌, ◌≡◌, ◌≤◌}
 use Rattle.std.proofs.Math.Seq.{take-append_seam}
-use Rattle.std.proofs.Common.{◌&&◌, ◌==◌, is_eq, is_lt, refl}
+use Rattle.std.proofs.Common.{◌&&◌, ◌+◌, ◌==◌, get_or, is_eq, is_lt, refl}
 use Rattle.std.specs.Ordering.{ordering_then}
 use Rattle.std.specs.declared.cmp.Ordering.{Ordering}
 use Rattle.std.specs.declared.cmp.Ordering.TheVariants.{Less, Equal, Greater}
@@ -30,7 +30,8 @@ use Rattle.std.specs.Option.{ok_or}
 use Rattle.flute_journal.specs.Format.{sender_size}
 use Rattle.flute_journal.specs.declared.format.Kind.TheVariants as kinds
 use Rattle.flute_journal.specs.declared.fault.ReadFault.TheVariants as faults
-use Rattle.flute_journal.proofs.Numbers.{number-below, octets-take, spelled, spelled_pair}
+use Rattle.flute_journal.proofs.Numbers.{number-below, octets, octets-take, spelled}
+use Rattle.flute_journal.proofs.Numbers.{spelled_pair}
 use Rattle.flute_journal.proofs.framing_lemmas.ReadsUpTo.{stops_here, stops_behind}
 use Rattle.flute_journal.proofs.format_lemmas.Parts.{version_wrong, id_comes, key_comes, first-pass}
 use Rattle.flute_journal.proofs.format_lemmas.Parts.{first-stop, cut-passes, key_spelled}
@@ -142,6 +143,22 @@ pub record LieInKey (version : Version) (bytes front back : List ℕ) (sender : 
   pub back_is : back ≡ drop size bytes
   pub sender_is : sender ≡ big_endian front
 
+pub split_in_key : {v : Version} (bytes : List ℕ) {size sender : ℕ} {front back : List ℕ}
+    → ((i : ℕ) → get_or bytes i 0 < 256)
+    → length bytes ≡ key_size v → size ≡ sender_size v
+    → front ≡ take size bytes → back ≡ drop size bytes → sender ≡ big_endian front
+    → LieInKey v bytes front back sender
+split_in_key bytes {size = size} fit long size_is front_is back_is sender_is =
+    record {
+      octets = octets bytes fit;
+      long = long;
+      size = size;
+      size_is = size_is;
+      front_is = front_is;
+      back_is = back_is;
+      sender_is = sender_is;
+    }
+
 -- a key is that of its sender and its name
 pub key_found : {v : Version} {sender : ℕ} {bs front back : List ℕ} (r : Option Key)
     → LieInKey v bs front back sender
@@ -225,6 +242,21 @@ pub record BeginsWithKey (version : Version) (bytes : List ℕ) (key : Key) (res
   pub split : IsSplitAt bytes size front rest
   pub found : (is_key version front ≡ true) × (key ≡ key_in version front)
       × IsKeyIn version key
+
+pub split_behind_key : {v : Version} (bytes : List ℕ) {size : ℕ} {front rest : List ℕ}
+    {key : Key} → ((i : ℕ) → get_or bytes i 0 < 256) → size ≡ sender_size v
+    → IsSplitAt bytes (size + 21) front rest
+    → (is_key v front ≡ true) × (key ≡ key_in v front) × IsKeyIn v key
+    → BeginsWithKey v bytes key rest
+split_behind_key bytes {size = size} {front = front} fit size_is split found =
+    record {
+      octets = octets bytes fit;
+      size = size + 21;
+      size_is = omega (arith, size_is);
+      front = front;
+      split = split;
+      found = found;
+    }
 
 -- the same for a kind that is known by an equation
 pub parsed_at : {v : Version} {kind k : Kind} (last : Option Address) {key : Key}

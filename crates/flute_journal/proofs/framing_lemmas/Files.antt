@@ -1,5 +1,4 @@
 -- Bytes are the datagram file of one list of datagrams, or they stop at one fault.
-use Rattle.flute_journal.proofs.Common.{Option}
 use Rattle.flute_journal.proofs.Common.{length-bytes_high_first, none-some, same_Some, ◌≡◌, ℕ, ◌^◌}
 use Rattle.flute_journal.proofs.Common.{◌<◌, ◌≤◌, List, [], ◌∷◌, ◌++◌, length, take, drop, Some}
 use Rattle.flute_journal.proofs.Common.{None, refl, sym, ap, ◌∙◌, subst, append_assoc, arith}
@@ -20,7 +19,7 @@ use Rattle.flute_journal.proofs.framing_lemmas.Existence.{first-none}
 use Rattle.flute_journal.proofs.framing_lemmas.Decisions.{Next, at_end, at_item}
 use Rattle.flute_journal.proofs.framing_lemmas.Records.{record_comes, too_many_records}
 use Rattle.flute_journal.specs.declared.fault.ReadFault.TheVariants as faults
-use Rattle.flute_journal.specs.Framing.{in_header, after_items}
+use Rattle.flute_journal.specs.Framing.{StopsAfterItems, in_header, after_items}
 
 -- what a record spells is read in one way, whatever follows it
 pub record-injective : (d e x y : List ℕ) → IsDatagram d → IsDatagram e
@@ -89,6 +88,16 @@ pass_all limit ds a front x xs r e =
     pass limit ds a.valid front x xs r e
     (omega (arith, a.few, ap length e, length-append front (x ∷ xs)))
 
+record_stop : {bytes : List ℕ} {limit : ℕ} {ds : List (List ℕ)} {f : ReadFault}
+    (s : StopsAfterItems file_framing bytes limit ds f)
+    → IsStop record_of (λ l r. record_fault limit (length l) r) IsDatagram ds s.rest f
+record_stop {limit = limit} {ds = ds} s =
+    record {
+      passes = pass_all limit ds s.are_items;
+      valid = s.are_items.valid;
+      stops = s.first;
+    }
+
 pub file_stops_once : (bytes : List ℕ) (limit : ℕ) (ds es : List (List ℕ)) (f g : ReadFault)
     → Stops file_framing bytes limit ds f → Stops file_framing bytes limit es g
     → (ds ≡ es) × (f ≡ g)
@@ -101,21 +110,8 @@ file_stops_once bytes limit ds es f g (after_items s) (in_header b k) =
     absurd (not_in_header bytes (flat_map record_of ds ++ s.rest) g
     (grouped bytes ds s.rest s.whole) k)
 file_stops_once bytes limit ds es f g (after_items s) (after_items t) =
-    let fault : List (List ℕ) → List ℕ → Option ReadFault =
-    λ l r. record_fault limit (length l) r in
-    let first : IsStop record_of fault IsDatagram ds s.rest f =
-    record {
-      passes = pass_all limit ds s.are_items;
-      valid = s.are_items.valid;
-      stops = s.first;
-    } in
-    let second : IsStop record_of fault IsDatagram es t.rest g =
-    record {
-      passes = pass_all limit es t.are_items;
-      valid = t.are_items.valid;
-      stops = t.first;
-    } in
-    one_stop record_of IsDatagram record-injective fault first second
+    one_stop record_of IsDatagram record-injective (λ l r. record_fault limit (length l) r)
+    (record_stop s) (record_stop t)
     (behind_header _ _ (sym (grouped bytes ds s.rest s.whole) ∙ grouped bytes es t.rest t.whole))
 
 -- a datagram file stops only beyond the bound

@@ -7,7 +7,8 @@ use Rattle.flute_journal.proofs.Common.{Kind, List, Ok, Option, Parses, ReadFaul
 use Rattle.flute_journal.proofs.Common.{Result, StaysWithin, SymbolId, Version, [], ap}
 use Rattle.flute_journal.proofs.Common.{arith, body, body_fault, byte_of, cut_fault, end}
 use Rattle.flute_journal.proofs.Common.{end_fault, entry_in, err_from_is_err_and, false, head_bytes}
-use Rattle.flute_journal.proofs.Common.{head_size, header_fault, header_in, in_bytes, inr, length}
+use Rattle.flute_journal.proofs.Common.{Some, head_size, header_fault, header_in, in_bytes, inr}
+use Rattle.flute_journal.proofs.Common.{length, slice_get}
 use Rattle.flute_journal.proofs.Common.{length-append, length-bytes_high_first, next_fault}
 use Rattle.flute_journal.proofs.Common.{opening_fault, refl, subst, sym, or_failed, true, ℕ, ◌++◌}
 use Rattle.flute_journal.proofs.Common.{◌<◌, ◌∙◌, ◌∷◌, ◌≡◌, ◌≤◌}
@@ -17,6 +18,7 @@ use Rattle.flute_journal.proofs.framing_lemmas.ReadsUpTo.{IsBehind, fault-behind
 use Rattle.flute_journal.proofs.framing_lemmas.ReadsUpTo.{fault_up_to-behind, fault_found}
 use Rattle.flute_journal.proofs.framing_lemmas.ReadsUpTo.{parsed_reads}
 use Rattle.flute_journal.proofs.format_lemmas.Parts.{symbol_cut, symbol_within, body_comes}
+use Rattle.flute_journal.proofs.format_lemmas.Parts.{one_byte}
 use Rattle.flute_journal.proofs.format_lemmas.Parts.{body_least, entry_within, entry_within-short}
 use Rattle.flute_journal.proofs.format_lemmas.Parts.{length-key_bytes}
 
@@ -124,6 +126,16 @@ pub record KindRead (k : Kind) (u v : Option (List ℕ)) : Type 0 where
   pub front : List ℕ
   pub is : front ≡ byte_of k ∷ []
   pub took : Consumes u v front
+
+pub kind_read : (k : Kind) {u v : Option (List ℕ)} (front : List ℕ) {byte : ℕ}
+    → length front ≤ 1 → Some byte ≡ slice_get front 0 → byte ≡ byte_of k
+    → Consumes u v front → KindRead k u v
+kind_read k front {byte = byte} most value is took =
+    record {
+      front = front;
+      is = one_byte front byte most value ∙ ap (λ b. b ∷ []) is;
+      took = took;
+    }
 
 pub body_stops : (limit : ℕ) (before : Before) {k : Kind} {u v : Option (List ℕ)}
     (w : Option (List ℕ)) (f : ReadFault) → KindRead k u v → before.count < limit

@@ -254,18 +254,16 @@ module _ {R : Type 0} (unread : R → Option (List ℕ)) (failures : R → ℕ) 
     valid_before (suc n) (x ∷ xs) [] datagrams r h t = absurd h
 
     -- What the join of the streams wrote (specs/JoinParts: JoinsInspected).
-    module _ (xs ys : List (JoinInput R)) (contents datagrams : List (List ℕ))
+    module _ (xs ys : List (JoinInput R)) {contents datagrams : List (List ℕ)}
         (ready : are_ready xs) (inspected : AreInspected unread choice xs contents datagrams)
-        {w : S} {store : List Fact} (held : Ends b w store) (joined : MergedJournal)
-        (u v : Option (List ℕ)) where
-      abbrev Joins : Type 0
-      Joins = JoinsInspected choice contents datagrams store (sum_by passed_over ys) joined u v
-
+        {w : S} {store : List Fact} (held : Ends b w store) {joined : MergedJournal}
+        {u v : Option (List ℕ)} where
       of_told : (now : S) (told : List (List Fact))
           → EachSince joins.ends (chained w xs) (chained now ys) told
           → PutsJournal joined.cut u v (all_of told) joined.entries
           → IsWithinLimits choice.most.sessions choice.most.objects choice.most.symbols
-          (all_of told) joined.within → Joins
+          (all_of told) joined.within
+          → JoinsInspected choice contents datagrams store (sum_by passed_over ys) joined u v
       of_told now [] h puts limits = absurd h
       of_told now (F ∷ given) h puts limits =
           let is = held now F h.0 in
@@ -284,11 +282,11 @@ module _ {R : Type 0} (unread : R → Option (List ℕ)) (failures : R → ℕ) 
             others = all.others;
           }
 
-      pub joins_inspected : (now : S) → length xs ≤ 64 → length ys ≡ length xs
-          → (s o y : ℕ) → choice.most ≡ at_most s o y
+      pub joins_inspected : {now : S} → length xs ≤ 64 → length ys ≡ length xs
+          → {s o y : ℕ} → choice.most ≡ at_most s o y
           → EndsMerged joins (chained w (taken xs)) (chained now (taken ys)) s o y joined u v
-          → Joins
-      joins_inspected now many same s o y e h =
+          → JoinsInspected choice contents datagrams store (sum_by passed_over ys) joined u v
+      joins_inspected {now = now} many same e h =
           of_told now h.merged.told
           (subst
           (λ l. EachSince joins.ends (chained w l) (chained now ys) h.merged.told)

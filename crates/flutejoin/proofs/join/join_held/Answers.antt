@@ -19,10 +19,8 @@ pub returns-in-Ok-clause-joined : goal.returns-in-Ok-clause-joined
 returns-in-Ok-clause-joined g c = λ choice contents datagrams facts most inspected ends.
     let b = g.S.Stream.behaviour in
     joins_inspected g.R.Source.unread g.R.Source.failures b choice c.args.inputs.now
-    c.join_chained.new.inputs contents datagrams c.requires.ready inspected
-    ends c.in-Ok.joined _ _
-    c.join_chained.new.first c.requires.few c.join_chained.auto.inputs g.row.SESSIONS
-    g.row.OBJECTS g.row.SYMBOLS most c.in-Ok.ensures.ended
+    c.join_chained.new.inputs c.requires.ready inspected ends
+    c.requires.few c.join_chained.auto.inputs most c.in-Ok.ensures.ended
 
 pub returns-in-Ok-clause-none_failed : goal.returns-in-Ok-clause-none_failed
 returns-in-Ok-clause-none_failed g c =

@@ -1,46 +1,28 @@
 -- put_held: what is left, by what the name of the output leads to.
 use Rattle.std.proofs.Common.{subst}
 use Rattle.flutejoin_commands.specs.Closings.{ClosesWhole}
-use Rattle.flutejoin_commands.specs.Worlds.{Closes, HasOut, IsFileName, IsPlaced}
+use Rattle.flutejoin_commands.specs.Worlds.{IsPlaced}
 use Rattle.flutejoin_commands.proofs.Closed.{closed_whole}
 use Rattle.flutejoin_commands.proofs.FolderSteps.{if_err, on_ok}
-use Rattle.flutejoin_commands.proofs.LeftFiles.{IsClosed, left_file, left_device, left_output}
-use Rattle.flutejoin_commands.proofs.LeftFiles.{failed_held}
+use Rattle.flutejoin_commands.proofs.LeftFiles.{closed_file, left_file, left_device}
+use Rattle.flutejoin_commands.proofs.LeftFiles.{failed_held, left_output, placed_file}
 use Rattle.flutejoin_commands.proofs.leaving.put_held.Goals as goal
 
 pub returns-in-Ok-File-clause-left : goal.returns-in-Ok-File-clause-left
 returns-in-Ok-File-clause-left g c =
-    let old = g.W.Inputs.files c.args.world.now in
-    let new = g.W.Inputs.files c.close.new.self in
     let entries = g.W.Folder.Folder.entries in
-    let found = entries c.in-Ok-File.folder in
-    let left = entries c.write_into-done.result.1 in
-    let placed : HasOut old c.args.out.now found × IsFileName old c.args.out.now =
-    subst (λ p. IsPlaced entries old c.args.out.now p) c.in-Ok-File.field-0-is
-    c.in-Ok-File.ensures.placed in
-    let closed : IsClosed c.args.out.now old new found left = record {
-      had = placed.0;
-      closed = subst (λ f. Closes c.args.out.now left f new) c.place.ensures.same_files
-          c.close.ensures.closed;
-    } in
-    on_ok c.write_into-done.result.0 (left_file closed placed.1) c.write_into-done.ensures.succeeded
+    let is = c.in-Ok-File.field-0-is in
+    let placed = c.in-Ok-File.ensures.placed in
+    let file = placed_file entries (g.W.Inputs.files c.args.world.now) c.args.out.now is placed in
+    on_ok c.write_into-done.result.0
+    (left_file (closed_file entries is placed c.place.ensures.same_files c.close.ensures.closed)
+    file.1) c.write_into-done.ensures.succeeded
 
 pub returns-in-Ok-File-clause-failed : goal.returns-in-Ok-File-clause-failed
 returns-in-Ok-File-clause-failed g c =
-    let old = g.W.Inputs.files c.args.world.now in
-    let new = g.W.Inputs.files c.close.new.self in
-    let entries = g.W.Folder.Folder.entries in
-    let found = entries c.in-Ok-File.folder in
-    let left = entries c.write_into-done.result.1 in
-    let placed : HasOut old c.args.out.now found × IsFileName old c.args.out.now =
-    subst (λ p. IsPlaced entries old c.args.out.now p) c.in-Ok-File.field-0-is
-    c.in-Ok-File.ensures.placed in
-    let closed : IsClosed c.args.out.now old new found left = record {
-      had = placed.0;
-      closed = subst (λ f. Closes c.args.out.now left f new) c.place.ensures.same_files
-          c.close.ensures.closed;
-    } in
-    if_err c.write_into-done.result.0 (λ fault f. failed_held closed f)
+    if_err c.write_into-done.result.0
+    (λ fault f. failed_held (closed_file g.W.Folder.Folder.entries c.in-Ok-File.field-0-is
+    c.in-Ok-File.ensures.placed c.place.ensures.same_files c.close.ensures.closed) f)
     c.write_into-done.ensures.failed
 
 pub returns-in-Ok-Device-clause-left : goal.returns-in-Ok-Device-clause-left
@@ -60,12 +42,10 @@ pub returns-in-Ok-File-clause-any_moment : goal.returns-in-Ok-File-clause-any_mo
 returns-in-Ok-File-clause-any_moment g c =
     let files = g.W.Inputs.files c.args.world.now in
     let entries = g.W.Folder.Folder.entries in
-    let placed : HasOut files c.args.out.now (entries c.in-Ok-File.folder)
-    × IsFileName files c.args.out.now =
-    subst (λ p. IsPlaced entries files c.args.out.now p) c.in-Ok-File.field-0-is
-    c.in-Ok-File.ensures.placed in
+    let file =
+    placed_file entries files c.args.out.now c.in-Ok-File.field-0-is c.in-Ok-File.ensures.placed in
     subst (λ k. ClosesWhole c.args.out.now files k (g.W.Inputs.closed c.close.new.self))
     c.place.ensures.same_closed
     (closed_whole (g.W.Inputs.closed c.place.new.self) (entries c.in-Ok-File.folder)
-    (entries c.write_into-done.result.1) placed.0 c.write_into-done.ensures.any_moment
+    (entries c.write_into-done.result.1) file.0 c.write_into-done.ensures.any_moment
     c.close.ensures.noted)

@@ -2,8 +2,7 @@
 use Rattle.std.proofs.Common.{rules}
 use Rattle.flute_journal.proofs.Common.{Two, sym, ◌≡◌, ◌∙◌}
 use Rattle.std.proofs.lemmas.Bool.{eqb-true}
-use Rattle.flute_journal.proofs.Numbers.{octets}
-use Rattle.flute_journal.proofs.format_lemmas.Decoded.{LieInKey}
+use Rattle.flute_journal.proofs.format_lemmas.Decoded.{LieInKey, split_in_key}
 use Rattle.flute_journal.proofs.format_lemmas.SameFile.{key_named}
 use Rattle.flute_journal.proofs.format.decode.names_file.Goals as goal
 
@@ -13,15 +12,8 @@ returns-then-is_named-clause-spelled c = λ h.
     let bytes = c.args.bytes.now in
     let split : LieInKey Two bytes c.split_at.result.0.now c.split_at.result.1.now
     c.sender_in.result =
-    record {
-      octets = octets bytes (λ i. (c.type_inv.bytes i).fits);
-      long = c.requires;
-      size = c.sender_size.result;
-      size_is = c.sender_size.ensures.size;
-      front_is = c.split_at.ensures.front;
-      back_is = c.split_at.ensures.back;
-      sender_is = c.sender_in.ensures;
-    } in
+    split_in_key bytes (λ i. (c.type_inv.bytes i).fits) c.requires c.sender_size.ensures.size
+    c.split_at.ensures.front c.split_at.ensures.back c.sender_in.ensures in
     let same : c.number.result ≡ c.number-own.result =
     eqb-true c.number.result c.number-own.result h in
     let told : c.number.result ≡ c.sender_in.result = search rules in

@@ -1,8 +1,7 @@
 -- parse: what follows the kind of an entry, for each kind, and its first fault.
 use Rattle.std.proofs.Common.{arith, Ok, Err, ◌+◌}
 use Rattle.flute_journal.specs.declared.format.EntryHead.TheVariants.{Symbol}
-use Rattle.flute_journal.proofs.Numbers.{octets}
-use Rattle.flute_journal.proofs.format_lemmas.Decoded.{BeginsWithKey, key_wrong, parsed_at}
+use Rattle.flute_journal.proofs.format_lemmas.Decoded.{key_wrong, parsed_at, split_behind_key}
 use Rattle.flute_journal.proofs.format.decode.parse.Goals as goal
 
 pub returns-in_default-key_in : goal.returns-in_default-key_in
@@ -12,73 +11,36 @@ returns-in_default-key_in c =
 
 pub returns-in-Info : goal.returns-in-Info
 returns-in-Info c =
-    let key = c.in-Some-key_in in
-    let begins : BeginsWithKey c.args.version c.args.bytes.now key.key c.in-Some.rest.now =
-    record {
-      octets = octets c.args.bytes.now (λ i. (c.type_inv.bytes i).fits);
-      size = c.sender_size.result + 21;
-      size_is = omega (arith, c.sender_size.ensures.size);
-      front = c.in-Some.field.now;
-      split = c.in-Some.ensures.cases;
-      found = key.ensures;
-    } in
-    parsed_at c.args.last.now c.information_at.result c.in-Info.is begins c.information_at.ensures
+    parsed_at c.args.last.now c.information_at.result c.in-Info.is
+    (split_behind_key c.args.bytes.now (λ i. (c.type_inv.bytes i).fits)
+    c.sender_size.ensures.size c.in-Some.ensures.cases c.in-Some-key_in.ensures)
+    c.information_at.ensures
 
 pub returns-in-InfoConflict : goal.returns-in-InfoConflict
 returns-in-InfoConflict c =
-    let key = c.in-Some-key_in in
-    let begins : BeginsWithKey c.args.version c.args.bytes.now key.key c.in-Some.rest.now =
-    record {
-      octets = octets c.args.bytes.now (λ i. (c.type_inv.bytes i).fits);
-      size = c.sender_size.result + 21;
-      size_is = omega (arith, c.sender_size.ensures.size);
-      front = c.in-Some.field.now;
-      split = c.in-Some.ensures.cases;
-      found = key.ensures;
-    } in
-    parsed_at c.args.last.now c.information_conflict_at.result c.in-InfoConflict.is begins
+    parsed_at c.args.last.now c.information_conflict_at.result c.in-InfoConflict.is
+    (split_behind_key c.args.bytes.now (λ i. (c.type_inv.bytes i).fits)
+    c.sender_size.ensures.size c.in-Some.ensures.cases c.in-Some-key_in.ensures)
     c.information_conflict_at.ensures
 
 pub returns-in-Ok : goal.returns-in-Ok
 returns-in-Ok c =
-    let key = c.in-Some-key_in in
-    let begins : BeginsWithKey c.args.version c.args.bytes.now key.key c.in-Some.rest.now =
-    record {
-      octets = octets c.args.bytes.now (λ i. (c.type_inv.bytes i).fits);
-      size = c.sender_size.result + 21;
-      size_is = omega (arith, c.sender_size.ensures.size);
-      front = c.in-Some.field.now;
-      split = c.in-Some.ensures.cases;
-      found = key.ensures;
-    } in
-    parsed_at c.args.last.now (Ok (Symbol key.key c.in-Ok.id c.in-Ok.length)) c.in-Symbol.is begins
+    parsed_at c.args.last.now (Ok (Symbol c.in-Some-key_in.key c.in-Ok.id c.in-Ok.length))
+    c.in-Symbol.is
+    (split_behind_key c.args.bytes.now (λ i. (c.type_inv.bytes i).fits)
+    c.sender_size.ensures.size c.in-Some.ensures.cases c.in-Some-key_in.ensures)
     c.in-Ok.ensures
 
 pub returns-in-Err : goal.returns-in-Err
 returns-in-Err c =
-    let key = c.in-Some-key_in in
-    let begins : BeginsWithKey c.args.version c.args.bytes.now key.key c.in-Some.rest.now =
-    record {
-      octets = octets c.args.bytes.now (λ i. (c.type_inv.bytes i).fits);
-      size = c.sender_size.result + 21;
-      size_is = omega (arith, c.sender_size.ensures.size);
-      front = c.in-Some.field.now;
-      split = c.in-Some.ensures.cases;
-      found = key.ensures;
-    } in
-    parsed_at c.args.last.now (Err c.in-Err.fault) c.in-Symbol.is begins c.in-Err.ensures
+    parsed_at c.args.last.now (Err c.in-Err.fault) c.in-Symbol.is
+    (split_behind_key c.args.bytes.now (λ i. (c.type_inv.bytes i).fits)
+    c.sender_size.ensures.size c.in-Some.ensures.cases c.in-Some-key_in.ensures)
+    c.in-Err.ensures
 
 pub returns-in-SymbolConflict : goal.returns-in-SymbolConflict
 returns-in-SymbolConflict c =
-    let key = c.in-Some-key_in in
-    let begins : BeginsWithKey c.args.version c.args.bytes.now key.key c.in-Some.rest.now =
-    record {
-      octets = octets c.args.bytes.now (λ i. (c.type_inv.bytes i).fits);
-      size = c.sender_size.result + 21;
-      size_is = omega (arith, c.sender_size.ensures.size);
-      front = c.in-Some.field.now;
-      split = c.in-Some.ensures.cases;
-      found = key.ensures;
-    } in
-    parsed_at c.args.last.now c.symbol_conflict_at.result c.in-SymbolConflict.is begins
+    parsed_at c.args.last.now c.symbol_conflict_at.result c.in-SymbolConflict.is
+    (split_behind_key c.args.bytes.now (λ i. (c.type_inv.bytes i).fits)
+    c.sender_size.ensures.size c.in-Some.ensures.cases c.in-Some-key_in.ensures)
     c.symbol_conflict_at.ensures

@@ -4,7 +4,7 @@ use Rattle.flute_journal.proofs.Common.{StaysWithin, [], ap, entry_in, err_from_
 use Rattle.flute_journal.proofs.Common.{next_fault, subst, sym, ◌∙◌, ◌∷◌, ◌≡◌}
 use Rattle.flute_journal.proofs.framing_lemmas.ReadsUpTo.{fault_here}
 use Rattle.flute_journal.proofs.format_lemmas.Parts.{one_byte, kind_wrong, too_many}
-use Rattle.flute_journal.proofs.readers_lemmas.Bodies.{KindRead, end_ends, end_stops}
+use Rattle.flute_journal.proofs.readers_lemmas.Bodies.{KindRead, end_ends, end_stops, kind_read}
 use Rattle.flute_journal.proofs.readers_lemmas.Bodies.{body_stops, body_ends}
 use Rattle.flute_journal.specs.declared.fault.ReadFault.TheVariants as faults
 use Rattle.flute_journal.proofs.readers.entry_fields.read_entry.Goals as goal
@@ -65,18 +65,11 @@ returns-then-before-max_entries-clause-reads g c =
 
 pub returns-in_err-fact-clause-reads : goal.returns-in_err-fact-clause-reads
 returns-in_err-fact-clause-reads g c =
-    let front = c.read_up_to-read.result.bytes.now in
-    let k = c.in-Some-from_byte.kind in
-    let is : front ≡ c.in-Some.field-0.now ∷ [] =
-    one_byte front c.in-Some.field-0.now c.read_up_to-read.ensures.filled.most
-    c.in-Some.ensures.value in
-    let read : KindRead k (g.R.Source.unread c.args.source.now)
+    let filled = c.read_up_to-read.ensures.filled in
+    let read : KindRead c.in-Some-from_byte.kind (g.R.Source.unread c.args.source.now)
     (g.R.Source.unread c.read_up_to-read.new.source) =
-    record {
-      front = front;
-      is = is ∙ ap (λ b. b ∷ []) c.in-Some-from_byte.ensures;
-      took = c.read_up_to-read.ensures.filled.read;
-    } in
+    kind_read c.in-Some-from_byte.kind c.read_up_to-read.result.bytes.now filled.most
+    c.in-Some.ensures.value c.in-Some-from_byte.ensures filled.read in
     let e = err_from_is_err_and c.from_residual-in_err-fact.result
     c.from_residual-in_err-fact.ensures.1 in
     subst (ReadsNext journal_framing c.args.max_entries c.args.before.now
@@ -86,18 +79,11 @@ returns-in_err-fact-clause-reads g c =
 
 pub returns-in_err-fact-clause-within : goal.returns-in_err-fact-clause-within
 returns-in_err-fact-clause-within g c =
-    let front = c.read_up_to-read.result.bytes.now in
-    let k = c.in-Some-from_byte.kind in
-    let is : front ≡ c.in-Some.field-0.now ∷ [] =
-    one_byte front c.in-Some.field-0.now c.read_up_to-read.ensures.filled.most
-    c.in-Some.ensures.value in
-    let read : KindRead k (g.R.Source.unread c.args.source.now)
+    let filled = c.read_up_to-read.ensures.filled in
+    let read : KindRead c.in-Some-from_byte.kind (g.R.Source.unread c.args.source.now)
     (g.R.Source.unread c.read_up_to-read.new.source) =
-    record {
-      front = front;
-      is = is ∙ ap (λ b. b ∷ []) c.in-Some-from_byte.ensures;
-      took = c.read_up_to-read.ensures.filled.read;
-    } in
+    kind_read c.in-Some-from_byte.kind c.read_up_to-read.result.bytes.now filled.most
+    c.in-Some.ensures.value c.in-Some-from_byte.ensures filled.read in
     let e = err_from_is_err_and c.from_residual-in_err-fact.result
     c.from_residual-in_err-fact.ensures.1 in
     let a = c.in_err-fact.ensures.within in
