@@ -9,7 +9,7 @@
 //! Promised of each folder that meets the trait: at any moment OUT is what it was, or the new file,
 //! whole ([`Output::finish`], [`write_file`]).
 //!
-//! A file in a folder in memory (from `flute_output_tests`):
+//! A file in a folder in memory (from `flute_tests`):
 //!
 //! ```
 //! let (done, folder) = write_file(MemoryFolder::new(alloc, None, ENOUGH), NEW);

@@ -3,7 +3,7 @@
 //! [`MemoryFolder`] and [`MemoryNewFolder`] do in memory what the traits of `flute_output` ask, and
 //! fail for good after a given number of calls. Contracts see what they contain.
 //!
-//! A file in a folder in memory (from `flute_output_tests`):
+//! A file in a folder in memory (from `flute_tests`):
 //!
 //! ```
 //! let (done, folder) = write_file(MemoryFolder::new(alloc, None, ENOUGH), NEW);

@@ -7,7 +7,7 @@
 //! known at one [`Address`]: the transmission information of an object, one of its symbols, or that
 //! there were two values. Bytes are read from a [`Source`] and written to a [`Sink`].
 //!
-//! Ten symbols in blocks of at most four (from `flute_parts_tests`):
+//! Ten symbols in blocks of at most four (from `flute_tests`):
 //!
 //! ```
 //! let partition = Partition::of(&Info::new(10, 1, 4)?);
