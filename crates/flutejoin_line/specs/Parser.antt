@@ -128,13 +128,21 @@ carousel_rules = out ∷ force_flag ∷ key_rules ++ size_rules ++ place (codes 
 abbrev pub command_with : Text → List Rule → Shape
 command_with name rules = record (new_shape name) { rules = rules }
 
+-- the program's name, which has a version, and a longer one
+abbrev pub with_versions : App
+with_versions = record {
+  top = record (new_shape (codes "flutejoin")) {
+    has_version = true;
+    has_long_version = true;
+  };
+  subs = [];
+}
+
 -- the program without them; its own name is none of its words
 abbrev pub no_commands : App
 no_commands = record {
-  top = record (new_shape (codes "flutejoin")) {
+  top = record with_versions.top {
     no_binary_name = true;
-    has_version = true;
-    has_long_version = true;
     arg_required_else_help = true;
     subcommand_required = true;
   };

@@ -5,7 +5,7 @@ ghost use Rattle.flutejoin_line.specs.Parser.{IsCommand, carousel_rules, extract
 ghost use Rattle.flutejoin_line.specs.Parser.{forget_rules};
 ghost use Rattle.flutejoin_line.specs.Parser.{gaps_rules, info_rules, show_rules};
 ghost use Rattle.flutejoin_line.specs.Parser.{join_rules, merge_rules, packet_rules};
-ghost use Rattle.flutejoin_line.specs.Parser.{no_commands, program};
+ghost use Rattle.flutejoin_line.specs.Parser.{no_commands, program, with_versions};
 
 use crate::arguments::{
     all, any_size, block, check, conflicting_objects, conflicts, force, force_all, information,
@@ -153,16 +153,23 @@ pub fn command<'a>(alloc: Global) -> Result<Command<'a>, AllocError>
 fn without_commands<'a>(alloc: Global) -> Result<Command<'a>, AllocError>
     ensures { IfOk result (λ command. app_of command ≡ no_commands) }
 {
-    let command = Command::new(alloc, "flutejoin")
-        .version("0.1.0")
-        .long_version(VERSION)
-        .about("Reads FLUTE version 2 datagrams (RFC 6726), and journals of what was received")
-        .after_help(PROGRAM_HELP)
+    let command = with_texts(alloc)
         .no_binary_name(true)
         .bin_name("flutejoin")?
         .subcommand_required(true)
         .arg_required_else_help(true);
     Ok(command)
+}
+
+// The program with its versions and its help.
+fn with_texts<'a>(alloc: Global) -> Command<'a>
+    ensures { app_of result ≡ with_versions }
+{
+    Command::new(alloc, "flutejoin")
+        .version("0.1.0")
+        .long_version(VERSION)
+        .about("Reads FLUTE version 2 datagrams (RFC 6726), and journals of what was received")
+        .after_help(PROGRAM_HELP)
 }
 
 // A command with these texts, and no argument as yet.
