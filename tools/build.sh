@@ -10,7 +10,7 @@ if ! command -v rt > /dev/null; then
 fi
 mkdir -p bin
 echo "flutejoin: proving and building the program;" \
-    "the first time this takes 20 to 35 minutes (log: bin/build.log)" >&2
+    "the first time this takes 20 to 40 minutes (log: bin/build.log)" >&2
 
 # The crates of the program, the lowest first: in this order each is read once, and no pass over all
 # sources comes before.
