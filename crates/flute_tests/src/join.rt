@@ -1,4 +1,4 @@
-//! Each public call once, and each generic item at a concrete type.
+//! Each public call of `flute_join` once, and each generic item at a concrete type.
 use flute_join::{Cell, Join, JoinMap, JoinRefusal, laws};
 use std::alloc::Global;
 use std::test::Fail;

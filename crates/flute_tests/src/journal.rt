@@ -1,4 +1,5 @@
-//! Each public call once. Worked examples are in `trials/journal`.
+//! Each public call of `flute_journal` and `flute_streams` once. Worked examples are in
+//! `trials/journal`.
 
 mod datagram_files;
 mod many;

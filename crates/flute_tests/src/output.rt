@@ -1,4 +1,4 @@
-//! Each public call once, over a folder in memory.
+//! Each public call of `flute_output` once, over a folder in memory.
 
 use flute_output::{FinishFault, Folder, Name, Output, write_file};
 use flute_output_memory::MemoryFolder;

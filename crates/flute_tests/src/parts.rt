@@ -1,4 +1,5 @@
-//! Each public call once, and printed texts. Tests of many inputs are in `trials/parts`.
+//! Each public call of `flute_parts` once, and printed texts. Tests of many inputs are in
+//! `trials/parts`.
 
 mod devices;
 mod display;

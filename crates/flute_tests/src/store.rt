@@ -1,4 +1,4 @@
-//! Each public call once. Worked examples are in `trials/store`.
+//! Each public call of `flute_store` once. Worked examples are in `trials/store`.
 
 use flute_parts::{
     Address, Bytes, Fact, Info, Key, MemorySink, ObjectKey, Part, Sender, SessionKey, SymbolId,

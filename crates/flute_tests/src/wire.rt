@@ -1,4 +1,4 @@
-//! Each public call once. Worked examples are in `trials/wire`.
+//! Each public call of `flute_wire` once. Worked examples are in `trials/wire`.
 
 use flute_parts::{Info, Key, ObjectKey, Sender, SessionKey};
 use flute_wire::*;
