@@ -75,7 +75,7 @@ test-program:
 
 # The tools, what they are installed as, and the tool of wrong bodies
 test-tools:
-	tests/wrong_bodies.sh
+	tests/test_wrong_bodies.py
 	tests/python.py
 	tests/test_lemmas.py
 	tests/test_capture.py
