@@ -25,6 +25,9 @@ IS_EMPTY = "pub fn is_empty(&self) -> bool"
 class Tool(run.Case):
     """The edits of a test are in its folder, and the tool and the crate in a repository."""
 
+    repository: pathlib.Path
+    crate: pathlib.Path
+
     @classmethod
     def setUpClass(cls) -> None:
         cls.repository = pathlib.Path(tempfile.mkdtemp(prefix="flutejoin-test."))
