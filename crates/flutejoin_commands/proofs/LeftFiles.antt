@@ -24,25 +24,22 @@ kept_same name None new e = e
 kept_same name (Some old) new e = subst (λ f. KeepsFiles name (Some old) f) (sym e)
     (old (beside_name name), record { here = refl; next = refl; elsewhere = λ o a b. refl })
 
--- OUT had these entries, and was closed with those that are left
+-- OUT, a file's name, had these entries, and was closed with those that are left
 pub record IsClosed (name : List ℕ) (old new : Option Files) (found left : Option Entries)
     : Type 0 where
   pub had : HasOut old name found
+  pub named : IsFileName old name
   pub closed : Closes name left old new
-
-pub placed_file : {F D : Type 0} (entries : F → Option Entries) (files : Option Files)
-    (name : List ℕ) {place : Place F D} {folder : F} → place ≡ File folder
-    → IsPlaced entries files name place
-    → HasOut files name (entries folder) × IsFileName files name
-placed_file entries files name is h = subst (IsPlaced entries files name) is h
 
 pub closed_file : {F D : Type 0} (entries : F → Option Entries) {old then new : Option Files}
     {name : List ℕ} {place : Place F D} {folder : F} {left : Option Entries}
     → place ≡ File folder → IsPlaced entries old name place → then ≡ old
     → Closes name left then new → IsClosed name old new (entries folder) left
 closed_file entries {old = old} {new = new} {name = name} {left = left} is h same closes =
+    let placed = subst (IsPlaced entries old name) is h in
     record {
-      had = (placed_file entries old name is h).0;
+      had = placed.0;
+      named = placed.1;
       closed = subst (λ f. Closes name left f new) same closes;
     }
 
@@ -116,11 +113,12 @@ becomes P (Some old) (Some new) (Some f) (Some l) x b = (
 module _ {A : Type 0} {writes puts : A → Option (List ℕ) → Option (List ℕ) → Type 0}
     {lines : A → List ℕ} {name : List ℕ} {old new : Option Files} where
   pub left_file : {found : Option Entries} {m t : ℕ} {told errors : Option (List ℕ)}
-      {d : Devices} → IsClosed name old new found d.folder → IsFileName old name
+      {d : Devices} → IsClosed name old new found d.folder
       → Succeeds writes lines (with_beside (devices found m told t)) d
       → Leaves writes puts lines name (outside old told errors) (outside new d.report errors)
-  left_file {found = found} {d = d} x n s =
-      in_file s.answer n (becomes (writes s.answer) old new found d.folder x s.out) s.told refl
+  left_file {found = found} {d = d} x s =
+      in_file s.answer x.named (becomes (writes s.answer) old new found d.folder x s.out) s.told
+      refl
 
   pub left_device : {d d' : Outlets} {errors : Option (List ℕ)} → old ≡ None → new ≡ old
       → PutsOut puts lines d d'

@@ -5,18 +5,15 @@ use Rattle.flutejoin_commands.specs.Worlds.{IsPlaced}
 use Rattle.flutejoin_commands.proofs.Closed.{closed_whole}
 use Rattle.flutejoin_commands.proofs.FolderSteps.{if_err, on_ok}
 use Rattle.flutejoin_commands.proofs.LeftFiles.{closed_file, left_file, left_device}
-use Rattle.flutejoin_commands.proofs.LeftFiles.{failed_held, left_output, placed_file}
+use Rattle.flutejoin_commands.proofs.LeftFiles.{failed_held, left_output}
 use Rattle.flutejoin_commands.proofs.leaving.put_held.Goals as goal
 
 pub returns-in-Ok-File-clause-left : goal.returns-in-Ok-File-clause-left
 returns-in-Ok-File-clause-left g c =
-    let entries = g.W.Folder.Folder.entries in
-    let is = c.in-Ok-File.field-0-is in
-    let placed = c.in-Ok-File.ensures.placed in
-    let file = placed_file entries (g.W.Inputs.files c.args.world.now) c.args.out.now is placed in
     on_ok c.write_into-done.result.0
-    (left_file (closed_file entries is placed c.place.ensures.same_files c.close.ensures.closed)
-    file.1) c.write_into-done.ensures.succeeded
+    (left_file (closed_file g.W.Folder.Folder.entries c.in-Ok-File.field-0-is
+    c.in-Ok-File.ensures.placed c.place.ensures.same_files c.close.ensures.closed))
+    c.write_into-done.ensures.succeeded
 
 pub returns-in-Ok-File-clause-failed : goal.returns-in-Ok-File-clause-failed
 returns-in-Ok-File-clause-failed g c =
@@ -42,10 +39,10 @@ pub returns-in-Ok-File-clause-any_moment : goal.returns-in-Ok-File-clause-any_mo
 returns-in-Ok-File-clause-any_moment g c =
     let files = g.W.Inputs.files c.args.world.now in
     let entries = g.W.Folder.Folder.entries in
-    let file =
-    placed_file entries files c.args.out.now c.in-Ok-File.field-0-is c.in-Ok-File.ensures.placed in
+    let closed = closed_file entries c.in-Ok-File.field-0-is c.in-Ok-File.ensures.placed
+    c.place.ensures.same_files c.close.ensures.closed in
     subst (λ k. ClosesWhole c.args.out.now files k (g.W.Inputs.closed c.close.new.self))
     c.place.ensures.same_closed
     (closed_whole (g.W.Inputs.closed c.place.new.self) (entries c.in-Ok-File.folder)
-    (entries c.write_into-done.result.1) file.0 c.write_into-done.ensures.any_moment
+    (entries c.write_into-done.result.1) closed.had c.write_into-done.ensures.any_moment
     c.close.ensures.noted)
