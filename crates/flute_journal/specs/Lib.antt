@@ -14,6 +14,7 @@ pub mod FileFraming
 pub mod DatagramReaders
 pub mod Examples
 pub mod Readers
+pub mod HeldEntries
 pub mod Whole
 pub mod Stores
 pub mod RecordExamples

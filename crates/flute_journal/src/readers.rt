@@ -2,6 +2,7 @@
 
 pub(crate) mod datagram_reader;
 pub(crate) mod entry_fields;
+pub(crate) mod held_entry;
 pub(crate) mod input;
 pub(crate) mod journal_reader;
 pub(crate) mod lent;

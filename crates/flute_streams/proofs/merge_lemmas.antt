@@ -9,3 +9,5 @@ pub mod StreamTurns
 pub mod StreamStops
 pub mod StreamStates
 pub mod Twos
+pub mod LetGo
+pub mod SameBytes

@@ -37,6 +37,7 @@ module _ {C : Type 0} (takes : C → Fact → Bool) where
     abbrev pub chosen_behaviour : Behaviour (Chosen S C)
     chosen_behaviour = record {
       held = λ c. b.held c.stream;
+      spelled = λ c. b.spelled c.stream;
       most = λ c. b.most c.stream;
       tells = λ c facts. OfAll (takes c.choice) (b.tells c.stream) facts;
       knows = λ c facts. OfAll (takes c.choice) (b.knows c.stream) facts;

@@ -1,5 +1,5 @@
 -- A stream of one kind or of another.
-use Rattle.std.specs.Prelude.{ℕ, Option}
+use Rattle.std.specs.Prelude.{ℕ, List, Option}
 use Rattle.flute_parts.specs.declared.fact.Fact.{Fact}
 use Rattle.flute_streams.specs.declared.streams.either.Either.{Either}
 use Rattle.flute_streams.specs.declared.streams.either.Either.TheVariants.{First, Second}
@@ -13,6 +13,10 @@ module _ {A B : Type 0} (a : Behaviour A) (b : Behaviour B) where
   abbrev pub held_either : Either A B → Option Fact
   held_either (First x) = a.held x
   held_either (Second y) = b.held y
+
+  abbrev pub spelled_either : Either A B → List ℕ
+  spelled_either (First x) = a.spelled x
+  spelled_either (Second y) = b.spelled y
 
   abbrev pub most_either : Either A B → ℕ
   most_either (First x) = a.most x
@@ -28,6 +32,7 @@ module _ {A B : Type 0} (a : Behaviour A) (b : Behaviour B) where
   abbrev pub either_behaviour : Behaviour (Either A B)
   either_behaviour = record {
     held = held_either;
+    spelled = spelled_either;
     most = most_either;
     tells = of_each a.tells b.tells;
     knows = of_each a.knows b.knows;

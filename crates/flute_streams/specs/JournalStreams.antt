@@ -18,6 +18,7 @@ use Rattle.flute_journal.specs.Format.{spelling_in}
 use Rattle.flute_journal.specs.Input.{Fails}
 use Rattle.flute_journal.specs.Journal.{IsFactIn, IsJournalWithin, journal_frame}
 use Rattle.flute_journal.specs.JournalFraming.{journal_framing}
+use Rattle.flute_journal.specs.HeldEntries.{Reading, fact_of_held, left_of, reading, spelled_of}
 use Rattle.flute_journal.specs.Readers.{source_of, limit_of, state_of}
 use Rattle.flute_journal.specs.Framing.{HasFault, Sofar}
 use Rattle.flute_journal.specs.Frame.{AreItems}
@@ -58,6 +59,10 @@ FailsBy old new None = new ≡ old
 FailsBy old new (Some (Read fault)) = Fails {T = Option Fact} old new (Err fault)
 FailsBy old new (Some fault) = new ≡ old
 
+-- its source, where its reader is, and the entry that is held
+abbrev pub reading_of : {R : Type 0} → JournalStream R → Reading R
+reading_of s = reading (source_of s.reader).now (state_of s.reader) s.held
+
 -- the bytes are the journal of these entries
 pub record IsJournalOfAll (bytes : Option (List ℕ)) (entries : List Fact) : Type 0 where
   pub version : Version
@@ -65,38 +70,45 @@ pub record IsJournalOfAll (bytes : Option (List ℕ)) (entries : List Fact) : Ty
   pub valid : AllByRecursion (IsFactIn version) entries
   pub rising : IsRising entries
 
-module _ {R : Type 0} (unread : R → Option (List ℕ)) (failures : R → ℕ) where
+module _ {R : Type 0} (unread : R → Option (List ℕ)) (buffered : R → List ℕ) where
+  -- what is left of the source behind the entry that is held
   abbrev pub unread_of : JournalStream R → Option (List ℕ)
-  unread_of s = unread (source_of s.reader).now
+  unread_of s = left_of unread buffered (reading_of s)
 
-  -- it still reads the same source, which failed since then as the fault says
-  pub record FailsSince (start now : JournalStream R) (fault : Option LoadFault) : Type 0 where
-    pub same_source : (source_of now.reader).ghost_name ≡ (source_of start.reader).ghost_name
-    pub failed_as :
-        FailsBy (failures (source_of start.reader).now) (failures (source_of now.reader).now) fault
+  abbrev pub held_by : JournalStream R → Option Fact
+  held_by s = fact_of_held unread buffered (reading_of s)
 
-  -- since it was new, these entries were given
-  pub record PassesSince (start now : JournalStream R) (entries : List Fact) : Type 0 where
-    pub fails : FailsSince start now None
-    pub same_limit : limit_of now.reader ≡ limit_of start.reader
-    pub read :
-        ReadAt (limit_of start.reader) (unread_of start) (unread_of now) (state_of now.reader)
-        entries now.held
+  module _ (failures : R → ℕ) where
+    -- it still reads the same source, which failed since then as the fault says
+    pub record FailsSince (start now : JournalStream R) (fault : Option LoadFault) : Type 0 where
+      pub same_source : (source_of now.reader).ghost_name ≡ (source_of start.reader).ghost_name
+      pub failed_as :
+          FailsBy (failures (source_of start.reader).now) (failures (source_of now.reader).now)
+          fault
 
-  abbrev pub journal_behaviour : Behaviour (JournalStream R)
-  journal_behaviour = record {
-    held = λ s. s.held;
-    most = λ s. length (option_list s.held) + room (limit_of s.reader) (state_of s.reader);
-    tells = λ s F. IfSome (unread_of s) (λ bytes. IsJournalWithin (limit_of s.reader) bytes F);
-    knows = λ s F. IsJournalOfAll (unread_of s) F;
-    stops = λ s fault.
-        StopsReading (HasFault journal_framing (limit_of s.reader) (unread_of s)) fault;
-    passes = PassesSince;
-    reads = λ start now F. ReadsEntries (unread_of start) (unread_of now) F;
-    fails = FailsSince;
-    ends = λ start now F.
-        IfSome (unread_of start) (λ bytes. IsJournalWithin (limit_of start.reader) bytes F);
-  }
+    -- since it was new, these entries were given
+    pub record PassesSince (start now : JournalStream R) (entries : List Fact) : Type 0 where
+      pub fails : FailsSince start now None
+      pub same_limit : limit_of now.reader ≡ limit_of start.reader
+      pub read :
+          ReadAt (limit_of start.reader) (unread_of start) (unread_of now) (state_of now.reader)
+          entries (held_by now)
+
+    abbrev pub journal_behaviour : Behaviour (JournalStream R)
+    journal_behaviour = record {
+      held = held_by;
+      spelled = λ s. spelled_of unread buffered (reading_of s);
+      most = λ s. length (option_list (held_by s)) + room (limit_of s.reader) (state_of s.reader);
+      tells = λ s F. IfSome (unread_of s) (λ bytes. IsJournalWithin (limit_of s.reader) bytes F);
+      knows = λ s F. IsJournalOfAll (unread_of s) F;
+      stops = λ s fault.
+          StopsReading (HasFault journal_framing (limit_of s.reader) (unread_of s)) fault;
+      passes = PassesSince;
+      reads = λ start now F. ReadsEntries (unread_of start) (unread_of now) F;
+      fails = FailsSince;
+      ends = λ start now F.
+          IfSome (unread_of start) (λ bytes. IsJournalWithin (limit_of start.reader) bytes F);
+    }
 
 -- a journal whose reader and held entry are lent
 abbrev pub lent : {R : Type 0} → LentStream R → JournalStream R
@@ -107,6 +119,7 @@ pub record SameLoans {R : Type 0} (start now : LentStream R) : Type 0 where
   pub same_reader : now.reader.ghost_name ≡ start.reader.ghost_name
   pub same_held : now.held.ghost_name ≡ start.held.ghost_name
 
-abbrev pub lent_behaviour : {R : Type 0} → (R → Option (List ℕ)) → (R → ℕ)
+abbrev pub lent_behaviour : {R : Type 0} → (R → Option (List ℕ)) → (R → List ℕ) → (R → ℕ)
     → Behaviour (LentStream R)
-lent_behaviour unread failures = lent_as lent SameLoans (journal_behaviour unread failures)
+lent_behaviour unread buffered failures =
+    lent_as lent SameLoans (journal_behaviour unread buffered failures)

@@ -1,5 +1,5 @@
 -- A stream of facts that are in memory.
-use Rattle.std.specs.Prelude.{◌≡◌, ◌+◌, List, ◌++◌, length, Option, None}
+use Rattle.std.specs.Prelude.{◌≡◌, ◌+◌, List, [], ◌++◌, length, Option, None}
 use Rattle.flute_parts.specs.Facts.{IsRising}
 use Rattle.flute_parts.specs.declared.fact.Fact.{Fact}
 use Rattle.flute_streams.specs.Streams.{Behaviour, option_list}
@@ -14,6 +14,7 @@ module _ {S : Type 0} (held : S → Option Fact) (rest : S → List Fact) (is_so
   abbrev pub listed_behaviour : Behaviour S
   listed_behaviour = record {
     held = held;
+    spelled = λ s. [];
     most = λ s. length (option_list (held s)) + length (rest s);
     tells = λ s F. F ≡ rest s;
     knows = λ s F. F ≡ rest s;

@@ -5,6 +5,7 @@ use Rattle.flute_streams.specs.Streams.{Behaviour}
 abbrev pub lent_as : {S L : Type 0} → (L → S) → (L → L → Type 0) → Behaviour S → Behaviour L
 lent_as whole Same b = record {
   held = λ s. b.held (whole s);
+  spelled = λ s. b.spelled (whole s);
   most = λ s. b.most (whole s);
   tells = λ s F. b.tells (whole s) F;
   knows = λ s F. b.knows (whole s) F;

@@ -4,7 +4,9 @@ use Rattle.std.specs.Prelude.{◌≡◌, ℕ, ◌+◌, List, length, Option, Non
 use Rattle.flute_parts.specs.declared.fact.Fact.{Fact}
 use Rattle.flute_streams.specs.declared.streams.owned_journal_stream.OwnedJournalStream.{OwnedJournalStream}
 use Rattle.flute_journal.specs.declared.readers.entry_fields.Before.{Before}
+use Rattle.flute_journal.specs.declared.readers.held_entry.HeldEntry.{HeldEntry}
 use Rattle.flute_journal.specs.declared.readers.reader_state.ReaderState.{ReaderState}
+use Rattle.flute_journal.specs.HeldEntries.{Reading, fact_of_held, left_of, reading, spelled_of}
 use Rattle.flute_journal.specs.Journal.{IsJournalWithin}
 use Rattle.flute_journal.specs.JournalFraming.{journal_framing}
 use Rattle.flute_journal.specs.Framing.{HasFault}
@@ -21,29 +23,40 @@ abbrev pub owned_state : {R : Type 0} → OwnedJournalStream R → ReaderState B
 owned_state s = s.state
 
 -- the entry that it holds
-abbrev pub held_of : {R : Type 0} → OwnedJournalStream R → Option Fact
+abbrev pub held_of : {R : Type 0} → OwnedJournalStream R → HeldEntry
 held_of s = s.held
 
-module _ {R : Type 0} (unread : R → Option (List ℕ)) (failures : R → ℕ) where
-  -- since it was new, these entries were given
-  pub record OwnedPasses (start now : OwnedJournalStream R) (entries : List Fact) : Type 0 where
-    pub fails : FailsBy (failures start.source) (failures now.source) None
-    pub same_limit : now.max_entries ≡ start.max_entries
-    pub read :
-        ReadAt start.max_entries (unread start.source) (unread now.source) now.state entries
-        now.held
+abbrev pub reading_in : {R : Type 0} → OwnedJournalStream R → Reading R
+reading_in s = reading s.source s.state s.held
 
-  abbrev pub owned_behaviour : Behaviour (OwnedJournalStream R)
-  owned_behaviour = record {
-    held = λ s. s.held;
-    most = λ s. length (option_list s.held) + room s.max_entries s.state;
-    tells = λ s F. IfSome (unread s.source) (λ bytes. IsJournalWithin s.max_entries bytes F);
-    knows = λ s F. IsJournalOfAll (unread s.source) F;
-    stops = λ s fault.
-        StopsReading (HasFault journal_framing s.max_entries (unread s.source)) fault;
-    passes = OwnedPasses;
-    reads = λ start now F. ReadsEntries (unread start.source) (unread now.source) F;
-    fails = λ start now fault. FailsBy (failures start.source) (failures now.source) fault;
-    ends = λ start now F.
-        IfSome (unread start.source) (λ bytes. IsJournalWithin start.max_entries bytes F);
-  }
+module _ {R : Type 0} (unread : R → Option (List ℕ)) (buffered : R → List ℕ) where
+  -- what is left of the source behind the entry that is held
+  abbrev pub left_in : OwnedJournalStream R → Option (List ℕ)
+  left_in s = left_of unread buffered (reading_in s)
+
+  abbrev pub held_in : OwnedJournalStream R → Option Fact
+  held_in s = fact_of_held unread buffered (reading_in s)
+
+  module _ (failures : R → ℕ) where
+    -- since it was new, these entries were given
+    pub record OwnedPasses (start now : OwnedJournalStream R) (entries : List Fact) : Type 0 where
+      pub fails : FailsBy (failures start.source) (failures now.source) None
+      pub same_limit : now.max_entries ≡ start.max_entries
+      pub read :
+          ReadAt start.max_entries (left_in start) (left_in now) now.state entries (held_in now)
+
+    abbrev pub owned_behaviour : Behaviour (OwnedJournalStream R)
+    owned_behaviour = record {
+      held = held_in;
+      spelled = λ s. spelled_of unread buffered (reading_in s);
+      most = λ s. length (option_list (held_in s)) + room s.max_entries s.state;
+      tells = λ s F. IfSome (left_in s) (λ bytes. IsJournalWithin s.max_entries bytes F);
+      knows = λ s F. IsJournalOfAll (left_in s) F;
+      stops = λ s fault.
+          StopsReading (HasFault journal_framing s.max_entries (left_in s)) fault;
+      passes = OwnedPasses;
+      reads = λ start now F. ReadsEntries (left_in start) (left_in now) F;
+      fails = λ start now fault. FailsBy (failures start.source) (failures now.source) fault;
+      ends = λ start now F.
+          IfSome (left_in start) (λ bytes. IsJournalWithin start.max_entries bytes F);
+    }

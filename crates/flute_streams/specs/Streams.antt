@@ -2,18 +2,21 @@
 -- and what is read for that.
 use Rattle.std.specs.Prelude.{◌≡◌, ℕ, ◌+◌, ◌≤◌, List, [], ◌∷◌, ◌++◌, length, Option, Some, None}
 use Rattle.std.specs.Prelude.{IfSome, Result, OnOk, IfErr, slice_get, slice_set}
-use Rattle.flute_parts.specs.Addresses.{address, fact_of}
+use Rattle.flute_parts.specs.Addresses.{address}
 use Rattle.flute_parts.specs.Facts.{IsRising}
 use Rattle.flute_parts.specs.declared.address.Address.{Address}
 use Rattle.flute_parts.specs.declared.fact.Fact.{Fact}
-use Rattle.flute_parts.specs.declared.fact.FactRef.{FactRef}
 use Rattle.flute_store.specs.Walk.{IsSized}
+pub use Rattle.flute_journal.specs.HeldEntries.{fact_in}
+use Rattle.flute_journal.specs.HeldEntries.{IsSpelling}
 use Rattle.flute_journal.specs.declared.fault.LoadFault.{LoadFault}
 
 -- what is said of a kind of stream
 pub record Behaviour (S : Type 0) : Type 1 where
   -- the fact that it holds
   pub held : S → Option Fact
+  -- the bytes of its entry, if they lie in memory, or none
+  pub spelled : S → List ℕ
   -- it holds at most so many facts from now on
   pub most : S → ℕ
   -- a new one may give these facts and end
@@ -30,10 +33,6 @@ pub record Behaviour (S : Type 0) : Type 1 where
   pub fails : S → S → Option LoadFault → Type 0
   -- since then it gave these facts and ended
   pub ends : S → S → List Fact → Type 0
-
-abbrev pub fact_in : Option FactRef → Option Fact
-fact_in None = None
-fact_in (Some fact) = Some (fact_of fact)
 
 abbrev pub option_list : Option Fact → List Fact
 option_list None = []
@@ -60,6 +59,7 @@ module _ {S : Type 0} (b : Behaviour S) where
     pub fails : b.fails start now None
     pub rising : IsRising (F ++ option_list (b.held now))
     pub sized : IfSome (b.held now) IsSized
+    pub spelled : IsSpelling (b.spelled now) (b.held now)
     pub ended : b.held now ≡ None → b.tells start F
     pub ends : b.held now ≡ None → b.ends start now F
     pub known : (K : List Fact) → b.knows start K

@@ -6,6 +6,7 @@ pub(crate) mod leading;
 pub(crate) mod lowest;
 pub(crate) mod one_stream;
 pub(crate) mod ranks;
+pub(crate) mod same_bytes;
 pub(crate) mod stopped;
 pub(crate) mod streams_fault;
 pub(crate) mod two_streams;

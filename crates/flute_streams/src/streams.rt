@@ -36,6 +36,12 @@ pub trait Streams {
         ensures { (s : Self.Stream) → slice_get (streams self.now) number ≡ Some s
             → fact_in result ≡ Self.Stream.behaviour.held s };
 
+    /// The bytes of that fact's entry, if they lie in memory: else none.
+    fn spelled(&self, number: usize) -> &[u8]
+        requires { number < length (streams self.now) }
+        ensures { (s : Self.Stream) → slice_get (streams self.now) number ≡ Some s
+            → result.now ≡ Self.Stream.behaviour.spelled s };
+
     /// Advances the stream with this number.
     ///
     /// # Errors
@@ -69,6 +75,11 @@ impl<S: Stream> Streams for &mut S {
     }
 
     #[inline(always)]
+    fn spelled(&self, _number: usize) -> &[u8] {
+        (**self).spelled()
+    }
+
+    #[inline(always)]
     fn advance(&mut self, _number: usize, alloc: Global) -> Result<(), LoadFault> {
         (**self).advance(alloc)
     }
@@ -93,6 +104,12 @@ impl<S: Stream> Streams for &mut [S] {
     fn head(&self, number: usize) -> Option<FactRef<'_>> {
         let streams = &**self;
         streams[number].head()
+    }
+
+    #[inline(always)]
+    fn spelled(&self, number: usize) -> &[u8] {
+        let streams = &**self;
+        streams[number].spelled()
     }
 
     #[inline(always)]
@@ -134,6 +151,11 @@ impl<'a, S: Stream> Streams for Slice<'a, S> {
     #[inline(always)]
     fn head(&self, number: usize) -> Option<FactRef<'_>> {
         self.streams.head(number)
+    }
+
+    #[inline(always)]
+    fn spelled(&self, number: usize) -> &[u8] {
+        self.streams.spelled(number)
     }
 
     #[inline(always)]

@@ -9,7 +9,7 @@ use Rattle.flute_streams.specs.ChosenStreams.{chosen_behaviour, others_of}
 use Rattle.flute_journal.specs.Journal.{IsJournalWithin}
 use Rattle.flute_journal.specs.JournalWriters.{WritesJournal}
 use Rattle.flute_streams.specs.OneStream.{WritesAll, WritesPart}
-use Rattle.flute_streams.specs.OwnedStreams.{owned_behaviour, owned_limit}
+use Rattle.flute_streams.specs.OwnedStreams.{left_in, owned_behaviour, owned_limit}
 use Rattle.flute_streams.specs.Selections.{left, leaves, selects}
 use Rattle.flute_streams.specs.Streams.{Behaviour}
 use Rattle.flute_streams.specs.declared.choice.selection.AllBut.{AllBut}
@@ -27,9 +27,10 @@ not_left : (p : Fact → Bool) (facts : List Fact)
     → count_by (λ f. not (not (p f))) facts ≡ count_by p facts
 not_left p facts = ap (λ (q : Fact → Bool). count_by q facts) (λ i f. not_not (p f) i)
 
-module _ {R : Type 0} (unread : R → Option (List ℕ)) (failures : R → ℕ) where
+module _ {R : Type 0} (unread : R → Option (List ℕ)) (buffered : R → List ℕ)
+    (failures : R → ℕ) where
   abbrev rests : Behaviour (Chosen (OwnedJournalStream R) AllBut)
-  rests = chosen_behaviour (λ c. leaves c.0) (owned_behaviour unread failures)
+  rests = chosen_behaviour (λ c. leaves c.0) (owned_behaviour unread buffered failures)
 
   module _ (s t : Chosen (OwnedJournalStream R) AllBut)
       (limit : owned_limit s.stream ≡ MAX_ENTRIES) where
@@ -52,17 +53,18 @@ module _ {R : Type 0} (unread : R → Option (List ℕ)) (failures : R → ℕ) 
     pub forgets : {t : Chosen (OwnedJournalStream R) AllBut} {count : ℕ} → s.others ≡ 0
         → WritesAll rests s t old new count
         → Forgets s.choice.0 (record { forgotten = t.others; entries = count })
-        (unread s.stream.source) old new
+        (left_in unread buffered s.stream) old new
     forgets {t = t} {count = count} none w = record {
       entries = w.ends.0;
-      journal = journal_of s t limit (unread s.stream.source) w.ends.0 none w.ends.1.1 w.ends.1.0;
+      journal = journal_of s t limit (left_in unread buffered s.stream) w.ends.0 none w.ends.1.1
+          w.ends.1.0;
       writes = subst
           (λ (facts : List Fact). WritesJournal old new facts count)
           w.ends.2 w.writes;
     }
 
     pub forgets_part : WritesPart rests s old new
-        → ForgetsPart s.choice.0 (unread s.stream.source) old new
+        → ForgetsPart s.choice.0 (left_in unread buffered s.stream) old new
     forgets_part p = record {
       bytes = p.bytes;
       appended = p.appended;

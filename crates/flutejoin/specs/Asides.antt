@@ -4,7 +4,7 @@ use Rattle.std.specs.Prelude.{IfSome, Result, IfErr}
 use Rattle.flute_parts.specs.Facts.{Same}
 use Rattle.flute_parts.specs.declared.fact.Fact.{Fact}
 use Rattle.flute_journal.specs.Journal.{IsJournalWithin}
-use Rattle.flute_streams.specs.OwnedStreams.{owned_behaviour, owned_limit}
+use Rattle.flute_streams.specs.OwnedStreams.{left_in, owned_behaviour, owned_limit}
 use Rattle.flute_streams.specs.Streams.{IsNew}
 use Rattle.flute_streams.specs.declared.streams.owned_journal_stream.OwnedJournalStream.{OwnedJournalStream}
 use Rattle.flutejoin.specs.declared.command_fault.CommandFault.{CommandFault}
@@ -25,11 +25,11 @@ abbrev pub Makes : {T : Type 0} → ℕ → ℕ → Result T CommandFault → Ty
 Makes old new result =
     (old ≤ new) × IfErr result (λ fault. fault ≡ CannotPutAside → old < new)
 
-module _ {R : Type 0} (unread : R → Option (List ℕ)) where
+module _ {R : Type 0} (unread : R → Option (List ℕ)) (buffered : R → List ℕ) where
   -- a run reads the journal of these entries
   abbrev pub IsRunOf : OwnedJournalStream R → List Fact → Type 0
   IsRunOf run entries =
-      (bytes : List ℕ) × (unread run.source ≡ Some bytes)
+      (bytes : List ℕ) × (left_in unread buffered run ≡ Some bytes)
       × IsJournalWithin (owned_limit run) bytes entries
 
   -- runs read journals of these facts together
@@ -51,5 +51,5 @@ module _ {R : Type 0} (unread : R → Option (List ℕ)) where
   -- nothing of a run was read yet, and it has at most so many entries
   abbrev pub IsNewRun : (R → ℕ) → OwnedJournalStream R → Type 0
   IsNewRun failures run =
-      IsNew (owned_behaviour unread failures) run
-      × ((owned_behaviour unread failures).most run ≤ 2 ^ 57) × (owned_limit run ≤ 2 ^ 57)
+      IsNew (owned_behaviour unread buffered failures) run
+      × ((owned_behaviour unread buffered failures).most run ≤ 2 ^ 57) × (owned_limit run ≤ 2 ^ 57)

@@ -6,14 +6,14 @@ use Rattle.flute_journal.specs.declared.fault.LoadFault.{LoadFault}
 use Rattle.flute_streams.specs.declared.streams.owned_journal_stream.OwnedJournalStream.{OwnedJournalStream}
 use Rattle.flute_streams.specs.declared.choice.scope.Scope.{Scope}
 use Rattle.flute_streams.specs.ChosenStreams.{chosen_behaviour}
-use Rattle.flute_streams.specs.OwnedStreams.{owned_behaviour}
+use Rattle.flute_streams.specs.OwnedStreams.{left_in, owned_behaviour}
 use Rattle.flute_streams.specs.Scopes.{of_scope}
 use Rattle.flute_streams.specs.Streams.{Behaviour}
 use Rattle.flutejoin.specs.declared.join.join_input.JoinInput.{JoinInput}
 use Rattle.flutejoin.specs.declared.join.join_input.JoinInput.TheVariants.{Journal, Datagrams}
 use Rattle.flutejoin.specs.declared.join.join_input.JoinInput.TheVariants.{Unknown}
 use Rattle.flutejoin.specs.declared.join.peeked_source.PeekedSource.{PeekedSource}
-use Rattle.flutejoin.specs.JoinInputs.{left}
+use Rattle.flutejoin.specs.JoinInputs.{buffer_of, left}
 
 -- a journal of which some objects are taken
 abbrev pub JournalInput : Type 0 → Type 0
@@ -25,56 +25,70 @@ passed_over (Journal journal) = journal.others
 passed_over (Datagrams source) = 0
 passed_over Unknown = 0
 
-module _ {R : Type 0} (unread : R → Option (List ℕ)) (failures : R → ℕ) where
-  -- what is said of a journal as a stream
-  abbrev pub journal_behaviour : Behaviour (JournalInput R)
-  journal_behaviour =
-      chosen_behaviour of_scope (owned_behaviour (left unread) (λ source. failures source.source))
+-- what is left of a journal behind the entry that it holds
+abbrev pub left_of_journal : {R : Type 0} → (R → Option (List ℕ)) → (R → List ℕ)
+    → JournalInput R → Option (List ℕ)
+left_of_journal unread buffered journal =
+    left_in (left unread) (buffer_of buffered) journal.stream
 
-  -- the entry that an input holds: no other than a journal holds any
-  abbrev pub held_input : JoinInput R → Option Fact
-  held_input (Journal journal) = journal_behaviour.held journal
-  held_input (Datagrams source) = None
-  held_input Unknown = None
+module _ {R : Type 0} (unread : R → Option (List ℕ)) (buffered : R → List ℕ) (failures : R → ℕ)
+  where
+    -- what is said of a journal as a stream
+    abbrev pub journal_behaviour : Behaviour (JournalInput R)
+    journal_behaviour =
+        chosen_behaviour of_scope
+        (owned_behaviour (left unread) (buffer_of buffered) (λ source. failures source.source))
 
-  abbrev pub most_input : JoinInput R → ℕ
-  most_input (Journal journal) = journal_behaviour.most journal
-  most_input (Datagrams source) = 0
-  most_input Unknown = 0
+    -- the entry that an input holds: no other than a journal holds any
+    abbrev pub held_input : JoinInput R → Option Fact
+    held_input (Journal journal) = journal_behaviour.held journal
+    held_input (Datagrams source) = None
+    held_input Unknown = None
 
-  abbrev pub stops_input : JoinInput R → LoadFault → Type 0
-  stops_input (Journal journal) fault = journal_behaviour.stops journal fault
-  stops_input (Datagrams source) fault = ⊥
-  stops_input Unknown fault = ⊥
+    abbrev pub spelled_input : JoinInput R → List ℕ
+    spelled_input (Journal journal) = journal_behaviour.spelled journal
+    spelled_input (Datagrams source) = []
+    spelled_input Unknown = []
 
-  -- the facts of a journal; of another input, none
-  abbrev pub of_entries : (JournalInput R → List Fact → Type 0) → JoinInput R → List Fact
-      → Type 0
-  of_entries P (Journal journal) F = P journal F
-  of_entries P (Datagrams source) F = F ≡ []
-  of_entries P Unknown F = F ≡ []
+    abbrev pub most_input : JoinInput R → ℕ
+    most_input (Journal journal) = journal_behaviour.most journal
+    most_input (Datagrams source) = 0
+    most_input Unknown = 0
 
-  -- P holds of two states of a journal; any other input is unchanged, and gives nothing
-  abbrev pub of_states : {X : Type 0} → (JournalInput R → JournalInput R → X → Type 0) → X
-      → JoinInput R → JoinInput R → X → Type 0
-  of_states P nothing (Journal start) (Journal now) x = P start now x
-  of_states P nothing (Datagrams start) (Datagrams now) x = (now ≡ start) × (x ≡ nothing)
-  of_states P nothing Unknown Unknown x = x ≡ nothing
-  of_states P nothing _ _ x = ⊥
+    abbrev pub stops_input : JoinInput R → LoadFault → Type 0
+    stops_input (Journal journal) fault = journal_behaviour.stops journal fault
+    stops_input (Datagrams source) fault = ⊥
+    stops_input Unknown fault = ⊥
 
-  -- what is said of an input as a stream
-  abbrev pub input_behaviour : Behaviour (JoinInput R)
-  input_behaviour = record {
-    held = held_input;
-    most = most_input;
-    tells = of_entries journal_behaviour.tells;
-    knows = of_entries journal_behaviour.knows;
-    stops = stops_input;
-    passes = of_states journal_behaviour.passes [];
-    reads = of_states journal_behaviour.reads [];
-    fails = of_states journal_behaviour.fails None;
-    ends = of_states journal_behaviour.ends [];
-  }
+    -- the facts of a journal; of another input, none
+    abbrev pub of_entries : (JournalInput R → List Fact → Type 0) → JoinInput R → List Fact
+        → Type 0
+    of_entries P (Journal journal) F = P journal F
+    of_entries P (Datagrams source) F = F ≡ []
+    of_entries P Unknown F = F ≡ []
+
+    -- P holds of two states of a journal; any other input is unchanged, and gives nothing
+    abbrev pub of_states : {X : Type 0} → (JournalInput R → JournalInput R → X → Type 0) → X
+        → JoinInput R → JoinInput R → X → Type 0
+    of_states P nothing (Journal start) (Journal now) x = P start now x
+    of_states P nothing (Datagrams start) (Datagrams now) x = (now ≡ start) × (x ≡ nothing)
+    of_states P nothing Unknown Unknown x = x ≡ nothing
+    of_states P nothing _ _ x = ⊥
+
+    -- what is said of an input as a stream
+    abbrev pub input_behaviour : Behaviour (JoinInput R)
+    input_behaviour = record {
+      held = held_input;
+      spelled = spelled_input;
+      most = most_input;
+      tells = of_entries journal_behaviour.tells;
+      knows = of_entries journal_behaviour.knows;
+      stops = stops_input;
+      passes = of_states journal_behaviour.passes [];
+      reads = of_states journal_behaviour.reads [];
+      fails = of_states journal_behaviour.fails None;
+      ends = of_states journal_behaviour.ends [];
+    }
 
 module _ {R : Type 0} (failures : R → ℕ) where
   -- how often the source of an input failed

@@ -1,5 +1,6 @@
 -- The inputs of a join: which bytes they are.
-use Rattle.std.specs.Prelude.{◌≡◌, ℕ, List, length, take, drop, slice_get, Option, Some}
+use Rattle.std.specs.Prelude.{◌≡◌, ℕ, List, [], length, take, drop, slice_get, Option, Some}
+use Rattle.std.specs.Prelude.{if◌then◌else◌, nat_le}
 use Rattle.std.specs.Io.KnownBytes.{prepend_known}
 use Rattle.flute_journal.specs.Kinds.{HasKind, IsNeither}
 use Rattle.flutejoin.specs.declared.join.join_input.JoinInput.{JoinInput}
@@ -11,6 +12,11 @@ use Rattle.flute_journal.specs.declared.kind.Kind.TheVariants as kinds
 -- the bytes of a source that were read ahead
 abbrev pub front_of : {R : Type 0} → PeekedSource R → List ℕ
 front_of source = take source.count source.first
+
+-- what its buffer lends: nothing before those were given
+abbrev pub buffer_of : {R : Type 0} → (R → List ℕ) → PeekedSource R → List ℕ
+buffer_of buffered source =
+    if nat_le source.count source.given then buffered source.source else []
 
 module _ {R : Type 0} (unread : R → Option (List ℕ)) where
   -- what a source has left: of the bytes that were read ahead, and after them

@@ -36,8 +36,7 @@ use Rattle.flute_journal.specs.declared.kind.Kind.TheVariants as kinds
 use Rattle.flutejoin.specs.Joined.{InputContent, Choice, facts_by, content_facts, content_datagrams}
 use Rattle.flutejoin.specs.Joined.{is_of_others, content_others, TellAll}
 use Rattle.flutejoin.specs.JoinFaults.{FirstInput, HasKnownKind}
-use Rattle.flutejoin.specs.JoinInputs.{left}
-use Rattle.flutejoin.specs.InputStreams.{journal_behaviour, input_behaviour}
+use Rattle.flutejoin.specs.InputStreams.{input_behaviour, journal_behaviour, left_of_journal}
 
 -- facts are over the limits, or there is no memory for them
 abbrev pub StoreFails : Limits → List Fact → CommandFault → Type 0
@@ -52,12 +51,12 @@ module _ {s o y : ℕ} where
     pub refused : now.refused
         ≡ (if is_refused datagram then before.refused + 1 else before.refused)
 
-module _ {s o y : ℕ} {R : Type 0} (unread : R → Option (List ℕ)) where
+module _ {s o y : ℕ} {R : Type 0} (unread : R → Option (List ℕ)) (buffered : R → List ℕ) where
   -- these datagrams are counted, and their facts held, in memory or aside
   pub record HoldsFacts (choice : Choice) (held : HeldFiles s o y R)
       (datagrams : List (List ℕ)) : Type 0 where
     pub aside : List Fact
-    pub runs : AreRunsOf unread held.runs.items aside
+    pub runs : AreRunsOf unread buffered held.runs.items aside
     pub content : Same (held.told.store ++ aside) (flat_map (facts_by choice) datagrams)
     pub count : held.told.datagrams ≡ length datagrams
     pub refused : held.told.refused ≡ count_by is_refused datagrams
@@ -84,7 +83,7 @@ module _ {s o y : ℕ} {R : Type 0} (unread : R → Option (List ℕ)) where
   abbrev pub HoldsRun : Choice → HeldFiles s o y R → Option (OwnedJournalStream R)
       → List (List ℕ) → Type 0
   HoldsRun choice held run datagrams =
-      (facts : List Fact) × AreHeld unread held.told.store run facts
+      (facts : List Fact) × AreHeld unread buffered held.told.store run facts
       × Same facts (flat_map (facts_by choice) datagrams)
 
   -- no more datagrams are refused, or of others, than there are; and there are few runs, all new,
@@ -93,7 +92,7 @@ module _ {s o y : ℕ} {R : Type 0} (unread : R → Option (List ℕ)) where
   IsSound failures held =
       (held.told.refused ≤ held.told.datagrams) × (held.others ≤ held.told.datagrams)
       × (length held.runs.items ≤ 64) × (length held.runs.items ≤ 64 * held.told.datagrams)
-      × AllByRecursion (IsNewRun unread failures) held.runs.items
+      × AllByRecursion (IsNewRun unread buffered failures) held.runs.items
 
   -- the numbers are sound, and there are at most so many datagrams more
   abbrev pub CountsUpTo : (R → ℕ) → ℕ → HeldFiles s o y R → HeldFiles s o y R → Type 0
@@ -127,13 +126,13 @@ SomeInspectionFails inputs fault =
     (number : ℕ)
     × FirstInput HasKnownKind (λ bytes. InspectionFails number bytes fault) number inputs
 
-module _ {R : Type 0} (unread : R → Option (List ℕ)) where
+module _ {R : Type 0} (unread : R → Option (List ℕ)) (buffered : R → List ℕ) where
   -- what was found of an input: a journal is still to be read, of the chosen objects, and a
   -- datagram file has these datagrams
   abbrev pub IsInspected : Choice → JoinInput R → List ℕ → List (List ℕ) → Type 0
   IsInspected choice (Journal journal) bytes datagrams =
       (datagrams ≡ []) × HasKind kinds.Journal bytes
-      × (left unread journal.stream.source ≡ Some bytes)
+      × (left_of_journal unread buffered journal ≡ Some bytes)
       × (takes_key journal.choice ≡ choice.takes)
   IsInspected choice (Datagrams source) bytes datagrams =
       IsFileWithin MAX_ENTRIES bytes datagrams
@@ -154,14 +153,14 @@ module _ {R : Type 0} (unread : R → Option (List ℕ)) where
       → HeldFiles s o y R → Type 0
   Finds choice inputs contents held =
       (datagrams : List (List ℕ)) × AreInspected choice inputs contents datagrams
-      × HoldsDatagrams unread choice held datagrams
+      × HoldsDatagrams unread buffered choice held datagrams
 
   module _ (failures : R → ℕ) where
     -- of a journal nothing was read yet, and nothing was passed over
     abbrev pub IsReady : JoinInput R → Type 0
     IsReady (Journal journal) =
-        (journal.others ≡ 0) × IsNew (journal_behaviour unread failures) journal
-        × ((journal_behaviour unread failures).most journal ≡ MAX_ENTRIES)
+        (journal.others ≡ 0) × IsNew (journal_behaviour unread buffered failures) journal
+        × ((journal_behaviour unread buffered failures).most journal ≡ MAX_ENTRIES)
         × (journal.stream.max_entries ≡ MAX_ENTRIES)
     IsReady (Datagrams source) = Unit {0}
     IsReady Unknown = Unit {0}
@@ -169,7 +168,7 @@ module _ {R : Type 0} (unread : R → Option (List ℕ)) where
     -- what is said of inputs as streams, with one before them
     abbrev pub joined_behaviour : {S : Type 0} → Behaviour S
         → Behaviour (Either S (JoinInput R))
-    joined_behaviour b = either_behaviour b (input_behaviour unread failures)
+    joined_behaviour b = either_behaviour b (input_behaviour unread buffered failures)
 
 -- nothing was read of the stream of what is held, and its facts can be counted
 pub record IsHeld {S : Type 0} (b : Behaviour S) (held : S) : Type 0 where

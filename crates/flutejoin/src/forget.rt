@@ -1,7 +1,7 @@
 //! The command `forget`: entries that are taken out of a journal.
 ghost use Rattle.std.specs.Prelude.{◌≡◌, ◌+◌, IfOk, IfErr};
 ghost use Rattle.flute_streams.specs.ChosenStreams.{chosen_behaviour};
-ghost use Rattle.flute_streams.specs.OwnedStreams.{owned_behaviour, owned_limit};
+ghost use Rattle.flute_streams.specs.OwnedStreams.{left_in, owned_behaviour, owned_limit};
 ghost use Rattle.flute_streams.specs.Selections.{leaves};
 ghost use Rattle.flute_streams.specs.Streams.{IsNew};
 ghost use Rattle.flutejoin.specs.Forget.{Forgets, ForgetsPart, ForgetFails};
@@ -69,15 +69,16 @@ fn write_rest<R: Source, W: Sink>(
     sink: &mut W,
 ) -> Result<ForgetCounts, CommandFault>
     requires new { IsNew (chosen_behaviour (λ c. leaves c.0)
-        (owned_behaviour R.unread R.failures)) rest.old }
-    requires most { (owned_behaviour R.unread R.failures).most rest.old.stream ≡ MAX_ENTRIES }
+        (owned_behaviour R.unread R.buffered R.failures)) rest.old }
+    requires most { (owned_behaviour R.unread R.buffered R.failures).most rest.old.stream
+        ≡ MAX_ENTRIES }
     requires limit { owned_limit rest.old.stream ≡ MAX_ENTRIES }
     requires others { rest.old.others ≡ 0 }
     ensures forgot { IfOk result (λ counts. Forgets rest.old.choice.0 counts
-        (R.unread rest.old.stream.source) (W.written sink.old) (W.written sink.new)) }
+        (left_in R.unread R.buffered rest.old.stream) (W.written sink.old) (W.written sink.new)) }
     ensures short { IfErr result (λ _. ForgetsPart rest.old.choice.0
-        (R.unread rest.old.stream.source) (W.written sink.old) (W.written sink.new)) }
-    ensures failed { IfErr result (ForgetFails (R.unread rest.old.stream.source)) }
+        (left_in R.unread R.buffered rest.old.stream) (W.written sink.old) (W.written sink.new)) }
+    ensures failed { IfErr result (ForgetFails (left_in R.unread R.buffered rest.old.stream)) }
     ensures read_failures { FailsToRead (R.failures rest.old.stream.source)
         (R.failures rest.new.stream.source) result }
     ensures failures { W.failures sink.new ≡ W.failures sink.old + write_failures result }

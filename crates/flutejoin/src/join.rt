@@ -157,10 +157,10 @@ fn fault_or_full<const SESSIONS: u32, const OBJECTS: u32, const SYMBOLS: u32, R:
 ) -> CommandFault
     requires few { length inputs.old ≤ 64 }
     requires countable { IsCountable SESSIONS OBJECTS SYMBOLS }
-    requires ready { AllByRecursion (IsReady R.unread R.failures) inputs.old }
+    requires ready { AllByRecursion (IsReady R.unread R.buffered R.failures) inputs.old }
     ensures failed { (choice : Choice) (contents datagrams : List (List ℕ))
         → choice.most ≡ at_most SESSIONS OBJECTS SYMBOLS
-        → AreInspected R.unread choice inputs.old contents datagrams
+        → AreInspected R.unread R.buffered choice inputs.old contents datagrams
         → IsOver choice.most (flat_map (facts_by choice) datagrams)
         → JoinToFails choice contents result }
     ensures names { NamesOneOf (length inputs.old) result }
@@ -193,16 +193,16 @@ fn join_inspected<
 ) -> Result<MergedJournal, CommandFault>
     requires few { length inputs.old ≤ 64 }
     requires countable { IsCountable SESSIONS OBJECTS SYMBOLS }
-    requires ready { AllByRecursion (IsReady R.unread R.failures) inputs.old }
-    requires new { IfSome run (IsNewRun R.unread R.failures) }
+    requires ready { AllByRecursion (IsReady R.unread R.buffered R.failures) inputs.old }
+    requires new { IfSome run (IsNewRun R.unread R.buffered R.failures) }
     ensures joined { (choice : Choice) (contents datagrams : List (List ℕ)) (held : List Fact)
         → choice.most ≡ at_most SESSIONS OBJECTS SYMBOLS
-        → AreInspected R.unread choice inputs.old contents datagrams
-        → AreHeld R.unread store.now run held
+        → AreInspected R.unread R.buffered choice inputs.old contents datagrams
+        → AreHeld R.unread R.buffered store.now run held
         → IfOk result (λ joined. JoinsInspected choice contents datagrams held
         (sum_by passed_over inputs.new) joined (W.written sink.old) (W.written sink.new)) }
     ensures failed { (choice : Choice) (contents datagrams : List (List ℕ))
-        → AreInspected R.unread choice inputs.old contents datagrams
+        → AreInspected R.unread R.buffered choice inputs.old contents datagrams
         → IfSome run (λ _. WantsAside contents)
         → IfErr result (JoinToFails choice contents) }
     ensures cut { IfOk result (λ joined. joined.cut ≡ true
@@ -246,16 +246,16 @@ fn join_held<
     sink: &mut W,
 ) -> Result<MergedJournal, CommandFault>
     requires few { length inputs.old ≤ 64 }
-    requires ready { AllByRecursion (IsReady R.unread R.failures) inputs.old }
+    requires ready { AllByRecursion (IsReady R.unread R.buffered R.failures) inputs.old }
     requires held { IsHeld S.behaviour held.old }
     ensures joined { (choice : Choice) (contents datagrams : List (List ℕ)) (facts : List Fact)
         → choice.most ≡ at_most SESSIONS OBJECTS SYMBOLS
-        → AreInspected R.unread choice inputs.old contents datagrams
+        → AreInspected R.unread R.buffered choice inputs.old contents datagrams
         → Ends S.behaviour held.old facts
         → IfOk result (λ joined. JoinsInspected choice contents datagrams facts
         (sum_by passed_over inputs.new) joined (W.written sink.old) (W.written sink.new)) }
     ensures failed { (choice : Choice) (contents datagrams : List (List ℕ))
-        → AreInspected R.unread choice inputs.old contents datagrams
+        → AreInspected R.unread R.buffered choice inputs.old contents datagrams
         → NeverStops S.behaviour held.old ⊎ WantsAside contents
         → IfErr result (JoinToFails choice contents) }
     ensures cut { IfOk result (λ joined. joined.cut ≡ true
@@ -305,12 +305,12 @@ fn join_chained<
     inputs: &mut [JoinInput<R>],
     sink: &mut W,
 ) -> Result<MergedJournal, InputFault>
-    requires new { AreNew (joined_behaviour R.unread R.failures S.behaviour)
+    requires new { AreNew (joined_behaviour R.unread R.buffered R.failures S.behaviour)
         (chained first.old (taken inputs.old)) }
-    requires most { most_of (joined_behaviour R.unread R.failures S.behaviour)
+    requires most { most_of (joined_behaviour R.unread R.buffered R.failures S.behaviour)
         (chained first.old (taken inputs.old)) < 2 ^ 64 }
     ensures ended { IfOk result (λ joined. EndsMerged
-        (joined_behaviour R.unread R.failures S.behaviour)
+        (joined_behaviour R.unread R.buffered R.failures S.behaviour)
         (chained first.old (taken inputs.old)) (chained first.new (taken inputs.new))
         SESSIONS OBJECTS SYMBOLS joined (W.written sink.old) (W.written sink.new)) }
     ensures cut { IfOk result (λ joined. joined.cut ≡ true
@@ -319,10 +319,10 @@ fn join_chained<
     ensures short { IfErr result
         (λ _. AppendsNoJournal (W.written sink.old) (W.written sink.new)) }
     ensures first { IfErr result
-        (FirstFault (joined_behaviour R.unread R.failures S.behaviour)
+        (FirstFault (joined_behaviour R.unread R.buffered R.failures S.behaviour)
         (chained first.old (taken inputs.old)) (chained first.new (taken inputs.new))) }
     ensures failures { IfOk result (λ _. NoneFails
-        (joined_behaviour R.unread R.failures S.behaviour)
+        (joined_behaviour R.unread R.buffered R.failures S.behaviour)
         (chained first.old (taken inputs.old)) (chained first.new (taken inputs.new))) }
     ensures sink_failures { IfOk result (λ joined. joined.within ≡ true
         → W.failures sink.new ≡ W.failures sink.old + times_failed joined.cut) }

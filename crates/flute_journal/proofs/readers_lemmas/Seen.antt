@@ -13,7 +13,7 @@ use Rattle.flute_journal.specs.Lent.{BeginsWithEntry, HasEntry}
 use Rattle.flute_journal.proofs.Numbers.{octets-drop, octets-take}
 use Rattle.flute_journal.proofs.format_lemmas.Decoded.{in_front, joined}
 
-begins_with : (buffer x : List ℕ) (u : Option (List ℕ)) (size : ℕ)
+pub begins_with : (buffer x : List ℕ) (u : Option (List ℕ)) (size : ℕ)
     → IfSome u (λ bytes. StartsWith bytes buffer) → take size buffer ≡ x
     → IfSome u (λ bytes. (rest : List ℕ) × (bytes ≡ x ++ rest))
 begins_with buffer x None size front spelled = tt

@@ -3,7 +3,9 @@ ghost use Rattle.std.specs.Prelude.{◌≡◌, ℕ, ◌+◌, ◌<◌, ◌^◌, I
 ghost use Rattle.std.specs.Prelude.{Ok, Some};
 ghost use Rattle.std.specs.Prelude.{None, true, false};
 ghost use Rattle.flute_journal.specs.Input.{Fails, FailsIf};
-ghost use Rattle.flute_journal.specs.Readers.{given_into, source_of, limit_of, state_of};
+ghost use Rattle.std.specs.Io.KnownBytes.{Consumes};
+ghost use Rattle.flute_journal.specs.HeldEntries.{HoldsNext, reading, spelled_in};
+ghost use Rattle.flute_journal.specs.Readers.{source_of, limit_of, state_of};
 ghost use Rattle.flute_journal.specs.JournalFraming.{journal_framing};
 ghost use Rattle.flute_journal.specs.Framing.{Gives, is_open, state_after};
 ghost use Rattle.flute_journal.specs.declared.readers.reader_state.ReaderState.TheVariants as ReaderState;
@@ -11,7 +13,8 @@ ghost use Rattle.flute_journal.specs.declared.readers.reader_state.ReaderState.T
 use crate::fault::ReadFault;
 use crate::format::Version;
 use crate::readers::entry_fields::{Before, read_entry, read_header};
-use crate::readers::lent::{take_entry, take_next};
+use crate::readers::held_entry::HeldEntry;
+use crate::readers::lent::{hold_next, take_entry};
 use crate::readers::reader_state::ReaderState;
 use flute_parts::{Fact, Part, Source};
 use std::alloc::Global;
@@ -97,31 +100,50 @@ impl<'a, R: Source> JournalReader<'a, R> {
         read_at(alloc, self.source, self.max_entries, &mut self.state, spare)
     }
 
-    /// Puts the next entry in place of the one that is held: none if the end was read, or after a
-    /// fault. The bytes of a symbol are put into the memory of the one that was held, as
-    /// `next_with` says.
+    /// Lets go of the entry that is held, and holds the next: none if the end was read, or after a
+    /// fault. An entry of a symbol is held where it lies in the source's buffer, if it is whole
+    /// there: then it is taken from the source once it is let go of.
     ///
     /// # Errors
     ///
     /// Those of `next`.
     #[inline(always)]
-    pub fn next_into(&mut self, alloc: Global, held: &mut Option<Fact>) -> Result<(), ReadFault>
+    pub fn next_into(&mut self, alloc: Global, held: &mut HeldEntry) -> Result<(), ReadFault>
         ensures source { (source_of self.new).ghost_name ≡ (source_of self.old).ghost_name }
         ensures limit { limit_of self.new ≡ limit_of self.old }
-        ensures gives { Gives journal_framing (limit_of self.old) (state_of self.old)
-            (state_of self.new) (R.unread (source_of self.old).now)
-            (R.unread (source_of self.new).now) (given_into result held.new) }
-        ensures failures { FailsIf (is_open (state_of self.old))
-            (R.failures (source_of self.old).now) (R.failures (source_of self.new).now)
-            (given_into result held.new) }
-        ensures none { OnErr result (held.new ≡ None) }
+        ensures holds { HoldsNext R.unread R.buffered R.failures (limit_of self.old)
+            (reading (source_of self.old).now (state_of self.old) held.old)
+            (reading (source_of self.new).now (state_of self.new) held.new) result }
     {
         read_into(alloc, self.source, self.max_entries, &mut self.state, held)
     }
+
+    /// Lends what its source's buffer holds, at the front of which an entry may be held.
+    #[inline(always)]
+    pub fn buffer(&self) -> &[u8]
+        ensures { result.now ≡ R.buffered (source_of self.now).now }
+    {
+        self.source.buffer()
+    }
+
+    /// Lets go of the entry that is held.
+    pub fn let_go(&mut self, alloc: Global, held: &mut HeldEntry)
+        ensures source { (source_of self.new).ghost_name ≡ (source_of self.old).ghost_name }
+        ensures limit { limit_of self.new ≡ limit_of self.old }
+        ensures state { state_of self.new ≡ state_of self.old }
+        ensures takes { Consumes (R.unread (source_of self.old).now)
+            (R.unread (source_of self.new).now)
+            (spelled_in (R.buffered (source_of self.old).now) held.old) }
+        ensures failures { R.failures (source_of self.new).now
+            ≡ R.failures (source_of self.old).now }
+    {
+        let _ = held.let_go(alloc, self.source);
+    }
 }
 
-/// Puts the next entry of a journal in place of the one that is held, as `next_into` does, for who
-/// keeps the source and the reader's state. This is `ReaderState::Header` before the first call.
+/// Lets go of the entry that is held, and holds the next entry of a journal, as `next_into` does,
+/// for who keeps the source and the reader's state. This is `ReaderState::Header` before the first
+/// call.
 ///
 /// # Errors
 ///
@@ -132,60 +154,51 @@ pub fn read_into<R: Source>(
     source: &mut R,
     max_entries: u64,
     state: &mut ReaderState<Before>,
-    held: &mut Option<Fact>,
+    held: &mut HeldEntry,
 ) -> Result<(), ReadFault>
-    ensures gives { Gives journal_framing max_entries state.old state.new
-        (R.unread source.old) (R.unread source.new) (given_into result held.new) }
-    ensures failures { FailsIf (is_open state.old)
-        (R.failures source.old) (R.failures source.new) (given_into result held.new) }
-    ensures none { OnErr result (held.new ≡ None) }
+    ensures { HoldsNext R.unread R.buffered R.failures max_entries
+        (reading source.old state.old held.old) (reading source.new state.new held.new) result }
 {
-    if read_in_place(source, max_entries, state, held) {
+    if hold_in_place(source, max_entries, state, held) {
         return Ok(());
     }
-    read_anew(alloc, source, max_entries, state, held)
+    hold_anew(alloc, source, max_entries, state, held)
 }
 
 // The same, whatever the next entry is. It is not inlined into the step that advances a stream,
 // which would take longer.
 #[inline(never)]
-fn read_anew<R: Source>(
+fn hold_anew<R: Source>(
     alloc: Global,
     source: &mut R,
     max_entries: u64,
     state: &mut ReaderState<Before>,
-    held: &mut Option<Fact>,
+    held: &mut HeldEntry,
 ) -> Result<(), ReadFault>
-    ensures gives { Gives journal_framing max_entries state.old state.new
-        (R.unread source.old) (R.unread source.new) (given_into result held.new) }
-    ensures failures { FailsIf (is_open state.old)
-        (R.failures source.old) (R.failures source.new) (given_into result held.new) }
-    ensures none { OnErr result (held.new ≡ None) }
+    ensures { HoldsNext R.unread R.buffered R.failures max_entries
+        (reading source.old state.old held.old) (reading source.new state.new held.new) result }
 {
-    let spare = match held.take() {
-        Some(fact) => fact.into_vec(alloc),
-        None => Vec::new(alloc),
-    };
-    *held = read_at(alloc, source, max_entries, state, spare)?;
+    let spare = held.let_go(alloc, source);
+    if let Some(fact) = read_at(alloc, source, max_entries, state, spare)? {
+        *held = HeldEntry::Own(fact);
+    }
     Ok(())
 }
 
-// Puts the next entry of a journal whose reader has this state in place of the one that is held,
-// if it lies whole in the source's buffer and both are of symbols of one file with as many bytes.
-// False if not, and nothing was read then.
+// Holds the next entry of a journal whose reader has this state where it lies in the source's
+// buffer, if it is whole there and of a symbol of the same file as the entry before it. False if
+// not, and nothing was read then.
 #[inline(always)]
-fn read_in_place<R: Source>(
+fn hold_in_place<R: Source>(
     source: &mut R,
     max_entries: u64,
     state: &mut ReaderState<Before>,
-    held: &mut Option<Fact>,
+    held: &mut HeldEntry,
 ) -> bool
-    ensures gives { result ≡ true → Gives journal_framing max_entries state.old state.new
-        (R.unread source.old) (R.unread source.new) (Ok held.new) }
+    ensures holds { result ≡ true → HoldsNext R.unread R.buffered R.failures max_entries
+        (reading source.old state.old held.old) (reading source.new state.new held.new) (Ok tt) }
     ensures nothing { result ≡ false → (source.new ≡ source.old) × (state.new ≡ state.old)
         × (held.new ≡ held.old) }
-    ensures failures { result ≡ true → FailsIf (is_open state.old)
-        (R.failures source.old) (R.failures source.new) (Ok held.new) }
 {
     let ReaderState::Items(before) = state else {
         return false;
@@ -196,7 +209,7 @@ fn read_in_place<R: Source>(
     let Some(last) = &mut before.last else {
         return false;
     };
-    let Some(id) = take_next(source, last, held) else {
+    let Some(id) = hold_next(source, last, held) else {
         return false;
     };
     before.count += 1;

@@ -1,16 +1,17 @@
 //! Entries and records that lie whole in the buffer of their source, looked at where they lie.
 ghost use Rattle.std.specs.Prelude.{◌≡◌, IfOk, IfErr, IfSome, MatchOption, Ok, Some, None};
-ghost use Rattle.std.specs.Prelude.{length as length_of};
 ghost use Rattle.flute_journal.specs.declared.format.version.Version.TheVariants.{Two};
 ghost use Rattle.flute_parts.specs.Addresses.{address, symbol_address};
 ghost use Rattle.flute_parts.specs.declared.fact.Fact.TheVariants.{Symbol};
 ghost use Rattle.flute_journal.specs.Lent.{BeginsWithEntry, TakesEntry, BeginsWithRecord};
 ghost use Rattle.flute_journal.specs.Lent.{TakesRecord};
+ghost use Rattle.flute_journal.specs.HeldEntries.{fact_held, left_behind, spelled_in, IsSpelling};
 ghost use Rattle.flute_journal.specs.declared.fault.ReadFault.TheVariants.{OutOfMemory};
 
 use crate::fault::ReadFault;
 use crate::format::number::length_in;
 use crate::format::{Kind, Version, next_symbol_in, symbol_in};
+use crate::readers::held_entry::{HeldEntry, behind};
 use flute_parts::{Address, Bytes, Fact, Key, Source, SymbolId};
 use flute_wire::Datagram;
 
@@ -41,60 +42,54 @@ pub fn take_entry<R: Source>(
     Ok(Some(Fact::Symbol { key, id, bytes }))
 }
 
-/// Takes the next entry of a journal of version 2, puts it in place of the one that is held, and
-/// returns its id: if it lies whole in the source's buffer, has no fault, and is of a symbol of the
-/// same file as the entry before it, at `last`, with as many bytes as the symbol that is held.
+/// Lets go of the entry that is held, and holds the next entry of a journal of version 2 where it
+/// lies in the source's buffer: if it lies whole there, has no fault, and is of a symbol of the
+/// same file as the entry before it, at `last`. Returns its id. It asks for no memory.
 ///
-/// None if it is not so, and nothing was taken then. It asks for no memory.
+/// None if it is not so, and nothing was taken then.
 #[inline(always)]
-pub fn take_next<R: Source>(
+pub fn hold_next<R: Source>(
     source: &mut R,
     last: &Address,
-    held: &mut Option<Fact>,
+    held: &mut HeldEntry,
 ) -> Option<SymbolId>
-    ensures takes { IfSome result (λ id. MatchOption held.new ⊥ (λ f.
-        (address f ≡ symbol_address last.now.key id) × TakesEntry Two (Some last.now)
-        (R.unread source.old) (R.unread source.new) (Ok (Some f)))) }
+    ensures takes { IfSome result (λ id. MatchOption (fact_held (R.buffered source.new) held.new) ⊥
+        (λ f. (address f ≡ symbol_address last.now.key id) × TakesEntry Two (Some last.now)
+        (left_behind (spelled_in (R.buffered source.old) held.old) (R.unread source.old))
+        (left_behind (spelled_in (R.buffered source.new) held.new) (R.unread source.new))
+        (Ok (Some f)))) }
+    ensures spelled { IfSome result (λ _. IsSpelling
+        (spelled_in (R.buffered source.new) held.new)
+        (fact_held (R.buffered source.new) held.new)) }
     ensures nothing { result ≡ None → (source.new ≡ source.old) × (held.new ≡ held.old) }
     ensures failures { R.failures source.new ≡ R.failures source.old }
 {
-    let Some(fact) = held else {
-        return None;
+    let buffer = source.buffer();
+    let taken = held.spelled(buffer).len();
+    let (id, _, size) = next_in(behind(buffer, taken), last)?;
+    source.consume(taken);
+    *held = HeldEntry::InBuffer {
+        key: last.key,
+        id,
+        size,
     };
-    let Fact::Symbol { key, id, bytes } = fact else {
-        return None;
-    };
-    let length = bytes.as_slice().len();
-    let (next, symbol, count) = next_in(source.buffer(), last, length)?;
-    *key = last.key;
-    *id = next;
-    bytes.replace(symbol);
-    source.consume(count);
-    Some(next)
+    Some(id)
 }
 
-// The symbol of so many bytes whose entry is at the front of the bytes, after the entry at `last`,
-// and how many bytes the entry has.
+// The symbol whose entry is at the front of the bytes, after the entry at `last`, and how many
+// bytes the entry has.
 #[inline(always)]
-fn next_in<'a>(
-    bytes: &'a [u8],
-    last: &Address,
-    length: usize,
-) -> Option<(SymbolId, &'a [u8], usize)>
-    ensures begins { IfSome result (λ e. BeginsWithEntry Two (Some last.now) bytes.now
+fn next_in<'a>(bytes: &'a [u8], last: &Address) -> Option<(SymbolId, &'a [u8], usize)>
+    ensures { IfSome result (λ e. BeginsWithEntry Two (Some last.now) bytes.now
         (Symbol last.now.key e.0 e.1.now) e.2) }
-    ensures length { IfSome result (λ e. length_of e.1.now ≡ length) }
 {
     let (&first, rest) = bytes.split_first()?;
     let Some(Kind::Symbol) = Kind::from_byte(first) else {
         return None;
     };
     let (head, rest) = rest.split_at_checked(Kind::Symbol.head_size(Version::Two))?;
-    let (id, told) = next_symbol_in(last, head)?;
-    if usize::from(told) != length {
-        return None;
-    }
-    let symbol = rest.get(..length)?;
+    let (id, length) = next_symbol_in(last, head)?;
+    let symbol = rest.get(..usize::from(length))?;
     Some((id, symbol, 1 + head.len() + symbol.len()))
 }
 

@@ -1,9 +1,10 @@
 //! A journal that is written as far as its sink takes it.
-ghost use Rattle.std.specs.Prelude.{◌≡◌, ◌+◌, false};
+ghost use Rattle.std.specs.Prelude.{◌≡◌, ◌+◌, false, Some};
 ghost use Rattle.flute_parts.specs.Addresses.{fact_of};
 ghost use Rattle.flute_store.specs.Walk.{IsSized};
 ghost use Rattle.flute_journal.specs.Format.{header, entry, end};
 ghost use Rattle.flute_parts.specs.Ranges.{IsFact};
+ghost use Rattle.flute_journal.specs.HeldEntries.{IsSpelling};
 ghost use Rattle.flute_journal.specs.JournalWriters.{Puts};
 
 use crate::format::{HEADER, HeadBytes, end_of, put_head, symbol_value};
@@ -41,9 +42,23 @@ impl<'a, W: Sink> JournalWriter<'a, W> {
         self.put(&HEADER);
     }
 
-    /// Writes an entry.
+    /// Writes an entry. `spelled` are its bytes, if they lie in memory already, or else none.
     #[inline(always)]
-    pub fn entry(&mut self, fact: &FactRef<'_>)
+    pub fn entry(&mut self, fact: &FactRef<'_>, spelled: &[u8])
+        requires sized { IsSized (fact_of fact.now) }
+        requires spelled { IsSpelling spelled.now (Some (fact_of fact.now)) }
+        ensures valid { IsFact (fact_of fact.now) }
+        ensures puts { Puts W.written W.failures (entry (fact_of fact.now)) self.old self.new }
+    {
+        if spelled.is_empty() {
+            self.spell(fact);
+        } else {
+            self.put(spelled);
+        }
+    }
+
+    // Writes an entry that is to be spelled.
+    fn spell(&mut self, fact: &FactRef<'_>)
         requires sized { IsSized (fact_of fact.now) }
         ensures valid { IsFact (fact_of fact.now) }
         ensures puts { Puts W.written W.failures (entry (fact_of fact.now)) self.old self.new }

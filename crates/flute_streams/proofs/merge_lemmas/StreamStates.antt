@@ -1,4 +1,5 @@
 -- The state of a merge of streams between two turns, and how the merge ends (merge_into).
+use Rattle.flute_streams.specs.Lowest.{AreSpelled}
 use Rattle.flute_streams.proofs.Common.{Address, AllByRecursion, Appends, Appends-nil}
 use Rattle.flute_streams.proofs.Common.{Appends-trans, AppendsPart, AppendsPartOf, AreNew}
 use Rattle.flute_streams.proofs.Common.{Behaviour, Below-from_Same, Bool, CanGoOn, Collects, Counts}
@@ -184,6 +185,11 @@ module _ {S : Type 0} (b : Behaviour S) where
   heads-sized place [] w = tt
   heads-sized place (r ∷ runs) w = grind (arith, all_append, nows, heads-sized place runs w.1)
 
+  streams-spelled : (place : Option Address) (runs : List (Run S))
+      → AllByRecursion (Went b place) runs → AreSpelled b (nows runs)
+  streams-spelled place [] w = tt
+  streams-spelled place (r ∷ runs) w = (w.0.gave.spelled, streams-spelled place runs w.1)
+
   -- as many facts as were given, and may still be
   most-given : (place : Option Address) (runs : List (Run S)) → AllByRecursion (Went b place) runs
       → most_of b (nows runs) + length (all_of (givens runs)) ≤ most_of b (starts runs)
@@ -209,6 +215,11 @@ module _ {S : Type 0} (b : Behaviour S) where
     few-joined = let e =
         ap (most_of b) state.starts_are in
         omega (arith, e, state.count_is, state.few, most-given last state.runs state.went)
+
+    -- the bytes of what is held, where they lie in memory
+    pub spelled_now : AreSpelled b now
+    spelled_now =
+        subst (AreSpelled b) state.nows_are (streams-spelled last state.runs state.went)
 
     moved : (P : List S → List S → Type 0) → P (starts state.runs) (nows state.runs)
         → P old now

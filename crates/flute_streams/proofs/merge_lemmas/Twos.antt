@@ -40,17 +40,17 @@ begins_two Write merge bytes entries is h = subst (λ x. AppendedUpTo x bytes en
 begins_two (Input fault) merge bytes entries is h =
     begins fault.number fault.fault merge bytes entries is h
 
-module _ {A B : Type 0} (ua : A → Option (List ℕ)) (fa : A → ℕ)
-    (ub : B → Option (List ℕ)) (fb : B → ℕ) where
+module _ {A B : Type 0} (ua : A → Option (List ℕ)) (ba : A → List ℕ) (fa : A → ℕ)
+    (ub : B → Option (List ℕ)) (bb : B → List ℕ) (fb : B → ℕ) where
   abbrev both : Behaviour (Either (LentStream A) (LentStream B))
-  both = either_behaviour (lent_behaviour ua fa) (lent_behaviour ub fb)
+  both = either_behaviour (lent_behaviour ua ba fa) (lent_behaviour ub bb fb)
 
   module _ (s s' : LentStream A) (t t' : LentStream B) where
     abbrev u : Option (List ℕ)
-    u = unread_of ua fa (lent s)
+    u = unread_of ua ba (lent s)
 
     abbrev v : Option (List ℕ)
-    v = unread_of ub fb (lent t)
+    v = unread_of ub bb (lent t)
 
     abbrev inputs : List (Either (LentStream A) (LentStream B))
     inputs = First s ∷ Second t ∷ []
@@ -152,7 +152,7 @@ module _ {A B : Type 0} (ua : A → Option (List ℕ)) (fa : A → ℕ)
     -- what was read of both, and what was appended
     keeps_two : {w w' : Option (List ℕ)} {fault : StreamsFault} (merge : MergeFault)
         → IsFaultOfTwo fault merge → ReadsAhead both inputs after w w' fault
-        → KeepsUp u (unread_of ua fa (lent s')) v (unread_of ub fb (lent t')) w w' merge
+        → KeepsUp u (unread_of ua ba (lent s')) v (unread_of ub bb (lent t')) w w' merge
     keeps_two {fault = fault} merge is r =
         let two = since_two both.reads r.read r.reads in
         record {
@@ -209,8 +209,8 @@ module _ {A B : Type 0} (ua : A → Option (List ℕ)) (fa : A → ℕ)
         → IsFaultOfTwo fault merge → limit_of t.reader.now ≡ limit_of s.reader.now
         → AppendsPartOf both inputs w w' → ReadsAhead both inputs after w w' fault
         → NamesInput both inputs fault
-        → MergeGives (limit_of s.reader.now) u (unread_of ua fa (lent s')) v
-        (unread_of ub fb (lent t')) w w' (Err merge)
+        → MergeGives (limit_of s.reader.now) u (unread_of ua ba (lent s')) v
+        (unread_of ub bb (lent t')) w w' (Err merge)
     stopped_two {fault = fault} {merge = merge} is same p r n =
         record {
           short = short_two p;

@@ -2,8 +2,8 @@
 use Rattle.flute_streams.proofs.Common.{◌≡◌, ℕ, zero, suc, ◌+◌, ◌-◌, ◌<◌}
 use Rattle.flute_streams.proofs.Common.{◌≤◌, List, [], ◌∷◌, length, length-take}
 use Rattle.flute_streams.proofs.Common.{take_all, get_or, get_or_from_slice_get, same_Some, Some}
-use Rattle.flute_streams.proofs.Common.{Option, inl, inr, Result, refl, sym, ap, ◌∙◌, arith}
-use Rattle.flute_streams.proofs.Common.{slice_get, slice_set, Fact, LoadFault, Either, First}
+use Rattle.flute_streams.proofs.Common.{inl, inr, Result, refl, sym, ap, ◌∙◌, arith}
+use Rattle.flute_streams.proofs.Common.{slice_get, slice_set, LoadFault, Either, First}
 use Rattle.flute_streams.proofs.Common.{Second, Behaviour, Advances, either_behaviour}
 use Rattle.flute_streams.proofs.streams_lemmas.Eithers.{second_at}
 use Rattle.std.proofs.{
@@ -12,7 +12,6 @@ use Rattle.std.proofs.{
   Math.Seq.{take-set-lt},
 }
 use Rattle.std.specs.Prelude.{map, min, option_map}
-use Rattle.flute_streams.specs.Eithers.{held_either}
 use Rattle.flute_streams.specs.Chains.{chained, taken}
 
 abbrev seconds : (A B : Type 0) → List B → List (Either A B)
@@ -74,13 +73,14 @@ module _ {A B : Type 0} (a : Behaviour A) (b : Behaviour B) (x : A) (ys : List B
       (slice_get_read (taken ys) (length (taken ys)) (n - 1) y refl near
       (sym (taken_at ys (n - 1) y below ∙ get_or_from_slice_get ys (n - 1) y y is)))
 
-  pub other_held : (o : Option Fact)
-      → ((y : B) → slice_get ys (n - 1) ≡ Some y → o ≡ b.held y) → (s : Either A B)
-      → slice_get (chained x (taken ys)) n ≡ Some s → o ≡ held_either a b s
-  other_held o h s e = elim (slice_get_cases ys (n - 1)).1 [
+  -- what is read of the other stream is read of the stream with its number
+  pub other_is : {X : Type 0} (read : Either A B → X) (o : X)
+      → ((y : B) → slice_get ys (n - 1) ≡ Some y → o ≡ read (Second y)) → (s : Either A B)
+      → slice_get (chained x (taken ys)) n ≡ Some s → o ≡ read s
+  other_is read o h s e = elim (slice_get_cases ys (n - 1)).1 [
     | inl (y, _, is, _) ↦
         let both : Some (Second y) ≡ Some s = sym (stands y is) ∙ e in
-        h y is ∙ ap (held_either a b) (same_Some _ _ both)
+        h y is ∙ ap read (same_Some _ _ both)
     | inr (past, _) ↦ absurd (omega (arith, far, past))
   ]
 

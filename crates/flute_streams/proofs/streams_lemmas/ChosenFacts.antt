@@ -234,6 +234,7 @@ module _ {C : Type 0} (takes : C → Fact → Bool) (s : C) where
             rising = subst IsRising (sym e) (rising_filter (takes s) (q.0 ++ option_list held)
                 q.1.rising);
             sized = q.1.sized;
+            spelled = q.1.spelled;
             ended = λ n. of_start (b.tells start.stream) given (q.0, q.1.ended n, q.2);
             ends = λ n. of_start (λ all. b.ends start.stream t.stream all
                 × CountsOthers takes start t all) given (q.0, (q.1.ends n, counts), q.2);

@@ -16,7 +16,9 @@ use Rattle.flute_journal.proofs.Public.{ahead-sofar, reads-side, reads-sofar, re
 use Rattle.flute_journal.proofs.Public.{whole-at, side-from, open_after, sofar-fault, journal_sound}
 use Rattle.flute_journal.proofs.Public.{one_given, all_split, fact_sized, spelling-injective}
 use Rattle.flute_journal.proofs.Public.{BeginsWithJournal}
+use Rattle.flute_journal.specs.HeldEntries.{HoldsNext}
 use Rattle.flute_journal.specs.declared.fault.LoadFault.TheVariants as load
+use Rattle.flute_streams.specs.JournalStreams.{reading_of}
 use Rattle.flute_streams.specs.declared.streams.journal_stream.JournalStream.{JournalStream}
 
 -- what was read, once the next entry or the end was
@@ -253,81 +255,99 @@ pub never : (b : Bool) (x y : ℕ) (o : Option Fact) → FailsIf {T = Option Fac
 never true x y o h = h
 never false x y o h = h
 
-module _ {R : Type 0} (unread : R → Option (List ℕ)) (failures : R → ℕ) where
-  abbrev b : Behaviour (JournalStream R)
-  b = journal_behaviour unread failures
+module _ {R : Type 0} (unread : R → Option (List ℕ)) (buffered : R → List ℕ) (failures : R → ℕ)
+  where
+    abbrev b : Behaviour (JournalStream R)
+    b = journal_behaviour unread buffered failures
 
-  -- the failures of one source add up
-  since : (s t u : JournalStream R) (fault : Option LoadFault) → FailsSince unread failures s t None
-      → FailsSince unread failures t u fault → FailsSince unread failures s u fault
-  since s t u fault h k = grind (arith)
+    -- the failures of one source add up
+    since : (s t u : JournalStream R) (fault : Option LoadFault)
+        → FailsSince unread buffered failures s t None
+        → FailsSince unread buffered failures t u fault
+        → FailsSince unread buffered failures s u fault
+    since s t u fault h k = grind (arith)
 
-  -- the reader of a stream that has given these facts since it was new was called again
-  abbrev Called : JournalStream R → JournalStream R → JournalStream R → List Fact
-      → Result (Option Fact) ReadFault → Type 0
-  Called start s t F result =
-      IsCalled (limit_of start.reader) (limit_of s.reader) (unread_of unread failures start)
-      (unread_of unread failures s) (unread_of unread failures t) (state_of s.reader)
-      (state_of t.reader) F s.held result
+    -- the reader of a stream that has given these facts since it was new was called again
+    abbrev Called : JournalStream R → JournalStream R → JournalStream R → List Fact
+        → Result (Option Fact) ReadFault → Type 0
+    Called start s t F result =
+        IsCalled (limit_of start.reader) (limit_of s.reader) (unread_of unread buffered start)
+        (unread_of unread buffered s) (unread_of unread buffered t) (state_of s.reader)
+        (state_of t.reader) F (b.held s) result
 
-  -- the stream is advanced, or stops, as the trait's clauses say (specs/Streams)
-  pub stream_goes_on : (s t : JournalStream R) → FailsSince unread failures s t None
-      → limit_of t.reader ≡ limit_of s.reader
-      → Gives journal_framing (limit_of s.reader) (state_of s.reader) (state_of t.reader)
-      (unread_of unread failures s) (unread_of unread failures t) (Ok t.held) → GoesOn b s t
-  stream_goes_on s t same limit g = record {
-    gave = λ start F p.
-        let call : Called start s t F (Ok t.held) =
-        record { same_limit = p.same_limit; read = p.read; gives = g } in
-        let r = gives_on call in
-        let fails = since start s t None p.fails same in
+    -- the reader of a stream was called, which still reads the same source
+    pub record HoldsOn (s t : JournalStream R) (result : Result (Unit {0}) ReadFault) : Type 0 where
+      pub same_source : (source_of t.reader).ghost_name ≡ (source_of s.reader).ghost_name
+      pub same_limit : limit_of t.reader ≡ limit_of s.reader
+      pub holds :
+          HoldsNext unread buffered failures (limit_of s.reader) (reading_of s) (reading_of t)
+          result
+
+    none_failed : {s t : JournalStream R} → HoldsOn s t (Ok tt)
+        → FailsSince unread buffered failures s t None
+    none_failed {s = s} {t = t} h =
         record {
-          passes = record { fails = fails; same_limit = limit ∙ p.same_limit; read = r.read };
+          same_source = h.same_source;
+          failed_as =
+              never (is_open (state_of s.reader)) (failures (source_of s.reader).now)
+              (failures (source_of t.reader).now) (b.held t) h.holds.failed;
+        }
+
+    one_failed : {s t : JournalStream R} (f : ReadFault) → HoldsOn s t (Err f)
+        → IsTrue (is_open (state_of s.reader))
+        → FailsSince unread buffered failures s t (Some (load.Read f))
+    one_failed {s = s} {t = t} f h o =
+        record {
+          same_source = h.same_source;
+          failed_as =
+              subst (λ (more : Bool). FailsIf {T = Option Fact} more
+              (failures (source_of s.reader).now) (failures (source_of t.reader).now) (Err f)) o
+              h.holds.failed;
+        }
+
+    -- the stream is advanced, or stops, as the trait's clauses say (specs/Streams)
+    pub stream_goes_on : {s t : JournalStream R} → HoldsOn s t (Ok tt) → GoesOn b s t
+    stream_goes_on {s = s} {t = t} h = record {
+      gave = λ start F p.
+          let call : Called start s t F (Ok (b.held t)) =
+          record { same_limit = p.same_limit; read = p.read; gives = h.holds.gives } in
+          let r = gives_on call in
+          let fails = since start s t None p.fails (none_failed h) in
+          record {
+            passes =
+                record { fails = fails; same_limit = h.same_limit ∙ p.same_limit; read = r.read };
+            reads = r.reads;
+            reads_held = r.reads_held;
+            fails = fails;
+            rising = r.rising;
+            sized = r.sized;
+            spelled = h.holds.spelled;
+            ended = r.ended;
+            ends = r.ended;
+            known = r.known;
+          };
+      fewer =
+          let e = ap (λ x. room x (state_of t.reader)) h.same_limit in
+          omega (
+            arith,
+            e,
+            fewer (limit_of s.reader) (length (option_list (b.held s)))
+                (unread_of unread buffered s) (unread_of unread buffered t)
+                (state_of s.reader) (state_of t.reader) (b.held t) h.holds.gives,
+          );
+    }
+
+    pub stream_stops : {s t : JournalStream R} (f : ReadFault) → HoldsOn s t (Err f)
+        → StopsAt b s t (load.Read f)
+    stream_stops {s = s} {t = t} f h = λ start F p.
+        let call : Called start s t F (Err f) =
+        record { same_limit = p.same_limit; read = p.read; gives = h.holds.gives } in
+        let r = stops_on call in
+        record {
           reads = r.reads;
-          reads_held = r.reads_held;
-          fails = fails;
-          rising = r.rising;
-          sized = r.sized;
-          ended = r.ended;
-          ends = r.ended;
-          known = r.known;
-        };
-    fewer = grind (arith);
-  }
-
-  pub stream_stops : (s t : JournalStream R) (f : ReadFault)
-      → (IsTrue (is_open (state_of s.reader)) → FailsSince unread failures s t (Some (load.Read f)))
-      → Gives journal_framing (limit_of s.reader) (state_of s.reader) (state_of t.reader)
-      (unread_of unread failures s) (unread_of unread failures t) (Err f)
-      → StopsAt b s t (load.Read f)
-  stream_stops s t f same g = λ start F p.
-      let call : Called start s t F (Err f) =
-      record { same_limit = p.same_limit; read = p.read; gives = g } in
-      let h = stops_on call in
-      record {
-        reads = h.reads;
-        fails = since start s t (Some (load.Read f)) p.fails (same h.open_before);
-        stops = h.has_fault;
-      }
-
-  pub none_failed : (s t : JournalStream R)
-      → (source_of t.reader).ghost_name ≡ (source_of s.reader).ghost_name
-      → FailsIf (is_open (state_of s.reader)) (failures (source_of s.reader).now)
-      (failures (source_of t.reader).now) (Ok t.held) → FailsSince unread failures s t None
-  none_failed s t e h =
-      record {
-        same_source = e;
-        failed_as =
-            never (is_open (state_of s.reader)) (failures (source_of s.reader).now)
-            (failures (source_of t.reader).now) t.held h;
-      }
-
-  pub one_failed : (s t : JournalStream R) (f : ReadFault)
-      → (source_of t.reader).ghost_name ≡ (source_of s.reader).ghost_name
-      → FailsIf {T = Option Fact} (is_open (state_of s.reader)) (failures (source_of s.reader).now)
-      (failures (source_of t.reader).now) (Err f) → IsTrue (is_open (state_of s.reader))
-      → FailsSince unread failures s t (Some (load.Read f))
-  one_failed s t f e h o = grind (arith)
+          fails = since start s t (Some (load.Read f)) p.fails (one_failed f h r.open_before);
+          stops = r.has_fault;
+        }
 
 -- the same reader and held entry are still lent
 pub loans : {R : Type 0} (s t : LentStream R) → SameLoans s t → (start : LentStream R)

@@ -1,4 +1,5 @@
 -- WalkStream and FactStream: facts in memory are a stream.
+use Rattle.flute_journal.specs.HeldEntries.{IsSpelling}
 use Rattle.flute_streams.proofs.Common.{◌≡◌, List, [], ◌∷◌, ◌++◌, length, Option}
 use Rattle.flute_streams.proofs.Common.{Some, None, refl}
 use Rattle.flute_streams.proofs.Common.{sym, ap, ◌∙◌, subst, inl, inr, append_assoc}
@@ -26,6 +27,10 @@ pub walked : (r : Option FactRef) (xs ys : List Fact) → YieldsFact (λ (l : Li
     → (xs ≡ option_list (fact_in r) ++ ys) × (fact_in r ≡ None → ys ≡ [])
     × IfSome (fact_in r) IsSized
 walked r xs ys h = grind (arith)
+
+spells_none : (o : Option Fact) → IsSpelling [] o
+spells_none None = refl
+spells_none (Some f) = inl refl
 
 module _ {S : Type 0} (held : S → Option Fact) (rest : S → List Fact) (is_sound : S → Type 0) where
   -- it holds the next fact, or none is left
@@ -60,6 +65,7 @@ module _ {S : Type 0} (held : S → Option Fact) (rest : S → List Fact) (is_so
                 (subst (AllByRecursion IsSized) all (h start p.sound))).0).1
             | inr h ↦ h
           ];
+          spelled = spells_none (held t);
           ended = λ h. told G (held t) (rest t) (rest start) h (n h) all;
           ends = λ h. told G (held t) (rest t) (rest start) h (n h) all;
           known = λ K k. record {

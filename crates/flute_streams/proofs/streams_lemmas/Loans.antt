@@ -16,6 +16,7 @@ module _ {S L : Type 0} (whole : L → S) (Same : L → L → Type 0) (b : Behav
           fails = (g.fails, same start p.1);
           rising = g.rising;
           sized = g.sized;
+          spelled = g.spelled;
           ended = g.ended;
           ends = g.ends;
           known = g.known;

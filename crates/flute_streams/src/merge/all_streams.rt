@@ -188,8 +188,8 @@ fn merge_into<const SESSIONS: u32, const OBJECTS: u32, const SYMBOLS: u32, G: St
     let mut entries = 0;
     let mut lead = Lead::new();
     let mut ranks = Ranks::new();
-    while let Some(fact) = lead.lowest(&ranks, streams) {
-        writer.entry(&fact);
+    while let Some((fact, spelled)) = lead.lowest(&ranks, streams) {
+        writer.entry(&fact, spelled);
         if stops(writer, patient) {
             return Err(StreamsFault::Write);
         }

@@ -1,12 +1,13 @@
 //! What is known of the lowest address, so that not each stream has to be looked at: the stream
 //! that holds a fact below all others leads until it has passed the next address; and many streams
 //! have ranks if few at a time were advanced of late.
-ghost use Rattle.std.specs.Prelude.{◌≡◌, ◌<◌, true, false, Some, length, OnOk, IfErr};
+ghost use Rattle.std.specs.Prelude.{◌≡◌, ◌<◌, true, false, Some, length, IfSome, OnOk, IfErr};
 ghost use Rattle.std.specs.Ordering.{is_lt};
 ghost use Rattle.flute_parts.specs.Order.{address_cmp};
 ghost use Rattle.flute_parts.specs.Addresses.{address, fact_of};
 ghost use Rattle.flute_streams.specs.Streams.{fact_in, place_of, heads};
-ghost use Rattle.flute_streams.specs.Lowest.{IsLowest};
+ghost use Rattle.flute_journal.specs.HeldEntries.{IsSpelling};
+ghost use Rattle.flute_streams.specs.Lowest.{AreSpelled, IsLowest, value_of};
 ghost use Rattle.flute_streams.specs.Leads.{Leads, IsBelowNext, StandsAt, lower_of, lower_next};
 ghost use Rattle.flute_streams.specs.Ranks.{IsLed, IsRanking};
 ghost use Rattle.flute_streams.specs.Advances.{GoOnAt, StopsIn};
@@ -42,22 +43,32 @@ impl Lead {
         }
     }
 
-    /// The value of the facts that streams hold at the lowest of their addresses.
-    /// None if none is held.
+    /// The value of the facts that streams hold at the lowest of their addresses, and the bytes of
+    /// its entry, if they lie in memory. None if none is held.
     #[inline(always)]
-    pub fn lowest<'a, G: Streams>(&self, ranks: &Ranks, streams: &'a G) -> Option<FactRef<'a>>
-        requires { IsLed G.Stream.behaviour (G.streams streams.now) self.now ranks.now }
+    pub fn lowest<'a, G: Streams>(
+        &self,
+        ranks: &Ranks,
+        streams: &'a G,
+    ) -> Option<(FactRef<'a>, &'a [u8])>
+        requires led { IsLed G.Stream.behaviour (G.streams streams.now) self.now ranks.now }
+        requires spelled { AreSpelled G.Stream.behaviour (G.streams streams.now) }
         ensures lowest { IsLowest (heads G.Stream.behaviour (G.streams streams.now))
-            (fact_in result) }
+            (value_of result) }
+        ensures spelled { IfSome result (λ lowest.
+            IsSpelling lowest.1.now (Some (fact_of lowest.0))) }
         ensures held { self.now.known ≡ true → StandsAt G.Stream.behaviour
-            (place_of (fact_in result)) (G.streams streams.now) self.now.number }
+            (place_of (value_of result)) (G.streams streams.now) self.now.number }
     {
         if self.known {
-            return streams.head(self.number);
+            return match streams.head(self.number) {
+                Some(fact) => Some((fact, streams.spelled(self.number))),
+                None => None,
+            };
         }
         if streams.count() >= MANY && ranks.are_known() {
-            if let Some(fact) = ranks.lowest_held(streams) {
-                return Some(fact);
+            if let Some(lowest) = ranks.lowest_held(streams) {
+                return Some(lowest);
             }
         }
         lowest_held(streams)

@@ -1,36 +1,52 @@
 //! What streams hold at the lowest address.
-ghost use Rattle.std.specs.Prelude.{◌≡◌, ◌∷◌, ◌++◌, [], List};
+ghost use Rattle.std.specs.Prelude.{◌≡◌, ◌∷◌, ◌++◌, [], List, IfSome, Some};
 ghost use Rattle.flute_parts.specs.Order.{address_cmp};
 ghost use Rattle.flute_parts.specs.Addresses.{address, fact_of};
 ghost use Rattle.flute_parts.specs.Facts.{conflict_at, same_fact};
 ghost use Rattle.flute_parts.specs.declared.fact.Fact.{Fact};
 ghost use Rattle.flute_streams.specs.Streams.{fact_in, heads};
-ghost use Rattle.flute_streams.specs.Lowest.{IsLowest};
+ghost use Rattle.flute_journal.specs.HeldEntries.{IsSpelling};
+ghost use Rattle.flute_streams.specs.Lowest.{AreSpelled, IsLowest, value_of};
 ghost use Rattle.flute_streams.specs.Changes.{changed};
 
+use crate::merge::same_bytes::same_bytes;
 use crate::streams::Streams;
 use flute_parts::{Address, FactRef, Part};
 use std::cmp::Ordering;
 
-/// The value of the facts that streams hold at the lowest of their addresses.
-/// None if none is held.
+/// The value of the facts that streams hold at the lowest of their addresses, and the bytes of its
+/// entry, if they lie in memory. None if none is held.
 #[tactic(auto, using(std::proofs::Common::take_all))]
 #[inline(always)]
-pub fn lowest_held<G: Streams>(streams: &G) -> Option<FactRef<'_>>
-    ensures { IsLowest (heads G.Stream.behaviour (G.streams streams.now)) (fact_in result) }
+pub fn lowest_held<'a, G: Streams>(streams: &'a G) -> Option<(FactRef<'a>, &'a [u8])>
+    requires { AreSpelled G.Stream.behaviour (G.streams streams.now) }
+    ensures lowest { IsLowest (heads G.Stream.behaviour (G.streams streams.now))
+        (value_of result) }
+    ensures spelled { IfSome result (λ lowest.
+        IsSpelling lowest.1.now (Some (fact_of lowest.0))) }
 {
     let mut lowest = None;
+    let mut spelled: &[u8] = &[];
     let all = streams.count();
     for number in 0..all {
         if let Some(fact) = streams.head(number) {
             match change_by(&lowest, &fact) {
-                Change::Lower => lowest = Some(fact),
-                Change::Conflict => lowest = Some(conflict_at(&fact.address())),
+                Change::Lower => {
+                    lowest = Some(fact);
+                    spelled = streams.spelled(number);
+                }
+                Change::Conflict => {
+                    lowest = Some(conflict_at(&fact.address()));
+                    spelled = &[];
+                }
                 Change::Nothing => {}
             }
         }
     }
-    lowest
+    match lowest {
+        Some(fact) => Some((fact, spelled)),
+        None => None,
+    }
 }
 
 /// How the value of facts at the lowest of their addresses changes by one fact more.
@@ -92,7 +108,7 @@ pub fn is_same(first: &FactRef<'_>, second: &FactRef<'_>) -> bool
 {
     match (first, second) {
         (FactRef::Symbol { bytes: first, .. }, FactRef::Symbol { bytes: second, .. }) => {
-            first == second
+            same_bytes(first, second)
         }
         (FactRef::Info { info: first, .. }, FactRef::Info { info: second, .. }) => first == second,
         (FactRef::InfoConflict { .. }, FactRef::InfoConflict { .. }) => true,

@@ -9,7 +9,8 @@ ghost use Rattle.flute_parts.specs.Order.{address_cmp};
 ghost use Rattle.flute_parts.specs.Addresses.{address, fact_of};
 ghost use Rattle.flute_parts.specs.declared.fact.Fact.{Fact};
 ghost use Rattle.flute_streams.specs.Streams.{fact_in, heads, place_of};
-ghost use Rattle.flute_streams.specs.Lowest.{ComesTo, IsNotBefore, Lowest};
+ghost use Rattle.flute_journal.specs.HeldEntries.{IsSpelling};
+ghost use Rattle.flute_streams.specs.Lowest.{AreSpelled, ComesTo, IsNotBefore, Lowest};
 ghost use Rattle.flute_streams.specs.Advances.{GoOnAt, StopsIn};
 ghost use Rattle.flute_streams.specs.Changes.{changed};
 ghost use Rattle.flute_streams.specs.Ranks.{AreAbove, AreLow, HoldsFrom, IsRanking, part_at};
@@ -159,13 +160,16 @@ impl Ranks {
         self.key = Some(key);
     }
 
-    /// The value of the facts that streams hold at the lowest of their addresses. None if that is
-    /// no part of the object, or the streams have no ranks.
+    /// The value of the facts that streams hold at the lowest of their addresses, and the bytes of
+    /// its entry, if they lie in memory. None if that is no part of the object, or the streams have
+    /// no ranks.
     #[inline(never)]
-    pub fn lowest_held<'a, G: Streams>(&self, streams: &'a G) -> Option<FactRef<'a>>
-        requires { IsRanking G.Stream.behaviour (G.streams streams.now) self.now }
-        ensures { IfSome result (λ fact.
-            Lowest (heads G.Stream.behaviour (G.streams streams.now)) (fact_of fact)) }
+    pub fn lowest_held<'a, G: Streams>(&self, streams: &'a G) -> Option<(FactRef<'a>, &'a [u8])>
+        requires ranking { IsRanking G.Stream.behaviour (G.streams streams.now) self.now }
+        requires spelled { AreSpelled G.Stream.behaviour (G.streams streams.now) }
+        ensures { IfSome result (λ lowest.
+            Lowest (heads G.Stream.behaviour (G.streams streams.now)) (fact_of lowest.0)
+            × IsSpelling lowest.1.now (Some (fact_of lowest.0))) }
     {
         let key = self.key?;
         let all = streams.count();
@@ -175,18 +179,28 @@ impl Ranks {
             part: part_of(rank)?,
         };
         let mut value = None;
+        let mut spelled: &[u8] = &[];
         let mut next = 0;
         while let Some(number) = self.next_at(next, all, rank) {
             if let Some(fact) = streams.head(number) {
                 match change_at(&place, &value, &fact) {
-                    Change::Lower => value = Some(fact),
-                    Change::Conflict => value = Some(conflict_at(&place)),
+                    Change::Lower => {
+                        value = Some(fact);
+                        spelled = streams.spelled(number);
+                    }
+                    Change::Conflict => {
+                        value = Some(conflict_at(&place));
+                        spelled = &[];
+                    }
                     Change::Nothing => {}
                 }
             }
             next = number + 1;
         }
-        value
+        match value {
+            Some(fact) => Some((fact, spelled)),
+            None => None,
+        }
     }
 
     /// Advances each stream that holds a fact at this address of the object, in their order.

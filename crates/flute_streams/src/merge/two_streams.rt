@@ -20,7 +20,7 @@ use crate::merge::streams_fault::{InputFault, StreamsFault};
 use crate::streams::chained::Chained;
 use crate::streams::journal_stream::LentStream;
 use crate::streams::stream::Stream;
-use flute_journal::{JournalReader, LoadFault, ReadFault};
+use flute_journal::{HeldEntry, JournalReader, LoadFault, ReadFault};
 use flute_parts::{Sink, Source};
 use std::alloc::Global;
 use thiserror::Error;
@@ -107,8 +107,8 @@ fn merge_readers<A: Source, B: Source, W: Sink>(
         (B.failures (source_of second.new).now) result }
     ensures sink_failures { W.failures sink.new ≡ W.failures sink.old + sink_failed result }
 {
-    let mut first_held = None;
-    let mut second_held = None;
+    let mut first_held = HeldEntry::Nothing;
+    let mut second_held = HeldEntry::Nothing;
     let mut left = LentStream {
         reader: &mut *first,
         held: &mut first_held,
@@ -120,7 +120,7 @@ fn merge_readers<A: Source, B: Source, W: Sink>(
     merge_new(alloc, &mut left, &mut right, sink)
 }
 
-// Merges two new streams of journals.
+// Merges two new streams of journals, and lets go of what they hold.
 #[tactic(auto, using(crate::proofs::merge_lemmas::Twos::reading_two))]
 fn merge_new<A: Source, B: Source, W: Sink>(
     alloc: Global,
@@ -128,10 +128,11 @@ fn merge_new<A: Source, B: Source, W: Sink>(
     second: &mut LentStream<'_, '_, B>,
     sink: &mut W,
 ) -> Result<u64, MergeFault>
-    requires first_new { IsNew (lent_behaviour A.unread A.failures) first.old }
-    requires second_new { IsNew (lent_behaviour B.unread B.failures) second.old }
-    requires first_bound { (lent_behaviour A.unread A.failures).most first.old < 2 ^ 63 }
-    requires second_bound { (lent_behaviour B.unread B.failures).most second.old < 2 ^ 63 }
+    requires first_new { IsNew (lent_behaviour A.unread A.buffered A.failures) first.old }
+    requires second_new { IsNew (lent_behaviour B.unread B.buffered B.failures) second.old }
+    requires first_bound { (lent_behaviour A.unread A.buffered A.failures).most first.old < 2 ^ 63 }
+    requires second_bound { (lent_behaviour B.unread B.buffered B.failures).most second.old
+        < 2 ^ 63 }
     requires same_bound { limit_of second.old.reader.now ≡ limit_of first.old.reader.now }
     ensures first_loans { SameLoans first.old first.new }
     ensures second_loans { SameLoans second.old second.new }
@@ -152,7 +153,10 @@ fn merge_new<A: Source, B: Source, W: Sink>(
     ensures sink_failures { W.failures sink.new ≡ W.failures sink.old + sink_failed result }
 {
     // `within` is not used, so the limits are 0, and nothing is counted
-    match merge_two::<0, 0, 0, _, _, _>(alloc, first, second, sink) {
+    let result = merge_two::<0, 0, 0, _, _, _>(alloc, first, second, sink);
+    first.let_go(alloc);
+    second.let_go(alloc);
+    match result {
         Ok(joined) => Ok(joined.entries),
         Err(fault) => Err(fault_of_two(fault)),
     }

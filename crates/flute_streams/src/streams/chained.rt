@@ -56,6 +56,15 @@ impl<'a, A: Stream, G: Streams> Streams for Chained<'a, A, G> {
     }
 
     #[inline(always)]
+    fn spelled(&self, number: usize) -> &[u8] {
+        if number == 0 {
+            (*self.first).spelled()
+        } else {
+            self.others.spelled(number - 1)
+        }
+    }
+
+    #[inline(always)]
     fn advance(&mut self, number: usize, alloc: Global) -> Result<(), LoadFault> {
         if number == 0 {
             self.first.advance(alloc)

@@ -47,6 +47,11 @@ impl<S: Stream, C: Choice> Stream for Chosen<S, C> {
     }
 
     #[inline(always)]
+    fn spelled(&self) -> &[u8] {
+        self.stream.spelled()
+    }
+
+    #[inline(always)]
     fn advance(&mut self, alloc: Global) -> Result<(), LoadFault> {
         self.stream.advance(alloc)?;
         while is_other(&self.choice, &self.stream.head()) {

@@ -25,6 +25,13 @@ impl<A: Stream, B: Stream> Stream for Either<A, B> {
         }
     }
 
+    fn spelled(&self) -> &[u8] {
+        match self {
+            Either::First(stream) => stream.spelled(),
+            Either::Second(stream) => stream.spelled(),
+        }
+    }
+
     fn advance(&mut self, alloc: Global) -> Result<(), LoadFault> {
         match self {
             Either::First(stream) => stream.advance(alloc),

@@ -42,6 +42,10 @@ impl Stream for FactStream {
         }
     }
 
+    fn spelled(&self) -> &[u8] {
+        &[]
+    }
+
     fn advance(&mut self, _alloc: Global) -> Result<(), LoadFault> {
         self.held = self.next.take();
         Ok(())

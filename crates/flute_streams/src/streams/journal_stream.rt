@@ -1,20 +1,23 @@
 //! A journal as a stream.
-ghost use Rattle.std.specs.Prelude.{◌≡◌, None};
+ghost use Rattle.std.specs.Prelude.{◌≡◌};
 ghost use Rattle.flute_journal.specs.Readers.{source_of, limit_of, state_of};
 ghost use Rattle.flute_streams.specs.Streams.{IsNew};
-ghost use Rattle.flute_streams.specs.JournalStreams.{journal_behaviour, lent_behaviour};
+ghost use Rattle.std.specs.Io.KnownBytes.{Consumes};
+ghost use Rattle.flute_journal.specs.HeldEntries.{spelled_in};
+ghost use Rattle.flute_streams.specs.JournalStreams.{SameLoans, journal_behaviour, lent_behaviour};
+ghost use Rattle.flute_journal.specs.declared.readers.held_entry.HeldEntry.TheVariants as held;
 ghost use Rattle.flute_journal.specs.declared.readers.reader_state.ReaderState.TheVariants as ReaderState;
 
 use crate::streams::stream::Stream;
-use flute_journal::{JournalReader, LoadFault};
-use flute_parts::{Fact, FactRef, Source};
+use flute_journal::{HeldEntry, JournalReader, LoadFault};
+use flute_parts::{FactRef, Source};
 use std::alloc::Global;
 
 /// A journal that is read entry by entry, of which one entry is held.
 #[derive(Debug, Drop)]
 pub struct JournalStream<'a, R> {
     pub reader: JournalReader<'a, R>,
-    pub held: Option<Fact>,
+    pub held: HeldEntry,
 }
 
 impl<'a, R: Source> JournalStream<'a, R> {
@@ -25,26 +28,29 @@ impl<'a, R: Source> JournalStream<'a, R> {
         ensures unread { (source_of result.reader).now ≡ source.old }
         ensures limit { limit_of result.reader ≡ max_entries }
         ensures state { state_of result.reader ≡ ReaderState.Header }
-        ensures held { result.held ≡ None }
-        ensures new { IsNew (journal_behaviour R.unread R.failures) result }
-        ensures most { (journal_behaviour R.unread R.failures).most result ≡ max_entries }
+        ensures held { result.held ≡ held.Nothing }
+        ensures new { IsNew (journal_behaviour R.unread R.buffered R.failures) result }
+        ensures most { (journal_behaviour R.unread R.buffered R.failures).most result
+            ≡ max_entries }
     {
         JournalStream {
             reader: JournalReader::new(source, max_entries),
-            held: None,
+            held: HeldEntry::Nothing,
         }
     }
 }
 
 impl<'a, R: Source> Stream for JournalStream<'a, R> {
-    ghost behaviour = { journal_behaviour R.unread R.failures };
+    ghost behaviour = { journal_behaviour R.unread R.buffered R.failures };
 
     #[inline(always)]
     fn head(&self) -> Option<FactRef<'_>> {
-        match &self.held {
-            Some(fact) => Some(fact.as_ref()),
-            None => None,
-        }
+        self.held.fact(self.reader.buffer())
+    }
+
+    #[inline(always)]
+    fn spelled(&self) -> &[u8] {
+        self.held.spelled(self.reader.buffer())
     }
 
     #[inline(always)]
@@ -58,19 +64,38 @@ impl<'a, R: Source> Stream for JournalStream<'a, R> {
 #[derive(Debug, Drop)]
 pub struct LentStream<'r, 'a, R> {
     pub reader: &'r mut JournalReader<'a, R>,
-    pub held: &'r mut Option<Fact>,
+    pub held: &'r mut HeldEntry,
+}
+
+impl<'r, 'a, R: Source> LentStream<'r, 'a, R> {
+    /// Lets go of the entry that is held: the source has then been read up to it, and no further.
+    pub fn let_go(&mut self, alloc: Global)
+        ensures loans { SameLoans self.old self.new }
+        ensures source { (source_of self.new.reader.now).ghost_name
+            ≡ (source_of self.old.reader.now).ghost_name }
+        ensures takes { Consumes (R.unread (source_of self.old.reader.now).now)
+            (R.unread (source_of self.new.reader.now).now)
+            (spelled_in (R.buffered (source_of self.old.reader.now).now) self.old.held.now) }
+        ensures failures { R.failures (source_of self.new.reader.now).now
+            ≡ R.failures (source_of self.old.reader.now).now }
+    {
+        self.reader.let_go(alloc, self.held);
+    }
 }
 
 impl<'r, 'a, R: Source> Stream for LentStream<'r, 'a, R> {
-    ghost behaviour = { lent_behaviour R.unread R.failures };
+    ghost behaviour = { lent_behaviour R.unread R.buffered R.failures };
 
     #[inline(always)]
     fn head(&self) -> Option<FactRef<'_>> {
         let held = &*self.held;
-        match held {
-            Some(fact) => Some(fact.as_ref()),
-            None => None,
-        }
+        held.fact(self.reader.buffer())
+    }
+
+    #[inline(always)]
+    fn spelled(&self) -> &[u8] {
+        let held = &*self.held;
+        held.spelled(self.reader.buffer())
     }
 
     #[inline(always)]

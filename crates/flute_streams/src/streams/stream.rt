@@ -15,6 +15,11 @@ pub trait Stream {
     fn head(&self) -> Option<FactRef<'_>>
         ensures { fact_in result ≡ behaviour.held self.now };
 
+    /// The bytes of that fact's entry, as version 2 of a journal spells it, if they lie in memory:
+    /// else none.
+    fn spelled(&self) -> &[u8]
+        ensures { result.now ≡ behaviour.spelled self.now };
+
     /// Lets go of the fact that it holds, and takes the next.
     ///
     /// # Errors

@@ -42,6 +42,10 @@ impl<'a, S: HasObjects + 'a> Stream for WalkStream<'a, S> {
         }
     }
 
+    fn spelled(&self) -> &[u8] {
+        &[]
+    }
+
     fn advance(&mut self, _alloc: Global) -> Result<(), LoadFault> {
         self.held = self.walk.next();
         Ok(())

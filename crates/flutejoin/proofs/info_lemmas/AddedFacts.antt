@@ -14,7 +14,7 @@ use Rattle.flute_journal.specs.Readers.{source_of, limit_of}
 use Rattle.flute_streams.specs.Streams.{Behaviour}
 use Rattle.flute_streams.specs.Eithers.{either_behaviour}
 use Rattle.flute_streams.specs.FirstFaults.{FirstFault, IsStopOf}
-use Rattle.flute_streams.specs.JournalStreams.{FailsBy, lent_behaviour}
+use Rattle.flute_streams.specs.JournalStreams.{FailsBy, lent, lent_behaviour, unread_of}
 use Rattle.flute_streams.specs.StreamMerges.{all_of, Each, IsWithinLimits, MergedAll}
 use Rattle.flute_journal.specs.Framing.{HasFault}
 use Rattle.flute_streams.specs.declared.streams.either.Either.{Either}
@@ -71,17 +71,17 @@ within_same most F G false same h =
     Over-below F G most.sessions most.objects most.symbols (Below-from_Same F G same) h
 
 -- The stream of a journal that is lent, and one of facts.
-module _ {R : Type 0} (unread : R → Option (List ℕ)) (failures : R → ℕ) {S : Type 0}
-    (b : Behaviour S) where
+module _ {R : Type 0} (unread : R → Option (List ℕ)) (buffered : R → List ℕ) (failures : R → ℕ)
+    {S : Type 0} (b : Behaviour S) where
   abbrev journals : Behaviour (LentStream R)
-  journals = lent_behaviour unread failures
+  journals = lent_behaviour unread buffered failures
 
   abbrev both : Behaviour (Either (LentStream R) S)
   both = either_behaviour journals b
 
   module _ (j : LentStream R) (f : S) where
     abbrev bytes_of : Option (List ℕ)
-    bytes_of = unread (source_of j.reader.now).now
+    bytes_of = unread_of unread buffered (lent j)
 
     abbrev inputs : List (Either (LentStream R) S)
     inputs = First j ∷ Second f ∷ []

@@ -60,7 +60,7 @@ turn F G H =
     (Same-append F F (G ++ H) (H ++ G) (Same-itself F) (Same-swap G H)))
 
 -- the choice of all datagrams
-module _ {R : Type 0} (unread : R → Option (List ℕ)) (choice : Choice) where
+module _ {R : Type 0} (unread : R → Option (List ℕ)) (buffered : R → List ℕ) (choice : Choice) where
   flat_more : (ds : List (List ℕ)) (d : List ℕ)
       → flat_map (facts_by choice) (ds ++ d ∷ []) ≡
       flat_map (facts_by choice) ds ++ facts_by choice d
@@ -69,9 +69,9 @@ module _ {R : Type 0} (unread : R → Option (List ℕ)) (choice : Choice) where
 
   -- a datagram more was taken into the store
   takes_more : {s o y : ℕ} (old new : HeldFiles s o y R) (ds : List (List ℕ)) (d : List ℕ)
-      → HoldsFacts unread choice old ds → new.runs ≡ old.runs
+      → HoldsFacts unread buffered choice old ds → new.runs ≡ old.runs
       → TakesDatagram (facts_by choice d) old.told d new.told
-      → HoldsFacts unread choice new (ds ++ d ∷ [])
+      → HoldsFacts unread buffered choice new (ds ++ d ∷ [])
   takes_more old new ds d all same one =
       let length_is = length-append ds (d ∷ []) in
       let fresh = facts_by choice d in
@@ -79,7 +79,7 @@ module _ {R : Type 0} (unread : R → Option (List ℕ)) (choice : Choice) where
       let files = flat_map (facts_by choice) ds in
       record {
         aside = all.aside;
-        runs = subst (λ runs. AreRunsOf unread runs.items all.aside) (sym same) all.runs;
+        runs = subst (λ runs. AreRunsOf unread buffered runs.items all.aside) (sym same) all.runs;
         content =
             subst (Same (new.told.store ++ all.aside)) (sym (flat_more ds d))
             (Same-trans (new.told.store ++ all.aside) ((store ++ fresh) ++ all.aside)
@@ -112,7 +112,7 @@ module _ {R : Type 0} (unread : R → Option (List ℕ)) (choice : Choice) where
 
   -- if the store has no room for a datagram, all facts are over the limits
   over_with : {s o y : ℕ} (held : HeldFiles s o y R) (ds : List (List ℕ)) (d : List ℕ)
-      → HoldsFacts unread choice held ds
+      → HoldsFacts unread buffered choice held ds
       → IsOver choice.most (held.told.store ++ facts_by choice d)
       → IsOver choice.most (flat_map (facts_by choice) (ds ++ d ∷ []))
   over_with held ds d all over =
@@ -133,59 +133,61 @@ module _ {R : Type 0} (unread : R → Option (List ℕ)) (choice : Choice) where
 
   -- the same for an equal flag `fits`
   holding : {s o y : ℕ} (b c : Bool) (held : HeldFiles s o y R) (ds : List (List ℕ)) → b ≡ c
-      → HoldsAll unread choice c held ds → HoldsAll unread choice b held ds
-  holding b c held ds e h = subst (λ x. HoldsAll unread choice x held ds) (sym e) h
+      → HoldsAll unread buffered choice c held ds → HoldsAll unread buffered choice b held ds
+  holding b c held ds e h = subst (λ x. HoldsAll unread buffered choice x held ds) (sym e) h
 
   held_as : {s o y : ℕ} (b c : Bool) (held : HeldFiles s o y R) (ds : List (List ℕ))
-      → b ≡ c → HoldsAll unread choice b held ds → HoldsAll unread choice c held ds
-  held_as b c held ds e h = subst (λ x. HoldsAll unread choice x held ds) e h
+      → b ≡ c → HoldsAll unread buffered choice b held ds
+      → HoldsAll unread buffered choice c held ds
+  held_as b c held ds e h = subst (λ x. HoldsAll unread buffered choice x held ds) e h
 
-module _ {R : Type 0} {unread : R → Option (List ℕ)} {choice : Choice} where
+module _ {R : Type 0} {unread : R → Option (List ℕ)} {buffered : R → List ℕ} {choice : Choice} where
   -- all facts are held if they fit, and else they are over the limits
   module _ {s o y : ℕ} {held : HeldFiles s o y R} {ds : List (List ℕ)}
-      (h : HoldsDatagrams unread choice held ds) where
-    pub all_held : held.fits ≡ true → HoldsFacts unread choice held ds
-    all_held fits = held_as unread choice held.fits true held ds fits h.holds
+      (h : HoldsDatagrams unread buffered choice held ds) where
+    pub all_held : held.fits ≡ true → HoldsFacts unread buffered choice held ds
+    all_held fits = held_as unread buffered choice held.fits true held ds fits h.holds
 
     pub all_over : held.fits ≡ false → IsOver choice.most (flat_map (facts_by choice) ds)
-    all_over over = held_as unread choice held.fits false held ds over h.holds
+    all_over over = held_as unread buffered choice held.fits false held ds over h.holds
 
   -- a datagram more was taken
   pub holds_more : {s o y : ℕ} {old new : HeldFiles s o y R} {ds : List (List ℕ)} {d : List ℕ}
       → old.fits ≡ true → new.fits ≡ true → new.runs ≡ old.runs
       → TakesDatagram (facts_by choice d) old.told d new.told
       → new.others ≡ old.others + cond (is_of_others choice d) 1 0
-      → HoldsDatagrams unread choice old ds → HoldsDatagrams unread choice new (ds ++ d ∷ [])
+      → HoldsDatagrams unread buffered choice old ds
+      → HoldsDatagrams unread buffered choice new (ds ++ d ∷ [])
   holds_more {old = old} {new = new} {ds = ds} {d = d} fits still same one count h = record {
     others = λ e. count ∙ ap (λ n. n + cond (is_of_others choice d) 1 0) (h.others fits) ∙ sym
         (sum_by_push (λ x. cond (is_of_others choice x) 1 0) ds d);
     holds =
-        holding unread choice new.fits true new (ds ++ d ∷ []) still
-        (takes_more unread choice old new ds d (all_held h fits) same one);
+        holding unread buffered choice new.fits true new (ds ++ d ∷ []) still
+        (takes_more unread buffered choice old new ds d (all_held h fits) same one);
   }
 
   -- it found no room
   pub holds_over : {s o y : ℕ} {old new : HeldFiles s o y R} {ds : List (List ℕ)} (d : List ℕ)
       {told : List Fact} {fault : CommandFault} → old.fits ≡ true → new.fits ≡ false
       → facts_by choice d ≡ told → StoreFails choice.most (old.told.store ++ told) fault
-      → fault ≡ Full → HoldsDatagrams unread choice old ds
-      → HoldsDatagrams unread choice new (ds ++ d ∷ [])
+      → fault ≡ Full → HoldsDatagrams unread buffered choice old ds
+      → HoldsDatagrams unread buffered choice new (ds ++ d ∷ [])
   holds_over {old = old} {new = new} {ds = ds} d {fault = fault} fits over e fails full h = record {
     others = λ fitting. absurd (false≢true (sym over ∙ fitting));
-    holds = holding unread choice new.fits false new (ds ++ d ∷ []) over
-        (over_with unread choice old ds d (all_held h fits)
+    holds = holding unread buffered choice new.fits false new (ds ++ d ∷ []) over
+        (over_with unread buffered choice old ds d (all_held h fits)
         (subst (λ F. IsOver choice.most (old.told.store ++ F)) (sym e) (store_over choice.most _
         fault fails full)));
   }
 
   -- there had been none before
   pub holds_past : {s o y : ℕ} {file : HeldFiles s o y R} {ds : List (List ℕ)} (d : List ℕ)
-      → file.fits ≡ false → HoldsDatagrams unread choice file ds
-      → HoldsDatagrams unread choice file (ds ++ d ∷ [])
+      → file.fits ≡ false → HoldsDatagrams unread buffered choice file ds
+      → HoldsDatagrams unread buffered choice file (ds ++ d ∷ [])
   holds_past {file = file} {ds = ds} d fits h = record {
     others = λ fitting. absurd (false≢true (sym fits ∙ fitting));
-    holds = holding unread choice file.fits false file (ds ++ d ∷ []) fits
-        (over_more unread choice ds d (all_over h fits));
+    holds = holding unread buffered choice file.fits false file (ds ++ d ∷ []) fits
+        (over_more unread buffered choice ds d (all_over h fits));
   }
 
   -- a datagram of another session was counted
@@ -197,8 +199,8 @@ module _ {R : Type 0} {unread : R → Option (List ℕ)} {choice : Choice} where
         datagrams = old.told.datagrams + 1;
         refused = old.told.refused;
       }
-      → new.others ≡ old.others + 1 → HoldsDatagrams unread choice old ds
-      → HoldsDatagrams unread choice new (ds ++ d ∷ [])
+      → new.others ≡ old.others + 1 → HoldsDatagrams unread buffered choice old ds
+      → HoldsDatagrams unread buffered choice new (ds ++ d ∷ [])
   holds_passed {old = old} fits still same passed is count h =
       holds_more fits still same
       (record {
@@ -213,7 +215,8 @@ module _ {R : Type 0} {unread : R → Option (List ℕ)} {choice : Choice} where
       {d : List ℕ} {told : List Fact} → old.fits ≡ true → new.fits ≡ true
       → new.runs ≡ old.runs → facts_by choice d ≡ told → new.others ≡ old.others
       → is_of_others choice d ≡ false → TakesDatagram told old.told d new.told
-      → HoldsDatagrams unread choice old ds → HoldsDatagrams unread choice new (ds ++ d ∷ [])
+      → HoldsDatagrams unread buffered choice old ds
+      → HoldsDatagrams unread buffered choice new (ds ++ d ∷ [])
   holds_taken {old = old} {new = new} {d = d} fits still runs e same own taken h =
       holds_more fits still runs
       (subst (λ F. TakesDatagram F old.told d new.told) (sym e) taken)
@@ -223,16 +226,16 @@ module _ {R : Type 0} {unread : R → Option (List ℕ)} {choice : Choice} where
   pub holds_aside : {s o y : ℕ} {old new : HeldFiles s o y R} → old.fits ≡ true
       → new.fits ≡ true → new.told.store ≡ [] → new.told.datagrams ≡ old.told.datagrams
       → new.told.refused ≡ old.told.refused → new.others ≡ old.others
-      → ((facts : List Fact) → AreRunsOf unread old.runs.items facts
-      → HoldTogether unread new.runs.items (facts ++ old.told.store))
-      → HoldsMore unread choice old new []
+      → ((facts : List Fact) → AreRunsOf unread buffered old.runs.items facts
+      → HoldTogether unread buffered new.runs.items (facts ++ old.told.store))
+      → HoldsMore unread buffered choice old new []
   holds_aside {old = old} {new = new} fits still empty datagrams refused others runs ds h =
       let all = all_held h fits in
       let files = flat_map (facts_by choice) ds in
       let more = runs all.aside all.runs in
-      subst (HoldsDatagrams unread choice new) (sym (append-nil ds)) (record {
+      subst (HoldsDatagrams unread buffered choice new) (sym (append-nil ds)) (record {
         others = λ e. others ∙ h.others fits;
-        holds = holding unread choice new.fits true new ds still (record {
+        holds = holding unread buffered choice new.fits true new ds still (record {
           aside = more.0;
           runs = more.1;
           content =
@@ -249,10 +252,10 @@ module _ {R : Type 0} {unread : R → Option (List ℕ)} {choice : Choice} where
   pub holds_run : {s o y : ℕ} {old : HeldFiles s o y R} {popped : Option (OwnedJournalStream R)}
       {rest runs : List (OwnedJournalStream R)} {ds : List (List ℕ)}
       → old.fits ≡ true → old.told.store ≡ []
-      → ((facts : List Fact) → AreRunsOf unread old.runs.items facts
-      → HoldTogether unread runs facts)
-      → IsPopped runs rest popped → HoldsDatagrams unread choice old ds
-      → (facts : List Fact) × AreHeld unread old.told.store popped facts
+      → ((facts : List Fact) → AreRunsOf unread buffered old.runs.items facts
+      → HoldTogether unread buffered runs facts)
+      → IsPopped runs rest popped → HoldsDatagrams unread buffered choice old ds
+      → (facts : List Fact) × AreHeld unread buffered old.told.store popped facts
       × Same facts (flat_map (facts_by choice) ds)
   holds_run {old = old} {popped = popped} {rest = rest} {ds = ds} fits empty merged last h =
       let all = all_held h fits in
@@ -264,17 +267,17 @@ module _ {R : Type 0} {unread : R → Option (List ℕ)} {choice : Choice} where
       let held =
       held_in popped rest one.0 (subst (λ l. length l ≤ 1) last.split last.few)
       (subst (λ l. 0 < length l → IsSome popped) last.split last.some)
-      (subst (λ l. AreRunsOf unread l one.0) last.split one.1) in
-      (one.0, subst (λ l. AreHeld unread l popped one.0) (sym empty) held, told)
+      (subst (λ l. AreRunsOf unread buffered l one.0) last.split one.1) in
+      (one.0, subst (λ l. AreHeld unread buffered l popped one.0) (sym empty) held, told)
     where
       held_in : (popped : Option (OwnedJournalStream R)) (rest : List (OwnedJournalStream R))
           (facts : List Fact) → length (rest ++ option_to_list popped) ≤ 1
           → (0 < length (rest ++ option_to_list popped) → IsSome popped)
-          → AreRunsOf unread (rest ++ option_to_list popped) facts
-          → AreHeld unread [] popped facts
+          → AreRunsOf unread buffered (rest ++ option_to_list popped) facts
+          → AreHeld unread buffered [] popped facts
       held_in None [] facts few some holds = holds
       held_in (Some run) [] facts few some holds =
-          subst (IsRunOf unread run)
+          subst (IsRunOf unread buffered run)
           (sym (holds.3 ∙ ap (λ l. holds.0 ++ l) holds.4 ∙ append-nil holds.0)) holds.2
       held_in None (first ∷ rest) facts few some holds =
           let e = some (omega arith) in absurd cc
@@ -282,17 +285,19 @@ module _ {R : Type 0} {unread : R → Option (List ℕ)} {choice : Choice} where
           let more = length-append rest (run ∷ []) in absurd (omega (arith, few, more))
 
   pub holds_still : {s o y : ℕ} {old new : HeldFiles s o y R} → IsUnchanged old new
-      → (ds : List (List ℕ)) → HoldsDatagrams unread choice old ds
-      → HoldsDatagrams unread choice new ds
+      → (ds : List (List ℕ)) → HoldsDatagrams unread buffered choice old ds
+      → HoldsDatagrams unread buffered choice new ds
   holds_still {old = old} {new = new} same ds h = record {
     others = λ e. same.others ∙ h.others (sym same.fits ∙ e);
-    holds = holding unread choice new.fits old.fits new ds same.fits (still old.fits h.holds);
+    holds = holding unread buffered choice new.fits old.fits new ds same.fits (still old.fits
+        h.holds);
   }
     where
-      still : (b : Bool) → HoldsAll unread choice b old ds → HoldsAll unread choice b new ds
+      still : (b : Bool) → HoldsAll unread buffered choice b old ds
+          → HoldsAll unread buffered choice b new ds
       still true all = record {
         aside = all.aside;
-        runs = subst (λ r. AreRunsOf unread r.items all.aside) (sym same.runs) all.runs;
+        runs = subst (λ r. AreRunsOf unread buffered r.items all.aside) (sym same.runs) all.runs;
         content =
             subst (λ t. Same (t.store ++ all.aside) (flat_map (facts_by choice) ds))
             (sym same.told)
@@ -304,7 +309,7 @@ module _ {R : Type 0} {unread : R → Option (List ℕ)} {choice : Choice} where
 
   -- so it was before something was done
   pub holds_after : {s o y : ℕ} {first old new : HeldFiles s o y R} → IsUnchanged first old
-      → HoldsMore unread choice old new [] → HoldsMore unread choice first new []
+      → HoldsMore unread buffered choice old new [] → HoldsMore unread buffered choice first new []
   holds_after same h = λ before holds. h before (holds_still same before holds)
 
 -- A record that was read as the input with this number.

@@ -14,12 +14,13 @@ use Rattle.flutejoin.specs.JoinInputs.{IsInput}
 use Rattle.flutejoin.specs.InputStreams.{journal_behaviour, input_behaviour}
 use Rattle.flutejoin.proofs.join_lemmas.Inspections.{same_neither}
 
-module _ {R : Type 0} (unread : R → Option (List ℕ)) (failures : R → ℕ) where
+module _ {R : Type 0} (unread : R → Option (List ℕ)) (buffered : R → List ℕ)
+    (failures : R → ℕ) where
   abbrev j : Behaviour (JournalInput R)
-  j = journal_behaviour unread failures
+  j = journal_behaviour unread buffered failures
 
   abbrev i : Behaviour (JoinInput R)
-  i = input_behaviour unread failures
+  i = input_behaviour unread buffered failures
 
   gave : (s t : JournalInput R) (F : List Fact) → Gave j s t F → Gave i (Journal s) (Journal t) F
   gave s t F g = record {
@@ -29,6 +30,7 @@ module _ {R : Type 0} (unread : R → Option (List ℕ)) (failures : R → ℕ) 
     fails = g.fails;
     rising = g.rising;
     sized = g.sized;
+    spelled = g.spelled;
     ended = g.ended;
     ends = g.ends;
     known = g.known;

@@ -59,16 +59,17 @@ all_more P {x} new k [] at h p = let within = slice_get_within [] k x at in absu
 all_more P new zero (y ∷ xs) at h p = (p, tt)
 all_more P new (suc k) (y ∷ xs) at h p = (h.0, all_more P new k xs at h.1 p)
 
-module _ (choice : Choice) {R : Type 0} (unread : R → Option (List ℕ)) where
+module _ (choice : Choice) {R : Type 0} (unread : R → Option (List ℕ)) (buffered : R → List ℕ) where
   -- an input that was inspected is of a known kind
   is_known : (input : JoinInput R) (bytes : List ℕ) (datagrams : List (List ℕ))
-      → IsInspected unread choice input bytes datagrams → HasKnownKind bytes
+      → IsInspected unread buffered choice input bytes datagrams → HasKnownKind bytes
   is_known (Journal journal) bytes datagrams h = inl h.1
   is_known (Datagrams source) bytes datagrams h = inr (datagrams, h)
   is_known Unknown bytes datagrams h = absurd h
 
   pub all_known : (xs : List (JoinInput R)) (contents datagrams : List (List ℕ))
-      → AreInspected unread choice xs contents datagrams → AllByRecursion HasKnownKind contents
+      → AreInspected unread buffered choice xs contents datagrams
+      → AllByRecursion HasKnownKind contents
   all_known [] [] datagrams h = tt
   all_known (x ∷ xs) (bytes ∷ contents) datagrams h =
       (is_known x bytes h.0 h.2, all_known xs contents h.1 h.4)
@@ -77,7 +78,7 @@ module _ (choice : Choice) {R : Type 0} (unread : R → Option (List ℕ)) where
 
   -- an input is a datagram file if there are datagrams
   wants_aside : (xs : List (JoinInput R)) (contents datagrams : List (List ℕ))
-      → AreInspected unread choice xs contents datagrams → 0 < length datagrams
+      → AreInspected unread buffered choice xs contents datagrams → 0 < length datagrams
       → WantsAside contents
   wants_aside [] [] datagrams h some =
       let none = ap length h in absurd (omega (arith, none, some))
@@ -103,7 +104,7 @@ module _ (choice : Choice) {R : Type 0} (unread : R → Option (List ℕ)) where
   wants_aside (x ∷ xs) [] datagrams h some = absurd h
 
   pub finds_wants : {s o y : ℕ} (held : HeldFiles s o y R) (xs : List (JoinInput R))
-      (contents : List (List ℕ)) → Finds unread choice xs contents held → held.fits ≡ true
+      (contents : List (List ℕ)) → Finds unread buffered choice xs contents held → held.fits ≡ true
       → 0 < held.told.datagrams → WantsAside contents
   finds_wants held xs contents found fits some =
       let all = all_held found.2 fits in
@@ -111,11 +112,11 @@ module _ (choice : Choice) {R : Type 0} (unread : R → Option (List ℕ)) where
 
   -- one input more was inspected
   module _ {x : JoinInput R} (new : JoinInput R) {bytes : List ℕ} (own : List (List ℕ))
-      (one : IsInspected unread choice new bytes own) where
+      (one : IsInspected unread buffered choice new bytes own) where
     one_more : (k : ℕ) (xs : List (JoinInput R)) (contents datagrams : List (List ℕ))
         → slice_get xs k ≡ Some x → slice_get contents k ≡ Some bytes
-        → AreInspected unread choice (take k xs) (take k contents) datagrams
-        → AreInspected unread choice (take (suc k) (set xs k new)) (take (suc k) contents)
+        → AreInspected unread buffered choice (take k xs) (take k contents) datagrams
+        → AreInspected unread buffered choice (take (suc k) (set xs k new)) (take (suc k) contents)
         (datagrams ++ own)
     one_more k [] contents datagrams at here h =
         let within = slice_get_within [] k x at in absurd (omega (arith, within))
@@ -125,7 +126,7 @@ module _ (choice : Choice) {R : Type 0} (unread : R → Option (List ℕ)) where
         let same : bytes ≡ c = cc in (
           own,
           [],
-          subst (λ b. IsInspected unread choice new b own) same one,
+          subst (λ b. IsInspected unread buffered choice new b own) same one,
           ap (λ l. l ++ own) h ∙ sym (append-nil own),
           refl,
         )
@@ -143,19 +144,20 @@ module _ (choice : Choice) {R : Type 0} (unread : R → Option (List ℕ)) where
         (held : HeldFiles s o y R) (k : ℕ) : Type 0 where
       pub as_many : length now ≡ length start
       pub later : (j : ℕ) → k ≤ j → slice_get now j ≡ slice_get start j
-      pub ready : AllByRecursion (IsReady unread failures) (take k now)
+      pub ready : AllByRecursion (IsReady unread buffered failures) (take k now)
       pub finds : told ≡ true → (contents : List (List ℕ)) → AreInputs unread start contents
-          → Finds unread choice (take k now) (take k contents) held
+          → Finds unread buffered choice (take k now) (take k contents) held
       pub few : held.told.datagrams ≤ k * 16777216
-      pub sound : IsSound unread failures held
+      pub sound : IsSound unread buffered failures held
       pub none_failed : NoneFailed failures start now
 
-module _ {choice : Choice} {R : Type 0} {unread : R → Option (List ℕ)} {failures : R → ℕ}
+module _ {choice : Choice} {R : Type 0} {unread : R → Option (List ℕ)}
+    {buffered : R → List ℕ} {failures : R → ℕ}
   where
     pub inspected_none : {s o y : ℕ} {told : Bool} {start : List (JoinInput R)}
-        {held : HeldFiles s o y R} → ((c : Choice) → HoldsDatagrams unread c held [])
-        → IsSound unread failures held → held.told.datagrams ≡ 0
-        → InspectedSoFar choice unread failures told start start held 0
+        {held : HeldFiles s o y R} → ((c : Choice) → HoldsDatagrams unread buffered c held [])
+        → IsSound unread buffered failures held → held.told.datagrams ≡ 0
+        → InspectedSoFar choice unread buffered failures told start start held 0
     inspected_none {start = start} holds sound none = record {
       as_many = refl;
       later = λ j past. refl;
@@ -172,7 +174,7 @@ module _ {choice : Choice} {R : Type 0} {unread : R → Option (List ℕ)} {fail
 
     module _ {s o y : ℕ} {told : Bool} {start now : List (JoinInput R)}
         {held : HeldFiles s o y R} {k : ℕ}
-        (h : InspectedSoFar choice unread failures told start now held k)
+        (h : InspectedSoFar choice unread buffered failures told start now held k)
         {one : JoinInput R}
         (at : slice_get now k ≡ Some one) where
       was : slice_get start k ≡ Some one
@@ -211,13 +213,13 @@ module _ {choice : Choice} {R : Type 0} {unread : R → Option (List ℕ)} {fail
           }
 
       pub inspected_more : (new : JoinInput R) {after : HeldFiles s o y R}
-          → IsReady unread failures new
+          → IsReady unread buffered failures new
           → (told ≡ true → (bytes : List ℕ) → IsInput unread one bytes
-          → (datagrams : List (List ℕ)) × IsInspected unread choice new bytes datagrams
-          × HoldsMore unread choice held after datagrams)
-          → CountsUpTo unread failures 16777216 held after
+          → (datagrams : List (List ℕ)) × IsInspected unread buffered choice new bytes datagrams
+          × HoldsMore unread buffered choice held after datagrams)
+          → CountsUpTo unread buffered failures 16777216 held after
           → failures_of failures new ≡ failures_of failures one
-          → InspectedSoFar choice unread failures told start (set now k new) after (k + 1)
+          → InspectedSoFar choice unread buffered failures told start (set now k new) after (k + 1)
       inspected_more new ready looks counts failed =
           let next : suc k ≡ k + 1 = omega arith in
           record {
@@ -226,17 +228,20 @@ module _ {choice : Choice} {R : Type 0} {unread : R → Option (List ℕ)} {fail
                 slice_get-set_other now k j new (λ same. omega (arith, same, past))
                 ∙ h.later j (omega (arith, past));
             ready =
-                subst (λ n. AllByRecursion (IsReady unread failures) (take n (set now k new))) next
-                (all_more (IsReady unread failures) new k now at h.ready ready);
+                subst (λ n. AllByRecursion (IsReady unread buffered failures) (take n (set now k
+                new))) next
+                (all_more (IsReady unread buffered failures) new k now at h.ready ready);
             finds = λ is contents inputs.
                 let own = is_input contents inputs in
                 let all = h.finds is contents inputs in
                 let more = looks is own.0 own.2 in (
                   all.0 ++ more.0,
                   subst
-                      (λ n. AreInspected unread choice (take n (set now k new)) (take n contents)
+                      (λ n. AreInspected unread buffered choice (take n (set now k new)) (take n
+                      contents)
                       (all.0 ++ more.0)) next
-                      (one_more choice unread new more.0 more.1 k now contents all.0 at own.1
+                      (one_more choice unread buffered new more.0 more.1 k now contents all.0 at
+                      own.1
                       all.1),
                   more.2 all.0 all.2,
                 );
@@ -255,7 +260,7 @@ module _ {choice : Choice} {R : Type 0} {unread : R → Option (List ℕ)} {fail
           let all = h.finds is contents inputs in (
             k + 1,
             first_at HasKnownKind (λ bytes. InspectionFails (k + 1) bytes fault) contents k own.0
-                own.1 (all_known choice unread (take k now) (take k contents) all.0 all.1)
+                own.1 (all_known choice unread buffered (take k now) (take k contents) all.0 all.1)
                 (fails own.0 own.2),
           )
 
@@ -294,16 +299,16 @@ module _ {choice : Choice} {R : Type 0} {unread : R → Option (List ℕ)} {fail
     -- after the last input all were inspected
     module _ {s o y : ℕ} {told : Bool} {start now : List (JoinInput R)}
         {held : HeldFiles s o y R} {k : ℕ}
-        (h : InspectedSoFar choice unread failures told start now held k)
+        (h : InspectedSoFar choice unread buffered failures told start now held k)
         (past : length start ≤ k) where
       all_of_them : take k now ≡ now
       all_of_them = take_all k now (omega (arith, past, h.as_many))
 
       pub finds_all : told ≡ true → (contents : List (List ℕ))
-          → AreInputs unread start contents → Finds unread choice now contents held
+          → AreInputs unread start contents → Finds unread buffered choice now contents held
       finds_all is contents inputs =
           let every : take k contents ≡ contents =
           take_all k contents (omega (arith, past, inputs.as_many)) in
-          subst (λ xs. Finds unread choice xs contents held) all_of_them
-          (subst (λ cs. Finds unread choice (take k now) cs held) every
+          subst (λ xs. Finds unread buffered choice xs contents held) all_of_them
+          (subst (λ cs. Finds unread buffered choice (take k now) cs held) every
           (h.finds is contents inputs))

@@ -95,13 +95,14 @@ one_of P k [] x h e = let within = slice_get_within [] k x e in absurd (omega (a
 one_of P zero (y ∷ xs) x h e = let same : y ≡ x = cc in subst P same h.0
 one_of P (suc k) (y ∷ xs) x h e = one_of P k xs x h.1 e
 
-module _ {R : Type 0} (unread : R → Option (List ℕ)) (failures : R → ℕ) {S : Type 0}
+module _ {R : Type 0} (unread : R → Option (List ℕ)) (buffered : R → List ℕ)
+    (failures : R → ℕ) {S : Type 0}
     (b : Behaviour S) where
   abbrev all : Behaviour (Either S (JoinInput R))
-  all = joins unread failures b
+  all = joins unread buffered failures b
 
   abbrev streams : List (JoinInput R) → List (Either S (JoinInput R))
-  streams xs = as_streams unread failures b xs
+  streams xs = as_streams unread buffered failures b xs
 
   -- the stream of an input, by its place
   record OneAt (xs : List (JoinInput R)) (n : ℕ) (s : Either S (JoinInput R)) : Type 0 where
@@ -192,25 +193,25 @@ module _ {R : Type 0} (unread : R → Option (List ℕ)) (failures : R → ℕ) 
         let d : Input number f.0 ≡ CannotPutAside = ap (of_load number) (sym f.1) ∙ e in cc
 
     module _ (choice : Choice) (contents datagrams : List (List ℕ))
-        (ready : are_ready unread failures b xs)
-        (inspected : AreInspected unread choice xs contents datagrams) where
+        (ready : are_ready unread buffered failures b xs)
+        (inspected : AreInspected unread buffered choice xs contents datagrams) where
       -- the bytes of this input
       own_bytes : (xs : List (JoinInput R)) (contents datagrams : List (List ℕ)) (n : ℕ)
           (x : JoinInput R)
-          → AreInspected unread choice xs contents datagrams → slice_get xs n ≡ Some x
+          → AreInspected unread buffered choice xs contents datagrams → slice_get xs n ≡ Some x
           → (bytes : List ℕ) × (slice_get contents n ≡ Some bytes)
-          × ((own : List (List ℕ)) × IsInspected unread choice x bytes own)
+          × ((own : List (List ℕ)) × IsInspected unread buffered choice x bytes own)
       own_bytes [] contents datagrams n x h e =
           let within = slice_get_within [] n x e in absurd (omega (arith, within))
       own_bytes (y ∷ xs) [] datagrams n x h e = absurd h
       own_bytes (y ∷ xs) (bytes ∷ contents) datagrams zero x h e =
           let same : y ≡ x = cc in
-          (bytes, refl, (h.0, subst (λ z. IsInspected unread choice z bytes h.0) same h.2))
+          (bytes, refl, (h.0, subst (λ z. IsInspected unread buffered choice z bytes h.0) same h.2))
       own_bytes (y ∷ xs) (bytes ∷ contents) datagrams (suc n) x h e =
           own_bytes xs contents h.1 n x h.4 e
 
       stops_one : (x : JoinInput R) (bytes : List ℕ) (own : List (List ℕ)) (f : ReadFault)
-          → IsReady unread failures x → IsInspected unread choice x bytes own
+          → IsReady unread buffered failures x → IsInspected unread buffered choice x bytes own
           → all.stops (Second x) (load.Read f)
           → HasKind kinds.Journal bytes × HasFault journal_framing 16777216 (Some bytes) f
       stops_one (Journal x) bytes own f r i s =
@@ -228,11 +229,12 @@ module _ {R : Type 0} (unread : R → Option (List ℕ)) (failures : R → ℕ) 
           let own = own_bytes xs contents datagrams h.place h.input inspected h.own in
           let one =
           stops_one h.input own.0 own.2.0 f.0
-          (one_of (IsReady unread failures) h.place xs h.input ready h.own) own.2.1
+          (one_of (IsReady unread buffered failures) h.place xs h.input ready h.own) own.2.1
           (subst (λ g. all.stops (Second h.input) g) f.1 h.stops) in
-          let known = all_known choice unread xs contents datagrams inspected in
+          let known = all_known choice unread buffered xs contents datagrams inspected in
           let before =
-          valid_before unread failures b choice h.place xs contents datagrams ready inspected
+          valid_before unread buffered failures b choice h.place xs contents datagrams ready
+          inspected
           h.before in
           let at : number ≡ h.place + 1 = omega (arith, h.number_is) in
           let told : JoinToFails choice contents (Input (h.place + 1) f.0) =
@@ -260,7 +262,8 @@ module _ {R : Type 0} (unread : R → Option (List ℕ)) (failures : R → ℕ) 
     pub no_aside : NeverStops b w → fault ≡ CannotPutAside → ⊥
     pub names : NamesOneOf (length xs) fault
     pub fails : (choice : Choice) (contents datagrams : List (List ℕ))
-        → are_ready unread failures b xs → AreInspected unread choice xs contents datagrams
+        → are_ready unread buffered failures b xs
+        → AreInspected unread buffered choice xs contents datagrams
         → NeverStops b w ⊎ WantsAside contents → JoinToFails choice contents fault
 
   stop_fault : (w : S) (xs : List (JoinInput R)) (number : ℕ) (fault : LoadFault)

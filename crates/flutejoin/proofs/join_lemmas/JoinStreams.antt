@@ -57,20 +57,21 @@ regroup O D F G R h =
 pub all_taken : {X : Type 0} (xs : List X) → length xs ≤ 64 → taken xs ≡ xs
 all_taken xs many = taken_all xs (omega (arith, many))
 
-module _ {R : Type 0} (unread : R → Option (List ℕ)) (failures : R → ℕ) {S : Type 0}
+module _ {R : Type 0} (unread : R → Option (List ℕ)) (buffered : R → List ℕ)
+    (failures : R → ℕ) {S : Type 0}
     (b : Behaviour S) where
   abbrev pub joins : Behaviour (Either S (JoinInput R))
-  joins = joined_behaviour unread failures b
+  joins = joined_behaviour unread buffered failures b
 
   abbrev pub are_ready : List (JoinInput R) → Type 0
-  are_ready xs = AllByRecursion (IsReady unread failures) xs
+  are_ready xs = AllByRecursion (IsReady unread buffered failures) xs
 
   abbrev pub as_streams : List (JoinInput R) → List (Either S (JoinInput R))
   as_streams xs = map Second xs
 
   -- The streams are new, and hold few facts.
 
-  new_input : (x : JoinInput R) → IsReady unread failures x → IsNew joins (Second x)
+  new_input : (x : JoinInput R) → IsReady unread buffered failures x → IsNew joins (Second x)
   new_input (Journal journal) h =
       record { held = h.1.held; passes = h.1.passes; reads = h.1.reads; fails = h.1.fails }
   new_input (Datagrams source) h =
@@ -81,7 +82,8 @@ module _ {R : Type 0} (unread : R → Option (List ℕ)) (failures : R → ℕ) 
   inputs_new [] h = tt
   inputs_new (x ∷ xs) h = (new_input x h.0, inputs_new xs h.1)
 
-  few_input : (x : JoinInput R) → IsReady unread failures x → joins.most (Second x) ≤ 16777216
+  few_input : (x : JoinInput R) → IsReady unread buffered failures x
+      → joins.most (Second x) ≤ 16777216
   few_input (Journal journal) h = let e = h.2 in omega (arith, e)
   few_input (Datagrams source) h = omega arith
   few_input Unknown h = omega arith
@@ -124,8 +126,9 @@ module _ {R : Type 0} (unread : R → Option (List ℕ)) (failures : R → ℕ) 
 
     -- an inspected journal contains its facts, and a datagram file those that are held
     tells_one : (x y : JoinInput R) (bytes : List ℕ) (own : List (List ℕ)) (F : List Fact)
-        → IsReady unread failures x → IsInspected unread choice x bytes own
-        → (input_behaviour unread failures).ends x y F → TellsOne bytes own F (passed_over y)
+        → IsReady unread buffered failures x → IsInspected unread buffered choice x bytes own
+        → (input_behaviour unread buffered failures).ends x y F
+        → TellsOne bytes own F (passed_over y)
     tells_one (Journal x) (Journal y) bytes own F ready inspected h =
         let all = h.0 in
         let P : Option (List ℕ) → Type 0 =
@@ -212,7 +215,7 @@ module _ {R : Type 0} (unread : R → Option (List ℕ)) (failures : R → ℕ) 
     -- all inputs contain their facts, and those that are held
     tells_each : (xs ys : List (JoinInput R)) (contents datagrams : List (List ℕ))
         (given : List (List Fact)) → are_ready xs
-        → AreInspected unread choice xs contents datagrams
+        → AreInspected unread buffered choice xs contents datagrams
         → EachSince joins.ends (as_streams xs) (as_streams ys) given
         → TellsEach contents datagrams (all_of given) (sum_by passed_over ys)
     tells_each [] [] [] datagrams [] r h t =
@@ -233,7 +236,7 @@ module _ {R : Type 0} (unread : R → Option (List ℕ)) (failures : R → ℕ) 
     tells_each (x ∷ xs) (y ∷ ys) (bytes ∷ contents) datagrams [] r h t = absurd t
 
     is_valid : (x : JoinInput R) (bytes : List ℕ) (own : List (List ℕ)) (F : List Fact)
-        → IsReady unread failures x → IsInspected unread choice x bytes own
+        → IsReady unread buffered failures x → IsInspected unread buffered choice x bytes own
         → joins.tells (Second x) F → IsValid bytes
     is_valid (Journal x) bytes own F ready inspected h =
         let P : Option (List ℕ) → Type 0 =
@@ -245,7 +248,7 @@ module _ {R : Type 0} (unread : R → Option (List ℕ)) (failures : R → ℕ) 
 
     -- those before an input that contain facts are valid
     pub valid_before : (n : ℕ) (xs : List (JoinInput R)) (contents datagrams : List (List ℕ))
-        → are_ready xs → AreInspected unread choice xs contents datagrams
+        → are_ready xs → AreInspected unread buffered choice xs contents datagrams
         → TellBefore joins n (as_streams xs) → AllByRecursion IsValid (take n contents)
     valid_before zero xs contents datagrams r h t = tt
     valid_before (suc n) (x ∷ xs) (bytes ∷ contents) datagrams r h t =
@@ -255,7 +258,8 @@ module _ {R : Type 0} (unread : R → Option (List ℕ)) (failures : R → ℕ) 
 
     -- What the join of the streams wrote (specs/JoinParts: JoinsInspected).
     module _ (xs ys : List (JoinInput R)) {contents datagrams : List (List ℕ)}
-        (ready : are_ready xs) (inspected : AreInspected unread choice xs contents datagrams)
+        (ready : are_ready xs) (inspected : AreInspected unread buffered choice xs contents
+        datagrams)
         {w : S} {store : List Fact} (held : Ends b w store) {joined : MergedJournal}
         {u v : Option (List ℕ)} where
       of_told : (now : S) (told : List (List Fact))

@@ -47,11 +47,12 @@ pub all_written : (bytes : List ℕ) (new : Option (List ℕ)) → Appends (Some
 all_written bytes (Some all) e = ap Some e
 all_written bytes None e = absurd e
 
-module _ {R : Type 0} (unread : R → Option (List ℕ)) where
+module _ {R : Type 0} (unread : R → Option (List ℕ)) (buffered : R → List ℕ) where
   -- one more run, with its own facts
   pub run_more : (runs : List (OwnedJournalStream R)) (run : OwnedJournalStream R)
-      (facts own : List Fact) → AreRunsOf unread runs facts → IsRunOf unread run own
-      → AreRunsOf unread (runs ++ run ∷ []) (facts ++ own)
+      (facts own : List Fact) → AreRunsOf unread buffered runs facts
+      → IsRunOf unread buffered run own
+      → AreRunsOf unread buffered (runs ++ run ∷ []) (facts ++ own)
   run_more [] run facts own h one =
       (own, [], one, ap (λ l. l ++ own) h ∙ sym (append-nil own), refl)
   run_more (first ∷ runs) run facts own h one = (
@@ -64,22 +65,22 @@ module _ {R : Type 0} (unread : R → Option (List ℕ)) where
 
   -- what runs hold together, if something was done, they hold as other facts with the same values
   pub together_on : {T E : Type 0} (runs : List (OwnedJournalStream R)) {F G : List Fact}
-      (done : Result T E) → Same F G → OnOk done (HoldTogether unread runs F)
-      → OnOk done (HoldTogether unread runs G)
+      (done : Result T E) → Same F G → OnOk done (HoldTogether unread buffered runs F)
+      → OnOk done (HoldTogether unread buffered runs G)
   together_on runs {F} {G} (Ok x) same h = (h.0, h.1, Same-trans h.0 F G h.2 same)
   together_on runs (Err e) same h = tt
 
   module _ (failures : R → ℕ) where
     abbrev b : Behaviour (OwnedJournalStream R)
-    b = owned_behaviour unread failures
+    b = owned_behaviour unread buffered failures
 
     pub runs_new : (runs : List (OwnedJournalStream R))
-        → AllByRecursion (IsNewRun unread failures) runs → AreNew b runs
+        → AllByRecursion (IsNewRun unread buffered failures) runs → AreNew b runs
     runs_new [] h = tt
     runs_new (run ∷ runs) h = (h.0.0, runs_new runs h.1)
 
     pub runs_few : (runs : List (OwnedJournalStream R))
-        → AllByRecursion (IsNewRun unread failures) runs
+        → AllByRecursion (IsNewRun unread buffered failures) runs
         → most_of b runs ≤ length runs * 2 ^ 57
     runs_few [] h = omega arith
     runs_few (run ∷ runs) h =
@@ -87,7 +88,7 @@ module _ {R : Type 0} (unread : R → Option (List ℕ)) where
 
     -- the facts that a run contains as a stream are the facts that it reads
     told_run : (run : OwnedJournalStream R) (told own : List Fact)
-        → IsNewRun unread failures run → b.tells run told → IsRunOf unread run own
+        → IsNewRun unread buffered failures run → b.tells run told → IsRunOf unread buffered run own
         → Same told own
     told_run run told own new tells is =
         let P : Option (List ℕ) → Type 0 =
@@ -98,8 +99,8 @@ module _ {R : Type 0} (unread : R → Option (List ℕ)) where
         (IsJournal-from_bound (owned_limit run) limit is.0 own is.2)
 
     pub told_runs : (runs : List (OwnedJournalStream R)) (told : List (List Fact))
-        (facts : List Fact) → AllByRecursion (IsNewRun unread failures) runs
-        → Each b.tells runs told → AreRunsOf unread runs facts → Same (all_of told) facts
+        (facts : List Fact) → AllByRecursion (IsNewRun unread buffered failures) runs
+        → Each b.tells runs told → AreRunsOf unread buffered runs facts → Same (all_of told) facts
     told_runs [] [] facts new tells h = subst (Same []) (sym h) (Same-itself [])
     told_runs (run ∷ runs) (F ∷ told) facts new tells h =
         subst (Same (F ++ all_of told)) (sym h.3)
@@ -110,10 +111,11 @@ module _ {R : Type 0} (unread : R → Option (List ℕ)) where
 
 -- What is held, as a stream.
 
-module _ {R : Type 0} (unread : R → Option (List ℕ)) (failures : R → ℕ) where
+module _ {R : Type 0} (unread : R → Option (List ℕ)) (buffered : R → List ℕ)
+    (failures : R → ℕ) where
   pub run_ends : (run : OwnedJournalStream R) (facts : List Fact)
-      → IsNewRun unread failures run → IsRunOf unread run facts
-      → Ends (owned_behaviour unread failures) run facts
+      → IsNewRun unread buffered failures run → IsRunOf unread buffered run facts
+      → Ends (owned_behaviour unread buffered failures) run facts
   run_ends run facts new is = λ now given e.
       let P : Option (List ℕ) → Type 0 =
       λ o. IfSome o (λ bytes. IsJournalWithin (owned_limit run) bytes given) in

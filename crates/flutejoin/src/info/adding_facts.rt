@@ -21,7 +21,7 @@ ghost use Rattle.flutejoin.specs.declared.command_fault.CommandFault.TheVariants
 ghost use Rattle.flutejoin.specs.declared.limits.TheConstants.{MAX_ENTRIES};
 
 use crate::command_fault::{CommandFault, load_fault};
-use flute_journal::JournalReader;
+use flute_journal::{HeldEntry, JournalReader};
 use flute_parts::{Sink, Source};
 use flute_streams::{Chained, InputFault, LentStream, MergedJournal, Stream, join_streams};
 use std::alloc::Global;
@@ -64,7 +64,7 @@ pub(crate) fn add_facts<
     ensures write_failed { IfErr result
         (λ fault. fault ≡ CannotWrite → W.failures sink.new ≡ W.failures sink.old + 1) }
 {
-    let mut held = None;
+    let mut held = HeldEntry::Nothing;
     let mut stream = LentStream {
         reader: &mut *journal,
         held: &mut held,
@@ -86,8 +86,8 @@ fn add_to_stream<
     facts: &mut S,
     sink: &mut W,
 ) -> Result<u64, CommandFault>
-    requires journal_new { IsNew (lent_behaviour R.unread R.failures) journal.old }
-    requires journal_most { (lent_behaviour R.unread R.failures).most journal.old
+    requires journal_new { IsNew (lent_behaviour R.unread R.buffered R.failures) journal.old }
+    requires journal_most { (lent_behaviour R.unread R.buffered R.failures).most journal.old
         ≡ MAX_ENTRIES }
     requires limit { limit_of journal.old.reader.now ≡ MAX_ENTRIES }
     requires in_memory { IsInMemory S.behaviour facts.old }

@@ -56,8 +56,8 @@ impl<const SESSIONS: u32, const OBJECTS: u32, const SYMBOLS: u32, R: Source + Dr
 > {
     // No datagrams, and room for about so many bytes of them.
     pub(crate) fn new(alloc: Global, memory: u64) -> Self
-        ensures held { (choice : Choice) → HoldsDatagrams R.unread choice result [] }
-        ensures sound { IsSound R.unread R.failures result }
+        ensures held { (choice : Choice) → HoldsDatagrams R.unread R.buffered choice result [] }
+        ensures sound { IsSound R.unread R.buffered R.failures result }
         ensures none { result.told.datagrams ≡ 0 }
     {
         HeldFiles {
@@ -80,11 +80,11 @@ impl<const SESSIONS: u32, const OBJECTS: u32, const SYMBOLS: u32, R: Source + Dr
         datagram: &[u8],
     ) -> Result<(), CommandFault>
         requires room { self.now.told.datagrams + 1 < 2 ^ 64 }
-        requires sound { IsSound R.unread R.failures self.now }
-        ensures taken { OnOk result (HoldsMore R.unread
+        requires sound { IsSound R.unread R.buffered R.failures self.now }
+        ensures taken { OnOk result (HoldsMore R.unread R.buffered
             (choice_of (at_most SESSIONS OBJECTS SYMBOLS) sender scope.now) self.old self.new
             (datagram.now ∷ [])) }
-        ensures few { OnOk result (CountsUpTo R.unread R.failures 1 self.old self.new) }
+        ensures few { OnOk result (CountsUpTo R.unread R.buffered R.failures 1 self.old self.new) }
         ensures some { OnOk result (self.new.fits ≡ true → 0 < self.new.told.datagrams) }
         ensures memory { IfErr result (λ fault. fault ≡ faults.OutOfMemory) }
     {
@@ -114,11 +114,12 @@ impl<const SESSIONS: u32, const OBJECTS: u32, const SYMBOLS: u32, R: Source + Dr
         taken: usize,
     ) -> Result<(), CommandFault>
         requires countable { IsCountable SESSIONS OBJECTS SYMBOLS }
-        requires sound { IsSound R.unread R.failures self.old }
+        requires sound { IsSound R.unread R.buffered R.failures self.old }
         requires some { self.old.fits ≡ true → 0 < self.old.told.datagrams }
         ensures held { A.tells asides.old ≡ true
-            → (choice : Choice) → OnOk result (HoldsMore R.unread choice self.old self.new []) }
-        ensures few { OnOk result (CountsUpTo R.unread R.failures 0 self.old self.new) }
+            → (choice : Choice) → OnOk result (HoldsMore R.unread R.buffered choice self.old
+            self.new []) }
+        ensures few { OnOk result (CountsUpTo R.unread R.buffered R.failures 0 self.old self.new) }
         ensures failed { IfErr result (λ fault. fault ≡ faults.CannotPutAside) }
         ensures same_tells { A.tells asides.new ≡ A.tells asides.old }
         ensures made { Makes (A.made asides.old) (A.made asides.new) result }
@@ -141,17 +142,18 @@ impl<const SESSIONS: u32, const OBJECTS: u32, const SYMBOLS: u32, R: Source + Dr
         asides: &mut A,
     ) -> Result<(), CommandFault>
         requires countable { IsCountable SESSIONS OBJECTS SYMBOLS }
-        requires sound { IsSound R.unread R.failures self.old }
+        requires sound { IsSound R.unread R.buffered R.failures self.old }
         requires fits { self.old.fits ≡ true }
         requires some { 0 < self.old.told.datagrams }
         ensures held { A.tells asides.old ≡ true
-            → (choice : Choice) → OnOk result (HoldsMore R.unread choice self.old self.new []) }
+            → (choice : Choice) → OnOk result (HoldsMore R.unread R.buffered choice self.old
+            self.new []) }
         ensures empty { OnOk result (self.new.told.store ≡ []) }
         ensures counts { OnOk result ((self.new.told.datagrams ≡ self.old.told.datagrams)
             × (self.new.told.refused ≡ self.old.told.refused)
             × (self.new.others ≡ self.old.others)) }
         ensures fits { OnOk result (self.new.fits ≡ true) }
-        ensures few { OnOk result (CountsUpTo R.unread R.failures 0 self.old self.new) }
+        ensures few { OnOk result (CountsUpTo R.unread R.buffered R.failures 0 self.old self.new) }
         ensures failed { IfErr result (λ fault. fault ≡ faults.CannotPutAside) }
         ensures same_tells { A.tells asides.new ≡ A.tells asides.old }
         ensures made { A.made asides.old < A.made asides.new }
@@ -181,12 +183,14 @@ impl<const SESSIONS: u32, const OBJECTS: u32, const SYMBOLS: u32, R: Source + Dr
     ) -> Result<(), CommandFault>
         requires countable { IsCountable SESSIONS OBJECTS SYMBOLS }
         requires room { self.now.told.datagrams < 2 ^ 63 }
-        requires sound { IsSound R.unread R.failures self.now }
+        requires sound { IsSound R.unread R.buffered R.failures self.now }
         ensures held { A.tells asides.old ≡ true → OnOk result (IfSome (S.unread source.old)
             (λ bytes. (datagrams : List (List ℕ)) × IsFileWithin MAX_ENTRIES bytes datagrams
-            × HoldsMore R.unread (choice_of (at_most SESSIONS OBJECTS SYMBOLS) sender scope.now)
+            × HoldsMore R.unread R.buffered (choice_of (at_most SESSIONS OBJECTS SYMBOLS) sender
+            scope.now)
             self.old self.new datagrams)) }
-        ensures few { OnOk result (CountsUpTo R.unread R.failures MAX_ENTRIES self.old self.new) }
+        ensures few { OnOk result (CountsUpTo R.unread R.buffered R.failures MAX_ENTRIES self.old
+            self.new) }
         ensures failed { IfErr result (FileFails number (S.unread source.old)) }
         ensures failures { FailsToRead (S.failures source.old) (S.failures source.new) result }
         ensures same_tells { A.tells asides.new ≡ A.tells asides.old }
@@ -215,13 +219,13 @@ impl<const SESSIONS: u32, const OBJECTS: u32, const SYMBOLS: u32, R: Source + Dr
         asides: &mut A,
     ) -> Result<Option<OwnedJournalStream<R>>, CommandFault>
         requires countable { IsCountable SESSIONS OBJECTS SYMBOLS }
-        requires sound { IsSound R.unread R.failures self.old }
+        requires sound { IsSound R.unread R.buffered R.failures self.old }
         requires fits { self.old.fits ≡ true }
         ensures held { A.tells asides.old ≡ true
             → (choice : Choice) (datagrams : List (List ℕ))
-            → HoldsDatagrams R.unread choice self.old datagrams
-            → IfOk result (λ run. HoldsRun R.unread choice self.new run datagrams) }
-        ensures new { IfOk result (λ run. IfSome run (IsNewRun R.unread R.failures)) }
+            → HoldsDatagrams R.unread R.buffered choice self.old datagrams
+            → IfOk result (λ run. HoldsRun R.unread R.buffered choice self.new run datagrams) }
+        ensures new { IfOk result (λ run. IfSome run (IsNewRun R.unread R.buffered R.failures)) }
         ensures counts { OnOk result ((self.new.told.datagrams ≡ self.old.told.datagrams)
             × (self.new.told.refused ≡ self.old.told.refused)
             × (self.new.others ≡ self.old.others)) }

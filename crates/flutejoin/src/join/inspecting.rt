@@ -7,9 +7,9 @@ ghost use Rattle.flute_streams.specs.Streams.{IsNew};
 ghost use Rattle.flutejoin.specs.declared.command_fault.CommandFault.TheVariants.{Input};
 ghost use Rattle.flutejoin.specs.declared.command_fault.CommandFault.TheVariants.{CannotWrite};
 ghost use Rattle.flutejoin.specs.declared.limits.TheConstants.{MAX_ENTRIES};
-ghost use Rattle.flutejoin.specs.JoinInputs.{IsInput, AreInputs};
+ghost use Rattle.flutejoin.specs.JoinInputs.{IsInput, AreInputs, left};
 ghost use Rattle.flutejoin.specs.InputStreams.{journal_behaviour, failures_of, NoneFailed};
-ghost use Rattle.flutejoin.specs.InputStreams.{OneFailed};
+ghost use Rattle.flutejoin.specs.InputStreams.{OneFailed, left_of_journal};
 ghost use Rattle.flutejoin.specs.Joined.{choice_of};
 ghost use Rattle.flutejoin.specs.Asides.{Makes};
 ghost use Rattle.flutejoin.specs.JoinParts.{HoldsMore, IsSound, CountsUpTo};
@@ -53,11 +53,12 @@ pub(crate) fn inspect_all<
 ) -> Result<HeldFiles<SESSIONS, OBJECTS, SYMBOLS, R>, CommandFault>
     requires few { length inputs.old ≤ 64 }
     requires countable { IsCountable SESSIONS OBJECTS SYMBOLS }
-    ensures ready { OnOk result (AllByRecursion (IsReady R.unread R.failures) inputs.new) }
-    ensures sound { IfOk result (IsSound R.unread R.failures) }
+    ensures ready { OnOk result (AllByRecursion (IsReady R.unread R.buffered R.failures)
+        inputs.new) }
+    ensures sound { IfOk result (IsSound R.unread R.buffered R.failures) }
     ensures inspected { A.tells asides.old ≡ true
         → (contents : List (List ℕ)) → AreInputs R.unread inputs.old contents
-        → IfOk result (Finds R.unread
+        → IfOk result (Finds R.unread R.buffered
         (choice_of (at_most SESSIONS OBJECTS SYMBOLS) sender scope.now) inputs.new contents) }
     ensures failed { A.tells asides.old ≡ true
         → (contents : List (List ℕ)) → AreInputs R.unread inputs.old contents
@@ -104,16 +105,19 @@ fn inspect<
 ) -> Result<(), CommandFault>
     requires countable { IsCountable SESSIONS OBJECTS SYMBOLS }
     requires room { held.old.told.datagrams < 2 ^ 63 }
-    requires sound { IsSound R.unread R.failures held.old }
-    ensures ready { OnOk result (IsReady R.unread R.failures input.new) }
+    requires sound { IsSound R.unread R.buffered R.failures held.old }
+    ensures ready { OnOk result (IsReady R.unread R.buffered R.failures input.new) }
     ensures inspected { A.tells asides.old ≡ true
         → (bytes : List ℕ) → IsInput R.unread input.old bytes
         → OnOk result ((datagrams : List (List ℕ))
-        × IsInspected R.unread (choice_of (at_most SESSIONS OBJECTS SYMBOLS) sender scope.now)
+        × IsInspected R.unread R.buffered (choice_of (at_most SESSIONS OBJECTS SYMBOLS) sender
+        scope.now)
         input.new bytes datagrams
-        × HoldsMore R.unread (choice_of (at_most SESSIONS OBJECTS SYMBOLS) sender scope.now)
+        × HoldsMore R.unread R.buffered (choice_of (at_most SESSIONS OBJECTS SYMBOLS) sender
+        scope.now)
         held.old held.new datagrams) }
-    ensures few { OnOk result (CountsUpTo R.unread R.failures MAX_ENTRIES held.old held.new) }
+    ensures few { OnOk result (CountsUpTo R.unread R.buffered R.failures MAX_ENTRIES held.old
+        held.new) }
     ensures failed { (bytes : List ℕ) → IsInput R.unread input.old bytes
         → IfErr result (InspectionFails number bytes) }
     ensures names { IfErr result (NamesOnly number) }
@@ -135,10 +139,13 @@ fn inspect<
 // A journal of which nothing was read or passed over, and these objects are taken.
 fn restart<R: Source>(scope: &Scope, journal: &mut JournalInput<R>)
     ensures source { journal.new.stream.source ≡ journal.old.stream.source }
+    ensures left { left_of_journal R.unread R.buffered journal.new
+        ≡ left R.unread journal.old.stream.source }
     ensures scope { journal.new.choice ≡ scope.now }
     ensures others { journal.new.others ≡ 0 }
-    ensures new { IsNew (journal_behaviour R.unread R.failures) journal.new }
-    ensures most { (journal_behaviour R.unread R.failures).most journal.new ≡ MAX_ENTRIES }
+    ensures new { IsNew (journal_behaviour R.unread R.buffered R.failures) journal.new }
+    ensures most { (journal_behaviour R.unread R.buffered R.failures).most journal.new
+        ≡ MAX_ENTRIES }
     ensures limit { journal.new.stream.max_entries ≡ MAX_ENTRIES }
 {
     journal.choice = *scope;

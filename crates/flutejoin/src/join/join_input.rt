@@ -64,13 +64,21 @@ impl<R> JoinInput<R> {
 impl<R: Source> Stream for JoinInput<R> {
     ghost use Rattle.flutejoin.specs.InputStreams.{input_behaviour};
 
-    ghost behaviour = { input_behaviour R.unread R.failures };
+    ghost behaviour = { input_behaviour R.unread R.buffered R.failures };
 
     #[inline(always)]
     fn head(&self) -> Option<FactRef<'_>> {
         match self {
             JoinInput::Journal(journal) => journal.head(),
             _ => None,
+        }
+    }
+
+    #[inline(always)]
+    fn spelled(&self) -> &[u8] {
+        match self {
+            JoinInput::Journal(journal) => journal.spelled(),
+            _ => &[],
         }
     }
 

@@ -41,12 +41,13 @@ pub(crate) fn put_store<
 ) -> Result<(), CommandFault>
     requires countable { IsCountable SESSIONS OBJECTS SYMBOLS }
     requires few { length runs.old.items ≤ 64 }
-    requires new { AllByRecursion (IsNewRun R.unread R.failures) runs.old.items }
+    requires new { AllByRecursion (IsNewRun R.unread R.buffered R.failures) runs.old.items }
     ensures few { OnOk result (length runs.new.items ≤ 64) }
-    ensures new { OnOk result (AllByRecursion (IsNewRun R.unread R.failures) runs.new.items) }
+    ensures new { OnOk result (AllByRecursion (IsNewRun R.unread R.buffered R.failures)
+        runs.new.items) }
     ensures held { A.tells asides.old ≡ true → (facts : List Fact)
-        → AreRunsOf R.unread runs.old.items facts
-        → OnOk result (HoldTogether R.unread runs.new.items (facts ++ store.now)) }
+        → AreRunsOf R.unread R.buffered runs.old.items facts
+        → OnOk result (HoldTogether R.unread R.buffered runs.new.items (facts ++ store.now)) }
     ensures failed { IfErr result (λ fault. fault ≡ CannotPutAside) }
     ensures same_tells { A.tells asides.new ≡ A.tells asides.old }
     ensures made { A.made asides.old < A.made asides.new }
@@ -76,12 +77,13 @@ pub(crate) fn merge_beyond<R: Source + Drop, A: Asides<Input = R>>(
 ) -> Result<(), CommandFault>
     requires few { length runs.old.items ≤ 64 }
     requires some { 1 ≤ most }
-    requires new { AllByRecursion (IsNewRun R.unread R.failures) runs.old.items }
+    requires new { AllByRecursion (IsNewRun R.unread R.buffered R.failures) runs.old.items }
     ensures few { OnOk result (length runs.new.items ≤ most) }
-    ensures new { OnOk result (AllByRecursion (IsNewRun R.unread R.failures) runs.new.items) }
+    ensures new { OnOk result (AllByRecursion (IsNewRun R.unread R.buffered R.failures)
+        runs.new.items) }
     ensures held { A.tells asides.old ≡ true → (facts : List Fact)
-        → AreRunsOf R.unread runs.old.items facts
-        → OnOk result (HoldTogether R.unread runs.new.items facts) }
+        → AreRunsOf R.unread R.buffered runs.old.items facts
+        → OnOk result (HoldTogether R.unread R.buffered runs.new.items facts) }
     ensures failed { IfErr result (λ fault. fault ≡ CannotPutAside) }
     ensures same_tells { A.tells asides.new ≡ A.tells asides.old }
     ensures made { Makes (A.made asides.old) (A.made asides.new) result }
@@ -99,12 +101,13 @@ fn merge_runs<R: Source + Drop, A: Asides<Input = R>>(
     runs: &mut Vec<OwnedJournalStream<R>>,
 ) -> Result<(), CommandFault>
     requires few { length runs.old.items ≤ 64 }
-    requires new { AllByRecursion (IsNewRun R.unread R.failures) runs.old.items }
+    requires new { AllByRecursion (IsNewRun R.unread R.buffered R.failures) runs.old.items }
     ensures one { OnOk result (length runs.new.items ≡ 1) }
-    ensures new { OnOk result (AllByRecursion (IsNewRun R.unread R.failures) runs.new.items) }
+    ensures new { OnOk result (AllByRecursion (IsNewRun R.unread R.buffered R.failures)
+        runs.new.items) }
     ensures held { A.tells asides.old ≡ true → (facts : List Fact)
-        → AreRunsOf R.unread runs.old.items facts
-        → OnOk result (HoldTogether R.unread runs.new.items facts) }
+        → AreRunsOf R.unread R.buffered runs.old.items facts
+        → OnOk result (HoldTogether R.unread R.buffered runs.new.items facts) }
     ensures failed { IfErr result (λ fault. fault ≡ CannotPutAside) }
     ensures same_tells { A.tells asides.new ≡ A.tells asides.old }
     ensures made { A.made asides.old < A.made asides.new }
@@ -129,14 +132,15 @@ fn add_run<R: Source + Drop, A: Asides<Input = R>>(
     entries: u64,
     runs: &mut Vec<OwnedJournalStream<R>>,
 ) -> Result<(), CommandFault>
-    requires new { AllByRecursion (IsNewRun R.unread R.failures) runs.old.items }
+    requires new { AllByRecursion (IsNewRun R.unread R.buffered R.failures) runs.old.items }
     ensures more { OnOk result (length runs.new.items ≡ length runs.old.items + 1) }
-    ensures new { OnOk result (AllByRecursion (IsNewRun R.unread R.failures) runs.new.items) }
+    ensures new { OnOk result (AllByRecursion (IsNewRun R.unread R.buffered R.failures)
+        runs.new.items) }
     ensures held { (bytes : List ℕ) (own facts : List Fact)
         → A.Aside.written aside ≡ Some bytes → (journal : Journal bytes own)
         → entries ≡ length journal.0
-        → AreRunsOf R.unread runs.old.items facts
-        → OnOk result (HoldTogether R.unread runs.new.items (facts ++ own)) }
+        → AreRunsOf R.unread R.buffered runs.old.items facts
+        → OnOk result (HoldTogether R.unread R.buffered runs.new.items (facts ++ own)) }
     ensures failed { IfErr result (λ fault. fault ≡ CannotPutAside) }
     ensures same_tells { A.tells asides.new ≡ A.tells asides.old }
     ensures same_made { A.made asides.new ≡ A.made asides.old }

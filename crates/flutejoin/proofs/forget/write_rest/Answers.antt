@@ -3,13 +3,16 @@ use Rattle.flutejoin.proofs.forget.write_rest.Goals as goal
 
 pub returns-in-Ok-clause-forgot : goal.returns-in-Ok-clause-forgot
 returns-in-Ok-clause-forgot g c =
-    forgets g.R.Source.unread g.R.Source.failures c.requires.limit c.requires.others
+    forgets g.R.Source.unread g.R.Source.buffered g.R.Source.failures c.requires.limit
+    c.requires.others
     c.in-Ok.ensures.written
 
 pub returns-in-Err-Input-clause-short : goal.returns-in-Err-Input-clause-short
 returns-in-Err-Input-clause-short g c =
-    forgets_part g.R.Source.unread g.R.Source.failures c.requires.limit c.in-Err-Input.ensures.short
+    forgets_part g.R.Source.unread g.R.Source.buffered g.R.Source.failures c.requires.limit
+    c.in-Err-Input.ensures.short
 
 pub returns-in-Err-Write-clause-short : goal.returns-in-Err-Write-clause-short
 returns-in-Err-Write-clause-short g c =
-    forgets_part g.R.Source.unread g.R.Source.failures c.requires.limit c.in-Err-Write.ensures.short
+    forgets_part g.R.Source.unread g.R.Source.buffered g.R.Source.failures c.requires.limit
+    c.in-Err-Write.ensures.short

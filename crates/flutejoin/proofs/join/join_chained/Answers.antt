@@ -18,12 +18,14 @@ second_is e = cc
 
 pub returns-clause-short : goal.returns-clause-short
 returns-clause-short g c =
-    no_journal_of_part (joined_behaviour g.R.Source.unread g.R.Source.failures g.S.Stream.behaviour)
+    no_journal_of_part (joined_behaviour g.R.Source.unread g.R.Source.buffered g.R.Source.failures
+    g.S.Stream.behaviour)
     c.join_streams.result _ _ _ c.join_streams.ensures.short
 
 pub returns-clause-first : goal.returns-clause-first
 returns-clause-first g c =
-    let b = joined_behaviour g.R.Source.unread g.R.Source.failures g.S.Stream.behaviour in
+    let b = joined_behaviour g.R.Source.unread g.R.Source.buffered g.R.Source.failures
+    g.S.Stream.behaviour in
     let old = chained c.args.first.now (taken c.args.inputs.now) in
     let at : (s : g.row.S.Denot) (xs : List (JoinInput g.row.R.Denot))
     → c.join_streams.new.streams.first.now ≡ s → c.join_streams.new.streams.others.now ≡ xs
@@ -39,7 +41,8 @@ returns-clause-first g c =
 
 pub returns-clause-ended : goal.returns-clause-ended
 returns-clause-ended g c =
-    let b = joined_behaviour g.R.Source.unread g.R.Source.failures g.S.Stream.behaviour in
+    let b = joined_behaviour g.R.Source.unread g.R.Source.buffered g.R.Source.failures
+    g.S.Stream.behaviour in
     let old = chained c.args.first.now (taken c.args.inputs.now) in
     let w = g.W.Sink.written c.args.sink.now in
     let w' = g.W.Sink.written c.join_streams.new.sink in

@@ -11,12 +11,13 @@ use Rattle.flutejoin.proofs.join.join_inspected.Goals as goal
 pub returns-in-Some-clause-joined : goal.returns-in-Some-clause-joined
 returns-in-Some-clause-joined g c = λ choice contents datagrams facts most inspected held.
     let unread = g.R.Source.unread in
+    let buffered = g.R.Source.buffered in
     let New : Option (OwnedJournalStream g.row.R.Denot) → Type 0 =
-    λ o. IfSome o (IsNewRun unread g.R.Source.failures) in
+    λ o. IfSome o (IsNewRun unread buffered g.R.Source.failures) in
     let Held : Option (OwnedJournalStream g.row.R.Denot) → Type 0 =
-    λ o. AreHeld unread c.args.store.now o facts in
+    λ o. AreHeld unread buffered c.args.store.now o facts in
     c.join_held.ensures.joined choice contents datagrams facts most inspected
-    (run_ends unread g.R.Source.failures c.in-Some.run' facts
+    (run_ends unread buffered g.R.Source.failures c.in-Some.run' facts
     (subst New c.in-Some.is c.requires.new) (subst Held c.in-Some.is held))
 
 pub returns-in-Some-clause-failed : goal.returns-in-Some-clause-failed
@@ -29,7 +30,7 @@ returns-in-Some-clause-failed g c = λ choice contents datagrams inspected wants
 pub returns-in-None-clause-joined : goal.returns-in-None-clause-joined
 returns-in-None-clause-joined g c = λ choice contents datagrams facts most inspected held.
     let Held : Option (OwnedJournalStream g.row.R.Denot) → Type 0 =
-    λ o. AreHeld g.R.Source.unread c.args.store.now o facts in
+    λ o. AreHeld g.R.Source.unread g.R.Source.buffered c.args.store.now o facts in
     c.join_held-in-None.ensures.joined choice contents datagrams facts most inspected
     (walk_ends (λ s. fact_in s.held) (λ s. s.walk) c.new-walk.result c.args.store.now facts
     (c.new-walk.ensures.facts ∙ c.walk.ensures.value) (subst Held c.in-None.is held))

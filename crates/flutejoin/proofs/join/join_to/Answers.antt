@@ -60,7 +60,8 @@ returns-in_err-run-clause-failed g c = λ told contents inputs.
     let found = c.in_ok-held.ensures.inspected told contents inputs in
     rw (e.1, e.2)
     (of_aside c.in_err-run.ensures.failed
-    (finds_wants _ g.R.Source.unread c.in_ok-held.held c.inspect_all.new.inputs contents found
+    (finds_wants _ g.R.Source.unread g.R.Source.buffered c.in_ok-held.held
+    c.inspect_all.new.inputs contents found
     c.if-not-held.false c.in_err-run.ensures.some))
 
 pub returns-in_err-joined-clause-failed : goal.returns-in_err-joined-clause-failed
@@ -72,7 +73,8 @@ returns-in_err-joined-clause-failed g c = λ told contents inputs.
     rw (e.1, e.2)
     (c.in_err-joined.ensures.failed _ contents found.0 found.1
     (wants_run _ c.in_ok-run.run' c.in_ok-run.ensures.put
-    (finds_wants _ g.R.Source.unread c.in_ok-held.held c.inspect_all.new.inputs contents found
+    (finds_wants _ g.R.Source.unread g.R.Source.buffered c.in_ok-held.held
+    c.inspect_all.new.inputs contents found
     c.if-not-held.false)))
 
 pub returns-in_err-joined-clause-read_failed : goal.returns-in_err-joined-clause-read_failed

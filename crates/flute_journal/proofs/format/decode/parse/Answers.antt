@@ -1,5 +1,5 @@
 -- parse: what follows the kind of an entry, for each kind, and its first fault.
-use Rattle.std.proofs.Common.{arith, Ok, Err, ◌+◌}
+use Rattle.std.proofs.Common.{arith, Ok, Err}
 use Rattle.flute_journal.specs.declared.format.EntryHead.TheVariants.{Symbol}
 use Rattle.flute_journal.proofs.format_lemmas.Decoded.{key_wrong, parsed_at, split_behind_key}
 use Rattle.flute_journal.proofs.format.decode.parse.Goals as goal

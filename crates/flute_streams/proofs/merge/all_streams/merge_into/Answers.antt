@@ -7,7 +7,8 @@ use Rattle.flute_streams.proofs.merge_lemmas.Finished.{cut_journal}
 use Rattle.flute_streams.proofs.merge_lemmas.StreamStates.{stop_first, stop_header, state_turn}
 use Rattle.flute_streams.proofs.merge_lemmas.StreamStates.{turn-falls, sized-lowest, few-joined}
 use Rattle.flute_streams.proofs.merge_lemmas.StreamStates.{no_failure, stop_entry, stop_input}
-use Rattle.flute_streams.proofs.merge_lemmas.StreamStates.{stop_end, finished, Stopping}
+use Rattle.flute_streams.proofs.merge_lemmas.StreamStates.{stop_end, finished, spelled_now}
+use Rattle.flute_streams.proofs.merge_lemmas.StreamStates.{Stopping}
 use Rattle.flute_streams.proofs.merge.all_streams.merge_into.Given.{Over}
 use Rattle.flute_streams.proofs.merge.all_streams.merge_into.Goals as goal
 
@@ -61,11 +62,16 @@ returns-then-stops-clause-reads_ahead g c = (header_stop g c).0.reads_ahead
 pub returns-then-stops-clause-failures : goal.returns-then-stops-clause-failures
 returns-then-stops-clause-failures g c = (header_stop g c).1
 
+pub lowest-requires-clause-spelled : goal.lowest-requires-clause-spelled
+lowest-requires-clause-spelled g c =
+    spelled_now g.G.Stream.Stream.behaviour c.loop-fact.invariant.state
+
 pub entry-requires : goal.entry-requires
 entry-requires g c =
     record {
       sized = sized-lowest g.G.Stream.Stream.behaviour c.loop-fact.invariant.state
           c.in-Some.ensures.lowest;
+      spelled = c.in-Some.ensures.spelled;
     }
 
 -- an entry could not be written

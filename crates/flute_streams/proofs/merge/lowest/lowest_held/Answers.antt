@@ -1,9 +1,9 @@
 -- lowest_held: one stream more.
 use Rattle.flute_streams.proofs.Common.{◌<◌, length, arith, List, [], ◌++◌, Option, Some}
-use Rattle.flute_streams.proofs.Common.{take, sym, ap, subst, append-nil, ◌∷◌, ◌∙◌}
+use Rattle.flute_streams.proofs.Common.{take, sym, ap, inl, refl, subst, append-nil, ◌∷◌, ◌∙◌}
 use Rattle.flute_streams.proofs.Common.{fact_of, conflict_at, Fact, fact_in, option_list, heads}
 use Rattle.flute_streams.proofs.Common.{IsLowest}
-use Rattle.flute_streams.proofs.merge_lemmas.LowestFacts.{heads-more}
+use Rattle.flute_streams.proofs.merge_lemmas.LowestFacts.{heads-more, spelled-at}
 use Rattle.flute_streams.specs.Changes.{changed}
 use Rattle.flute_streams.proofs.merge.lowest.lowest_held.Goals.{in-Some+in-Lower}
 use Rattle.flute_streams.proofs.merge.lowest.lowest_held.Goals.{in-Some+in-Conflict}
@@ -18,7 +18,7 @@ loop-number-preserved g c =
     omega (arith, c.loop-number-test.true, c.count-all.ensures) in
     let more = heads-more g.G.Stream.Stream.behaviour xs c.loop-number.number
     (fact_in c.head.result) within c.head.ensures in
-    let held : IsLowest before (fact_in c.loop-number.lowest) = c.loop-number.invariant in
+    let held : IsLowest before (fact_in c.loop-number.lowest) = c.loop-number.invariant.lowest in
     let P : List Fact → Type 0 = λ l. IsLowest l (fact_in c.match-head.lowest) in
     let Q : Option Fact → Type 0 =
     λ o. IsLowest (before ++ option_list o) (fact_in c.match-head.lowest) in
@@ -51,4 +51,16 @@ loop-number-preserved g c =
           (sym (append-nil before)) (subst (λ o. IsLowest before o)
           (sym (ap fact_in w.lowest-is)) held))
     ] in
-    subst P (sym more) next
+    record {
+      lowest = subst P (sym more) next;
+      spelled = elim c.match-head.branch [
+        | in-Some+in-Lower w ↦
+            rw (w.spelled-is, w.lowest-is ∙ sym w.in-Some.is)
+            (spelled-at g.G.Stream.Stream.behaviour xs c.loop-number.number c.requires within
+            c.head.ensures w.spelled-spelled.ensures)
+        | in-Some+in-Conflict w ↦ rw (w.spelled-is, w.lowest-is) (inl refl)
+        | in-Some+in-Nothing w ↦
+            rw (w.spelled-is, w.lowest-is) c.loop-number.invariant.spelled
+        | in_default w ↦ rw (w.spelled-is, w.lowest-is) c.loop-number.invariant.spelled
+      ];
+    }

@@ -5,4 +5,5 @@ use Rattle.flute_tests.proofs.journal.many.merge_journals.Given as goal
 
 abbrev pub invariant-loop-source : goal.invariant-loop-source
 invariant-loop-source g l =
-    NewStreams (journal_behaviour g.R.Source.unread g.R.Source.failures) l.streams.items
+    NewStreams (journal_behaviour g.R.Source.unread g.R.Source.buffered g.R.Source.failures)
+    l.streams.items

@@ -13,21 +13,25 @@ use Rattle.flutejoin.proofs.join.putting_aside.merge_runs.Goals as goal
 
 pub merge_slice-requires-clause-new : goal.merge_slice-requires-clause-new
 merge_slice-requires-clause-new g c =
-    subst (AreNew (owned_behaviour g.R.Source.unread g.R.Source.failures))
+    subst (AreNew (owned_behaviour g.R.Source.unread g.R.Source.buffered g.R.Source.failures))
     (sym c.deref_mut.ensures.value)
-    (runs_new g.R.Source.unread g.R.Source.failures c.args.runs.now.items c.requires.new)
+    (runs_new g.R.Source.unread g.R.Source.buffered g.R.Source.failures c.args.runs.now.items
+    c.requires.new)
 
 pub merge_slice-requires-clause-few : goal.merge_slice-requires-clause-few
 merge_slice-requires-clause-few g c =
     let few =
-    runs_few g.R.Source.unread g.R.Source.failures c.args.runs.now.items c.requires.new in
-    subst (λ l. most_of (owned_behaviour g.R.Source.unread g.R.Source.failures) l < 2 ^ 64)
+    runs_few g.R.Source.unread g.R.Source.buffered g.R.Source.failures c.args.runs.now.items
+    c.requires.new in
+    subst (λ l. most_of (owned_behaviour g.R.Source.unread g.R.Source.buffered
+    g.R.Source.failures) l < 2 ^ 64)
     (sym c.deref_mut.ensures.value) (omega (arith, few, c.requires.few))
 
 pub returns-in-Ok-merge_slice-clause-held : goal.returns-in-Ok-merge_slice-clause-held
 returns-in-Ok-merge_slice-clause-held g c = λ told facts holds.
     let unread = g.R.Source.unread in
-    let b = owned_behaviour unread g.R.Source.failures in
+    let buffered = g.R.Source.buffered in
+    let b = owned_behaviour unread buffered g.R.Source.failures in
     let written = g.A.Aside.Sink.written in
     let merged = c.in-Ok-merge_slice.ensures.merged in
     let puts =
@@ -41,8 +45,8 @@ returns-in-Ok-merge_slice-clause-held g c = λ told facts holds.
     let tells =
     subst (λ l. Each b.tells l merged.told) c.deref_mut.ensures.value merged.tell in
     let same =
-    told_runs unread g.R.Source.failures c.args.runs.now.items merged.told facts
+    told_runs unread buffered g.R.Source.failures c.args.runs.now.items merged.told facts
     c.requires.new tells holds in
-    together_on unread c.add_run.new.runs.items c.add_run.result same
+    together_on unread buffered c.add_run.new.runs.items c.add_run.result same
     (c.add_run.ensures.held puts.bytes (all_of merged.told) [] bytes puts.journal puts.entries
-    (subst (λ l. AreRunsOf unread l []) (sym c.clear.ensures.items) refl))
+    (subst (λ l. AreRunsOf unread buffered l []) (sym c.clear.ensures.items) refl))

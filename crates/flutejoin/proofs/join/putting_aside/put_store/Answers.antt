@@ -9,6 +9,7 @@ use Rattle.flutejoin.proofs.join.putting_aside.put_store.Goals as goal
 pub returns-in-Ok-write_store-clause-held : goal.returns-in-Ok-write_store-clause-held
 returns-in-Ok-write_store-clause-held g c = λ told facts holds.
     let unread = g.R.Source.unread in
+    let buffered = g.R.Source.buffered in
     let written = g.A.Aside.Sink.written in
     let store = c.args.store.now in
     let runs = c.in_ok-merge_beyond.ensures.held told facts holds in
@@ -21,7 +22,7 @@ returns-in-Ok-write_store-clause-held g c = λ told facts holds.
     let one =
     rising_unique store journal.0 c.keeps_order_and_limits.ensures.rising journal.1.rising
     journal.1.same in
-    together_on unread c.add_run.new.runs.items c.add_run.result
+    together_on unread buffered c.add_run.new.runs.items c.add_run.result
     (Same-append runs.0 facts store store runs.2 (Same-itself store))
     (c.add_run.ensures.held (spelling store) store runs.0 bytes journal
     (c.in-Ok-write_store.ensures.count ∙ ap length one) runs.1)

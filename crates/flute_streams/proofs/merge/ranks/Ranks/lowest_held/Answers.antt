@@ -1,11 +1,11 @@
 -- One stream more: those before it are passed over, and its fact is joined.
 use Rattle.flute_streams.proofs.Common.{◌≡◌, ◌<◌, ◌≤◌, length, arith, List, []}
 use Rattle.flute_streams.proofs.Common.{◌++◌, ◌∷◌, Option, Some, IfSome, take, take_all}
-use Rattle.flute_streams.proofs.Common.{sym, ap, subst, append-nil, ◌∙◌, refl, Address}
+use Rattle.flute_streams.proofs.Common.{sym, ap, inl, subst, append-nil, ◌∙◌, refl, Address}
 use Rattle.flute_streams.proofs.Common.{address, fact_of, conflict_at, Fact, fact_in, option_list}
 use Rattle.flute_streams.proofs.Common.{heads}
 use Rattle.flute_streams.proofs.merge_lemmas.GoingOn.{item_at}
-use Rattle.flute_streams.proofs.merge_lemmas.LowestFacts.{conflict-place}
+use Rattle.flute_streams.proofs.merge_lemmas.LowestFacts.{conflict-place, spelled-at}
 use Rattle.flute_streams.proofs.merge_lemmas.RankFacts.{comes-none, comes-lowest, not-before}
 use Rattle.flute_streams.proofs.merge_lemmas.RankFacts.{same_place}
 use Rattle.flute_streams.proofs.merge_lemmas.RankedStreams.{comes-more, comes-up-to, ranked_of}
@@ -24,7 +24,7 @@ lowest_of-rank-requires g c =
     let streams = g.G.Streams.streams c.args.streams.now in
     let few =
     (ranked_of g.G.Stream.Stream.behaviour streams c.args.self.now c.in_ok-key.key c.in_ok-key.was
-    c.requires).few in
+    c.requires.ranking).few in
     omega (arith, few, c.count-all.ensures)
 
 pub next_at-requires-clause-few : goal.next_at-requires-clause-few
@@ -32,11 +32,11 @@ next_at-requires-clause-few g c =
     let streams = g.G.Streams.streams c.args.streams.now in
     let few =
     (ranked_of g.G.Stream.Stream.behaviour streams c.args.self.now c.in_ok-key.key c.in_ok-key.was
-    c.requires).few in
+    c.requires.ranking).few in
     omega (arith, few, c.count-all.ensures)
 
 pub loop-number-init : goal.loop-number-init
-loop-number-init g c = record { comes = comes-none _; next = omega arith }
+loop-number-init g c = record { comes = comes-none _; spelled = refl; next = omega arith }
 
 pub change_at-requires-clause-not_before : goal.change_at-requires-clause-not_before
 change_at-requires-clause-not_before g c =
@@ -45,7 +45,7 @@ change_at-requires-clause-not_before g c =
     let self = c.args.self.now in
     let key = c.in_ok-key.key in
     let place : Address = record { key = key; part = c.in_ok-part_of.field-0 } in
-    let ranked = ranked_of b streams self key c.in_ok-key.was c.requires in
+    let ranked = ranked_of b streams self key c.in_ok-key.was c.requires.ranking in
     let rank = c.lowest_of-rank.result in
     let k = c.in-Some.number in
     let found = c.in-Some.ensures.next in
@@ -68,7 +68,7 @@ loop-number-preserved g c =
     let self = c.args.self.now in
     let key = c.in_ok-key.key in
     let place : Address = record { key = key; part = c.in_ok-part_of.field-0 } in
-    let ranked = ranked_of b streams self key c.in_ok-key.was c.requires in
+    let ranked = ranked_of b streams self key c.in_ok-key.was c.requires.ranking in
     let rank = c.lowest_of-rank.result in
     let k = c.in-Some.number in
     let found = c.in-Some.ensures.next in
@@ -111,25 +111,38 @@ loop-number-preserved g c =
     ] in
     record {
       comes = comes-more b streams k place new (fact_in c.head.result) within c.head.ensures next;
+      spelled = elim c.match-head.branch [
+        | in-Some-head+in-Lower w ↦
+            rw (w.spelled-is, w.value-is ∙ sym w.in-Some-head.is)
+            (spelled-at b streams k c.requires.spelled within c.head.ensures
+            w.spelled-spelled.ensures)
+        | in-Some-head+in-Conflict w ↦ rw (w.spelled-is, w.value-is) (inl refl)
+        | in-Some-head+in-Nothing w ↦
+            rw (w.spelled-is, w.value-is) c.loop-number.invariant.spelled
+        | in_default-head w ↦ rw (w.spelled-is, w.value-is) c.loop-number.invariant.spelled
+      ];
       next = omega (arith, found.1);
     }
 
-pub returns : goal.returns
-returns g c =
+pub returns-in-Some-value : goal.returns-in-Some-value
+returns-in-Some-value g c =
     let b = g.G.Stream.Stream.behaviour in
     let streams = g.G.Streams.streams c.args.streams.now in
     let self = c.args.self.now in
     let key = c.in_ok-key.key in
     let place : Address = record { key = key; part = c.in_ok-part_of.field-0 } in
-    let ranked = ranked_of b streams self key c.in_ok-key.was c.requires in
+    let ranked = ranked_of b streams self key c.in_ok-key.was c.requires.ranking in
     let rank = c.lowest_of-rank.result in
     let all = c.count-all.result in
     let within : all ≤ length streams = omega (arith, c.count-all.ensures) in
     let whole : take all streams ≡ streams =
     take_all all streams (omega (arith, c.count-all.ensures)) in
     let value = c.loop-number.value in
+    let lowest : IfSome value (λ fact. Lowest (heads b streams) (fact_of fact)) =
     subst (λ xs. IfSome value (λ fact. Lowest (heads b xs) (fact_of fact))) whole
     (comes-lowest place (heads b (take all streams)) value
     (comes-up-to b streams place c.loop-number.next all c.loop-number.invariant.next within
     (same_place place key rank refl (sym c.in_ok-part_of.ensures)) (c.in_default.ensures.none refl)
-    ranked c.loop-number.invariant.comes))
+    ranked c.loop-number.invariant.comes)) in
+    let is = c.in-Some-value.is in
+    (rw is at lowest, rw is at c.loop-number.invariant.spelled)

@@ -1,4 +1,5 @@
-use Rattle.flute_streams.proofs.streams_lemmas.Chaining.{far, other_held}
+use Rattle.flute_streams.proofs.streams_lemmas.Chaining.{far, other_is}
+use Rattle.flute_streams.specs.Eithers.{held_either}
 use Rattle.flute_streams.proofs.streams.chained.ChainedStreams.head.Goals as goal
 
 pub head-requires-else-number-eq0 : goal.head-requires-else-number-eq0
@@ -8,6 +9,7 @@ head-requires-else-number-eq0 g c =
 
 pub returns-else-number-eq0 : goal.returns-else-number-eq0
 returns-else-number-eq0 g c =
-    other_held g.A.Stream.behaviour g.G.Stream.Stream.behaviour c.args.self.now.first.now
-    (g.G.Streams.streams c.args.self.now.others) c.args.number c.requires c.if-number-eq0.false _
+    other_is g.A.Stream.behaviour g.G.Stream.Stream.behaviour c.args.self.now.first.now
+    (g.G.Streams.streams c.args.self.now.others) c.args.number c.requires c.if-number-eq0.false
+    (held_either g.A.Stream.behaviour g.G.Stream.Stream.behaviour) _
     c.head-else-number-eq0.ensures

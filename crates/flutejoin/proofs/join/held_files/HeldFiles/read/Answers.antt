@@ -22,7 +22,8 @@ loop-datagram-init g c =
             (g.S.Source.unread c.args.source.now)),
         λ told before holds.
             subst
-            (λ l. HoldsDatagrams g.R.Source.unread (choice_of most c.args.sender c.args.scope.now)
+            (λ l. HoldsDatagrams g.R.Source.unread g.R.Source.buffered (choice_of most
+            c.args.sender c.args.scope.now)
             c.args.self.now l)
             (sym (append-nil before)) holds,
         omega arith,
@@ -80,14 +81,14 @@ loop-datagram-preserved g c =
         λ told before holds.
             let taken =
             subst
-            (λ l. HoldsDatagrams g.R.Source.unread choice c.take.new.self l)
+            (λ l. HoldsDatagrams g.R.Source.unread g.R.Source.buffered choice c.take.new.self l)
             (append_assoc before all.0 (c.in-Some.datagram ∷ []))
             (subst
-            (λ d. HoldsDatagrams g.R.Source.unread choice c.take.new.self
+            (λ d. HoldsDatagrams g.R.Source.unread g.R.Source.buffered choice c.take.new.self
             ((before ++ all.0) ++ d ∷ [])) c.as_slice.ensures.bytes
             (c.in_ok-take.ensures.taken (before ++ all.0) (all.2 told before holds))) in
             let given = before ++ (all.0 ++ c.in-Some.datagram ∷ []) in
-            subst (HoldsDatagrams g.R.Source.unread choice c.make_room.new.self)
+            subst (HoldsDatagrams g.R.Source.unread g.R.Source.buffered choice c.make_room.new.self)
             (append-nil given)
             (c.in_ok-make_room.ensures.held (c.loop-datagram.invariant.same_tells ∙ told) choice
             given taken),

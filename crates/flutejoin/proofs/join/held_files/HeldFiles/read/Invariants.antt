@@ -12,11 +12,11 @@ invariant-loop-datagram g l = record {
   so_far : (datagrams : List (List ℕ)) × Sofar file_framing l.reader.max_records
       (g.S.Source.unread l.fn.source) (g.S.Source.unread l.reader.source.now) l.reader.state
       datagrams
-      × (g.A.Asides.tells l.fn.asides ≡ true → HoldsMore g.R.Source.unread
+      × (g.A.Asides.tells l.fn.asides ≡ true → HoldsMore g.R.Source.unread g.R.Source.buffered
       (choice_of (at_most g.row.SESSIONS g.row.OBJECTS g.row.SYMBOLS) l.fn.sender l.fn.scope)
       l.fn.self l.self datagrams)
       × (l.self.told.datagrams ≤ l.fn.self.told.datagrams + length datagrams);
-  sound : IsSound g.R.Source.unread g.R.Source.failures l.self;
+  sound : IsSound g.R.Source.unread g.R.Source.buffered g.R.Source.failures l.self;
   same_tells : g.A.Asides.tells l.asides ≡ g.A.Asides.tells l.fn.asides;
   made : g.A.Asides.made l.fn.asides ≤ g.A.Asides.made l.asides;
   limit : l.reader.max_records ≡ 16777216;

@@ -7,8 +7,9 @@ use Rattle.flutejoin.proofs.join.held_files.HeldFiles.run.Goals as goal
 pub returns-clause-held : goal.returns-clause-held
 returns-clause-held g c = λ told choice datagrams holds.
     let unread = g.R.Source.unread in
+    let buffered = g.R.Source.buffered in
     let aside =
-    subst (HoldsDatagrams unread choice c.put_aside.new.self) (append-nil datagrams)
+    subst (HoldsDatagrams unread buffered choice c.put_aside.new.self) (append-nil datagrams)
     (c.in_ok-put_aside.ensures.held told choice datagrams holds) in
     holds_run c.in_ok-put_aside.ensures.fits c.in_ok-put_aside.ensures.empty
     (λ facts runs.

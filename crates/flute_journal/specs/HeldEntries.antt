@@ -1,0 +1,78 @@
+-- An entry that is held: a fact, or what the source's buffer begins with.
+use Rattle.std.specs.Prelude.{◌≡◌, ◌⊎◌, ℕ, List, [], drop, length, take, Option, Some, None}
+use Rattle.std.specs.Prelude.{OnErr, Result}
+use Rattle.std.specs.Option.{option_map}
+use Rattle.flute_parts.specs.Addresses.{fact_of}
+use Rattle.flute_parts.specs.Ranges.{IsFact}
+use Rattle.flute_parts.specs.declared.fact.Fact.{Fact}
+use Rattle.flute_parts.specs.declared.fact.Fact.TheVariants.{Symbol}
+use Rattle.flute_parts.specs.declared.fact.FactRef.{FactRef}
+use Rattle.flute_journal.specs.Format.{entry}
+use Rattle.flute_journal.specs.Framing.{Gives, is_open}
+use Rattle.flute_journal.specs.Input.{FailsIf}
+use Rattle.flute_journal.specs.JournalFraming.{journal_framing}
+use Rattle.flute_journal.specs.Readers.{given_into}
+use Rattle.flute_journal.specs.declared.fault.ReadFault.{ReadFault}
+use Rattle.flute_journal.specs.declared.readers.entry_fields.Before.{Before}
+use Rattle.flute_journal.specs.declared.readers.reader_state.ReaderState.{ReaderState}
+use Rattle.flute_journal.specs.declared.readers.held_entry.HeldEntry.{HeldEntry}
+use Rattle.flute_journal.specs.declared.readers.held_entry.HeldEntry.TheVariants as held
+
+abbrev pub fact_in : Option FactRef → Option Fact
+fact_in None = None
+fact_in (Some fact) = Some (fact_of fact)
+
+-- how many bytes of the source it has
+abbrev pub size_of : HeldEntry → ℕ
+size_of (held.InBuffer key id size) = size
+size_of _ = 0
+
+-- these, which are the entry as version 2 spells it: none if the fact has memory of its own
+abbrev pub spelled_in : List ℕ → HeldEntry → List ℕ
+spelled_in buffer e = take (size_of e) buffer
+
+-- its fact: the bytes of a symbol follow 44 others
+abbrev pub fact_held : List ℕ → HeldEntry → Option Fact
+fact_held buffer held.Nothing = None
+fact_held buffer (held.Own fact) = Some fact
+fact_held buffer (held.InBuffer key id size) = Some (Symbol key id (drop 44 (take size buffer)))
+
+-- what is left of a source behind the bytes that are held
+abbrev pub left_behind : List ℕ → Option (List ℕ) → Option (List ℕ)
+left_behind spelled unread = option_map (drop (length spelled)) unread
+
+-- the bytes are none, or the entry of the fact, which is valid
+abbrev pub IsSpelling : List ℕ → Option Fact → Type 0
+IsSpelling bytes None = bytes ≡ []
+IsSpelling bytes (Some fact) = (bytes ≡ []) ⊎ (IsFact fact × (bytes ≡ entry fact))
+
+-- a source, where its reader is, and the entry that is held of it
+pub record Reading (R : Type 0) : Type 0 where
+  pub source : R
+  pub state : ReaderState Before
+  pub held : HeldEntry
+
+abbrev pub reading : {R : Type 0} → R → ReaderState Before → HeldEntry → Reading R
+reading source state e = record { source = source; state = state; held = e }
+
+module _ {R : Type 0} (unread : R → Option (List ℕ)) (buffered : R → List ℕ) where
+  abbrev pub spelled_of : Reading R → List ℕ
+  spelled_of r = spelled_in (buffered r.source) r.held
+
+  abbrev pub fact_of_held : Reading R → Option Fact
+  fact_of_held r = fact_held (buffered r.source) r.held
+
+  abbrev pub left_of : Reading R → Option (List ℕ)
+  left_of r = left_behind (spelled_of r) (unread r.source)
+
+  -- a reader let go of what was held, and holds the next entry, or nothing
+  pub record HoldsNext (failures : R → ℕ) (limit : ℕ) (old new : Reading R)
+      (result : Result (Unit {0}) ReadFault) : Type 0 where
+    pub gives :
+        Gives journal_framing limit old.state new.state (left_of old) (left_of new)
+        (given_into result (fact_of_held new))
+    pub failed :
+        FailsIf (is_open old.state) (failures old.source) (failures new.source)
+        (given_into result (fact_of_held new))
+    pub spelled : IsSpelling (spelled_of new) (fact_of_held new)
+    pub none : OnErr result (new.held ≡ held.Nothing)

@@ -1,0 +1,67 @@
+-- What is held at the end of a merge is let go of: the sources then have left what the streams had.
+use Rattle.flute_streams.proofs.Common.{Fact, List, None, Option}
+use Rattle.flute_streams.proofs.Common.{ReadsEntries, Some, [], ap, refl, ◌∙◌, ◌++◌, ◌≡◌, ℕ}
+use Rattle.std.proofs.Math.Seq.{drop-append_seam}
+use Rattle.std.specs.Io.KnownBytes.{Consumes}
+use Rattle.std.specs.Prelude.{drop, length}
+use Rattle.flute_journal.specs.HeldEntries.{fact_held, left_behind, spelled_in}
+use Rattle.flute_journal.specs.declared.readers.held_entry.HeldEntry.{HeldEntry}
+use Rattle.flute_journal.specs.declared.readers.held_entry.HeldEntry.TheVariants as held
+use Rattle.flute_streams.specs.Merges.{Stopped}
+use Rattle.flute_streams.specs.declared.merge.two_streams.MergeFault.{MergeFault}
+
+left_all : (u : Option (List ℕ)) → left_behind [] u ≡ u
+left_all None = refl
+left_all (Some xs) = refl
+
+-- behind nothing all is left
+pub nothing_held : (b : List ℕ) (e : HeldEntry) (u : Option (List ℕ)) → fact_held b e ≡ None
+    → left_behind (spelled_in b e) u ≡ u
+nothing_held b held.Nothing u none = left_all u
+nothing_held b (held.Own f) u none = absurd cc
+nothing_held b (held.InBuffer key id size) u none = absurd cc
+
+consumes : (input u v : Option (List ℕ)) (held bytes : List ℕ) → Consumes u v held
+    → Consumes input (left_behind held u) bytes → Consumes input v bytes
+consumes None u v held bytes c r = tt
+consumes (Some xs) None v held bytes c r = absurd r
+consumes (Some xs) (Some ys) None held bytes c r = absurd c
+consumes (Some xs) (Some ys) (Some zs) held bytes c r =
+    r ∙ ap (λ l. bytes ++ l) (ap (drop (length held)) c ∙ drop-append_seam held zs)
+
+reads : {input : Option (List ℕ)} (u v : Option (List ℕ)) (held : List ℕ) {F : List Fact}
+    → Consumes u v held → ReadsEntries input (left_behind held u) F → ReadsEntries input v F
+reads {input = input} u v held c r = record {
+  version = r.version;
+  valid = r.valid;
+  bytes = r.bytes;
+  read = consumes input u v held r.bytes c r.read;
+  ends = r.ends;
+}
+
+-- what was held of two sources was let go of
+pub record LetGo (u v x y : Option (List ℕ)) : Type 0 where
+  pub first_held : List ℕ
+  pub second_held : List ℕ
+  pub first : Consumes u v first_held
+  pub second : Consumes x y second_held
+
+pub lets_go : {limit : ℕ} {first second u v x y old new : Option (List ℕ)} {fault : MergeFault}
+    → (l : LetGo u v x y)
+    → Stopped limit first (left_behind l.first_held u) second (left_behind l.second_held x) old new
+    fault → Stopped limit first v second y old new fault
+lets_go {u = u} {v = v} {x = x} {y = y} l h = record {
+  short = h.short;
+  keeps_up = record {
+    first_entries = h.keeps_up.first_entries;
+    second_entries = h.keeps_up.second_entries;
+    first_read = reads u v l.first_held l.first h.keeps_up.first_read;
+    second_read = reads x y l.second_held l.second h.keeps_up.second_read;
+    entries = h.keeps_up.entries;
+    collects = h.keeps_up.collects;
+    bytes = h.keeps_up.bytes;
+    appended = h.keeps_up.appended;
+    begins = h.keeps_up.begins;
+  };
+  names = h.names;
+}
