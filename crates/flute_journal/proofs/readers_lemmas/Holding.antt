@@ -185,14 +185,14 @@ starts_behind b n xs ys front is =
     ap (take (length (drop n b))) rest ∙ take_at (drop n b) more (length (drop n b)) refl
 
 -- the entry behind what was held lies at the front of what is left of a source
-left_on : {last : Option Address} {f : Fact} (b held : List ℕ) (size : ℕ)
+left_on : {last : Option Address} {f : Fact} {size : ℕ} (b held : List ℕ)
     (u v : Option (List ℕ)) → IfSome u (λ xs. StartsWith xs b)
     → Consumes u v (take (length held) b) → length held ≤ length b
     → BeginsWithEntry Two last (drop (length held) b) f size
     → Consumes (left_behind held u) (left_behind (take size (drop (length held) b)) v) (entry f)
-left_on b held size None v front c few h = tt
-left_on b held size (Some xs) None front c few h = absurd c
-left_on {f = f} b held size (Some xs) (Some ys) front c few h =
+left_on b held None v front c few h = tt
+left_on b held (Some xs) None front c few h = absurd c
+left_on {f = f} {size = size} b held (Some xs) (Some ys) front c few h =
     let n = length held in
     let rest = drop n b in
     let taken : length (take n b) ≡ n = length-take-le n b few in
@@ -250,6 +250,6 @@ held_next {e = e} {last = last} {key = key} {id = id} {symbol = symbol} {b = b} 
     (record {
       valid = own.valid;
       in_order = own.in_order;
-      consumes = left_on b taken size u v front c few own;
+      consumes = left_on b taken u v front c few own;
       spelled = own.spelled;
     }))
