@@ -23,6 +23,7 @@ from typing import Any
 
 sys.dont_write_bytecode = True
 from flute_sender import partition
+from run import waits
 
 PROGRAM = ""
 
@@ -284,9 +285,9 @@ class ExtractAll(unittest.TestCase):
         os.mkfifo(slow)
         first = subprocess.Popen([PROGRAM, "extract", "--all", "-o", self.out, slow])
         with slow.open("wb") as journal:
-            while not self.beside.exists():
+            # It has the folder once it waits for its journal.
+            while not (self.beside.exists() and waits(first)):
                 time.sleep(0.01)
-            time.sleep(0.1)
             self.extract(status=3)
             journal.write(journal_of(objects))
         self.assertEqual(first.wait(), 0)

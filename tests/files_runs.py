@@ -193,7 +193,7 @@ class Runs(Case):
             took, used = time.monotonic() - start, processor_time() - used
             print(f"files: {count} files of {size} bytes: {took:.2f} s, {used:.2f} s of processor")
             # This takes about two seconds; a run, or a pass, for each file would take minutes.
-            self.assertLess(used, 6)
+            self.assertLess(used, 30)
             self.assertIn(f"written {count}, verified {count};", answer.out)
             self.assertEqual(self.tree(f"files{count}"), {f"h/{it.toi}": it.content for it in sent})
             self.assertEqual(self.runs.read_text().split(), ["extract", "info", "extract"])

@@ -24,6 +24,7 @@ sys.path.insert(0, TOOLS)
 import flutejoin_gaps
 import flutejoin_survey
 
+LONGEST = 600  # seconds; only what hangs takes so long
 SVG = "{http://www.w3.org/2000/svg}"
 PARTIAL = "partial missing 1 conflicting 0 misfit 0\ngap 0/1-1 missing"
 PROGRAM = """#!/bin/sh
@@ -58,7 +59,7 @@ class Pictures(unittest.TestCase):
     def map(self, *words: str) -> str:
         command = [sys.executable, os.path.join(TOOLS, "flutejoin-map"), "--flutejoin", "./program"]
         ran = subprocess.run(
-            [*command, *words], cwd=self.folder, capture_output=True, text=True, timeout=60
+            [*command, *words], cwd=self.folder, capture_output=True, text=True, timeout=LONGEST
         )
         self.assertEqual((ran.returncode, ran.stderr), (0, ""))
         return ran.stdout

@@ -16,7 +16,7 @@ import tempfile
 from typing import Any
 
 import run
-from run import TESTS, Run, until
+from run import TESTS, Run, until, waits
 
 LINES_OF_TWO = "datagrams 0\nrefused 0\nentries 3\n"
 LINES_OF_BOTH = "datagrams 0\nrefused 0\nentries 14\n"
@@ -92,5 +92,7 @@ class Case(run.Case):
         with open(pipe, "wb") as out:
             out.write(content)
 
-    def until_there(self, name: str) -> None:
-        self.assertTrue(until(lambda: self.exists(name)), f"{name} does not come")
+    def until_there(self, name: str, child: subprocess.Popen) -> None:
+        """Waits until a run has made a file, and waits for a pipe."""
+        is_there = until(lambda: self.exists(name) and waits(child))
+        self.assertTrue(is_there, f"{name} does not come")

@@ -34,7 +34,7 @@ class Waiting(Runs):
     def test_two_merges(self) -> None:
         self.copy("one", "all")
         child, pipe = self.begun(MERGE.format("all"))
-        self.until_there("all.partial")
+        self.until_there("all.partial", child)
         mode = self.mode("all.partial")
         self.holds("what is beside a file has its mode", mode == self.mode("all"), mode)
         self.row("a second run on one output", "join -o all one two", 3, "", CREATE)
@@ -46,7 +46,7 @@ class Waiting(Runs):
 
     def test_killed_merge(self) -> None:
         child, pipe = self.begun(MERGE.format("fresh"))
-        self.until_there("fresh.partial")
+        self.until_there("fresh.partial", child)
         self.killed(child, pipe)
         self.absent("it leaves no output", "fresh")
         self.row("what it leaves is no journal", "show fresh.partial", 1, None, None)
@@ -60,7 +60,7 @@ class Waiting(Runs):
         child, pipe = self.begun("join -o all sent2 pipe")
         one = self.read("one")
         os.write(pipe, one[:100])
-        self.until_there("all.partial")
+        self.until_there("all.partial", child)
         self.row("a second join on one output", "join -o all one two", 3, "", CREATE)
         self.same("the output stays meanwhile", "all", "one")
         self.feed(pipe, one[100:])
@@ -71,12 +71,12 @@ class Waiting(Runs):
     def test_killed_join_and_info(self) -> None:
         child, pipe = self.begun("join -o fresh two pipe")
         os.write(pipe, self.part("one", 100))
-        self.until_there("fresh.partial")
+        self.until_there("fresh.partial", child)
         self.killed(child, pipe)
         self.absent("a killed join leaves no output", "fresh")
         self.row("what it leaves is no journal", "show fresh.partial", 1, None, None)
         child, pipe = self.begun(f"info -o fresh {THIRD} pipe")
-        self.until_there("fresh.partial")
+        self.until_there("fresh.partial", child)
         self.feed(pipe, self.read("two"))
         self.check("info of a pipe", self.finish(child), 0, "entries 4")
         self.made(f"info -o informed {THIRD} two")
@@ -87,7 +87,7 @@ class Waiting(Runs):
         """A part of the object is beside OUT while the journal is read."""
         child, pipe = self.begun(f"extract -o fresh {FIRST} pipe")
         os.write(pipe, self.part("one", 100))
-        self.until_there("fresh.partial")
+        self.until_there("fresh.partial", child)
         words = f"extract -o fresh {FIRST} one"
         self.row("a second extract to one output", words, 3, "", CREATE)
         self.killed(child, pipe)
@@ -98,7 +98,7 @@ class Waiting(Runs):
 
     def test_name_that_is_taken(self) -> None:
         child, pipe = self.begun(MERGE.format("taken"))
-        self.until_there("taken.partial")
+        self.until_there("taken.partial", child)
         self.path("taken/full").mkdir(parents=True)
         self.feed(pipe, self.read("one"))
         self.check("by a folder", self.finish(child), 3, "", WRITE)
@@ -107,7 +107,7 @@ class Waiting(Runs):
     def test_file_beside_that_is_moved(self) -> None:
         self.copy("one", "all")
         child, pipe = self.begun(MERGE.format("all"))
-        self.until_there("all.partial")
+        self.until_there("all.partial", child)
         self.path("all.partial").rename(self.path("moved"))
         self.write("all.partial", "else")
         self.feed(pipe, self.read("one"))

@@ -7,13 +7,13 @@ from __future__ import annotations
 import itertools
 import os
 import re
-import socket
 import subprocess
 import sys
-from typing import Any
+from typing import Any, Pattern
 
 import run  # before datagram_files, which it puts on the path
 import datagram_files
+from ports import free_port
 from run import ROOT, Run, until
 
 TOOL = ROOT / "tools" / "flutejoin-receive"
@@ -50,10 +50,12 @@ def count_line(count: int, file: str, address: str = "127.0.0.1", new: str = "")
     return f"{file}: {count} datagrams from {address}{new}\n"
 
 
-def free_port() -> int:
-    with socket.socket(socket.AF_INET, socket.SOCK_DGRAM) as udp:
-        udp.bind(("127.0.0.1", 0))
-        return udp.getsockname()[1]
+def said_left_out(cause: str) -> Pattern[str]:
+    """What a run prints while it leaves datagrams out: first those that came in its first second.
+
+    Then it prints a line each minute.
+    """
+    return re.compile(rf"\A(flutejoin-receive: left out \d+: {re.escape(cause)}\n)+\Z")
 
 
 class Receiver:

@@ -86,9 +86,9 @@ class Groups(Case):
 
         self.send("sent", OF_D0, "239.1.1.1", count=20)
         self.command([*self.prefix, "ip", "link", "del", "d0"])
-        self.holds("an interface is gone", until(lambda: are_told(b"cannot listen at"), 30))
+        self.holds("an interface is gone", until(lambda: are_told(b"cannot listen at")))
         self.command([*self.prefix, "sh", "-c", INTERFACE])
-        self.holds("it is there again", until(lambda: are_told(b"listening again at"), 30))
+        self.holds("it is there again", until(lambda: are_told(b"listening again at")))
         self.send("sent", OF_D0, "239.1.1.1", first=20)
         for number, receiver in enumerate(receivers):
             receiver.child.terminate()

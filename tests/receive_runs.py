@@ -5,7 +5,8 @@ import os
 import re
 from signal import SIG_DFL, SIG_IGN, SIGCONT, SIGHUP, SIGINT, SIGKILL, SIGSTOP, SIGTERM
 
-from receive_case import Case, count_line, free_port, join_line, said
+from ports import free_port
+from receive_case import Case, count_line, join_line, said, said_left_out
 from run import until
 
 FIRST, SECOND = "7f000001", "7f000002"
@@ -58,9 +59,10 @@ class Senders(Case):
         self.send("sent2")
         self.send("sent", "127.0.0.2")
         self.send("sent", first=2)
-        left = "left out 40: more than 1 senders (--senders takes more, and --from names the one)"
-        wanted = count_line(40, f"few/{ONE}") + f"{left}\n" + join_line(FIRST, "few")
-        self.check("more senders than are kept", receiver.ended(), 0, wanted, said(left))
+        cause = "more than 1 senders (--senders takes more, and --from names the one)"
+        wanted = count_line(40, f"few/{ONE}") + f"left out 40: {cause}\n" + join_line(FIRST, "few")
+        told = said_left_out(cause)
+        self.check("more senders than are kept", receiver.ended(), 0, wanted, told)
         receiver = self.receive("--senders 1 --count 2 -o few")
         self.send("sent2", "127.0.0.2")
         wanted = count_line(2, "few/127.0.0.2.fldg", "127.0.0.2")
@@ -71,10 +73,10 @@ class Senders(Case):
         receiver = self.receive("--count 2 --from 127.0.0.2 -o one")
         self.send("sent")
         self.send("sent2", "127.0.0.2")
-        left = "left out 40: other senders than 127.0.0.2"
-        wanted = count_line(2, "one/127.0.0.2.fldg", "127.0.0.2") + f"{left}\n"
+        cause = "other senders than 127.0.0.2"
+        wanted = count_line(2, "one/127.0.0.2.fldg", "127.0.0.2") + f"left out 40: {cause}\n"
         wanted += join_line(SECOND, "one", address="127.0.0.2")
-        self.check("one sender", receiver.ended(), 0, wanted, said(left))
+        self.check("one sender", receiver.ended(), 0, wanted, said_left_out(cause))
         self.same("its datagrams", "one/127.0.0.2.fldg", "sent2")
 
     def test_extremes(self) -> None:

@@ -115,6 +115,12 @@ def until(is_so: Callable[[], object], seconds: float = LONGEST) -> bool:
     return True
 
 
+def waits(child: subprocess.Popen) -> bool:
+    """Whether a run waits for something else than a processor or a disk, or has ended."""
+    status = pathlib.Path(f"/proc/{child.pid}/stat").read_text()
+    return status.rpartition(") ")[2][0] in "SZ"
+
+
 def hexadecimal(text: str) -> bytes:
     return bytes.fromhex(text)
 

@@ -43,9 +43,11 @@ import flutejoin_keeping
 from datagram_files import HEADER, record
 from flutejoin_joining import Program
 from flutejoin_keeping import Keeper, Settings
+from ports import free_port
 
 PROGRAM = os.path.abspath(sys.argv[1])
 SOAK = 10 if "--soak" in sys.argv else 1
+LONGEST = 600  # seconds; only what hangs takes so long
 passed = failed = 0
 
 
@@ -121,9 +123,7 @@ class Port:
     """A port of 127.0.0.1 to which datagrams are sent."""
 
     def __init__(self) -> None:
-        with socket.socket(socket.AF_INET, socket.SOCK_DGRAM) as free:
-            free.bind((NAME, 0))
-            self.number = free.getsockname()[1]
+        self.number = free_port()
         self.udp = socket.socket(socket.AF_INET, socket.SOCK_DGRAM)
 
     def send(self, of: list[bytes], pause: float = 0.0) -> None:
@@ -173,7 +173,7 @@ class Run:
 
     def wait(self) -> int:
         try:
-            return self.child.wait(120)
+            return self.child.wait(LONGEST)
         except subprocess.TimeoutExpired:
             self.child.kill()
             check("a run ends", False, self.text())
@@ -181,8 +181,8 @@ class Run:
 
 
 def until(holds: Callable[[], object], run: Run | None = None) -> bool:
-    """Waits until a condition holds, at most two minutes."""
-    end = time.monotonic() + 120
+    """Waits until a condition holds. Returns False if it never does."""
+    end = time.monotonic() + LONGEST
     while not holds():
         if time.monotonic() > end:
             check("a wait", False, run.text() if run else "it never holds")
@@ -211,9 +211,21 @@ def of_once(folder: pathlib.Path, *words: object) -> Run:
 
 
 def receivers(run: Run) -> list[int]:
-    """The processes that a run began."""
-    words = "ps", "-o", "pid=", "--ppid", str(run.child.pid)
-    return [*map(int, subprocess.run(words, capture_output=True, text=True).stdout.split())]
+    """The receivers that a run began. Joins may run beside them."""
+    words = "ps", "-o", "pid=,args=", "--ppid", str(run.child.pid)
+    lines = subprocess.run(words, capture_output=True, text=True).stdout.splitlines()
+    return [int(line.split()[0]) for line in lines if "flutejoin-receive" in line]
+
+
+def stop(process: int) -> None:
+    """Stops a process, and waits until each of its threads stands still."""
+    os.kill(process, signal.SIGSTOP)
+    until(lambda: is_stopped(process))
+
+
+def is_stopped(process: int) -> bool:
+    states = [path.read_text() for path in pathlib.Path(f"/proc/{process}/task").glob("*/stat")]
+    return {state.rpartition(") ")[2][0] for state in states} == {"T"}
 
 
 def keeper(folder: pathlib.Path, has_outbox: bool, program: str = PROGRAM) -> Keeper:
@@ -259,9 +271,7 @@ def carousel_at_three_stations(work: pathlib.Path) -> None:
                 0.002,
             )
         for number, name in enumerate(names):
-            # What a slow machine has not joined yet does not count.
-            until(lambda: len(list((work / name / "in").iterdir())) < 2)
-            most[number] = max(most[number], disk(work / name))
+            most[number] = max(most[number], disk_of_joined(work / name))
     for name, run, of in zip(names, runs, most):
         folder = work / name
         status = run.end()
@@ -290,6 +300,22 @@ def carousel_at_three_stations(work: pathlib.Path) -> None:
     named = work / "named/example.com/file1"
     is_same = done.returncode == 0 and named.read_bytes() == (work / "file1").read_bytes()
     check("the file under its name at the centre", is_same, done)
+
+
+def disk_of_joined(folder: pathlib.Path) -> tuple[int, int]:
+    """`disk` of a station that has joined all but the last datagram file.
+
+    What a slow machine has not joined yet does not count.
+    """
+
+    def is_joined() -> bool:
+        return len(list((folder / "in").iterdir())) < 2
+
+    while True:
+        is_over = not until(is_joined)
+        found = disk(folder)
+        if is_over or is_joined():
+            return found
 
 
 class Witness:
@@ -406,8 +432,8 @@ def damaged_journals(work: pathlib.Path, sent: list[bytes], wanted: bytes) -> No
     recent = folder / "recent" / journal.name
     before = journal.stat().st_mtime_ns
     run = Run(folder, Port().number, "--every", 0.1)
-    until(lambda: journal.stat().st_mtime_ns != before, run)
-    time.sleep(0.5)
+    # The small journal is removed once its facts are in the large one.
+    until(lambda: journal.stat().st_mtime_ns != before and not recent.exists(), run)
     recent.write_bytes(damaged)
     datagram_file(folder / f"in/{NAME}.5.fldg", sent[:1])
     until(lambda: list((folder / "aside").glob("*.journal")), run)
@@ -433,12 +459,16 @@ def programs_that_fail(work: pathlib.Path, sent: list[bytes]) -> None:
     failing.chmod(0o755)
     datagram_file(folder / f"in/{NAME}.7.fldg", sent)
     port = Port()
+    began = time.monotonic()
     run = Run(folder, port.number, "--flutejoin", failing, "--every", 0.1)
+    run.until("tried again in 10 seconds")
     time.sleep(3)
     status = run.end()
     tries = (work / "tries").read_text().count(" -o ")
     check("a join that fails: status", status == 3, run.text())
-    check("a join that fails is tried again, and seldom", 1 <= tries <= 5, tries)
+    # One at first, four at the end, and others each ten seconds
+    most = 5 + (time.monotonic() - began) // 10
+    check("a join that fails is tried again, and seldom", 2 <= tries <= most, tries)
     check("a join that fails is told", "cannot write; tried again in 10 seconds" in run.text())
     check("its part stays", (folder / f"in/{NAME}.7.fldg").exists())
     run = of_once(folder, "--flutejoin", work / "nothing")
@@ -453,6 +483,10 @@ def runs(work: pathlib.Path) -> None:
     check("a second run: status", second.child.returncode == 3, second.text())
     check("a second run is told", "another run works in it" in second.text(), second.text())
     port.send(sent[:30], 0.01)
+    datagram_file(work / "first.fldg", sent[:30])
+    first = journal_of(work / "first.fldg")
+    # What the receiver has not written yet goes with it.
+    until(lambda: journal_of(*kept(folder), *(folder / "in").glob("*.fldg")) == first, run)
     until((folder / f"journals/{NAME}.journal").exists, run)
     os.kill(receivers(run)[0], signal.SIGKILL)
     until(lambda: run.text().count("listening") == 2, run)
@@ -485,6 +519,20 @@ def runs(work: pathlib.Path) -> None:
     check("other sessions are left out", len(journal_of(*kept(work / "others"))) == 15)
 
 
+# Runs a station that stops itself each time it has nothing to do.
+STOPS = """
+import os, runpy, select, signal, sys
+wait = select.select
+def stop_and_wait(*words):
+    os.kill(os.getpid(), signal.SIGSTOP)
+    return wait(*words)
+select.select = stop_and_wait
+del sys.argv[0]
+sys.path.insert(0, {tools!r})
+runpy.run_path(sys.argv[0], run_name="__main__")
+"""
+
+
 def folders_at_fault(work: pathlib.Path) -> None:
     """Folders that cannot be made, and one that is removed while the run ends."""
     (work / "file").mkdir()
@@ -494,11 +542,15 @@ def folders_at_fault(work: pathlib.Path) -> None:
     check("a folder that cannot be made: status", run.child.returncode == 3, run.text())
     is_told = told in run.text() and "Traceback" not in run.text()
     check("a folder that cannot be made is told", is_told, run.text())
-    run = Run(work / "removed", Port().number)
-    run.child.send_signal(signal.SIGSTOP)
+    run = Run(work / "removed", Port().number, code=STOPS.format(tools=str(TOOLS)))
+    until(lambda: is_stopped(run.child.pid), run)
+    # Otherwise one of them may make a folder anew meanwhile.
+    receiver = receivers(run)[0]
+    stop(receiver)
     shutil.rmtree(work / "removed")
     run.child.send_signal(signal.SIGTERM)
     run.child.send_signal(signal.SIGCONT)
+    os.kill(receiver, signal.SIGCONT)
     check("a folder that is removed: status", run.wait() == 3, run.text())
     check("a folder that is removed", "Traceback" not in run.text(), run.text())
 
@@ -537,7 +589,7 @@ def lines_that_nobody_reads(work: pathlib.Path) -> None:
     check("lines that nobody reads: the journal", is_joined)
     child.terminate()
     try:
-        check("lines that nobody reads: the end", child.wait(30) == 0)
+        check("lines that nobody reads: the end", child.wait(LONGEST) == 0)
     except subprocess.TimeoutExpired:
         child.kill()
         check("lines that nobody reads: the end", False, "it hangs")
@@ -609,6 +661,26 @@ def settings_in_a_file(work: pathlib.Path, sent: list[bytes]) -> None:
         check(f"{text!r} in a file", run.wait() == 2, run.text())
 
 
+# Runs a station whose clock is ahead by the seconds in a file.
+SET_CLOCK = """
+import datetime, runpy, sys
+class Set(datetime.datetime):
+    @classmethod
+    def now(cls, zone=None):
+        with open({path!r}) as ahead:
+            return super().now(zone) + datetime.timedelta(seconds=float(ahead.read() or 0))
+datetime.datetime = Set
+del sys.argv[0]
+sys.path.insert(0, {tools!r})
+runpy.run_path(sys.argv[0], run_name="__main__")
+"""
+
+
+def time_of_day(seconds: float) -> str:
+    """The time, in hours and minutes, in so many seconds."""
+    return time.strftime("%H:%M", time.localtime(time.time() + seconds))
+
+
 def growing(work: pathlib.Path) -> None:
     """A small journal is joined into the large one at a tenth of it, or at the given hour."""
     folder = work / "news"
@@ -627,30 +699,18 @@ def growing(work: pathlib.Path) -> None:
     datagram_file(folder / f"in/{NAME}.2.fldg", sent[340:345])
     keep(folder)
     before = large.read_bytes()
-    later = time.localtime(time.time() + 62)
-    run = Run(folder, Port().number, "--nightly", time.strftime("%H:%M", later))
+    ahead = work / "ahead"
+    ahead.write_text("0")
+    code = SET_CLOCK.format(path=str(ahead), tools=str(TOOLS))
+    run = Run(folder, Port().number, "--nightly", time_of_day(12 * 3600), code=code)
+    time.sleep(1)
     check("before the hour", recent.exists() and large.read_bytes() == before)
-    if SOAK > 1:
-        time.sleep(64)
-        check("at the hour", not recent.exists() and large.read_bytes() != before)
+    ahead.write_text(str(12.1 * 3600))
+    until(lambda: not recent.exists(), run)
+    check("at the hour", large.read_bytes() != before)
     run.end()
     datagram_file(work / "all.fldg", sent[:345])
     check("all is kept", journal_of(*kept(folder)) == journal_of(work / "all.fldg"))
-
-
-# Runs a station whose clock is ahead by the seconds in a file.
-SET_CLOCK = """
-import datetime, runpy, sys
-class Set(datetime.datetime):
-    @classmethod
-    def now(cls, zone=None):
-        with open({path!r}) as ahead:
-            return super().now(zone) + datetime.timedelta(seconds=float(ahead.read() or 0))
-datetime.datetime = Set
-del sys.argv[0]
-sys.path.insert(0, {tools!r})
-runpy.run_path(sys.argv[0], run_name="__main__")
-"""
 
 
 def a_clock_that_is_set_back(work: pathlib.Path) -> None:
@@ -672,7 +732,8 @@ def a_clock_that_is_set_back(work: pathlib.Path) -> None:
     ahead.write_text("3e7")
     code = SET_CLOCK.format(path=str(ahead), tools=str(TOOLS))
     recent = folder / f"recent/{NAME}.journal"
-    run = Run(folder, port.number, "--nightly", "03:00", "--every", 0.1, code=code)
+    nightly = time_of_day(3e7 + 12 * 3600)
+    run = Run(folder, port.number, "--nightly", nightly, "--every", 0.1, code=code)
     until(recent.exists, run)
     time.sleep(1)
     check("a clock set back: before", recent.exists(), run.text())
@@ -887,14 +948,32 @@ def full_disk(work: pathlib.Path) -> None:
     check("behind a full disk: all is kept", have == wanted, (len(have), len(wanted)))
 
 
+# Runs a station that waits longer for the lock of its folder, and makes a file once it waits.
+WAITS = """
+import runpy, sys
+del sys.argv[0]
+sys.path.insert(0, {tools!r})
+import flutejoin_shelves
+has_locked = flutejoin_shelves.has_locked
+def look(folder):
+    is_ours = has_locked(folder)
+    if not is_ours:
+        open({path!r}, "w").close()
+    return is_ours
+flutejoin_shelves.has_locked, flutejoin_shelves.LOCKED = look, {longest}
+runpy.run_path(sys.argv[0], run_name="__main__")
+"""
+
+
 def a_run_that_was_killed(work: pathlib.Path) -> None:
     """A child that it was about to begin has its lock for a moment, and does not outlive it."""
     folder = work / "news"
     folder.mkdir()
     lock = os.open(folder, os.O_RDONLY)
     fcntl.flock(lock, fcntl.LOCK_EX)
-    run = Run(folder, Port().number, wait=False)
-    time.sleep(0.7)
+    code = WAITS.format(path=str(work / "waits"), tools=str(TOOLS), longest=LONGEST)
+    run = Run(folder, Port().number, wait=False, code=code)
+    until((work / "waits").exists, run)
     os.close(lock)
     run.until("listening")
     check("a lock is waited for", "listening" in run.text(), run.text())
@@ -911,7 +990,7 @@ if not os.fork():
     print("it goes on", flush=True)
 os._exit(0)
 """
-    done = subprocess.run([sys.executable, "-c", code], capture_output=True, timeout=60)
+    done = subprocess.run([sys.executable, "-c", code], capture_output=True, timeout=LONGEST)
     check("a child whose parent ended", done.stdout == done.stderr == b"", done)
 
 

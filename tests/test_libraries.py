@@ -20,7 +20,7 @@ CRATES = ROOT / "crates"
 MOST_LINES = 40  # of a README
 LIBRARIES = (
     *("flute_join", "flute_parts", "flute_wire", "flute_store", "flute_journal", "flute_streams"),
-    *("flute_output", "flute_output_memory", "flutejoin", "flutejoin_replicas"),
+    *("flute_output", "flute_memory", "flutejoin", "flutejoin_replicas"),
     *("flutejoin_commands", "flutejoin_line", "flutejoin_run"),
 )
 # A crate, or a file of the library itself

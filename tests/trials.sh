@@ -20,7 +20,7 @@ find "$crate/src" -name '*.trial' | while read -r file; do
 done
 libraries='flute_join flute_parts flute_output flute_wire flute_store flute_journal flute_streams'
 libraries="$libraries flutejoin flutejoin_line flutejoin_replicas flutejoin_commands flutejoin_run"
-libraries="$libraries flutejoin_memory flute_output_memory"
+libraries="$libraries flutejoin_memory flute_memory"
 echo "flutejoin_trials: $libraries test_vectors" >> "$room/crates.txt"
 
 (cd "$crate" && rt try --test --seconds 1200) > "$room/told" 2> "$room/faults"

@@ -11,6 +11,7 @@ import select
 import sys
 import threading
 import time
+from typing import Optional
 
 from flutejoin_files import shown
 
@@ -35,6 +36,7 @@ class Notes:
         self.lock = threading.Lock()
         self.waiting: collections.deque[bytes] = collections.deque()
         self.missed = 0
+        self.terminal: Optional[int] = None
 
     def add(self, text: str) -> None:
         with self.lock:
@@ -58,16 +60,35 @@ class Notes:
         """
         with self.lock:
             try:
-                while self.waiting and is_writable(sys.stderr.fileno()):
-                    line = self.waiting.popleft()
-                    rest = line[os.write(sys.stderr.fileno(), line[:PIECE]) :]
+                descriptor = self.descriptor()
+                while self.waiting and is_writable(descriptor):
+                    rest = self.waiting[0][os.write(descriptor, self.waiting[0][:PIECE]) :]
                     if rest:
-                        self.waiting.appendleft(rest)
-                    elif not self.waiting and self.missed:
+                        self.waiting[0] = rest
+                        continue
+                    self.waiting.popleft()
+                    if not self.waiting and self.missed:
                         self.waiting.append(self.line(f"{self.missed} lines could not be told"))
                         self.missed = 0
+            except BlockingIOError:
+                pass
             except (OSError, AttributeError, ValueError):
                 self.waiting.clear()
+
+    def descriptor(self) -> int:
+        """Where lines are written.
+
+        A terminal that takes a byte may take no whole line, and a write to it waits. So it is
+        opened again, for writes that don't wait.
+        """
+        number = sys.stderr.fileno()
+        if self.terminal is None and os.isatty(number):
+            flags = os.O_WRONLY | os.O_NONBLOCK | os.O_NOCTTY
+            try:
+                self.terminal = os.open(f"/dev/fd/{number}", flags)
+            except OSError:
+                self.terminal = number
+        return number if self.terminal is None else self.terminal
 
     def finish(self) -> None:
         """At the end of a run: waits at most a second for the lines that are left."""

@@ -13,6 +13,7 @@ from typing import Callable, Iterable, NamedTuple, Optional, Union
 from flutejoin_found import Name, name_of
 from flutejoin_growing import Begin, Block, Growing
 from flutejoin_notes import Fault, note
+from flutejoin_records import HEADER, LENGTH
 
 MOST_WAITING = 1 << 26  # bytes that wait for the disk in all, at most
 MANY_WAITING = 1 << 23  # from this number on the receiving thread pauses
@@ -23,13 +24,31 @@ AHEAD = 3600 * 10**9  # nanoseconds that the clock of a file system may be ahead
 
 
 class Entry(NamedTuple):
-    """A sender's file in a folder. Entries are ordered from the oldest on."""
+    """A sender's file in a folder."""
 
     changed: int
     path: str
     size: int
     name: Name
     folder: str
+
+    def age(self) -> tuple[int, bytes, int, int, str]:
+        """Orders files from the oldest on.
+
+        A system's times go in steps of some milliseconds, in which a sender may fill several files.
+        """
+        name = self.name
+        return self.changed, name.address.packed, name.epoch, name.part, self.folder
+
+    def is_one_datagram(self) -> bool:
+        """Whether the file has a single datagram."""
+        begin = len(HEADER) + LENGTH.size
+        try:
+            with open(os.open(self.path, os.O_RDONLY | os.O_NONBLOCK), "rb", buffering=0) as file:
+                head = file.read(begin)
+        except OSError:
+            return False
+        return len(head) == begin and self.size == begin + LENGTH.unpack(head[len(HEADER) :])[0]
 
 
 class Folder:
@@ -254,22 +273,26 @@ class Writer(threading.Thread):
     def make_room(self, size: int) -> None:
         """Removes the oldest files if this many more bytes would be more than the run may keep.
 
-        If some cannot be removed, this is repeated once a second.
+        One datagram is kept in any case. If some files cannot be removed, this is repeated once a
+        second.
         """
         if self.most is None or self.opened.held + size <= self.most or self.is_stuck:
             return
-        self.remove_oldest(self.most - size)
+        now = time.time_ns() + AHEAD
+        # One of a time to come was written before the clock was set back.
+        entries = sorted(self.entries(), key=lambda it: (it.changed <= now, it.age()))
+        if not size and entries and entries[-1].is_one_datagram():
+            entries.pop()
+        self.remove(entries, self.most - size)
         self.is_stuck = bool(self.unremovable) and self.opened.held + size > self.most
 
-    def remove_oldest(self, most: int) -> None:
-        """Removes the oldest files until the others have at most this many bytes.
+    def remove(self, entries: Iterable[Entry], most: int) -> None:
+        """Removes files, the first ones first, until all others have at most this many bytes.
 
         A file that grows is ended first.
         """
         growing = {each.path(): each for each in self.opened.growing}
-        now = time.time_ns() + AHEAD
-        # One of a time to come was written before the clock was set back.
-        for entry in sorted(self.entries(), key=lambda it: (it.changed <= now, it)):
+        for entry in entries:
             if self.opened.held <= most:
                 return
             if entry.path in growing:

@@ -249,9 +249,9 @@ def owner_name(head: str) -> str:
     trait, _, of = head.partition(" for ")
     if not of:
         trait, of = "", trait
-    # The name of a conversion contains the type that it converts from.
-    conversion = re.fullmatch(r"From<(.*)>", trait.strip())
-    trait = f"From{bare(conversion[1])}" if conversion else bare(trait)
+    # The name contains the type that a trait is of, as the one that a conversion converts from.
+    typed = re.fullmatch(r"([\w:]+)<([A-Z].*)>", trait.strip())
+    trait = bare(typed[1]) + bare(typed[2]) if typed else bare(trait)
     # A reference to a type parameter, or to a slice of one, is named as such.
     lent = re.match(r"&mut (\[?)", of)
     of = f"RefMut{'Slice' if lent[1] else ''}" if lent else bare(of)

@@ -75,6 +75,39 @@ module _ {K X : Type 0} {cmp : K → K → Ordering} (order : IsTotalOrder cmp)
   single_new [] k w f = refl
   single_new (e ∷ es) k w f = single_new_at e es k w (cmp k e.0) refl f (single_new es k w)
 
+  -- a value put at a key that es has
+  put_held_at : (e : K × X) (es : List (K × X)) {k : K} {v : X} (x : X) (r : Ordering)
+      → cmp k e.0 ≡ r → IsOrdered cmp (e ∷ es) → value_at cmp (e ∷ es) k ≡ Some v
+      → (value_at cmp es k ≡ Some v → insert_entry cmp es k x ≡ set_value (is_at (cmp k)) es x)
+      → insert_entry cmp (e ∷ es) k x ≡ set_value (is_at (cmp k)) (e ∷ es) x
+  put_held_at e es {k = k} {v = v} x Less p s f ih =
+      let n : value_at cmp (e ∷ es) k ≡ None =
+      lookup-none (is_at (cmp k)) (e ∷ es) (none_below_head order k e es s p) in
+      absurd (none-some v (sym n ∙ f))
+  put_held_at e es x Equal p s f ih = rw p refl
+  put_held_at e es x Greater p s f ih = rw p (ap (λ l. e ∷ l) (ih (rw p at f)))
+
+  pub put_held : (es : List (K × X)) (k : K) (v x : X) → IsOrdered cmp es
+      → value_at cmp es k ≡ Some v → insert_entry cmp es k x ≡ set_value (is_at (cmp k)) es x
+  put_held [] k v x s f = absurd (none-some v f)
+  put_held (e ∷ es) k v x s f =
+      put_held_at e es x (cmp k e.0) refl s f
+      (put_held es k v x (sorted_tail cmp e.0 (keys_of es) s))
+
+  -- the joined value, put at a key that es has
+  pub put_joins : {m : List (K × X)} (es : List (K × X)) (k : K) (v : X) {w x : X}
+      → IsOrdered cmp es → value_at cmp es k ≡ Some v → x ≡ join v w
+      → m ≡ insert_entry cmp es k x → m ≡ map_join cmp join es ((k, w) ∷ [])
+  put_joins es k v {w} {x} s f e h =
+      h ∙ put_held es k v x s f ∙ ap (set_value (is_at (cmp k)) es) e
+      ∙ sym (single_held es k v w s f)
+
+  -- a value, put at a key that es lacks
+  pub put_new : {m : List (K × X)} (es : List (K × X)) (k : K) (x : X) {w : X}
+      → value_at cmp es k ≡ None → x ≡ w → m ≡ insert_entry cmp es k x
+      → m ≡ map_join cmp join es ((k, w) ∷ [])
+  put_new es k x {w} f e h = h ∙ ap (insert_entry cmp es k) e ∙ sym (single_new es k w f)
+
   -- two changes at one place
   same_key : (e f : K × X) (es fs : List (K × X)) → e.0 ≡ f.0
       → map_join cmp join (e ∷ es) (f ∷ fs)

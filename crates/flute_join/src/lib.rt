@@ -21,6 +21,7 @@
 
 mod cell;
 mod join;
+mod join_into;
 pub mod laws;
 mod map;
 mod place;
@@ -29,6 +30,7 @@ mod value;
 
 pub use cell::Cell;
 pub use join::Join;
+pub use join_into::JoinInto;
 pub use map::{Entries, JoinMap};
 pub use place::Place;
 pub use refusal::JoinRefusal;

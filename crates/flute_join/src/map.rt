@@ -1,8 +1,7 @@
 //! A map whose values are joined at shared keys.
-ghost use Rattle.std.specs.Prelude.{◌≡◌, ◌≢◌, ℕ, Some, slice_get, ◌<◌, ◌≤◌};
-ghost use Rattle.std.specs.Prelude.{[], ◌∷◌, length, is_some, ◌==◌, List, IsNone, IfErr};
-ghost use Rattle.std.specs.Prelude.{OnOk, OnErr, ◌↔◌};
-ghost use Rattle.std.specs.declared.cmp.Ordering.TheVariants.{Less};
+ghost use Rattle.std.specs.Prelude.{◌≡◌, ◌<◌, ◌≤◌, None};
+ghost use Rattle.std.specs.Prelude.{[], ◌∷◌, length, is_some, ◌==◌, List, IsNone, IsSome, IfErr};
+ghost use Rattle.std.specs.Prelude.{OnOk, OnErr, IsOk, ◌↔◌};
 ghost use Rattle.std.specs.Bool.{OnTrue, OnFalse};
 ghost use Rattle.std.specs.Option.{option_copied, option_copied_mut, ForSome};
 ghost use Rattle.std.specs.BTreeMap.{insert_entry};
@@ -15,10 +14,11 @@ ghost use Rattle.flute_join.specs.Semilattice.{IsBelow};
 ghost use Rattle.flute_join.specs.MapLaws.{map_join_laws};
 
 use crate::join::Join;
+use crate::join_into::JoinInto;
 use crate::place::Place;
 use crate::refusal::JoinRefusal;
 use std::alloc::Global;
-use std::cmp::Ordering;
+use std::collections::btree_map::Entry;
 use std::collections::{BTreeMap, btree_map};
 use std::marker::Model;
 
@@ -112,21 +112,6 @@ impl<K: Place, V: Join, const LIMIT: u32> JoinMap<K, V, LIMIT> {
         self.entries.get_mut(key)
     }
 
-    /// As [`get_mut`](JoinMap::get_mut), but quicker if the key is above all that are held, and
-    /// a little slower otherwise: for keys that mostly come in rising order.
-    pub fn seek_mut(&mut self, key: &K) -> Option<&mut V>
-        ensures* writes_back { sem 𝓛
-            (lends_value K.row V.row LIMIT.row K.Place V.Join self.entry (K.cmp key.now) result) }
-        ensures value { option_copied_mut result ≡ value_at K.cmp self.old key.now }
-        ensures ordered { IsOrdered K.cmp self.old }
-        ensures within { length self.old ≤ LIMIT }
-    {
-        if self.is_above_all(key) {
-            return None;
-        }
-        self.get_mut(key)
-    }
-
     /// Adds an entry at a key that is not held; `contains` is the test. `Full` comes exactly if
     /// the map has `LIMIT` keys, before any memory is asked for. A refusal leaves the map
     /// unchanged, and drops the value.
@@ -193,18 +178,47 @@ impl<K: Place, V: Join, const LIMIT: u32> JoinMap<K, V, LIMIT> {
         self.insert(key, value.copy(alloc)?)
     }
 
-    // Whether a key is above all that are held, and so is new.
-    fn is_above_all(&self, key: &K) -> bool
-        ensures new { OnTrue result (IsNone (value_at K.cmp self.now key.now)) }
-        ensures not_above { OnFalse result ((i : ℕ) × (e : K × V) × (slice_get self.now i ≡ Some e)
-            × (K.cmp e.0 key.now ≢ Less)) }
-        ensures ordered { IsOrdered K.cmp self.now }
-        ensures within { length self.now ≤ LIMIT }
+    /// Joins what `update` says into the value at a key, or makes it the value at a new key. The key
+    /// is looked up once.
+    ///
+    /// At a held key it is never refused, and takes no memory. At a new key `Full` comes exactly if
+    /// the map has `LIMIT` keys, before any memory is asked for. A refusal leaves the map unchanged.
+    pub fn join_with<U: JoinInto<V>>(
+        &mut self,
+        alloc: Global,
+        key: K,
+        update: U,
+    ) -> Result<(), JoinRefusal>
+        requires fits { U.fits update }
+        requires each { EachValue V.sound self.old }
+        ensures ok { OnOk result
+            (self.new ≡ map_join K.cmp V.joined self.old ((key, U.value update) ∷ [])) }
+        ensures err { OnErr result (self.new ≡ self.old) }
+        ensures held { IsSome (value_at K.cmp self.old key) → IsOk result }
+        ensures full { result ≡ Err JoinRefusal.Full
+            → (value_at K.cmp self.old key ≡ None) × (length self.old ≡ LIMIT) }
+        ensures room { (result ≡ Err JoinRefusal.Full → ⊥)
+            → value_at K.cmp self.old key ≡ None → length self.old < LIMIT }
+        ensures ordered { IsOrdered K.cmp self.old }
+        ensures within { length self.old ≤ LIMIT }
     {
-        match self.entries.last_key_value() {
-            Some((last, _)) => matches!(last.cmp(key), Ordering::Less),
-            None => true,
+        if self.is_full() {
+            let Some(held) = self.get_mut(&key) else {
+                return Err(JoinRefusal::Full);
+            };
+            update.join_into(held);
+            return Ok(());
         }
+        let place = match self.entries.entry(key) {
+            Ok(Entry::Vacant(place)) => Entry::Vacant(place),
+            Ok(Entry::Occupied(held)) => {
+                update.join_into(held.into_mut());
+                return Ok(());
+            }
+            Err(_) => return Err(JoinRefusal::OutOfMemory),
+        };
+        place.or_try_insert_with(|| update.into_value(alloc))?;
+        Ok(())
     }
 
     // Whether there is no room for a new key.

@@ -1,6 +1,7 @@
 -- What the proofs of the crates above may cite. Declares nothing.
 pub use Rattle.flute_journal.proofs.Each.{all_append, all_map, all_more, all_split}
-pub use Rattle.flute_journal.proofs.format_lemmas.Entries.{facts_of}
+pub use Rattle.flute_journal.proofs.format_lemmas.Decoded.{key-same, same_object_cmp}
+pub use Rattle.flute_journal.proofs.format_lemmas.Entries.{facts_of, same_entry}
 pub use Rattle.flute_journal.proofs.format_lemmas.Prefixes.{BeginsWithJournal, journal_parts}
 pub use Rattle.flute_journal.proofs.format_lemmas.Prefixes.{no_end, no_whole_end}
 pub use Rattle.flute_journal.proofs.format_lemmas.Prefixes.{parts_journal, same_journal}
@@ -19,6 +20,7 @@ pub use Rattle.flute_journal.proofs.framing_lemmas.SoFar.{AtEnd, open_after, rea
 pub use Rattle.flute_journal.proofs.framing_lemmas.SoFar.{sofar-fault, sofar-next, sofar-none}
 pub use Rattle.flute_journal.proofs.framing_lemmas.SoFar.{whole-at}
 pub use Rattle.flute_journal.proofs.readers_lemmas.Bodies.{fact_sized}
+pub use Rattle.flute_journal.proofs.readers_lemmas.Holding.{left_all}
 pub use Rattle.flute_journal.proofs.readers_lemmas.Loading.{entries_at, given-entry, Loaded}
 pub use Rattle.flute_journal.proofs.readers_lemmas.Loading.{loaded-over, loaded-read}
 pub use Rattle.flute_journal.proofs.readers_lemmas.Whole.{ahead-sofar, reads-fault, reads-side}

@@ -24,7 +24,7 @@ pub use format::Version;
 pub use kind::{Kind, kind_of};
 pub use readers::datagram_reader::DatagramReader;
 pub use readers::entry_fields::Before;
-pub use readers::held_entry::HeldEntry;
+pub use readers::held_entry::{HeldEntry, HeldValue};
 pub use readers::input::fill;
 pub use readers::journal_reader::{JournalReader, read_into};
 pub use readers::reader_state::ReaderState;

@@ -2,17 +2,21 @@
 //!
 //! [`Output`] writes its bytes to a file beside OUT, and puts that in OUT's place once it is whole.
 //! What it needs of a folder is the trait [`Folder`], which the system's folders meet
-//! ([`DiskFolder`]), and those in memory of `flute_output_memory`, for tests. [`place_at`] returns
+//! ([`DiskFolder`]), and those in memory of `flute_memory`, for tests. [`place_at`] returns
 //! whether the path of an output leads to a file, to a device ([`DeviceFile`]) or to standard
 //! output.
 //!
 //! Promised of each folder that meets the trait: at any moment OUT is what it was, or the new file,
-//! whole ([`Output::finish`], [`write_file`]).
+//! whole ([`Output::finish`]).
 //!
 //! A file in a folder in memory (from `flute_tests`):
 //!
 //! ```
-//! let (done, folder) = write_file(MemoryFolder::new(alloc, None, ENOUGH), NEW);
+//! let Ok(mut output) = Output::create(MemoryFolder::new(rt.alloc(), None, ENOUGH)) else {
+//!     return Err("not made".into());
+//! };
+//! let done = output.write_all(NEW);
+//! let (done, folder) = output.finish(done);
 //! done?;
 //! assert_eq!(rt; folder.out(), Some(NEW));
 //! ```
@@ -41,6 +45,6 @@ pub use filled_folder::finish_folder;
 pub use folder::{Folder, Name};
 pub use found::Found;
 pub use new_folder::NewFolder;
-pub use output::{FinishFault, Output, OutputFault, write_file};
+pub use output::{FinishFault, Output};
 pub use place::{OpenFault, Place, file_at, place_at};
 pub use streams::take_standard_streams;

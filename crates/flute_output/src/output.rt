@@ -1,10 +1,10 @@
 //! An output that becomes OUT whole or not at all.
-ghost use Rattle.std.specs.Prelude.{◌≡◌, ◌≢◌, ℕ, ◌+◌, ◌<◌, ◌≤◌, length};
-ghost use Rattle.std.specs.Prelude.{take, IfOk, IfSome, IfErr, OnOk, OnErr, Ok, Err, option_map};
+ghost use Rattle.std.specs.Prelude.{◌≡◌, ◌+◌, ◌<◌, ◌≤◌, length};
+ghost use Rattle.std.specs.Prelude.{IfOk, IfSome, IfErr, OnOk, OnErr, Ok, Err, option_map};
 ghost use Rattle.std.specs.Prelude.{is_ok, None, if◌then◌else◌};
-ghost use Rattle.flute_output.specs.Entries.{Leads, Does, OutStays, OutIsAsFound, OutBecomes};
+ghost use Rattle.flute_output.specs.Entries.{Leads, Does, OutStays, OutBecomes};
 ghost use Rattle.flute_output.specs.Entries.{Lasts, Ends, IfWork, IsEitherAlways, IsWriting};
-ghost use Rattle.flute_output.specs.Entries.{created, takes, taken, whole, found_in, named_in};
+ghost use Rattle.flute_output.specs.Entries.{created, taken, whole, found_in, named_in};
 ghost use Rattle.std.specs.Io.KnownBytes.{WriteAppends};
 
 use crate::folder::{Folder, Name};
@@ -36,18 +36,6 @@ impl<F: Folder + Drop> Model for Output<F> {
 pub enum FinishFault<E> {
     /// The work that wrote it failed so. OUT is as before.
     Work(E),
-    /// The device did not take the bytes, or the file could not be put in place. OUT is as before.
-    Write,
-    /// OUT is the new file, but the disk did not confirm this name: a lost power may leave what OUT
-    /// was.
-    NotOnDisk,
-}
-
-/// Why a file was not written.
-#[derive(Clone, Copy, Debug, PartialEq, Eq)]
-pub enum OutputFault {
-    /// The file beside OUT could not be made. OUT is as before.
-    Create,
     /// The device did not take the bytes, or the file could not be put in place. OUT is as before.
     Write,
     /// OUT is the new file, but the disk did not confirm this name: a lost power may leave what OUT
@@ -166,67 +154,4 @@ fn keep<F: Folder>(folder: &mut F) -> Result<(), DeviceFault>
     folder.flush()?;
     folder.sync()?;
     folder.put_in_place()
-}
-
-// Takes all the bytes for the file beside OUT, or after a failure some of them.
-fn take_all<F: Folder>(folder: &mut F, bytes: &[u8]) -> Result<(), DeviceFault>
-    ensures taken { OnOk result (Does (takes bytes.now)
-        (F.entries folder.old) (F.entries folder.new)) }
-    ensures part { Leads (λ old new. (n : ℕ) × (new ≡ takes (take n bytes.now) old))
-        (F.entries folder.old) (F.entries folder.new) }
-    ensures failures { F.failures folder.new
-        ≡ F.failures folder.old + (if is_ok result then 0 else 1) }
-{
-    let mut at = 0;
-    while at < bytes.len() {
-        at += folder.write(&bytes[at..])?;
-    }
-    Ok(())
-}
-
-/// Writes a file of these bytes as OUT, and gives the folder back. At each moment OUT is what
-/// it was, or that file.
-///
-/// # Errors
-///
-/// `Create` if the file beside OUT could not be made, `NotOnDisk` if the disk did not confirm the
-/// name OUT, and `Write` if a step between failed. The file beside OUT is gone, unless the folder
-/// failed to remove it.
-pub fn write_file<F: Folder + Drop>(folder: F, bytes: &[u8]) -> (Result<(), OutputFault>, F)
-    ensures written { OnOk result.0
-        (Leads (λ old new. OutBecomes (whole bytes.now) (created old) new)
-        (F.entries folder) (F.entries result.1)) }
-    ensures lasts { OnOk result.0 (Leads (λ old new. Lasts bytes.now new)
-        (F.entries folder) (F.entries result.1)) }
-    ensures refused { result.0 ≡ Err OutputFault.Create
-        → Leads OutStays (F.entries folder) (F.entries result.1) }
-    ensures stopped { result.0 ≡ Err OutputFault.Write
-        → Leads (λ old new. OutIsAsFound (created old) new)
-        (F.entries folder) (F.entries result.1) }
-    ensures not_on_disk { result.0 ≡ Err OutputFault.NotOnDisk
-        → Leads (λ old new. OutBecomes (whole bytes.now) (created old) new)
-        (F.entries folder) (F.entries result.1) }
-    ensures any_moment { result.0 ≢ Err OutputFault.Create
-        → Leads (λ old new. IsEitherAlways (whole bytes.now) (created old) new)
-        (F.entries folder) (F.entries result.1) }
-    // The file beside OUT is left only if removing it failed too.
-    ensures gone_ok { OnOk result.0 (Leads (λ old new. new.beside ≡ None)
-        (F.entries folder) (F.entries result.1)) }
-    ensures gone { result.0 ≢ Err OutputFault.Create
-        → F.failures result.1 ≡ F.failures folder + 1
-        → Leads (λ old new. new.beside ≡ None) (F.entries folder) (F.entries result.1) }
-    ensures cause { OnErr result.0 (F.failures folder < F.failures result.1) }
-    ensures quiet { OnOk result.0 (F.failures result.1 ≡ F.failures folder) }
-{
-    match Output::create(folder) {
-        Ok(mut output) => {
-            let done = take_all(&mut output.folder, bytes);
-            match output.finish(done) {
-                (Ok(()), folder) => (Ok(()), folder),
-                (Err(FinishFault::NotOnDisk), folder) => (Err(OutputFault::NotOnDisk), folder),
-                (Err(_), folder) => (Err(OutputFault::Write), folder),
-            }
-        }
-        Err(folder) => (Err(OutputFault::Create), folder),
-    }
 }

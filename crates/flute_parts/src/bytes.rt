@@ -1,5 +1,5 @@
 //! The bytes of an encoding symbol.
-ghost use Rattle.std.specs.Prelude.{◌≡◌, ◌⊎◌, None, Some, MatchResult, bytes_eq, length};
+ghost use Rattle.std.specs.Prelude.{◌≡◌, ◌⊎◌, None, Some, MatchResult, bytes_eq};
 ghost use Rattle.flute_parts.specs.SymbolBytes.{HasSymbolSize, size_fault};
 
 use flute_join::{JoinRefusal, Value};
@@ -83,15 +83,6 @@ impl Bytes {
         ensures size { HasSymbolSize self.now }
     {
         &self.octets
-    }
-
-    /// Puts as many other bytes in place of these. It takes no memory.
-    #[inline(always)]
-    pub fn replace(&mut self, octets: &[u8])
-        requires { length octets.now ≡ length self.old }
-        ensures { self.new ≡ octets.now }
-    {
-        self.octets.copy_from_slice(octets);
     }
 
     /// The bytes, handed over. It takes no memory.

@@ -7,7 +7,8 @@ use Rattle.flute_store.proofs.FactEntries.{AreKeys, session_keys, object_keys, s
 use Rattle.flute_store.proofs.Common
 use Common.{cases_Bool, same_Some, Ordering, is_at, none-some, IsJoin, IsBelow, map_join, value_at}
 use Common.{IsOrdered, EachValue, IsSound, map_join_laws, below_join, ordered-map_join}
-use Common.{each-set_value, each-insert_entry, some_above, single_held, single_new, length_new}
+use Common.{each-value_at, each-set_value, each-insert_entry, some_above, single_held}
+use Common.{single_new, length_new}
 use Common.{cell_join, IsKnown, Cell, Absent, SymbolId, SymbolUpdate, update_cell, update_symbols}
 use Common.{AnyValue, value_at-map_join, join_values, tied_itself, cells, object_cmp, session_cmp}
 use Common.{symbol_id_cmp, object_join, session_join, object_join_laws, session_laws}
@@ -104,6 +105,14 @@ module _ {K X : Type 0} {cmp : K → K → Ordering} {join : X → X → X} (all
               subst (EachValue P) (sym (single_new all.keys.order all.laws es k w f))
               (each-insert_entry cmp P es k w m.each p);
         }
+
+    -- so it is if there is room, where a join keeps what holds of each value
+    pub joined-sound : (found : Option X) → value_at cmp es k ≡ found
+        → ((v : X) → P v → P (join v w)) → P w → (value_at cmp es k ≡ None → length es < limit)
+        → IsSound cmp limit P (with_pair es k w)
+    joined-sound None f kept p room = new-sound f (room f) p
+    joined-sound (Some v) f kept p room =
+        held-sound f (kept v (each-value_at cmp P es k v m.each f))
 
   module _ (es : List (K × X)) (k : K) (w : X) where
     joined_there : (found : Option X) → IsOrdered cmp es → value_at cmp es k ≡ found

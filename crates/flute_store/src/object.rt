@@ -71,15 +71,7 @@ fn join_symbol<const SYMBOLS: u32>(
     ensures room { (result ≡ Err JoinRefusal.Full → ⊥)
         → IsSound symbol_id_cmp SYMBOLS IsKnown (with_symbol symbols.old id update.entry) }
 {
-    if let Some(held) = symbols.seek_mut(&id) {
-        update.join_into(held);
-        return Ok(());
-    }
-    if symbols.len() == SYMBOLS {
-        return Err(JoinRefusal::Full);
-    }
-    let cell = update.into_cell(alloc)?;
-    symbols.add_new(id, cell)
+    symbols.join_with(alloc, id, update)
 }
 
 // Joins an update of a symbol, if there is one. After a refusal the symbols are unchanged.

@@ -1,7 +1,6 @@
 //! An update of an object: what one fact or one packet adds to it.
-ghost use Rattle.std.specs.Prelude.{◌≡◌, [], ◌∷◌, length, List, ℕ, IfSome, IfNone};
-ghost use Rattle.std.specs.Prelude.{IfOk, IfErr, IsOk, bytes_eq};
-ghost use Rattle.flute_join.specs.Cell.{cell_join, IsKnown};
+ghost use Rattle.std.specs.Prelude.{◌≡◌, [], ◌∷◌, length, ℕ, IfSome, IfNone};
+ghost use Rattle.flute_join.specs.Cell.{cell_join};
 ghost use Rattle.flute_parts.specs.Addresses.{address};
 ghost use Rattle.flute_parts.specs.Facts.{same_information};
 ghost use Rattle.flute_parts.specs.SymbolBytes.{HasSymbolSize};
@@ -10,7 +9,7 @@ ghost use Rattle.flute_wire.specs.Facts.{key_of, facts_of};
 ghost use Rattle.flute_store.specs.Update.{update_cell, update_facts, IsUpdate, HasSize};
 
 use crate::held_symbol::HeldSymbol;
-use flute_join::{Cell, JoinRefusal};
+use flute_join::{Cell, JoinInto, JoinRefusal};
 use flute_parts::{Bytes, Fact, Info, SymbolId};
 use flute_wire::Packet;
 use std::alloc::Global;
@@ -118,32 +117,14 @@ impl<'a> Update<'a> {
     }
 }
 
-impl SymbolUpdate<'_> {
-    /// What is held of the symbol then. Borrowed bytes are copied; they are as many as a
-    /// symbol's, so the one refusal is `OutOfMemory`. Owned bytes are moved, and like a conflict
-    /// they take no memory.
-    pub fn into_cell(self, alloc: Global) -> Result<HeldSymbol, JoinRefusal>
-        requires { HasSize self }
-        ensures ok { IfOk result (λ c. c ≡ update_cell self.entry) }
-        ensures err { IfErr result (λ e. e ≡ JoinRefusal.OutOfMemory) }
-        ensures owned { (bytes : List ℕ) → self.entry ≡ SymbolUpdate.Owned bytes → IsOk result }
-        ensures conflict { self.entry ≡ SymbolUpdate.Conflict → IsOk result }
-    {
-        match self {
-            SymbolUpdate::Borrowed(bytes) => match Bytes::new(alloc, bytes) {
-                Ok(bytes) => Ok(HeldSymbol::of_bytes(bytes)),
-                Err(_) => Err(JoinRefusal::OutOfMemory),
-            },
-            SymbolUpdate::Owned(bytes) => Ok(HeldSymbol::of_bytes(bytes)),
-            SymbolUpdate::Conflict => Ok(HeldSymbol::conflict(alloc)),
-        }
-    }
+impl JoinInto<HeldSymbol> for SymbolUpdate<'_> {
+    ghost use Rattle.flute_store.specs.Update.{update_cell, HasSize};
 
-    /// Joins it into what is held already. It takes no memory.
-    pub fn join_into(&self, held: &mut HeldSymbol)
-        requires { IsKnown held.old }
-        ensures { held.new ≡ cell_join bytes_eq held.old (update_cell self.now) }
-    {
+    ghost value = { update_cell };
+
+    ghost fits = { HasSize };
+
+    fn join_into(&self, held: &mut HeldSymbol) {
         let differs = match (self, held.value()) {
             (SymbolUpdate::Borrowed(bytes), Some(value)) => value != *bytes,
             (SymbolUpdate::Owned(bytes), Some(value)) => value != bytes.as_slice(),
@@ -151,6 +132,20 @@ impl SymbolUpdate<'_> {
         };
         if differs {
             held.set_conflict();
+        }
+    }
+
+    /// What is held of the symbol then. Borrowed bytes are copied; they are as many as a
+    /// symbol's, so the one refusal is `OutOfMemory`. Owned bytes are moved, and like a conflict
+    /// they take no memory.
+    fn into_value(self, alloc: Global) -> Result<HeldSymbol, JoinRefusal> {
+        match self {
+            SymbolUpdate::Borrowed(bytes) => match Bytes::new(alloc, bytes) {
+                Ok(bytes) => Ok(HeldSymbol::of_bytes(bytes)),
+                Err(_) => Err(JoinRefusal::OutOfMemory),
+            },
+            SymbolUpdate::Owned(bytes) => Ok(HeldSymbol::of_bytes(bytes)),
+            SymbolUpdate::Conflict => Ok(HeldSymbol::conflict(alloc)),
         }
     }
 }

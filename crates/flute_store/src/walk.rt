@@ -67,6 +67,7 @@ impl<'a> Iterator for ObjectWalk<'a> {
 
     ghost remaining = { item_count (λ rest. rest) };
 
+    #[inline(always)]
     fn next(&mut self) -> Option<FactRef<'a>> {
         if self.info.is_some() {
             return self.info.take();
@@ -146,6 +147,7 @@ impl<'a, O: HasFacts + 'a> Iterator for SessionWalk<'a, O> {
 
     ghost remaining = { item_count (λ rest. rest) };
 
+    #[inline(always)]
     fn next(&mut self) -> Option<FactRef<'a>> {
         if let Some(fact) = next_of(&mut self.object) {
             return Some(fact);
@@ -161,6 +163,7 @@ impl<'a, O: HasFacts + 'a> Iterator for SessionWalk<'a, O> {
 }
 
 // The next fact of a walk, if there is one.
+#[inline(always)]
 fn next_of<'a>(walk: &mut Option<ObjectWalk<'a>>) -> Option<FactRef<'a>>
     ensures { YieldsFact option_rest walk.old result walk.new }
 {
@@ -267,6 +270,7 @@ impl<'a, S: HasObjects + 'a> Iterator for Walk<'a, S> {
 
     ghost remaining = { item_count (λ rest. rest) };
 
+    #[inline(always)]
     fn next(&mut self) -> Option<FactRef<'a>> {
         if let Some(fact) = next_in(&mut self.session) {
             return Some(fact);
@@ -278,6 +282,7 @@ impl<'a, S: HasObjects + 'a> Iterator for Walk<'a, S> {
 }
 
 // The next fact of a walk, if there is one.
+#[inline(always)]
 fn next_in<'a, O: HasFacts + 'a>(walk: &mut Option<SessionWalk<'a, O>>) -> Option<FactRef<'a>>
     ensures { YieldsFact option_rest walk.old result walk.new }
 {

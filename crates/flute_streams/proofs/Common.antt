@@ -86,6 +86,7 @@ pub use Rattle.std.proofs.lemmas.Bool.{cases_Bool, cases_lt, eqb-false, eqb-true
 pub use Rattle.std.proofs.lemmas.List.{take_more, take_more_set}
 pub use Rattle.std.proofs.lemmas.Option.{get_or_from_slice_get, none-some, same_Some}
 pub use Rattle.std.proofs.lemmas.Option.{slice_get_within}
+pub use Rattle.std.specs.Prelude.{option_copied}
 pub use Rattle.std.proofs.lemmas.Result.{err_from_is_err_and}
 pub use Rattle.std.specs.Io.KnownBytes.{Appends, Keeps}
 pub use Rattle.std.specs.List.{AllByRecursion}

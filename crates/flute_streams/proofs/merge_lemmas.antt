@@ -3,6 +3,7 @@ pub mod GoingOn
 pub mod LowestFacts
 pub mod LeadFacts
 pub mod RankFacts
+pub mod Places
 pub mod RankedStreams
 pub mod Finished
 pub mod StreamTurns

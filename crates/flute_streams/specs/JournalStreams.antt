@@ -76,7 +76,7 @@ module _ {R : Type 0} (unread : R → Option (List ℕ)) (buffered : R → List 
   unread_of s = left_of unread buffered (reading_of s)
 
   abbrev pub held_by : JournalStream R → Option Fact
-  held_by s = fact_of_held unread buffered (reading_of s)
+  held_by s = fact_of_held buffered (reading_of s)
 
   module _ (failures : R → ℕ) where
     -- it still reads the same source, which failed since then as the fault says
@@ -97,7 +97,7 @@ module _ {R : Type 0} (unread : R → Option (List ℕ)) (buffered : R → List 
     abbrev pub journal_behaviour : Behaviour (JournalStream R)
     journal_behaviour = record {
       held = held_by;
-      spelled = λ s. spelled_of unread buffered (reading_of s);
+      spelled = λ s. spelled_of buffered (reading_of s);
       most = λ s. length (option_list (held_by s)) + room (limit_of s.reader) (state_of s.reader);
       tells = λ s F. IfSome (unread_of s) (λ bytes. IsJournalWithin (limit_of s.reader) bytes F);
       knows = λ s F. IsJournalOfAll (unread_of s) F;

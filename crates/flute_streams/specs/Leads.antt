@@ -1,25 +1,22 @@
 -- A stream that holds a fact below those of all others.
 use Rattle.std.specs.Prelude.{◌≡◌, ◌≢◌, ℕ, List, Option, Some, None, slice_get, if◌then◌else◌}
 use Rattle.std.specs.Ordering.{is_lt}
-use Rattle.std.specs.declared.cmp.Ordering.TheVariants.{Less}
+use Rattle.std.specs.declared.cmp.Ordering.TheVariants.{Greater, Less}
 use Rattle.flute_parts.specs.Order.{address_cmp}
-use Rattle.flute_parts.specs.Addresses.{address}
 use Rattle.flute_parts.specs.declared.address.Address.{Address}
-use Rattle.flute_parts.specs.declared.fact.Fact.{Fact}
 use Rattle.flute_streams.specs.Streams.{Behaviour, place_of}
-use Rattle.flute_streams.specs.Lowest.{IsNotBefore}
 
--- a fact is held, below that address, if there is one
-abbrev pub IsBelowNext : Option Fact → Option Address → Type 0
+-- there is a place, below that address, if there is one
+abbrev pub IsBelowNext : Option Address → Option Address → Type 0
 IsBelowNext None next = ⊥
-IsBelowNext (Some f) None = Unit {0}
-IsBelowNext (Some f) (Some a) = address_cmp (address f) a ≡ Less
+IsBelowNext (Some p) None = Unit {0}
+IsBelowNext (Some p) (Some a) = address_cmp p a ≡ Less
 
--- no fact is held before that address, and none at all if there is none
-abbrev pub NoneBefore : Option Address → Option Fact → Type 0
+-- there is no place before that address, and none at all if there is none
+abbrev pub NoneBefore : Option Address → Option Address → Type 0
 NoneBefore next None = Unit {0}
-NoneBefore None (Some f) = ⊥
-NoneBefore (Some a) (Some f) = IsNotBefore a f
+NoneBefore None (Some p) = ⊥
+NoneBefore (Some a) (Some p) = address_cmp a p ≢ Greater
 
 module _ {S : Type 0} (b : Behaviour S) where
   -- the stream with that number holds a fact below `next`, and no other one holds
@@ -27,9 +24,9 @@ module _ {S : Type 0} (b : Behaviour S) where
   pub record Leads (streams : List S) (number : ℕ) (next : Option Address) : Type 0 where
     pub stream : S
     pub is : slice_get streams number ≡ Some stream
-    pub below : IsBelowNext (b.held stream) next
+    pub below : IsBelowNext (place_of (b.held stream)) next
     pub others : (k : ℕ) (s : S) → slice_get streams k ≡ Some s → k ≢ number
-        → NoneBefore next (b.held s)
+        → NoneBefore next (place_of (b.held s))
 
   -- the stream that leads is at that place
   abbrev pub StandsAt : Option Address → List S → ℕ → Type 0
@@ -41,7 +38,7 @@ abbrev pub lower_of : Option Address → Address → Address
 lower_of None second = second
 lower_of (Some first) second = if is_lt (address_cmp first second) then first else second
 
--- the lower of an address and that of what is held
-abbrev pub lower_next : Option Address → Option Fact → Option Address
+-- of two addresses there may be one only, or none
+abbrev pub lower_next : Option Address → Option Address → Option Address
 lower_next next None = next
-lower_next next (Some f) = Some (lower_of next (address f))
+lower_next next (Some p) = Some (lower_of next p)

@@ -5,7 +5,6 @@ pub mod Loans
 pub mod JournalStreams
 pub mod Advances
 pub mod Lowest
-pub mod Changes
 pub mod Leads
 pub mod Ranks
 pub mod FirstFaults
@@ -14,6 +13,7 @@ pub mod Pairs
 pub mod OneStream
 pub mod Listed
 pub mod FactStreams
+pub mod WalkStreams
 pub mod OwnedStreams
 pub mod Sessions
 pub mod Scopes

@@ -35,7 +35,7 @@ module _ {R : Type 0} (unread : R → Option (List ℕ)) (buffered : R → List 
   left_in s = left_of unread buffered (reading_in s)
 
   abbrev pub held_in : OwnedJournalStream R → Option Fact
-  held_in s = fact_of_held unread buffered (reading_in s)
+  held_in s = fact_of_held buffered (reading_in s)
 
   module _ (failures : R → ℕ) where
     -- since it was new, these entries were given
@@ -48,7 +48,7 @@ module _ {R : Type 0} (unread : R → Option (List ℕ)) (buffered : R → List 
     abbrev pub owned_behaviour : Behaviour (OwnedJournalStream R)
     owned_behaviour = record {
       held = held_in;
-      spelled = λ s. spelled_of unread buffered (reading_in s);
+      spelled = λ s. spelled_of buffered (reading_in s);
       most = λ s. length (option_list (held_in s)) + room s.max_entries s.state;
       tells = λ s F. IfSome (left_in s) (λ bytes. IsJournalWithin s.max_entries bytes F);
       knows = λ s F. IsJournalOfAll (left_in s) F;

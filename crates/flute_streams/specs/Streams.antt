@@ -2,12 +2,10 @@
 -- and what is read for that.
 use Rattle.std.specs.Prelude.{◌≡◌, ℕ, ◌+◌, ◌≤◌, List, [], ◌∷◌, ◌++◌, length, Option, Some, None}
 use Rattle.std.specs.Prelude.{IfSome, Result, OnOk, IfErr, slice_get, slice_set}
-use Rattle.flute_parts.specs.Addresses.{address}
 use Rattle.flute_parts.specs.Facts.{IsRising}
-use Rattle.flute_parts.specs.declared.address.Address.{Address}
 use Rattle.flute_parts.specs.declared.fact.Fact.{Fact}
 use Rattle.flute_store.specs.Walk.{IsSized}
-pub use Rattle.flute_journal.specs.HeldEntries.{fact_in}
+pub use Rattle.flute_journal.specs.HeldEntries.{fact_in, place_of}
 use Rattle.flute_journal.specs.HeldEntries.{IsSpelling}
 use Rattle.flute_journal.specs.declared.fault.LoadFault.{LoadFault}
 
@@ -37,11 +35,6 @@ pub record Behaviour (S : Type 0) : Type 1 where
 abbrev pub option_list : Option Fact → List Fact
 option_list None = []
 option_list (Some f) = f ∷ []
-
--- the address of what is held
-abbrev pub place_of : Option Fact → Option Address
-place_of None = None
-place_of (Some f) = Some (address f)
 
 -- facts begin with those that were given, and with no others if nothing is held
 pub record Continues (facts given : List Fact) (held : Option Fact) : Type 0 where

@@ -1,5 +1,5 @@
 //! Choices of facts: which are taken.
-ghost use Rattle.std.specs.Prelude.{◌≡◌, Bool};
+ghost use Rattle.std.specs.Prelude.{◌≡◌, Bool, true};
 ghost use Rattle.flute_parts.specs.Addresses.{fact_of};
 ghost use Rattle.flute_parts.specs.declared.fact.Fact.{Fact};
 
@@ -13,6 +13,10 @@ use flute_parts::FactRef;
 pub trait Choice {
     // Whether a fact is taken.
     ghost takes: { Self → Fact → Bool };
+
+    /// Whether all facts are taken, as far as that is known: if not, it is asked of each.
+    fn takes_all(&self) -> bool
+        ensures { result ≡ true → (fact : Fact) → takes self.now fact ≡ true };
 
     /// Whether a fact is taken.
     fn takes_fact(&self, fact: &FactRef<'_>) -> bool

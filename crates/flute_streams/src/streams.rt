@@ -1,7 +1,7 @@
 //! Streams that are read together.
-ghost use Rattle.std.specs.Prelude.{◌≡◌, ◌<◌, List, Some, length, slice_get};
+ghost use Rattle.std.specs.Prelude.{◌≡◌, ◌<◌, List, Some, length, option_copied, slice_get};
 ghost use Rattle.std.specs.Borrow.{GName};
-ghost use Rattle.flute_streams.specs.Streams.{Advances, fact_in};
+ghost use Rattle.flute_streams.specs.Streams.{Advances, fact_in, place_of};
 
 pub(crate) mod chained;
 pub(crate) mod chosen;
@@ -14,7 +14,7 @@ pub(crate) mod walk_stream;
 
 use crate::streams::stream::Stream;
 use flute_journal::LoadFault;
-use flute_parts::FactRef;
+use flute_parts::{Address, FactRef};
 use std::alloc::Global;
 
 /// Streams with numbers, from 0.
@@ -35,6 +35,12 @@ pub trait Streams {
         requires { number < length (streams self.now) }
         ensures { (s : Self.Stream) → slice_get (streams self.now) number ≡ Some s
             → fact_in result ≡ Self.Stream.behaviour.held s };
+
+    /// The address of that fact.
+    fn place(&self, number: usize) -> Option<&Address>
+        requires { number < length (streams self.now) }
+        ensures { (s : Self.Stream) → slice_get (streams self.now) number ≡ Some s
+            → option_copied result ≡ place_of (Self.Stream.behaviour.held s) };
 
     /// The bytes of that fact's entry, if they lie in memory: else none.
     fn spelled(&self, number: usize) -> &[u8]
@@ -75,6 +81,11 @@ impl<S: Stream> Streams for &mut S {
     }
 
     #[inline(always)]
+    fn place(&self, _number: usize) -> Option<&Address> {
+        (**self).place()
+    }
+
+    #[inline(always)]
     fn spelled(&self, _number: usize) -> &[u8] {
         (**self).spelled()
     }
@@ -104,6 +115,12 @@ impl<S: Stream> Streams for &mut [S] {
     fn head(&self, number: usize) -> Option<FactRef<'_>> {
         let streams = &**self;
         streams[number].head()
+    }
+
+    #[inline(always)]
+    fn place(&self, number: usize) -> Option<&Address> {
+        let streams = &**self;
+        streams[number].place()
     }
 
     #[inline(always)]
@@ -151,6 +168,11 @@ impl<'a, S: Stream> Streams for Slice<'a, S> {
     #[inline(always)]
     fn head(&self, number: usize) -> Option<FactRef<'_>> {
         self.streams.head(number)
+    }
+
+    #[inline(always)]
+    fn place(&self, number: usize) -> Option<&Address> {
+        self.streams.place(number)
     }
 
     #[inline(always)]

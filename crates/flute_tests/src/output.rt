@@ -1,7 +1,7 @@
 //! Each public call of `flute_output` once, over a folder in memory.
 
-use flute_output::{FinishFault, Folder, Name, Output, write_file};
-use flute_output_memory::MemoryFolder;
+use flute_memory::MemoryFolder;
+use flute_output::{FinishFault, Folder, Name, Output};
 use flute_parts::{DeviceFault, Sink};
 use std::test::Fail;
 
@@ -12,8 +12,11 @@ const ENOUGH: usize = 100;
 
 #[test]
 fn a_file_is_written(rt: HostRuntime) -> Result<(), Fail> {
-    let alloc = rt.alloc();
-    let (done, folder) = write_file(MemoryFolder::new(alloc, None, ENOUGH), NEW);
+    let Ok(mut output) = Output::create(MemoryFolder::new(rt.alloc(), None, ENOUGH)) else {
+        return Err("not made".into());
+    };
+    let done = output.write_all(NEW);
+    let (done, folder) = output.finish(done);
     done?;
     assert_eq!(rt; folder.out(), Some(NEW));
     assert!(rt; folder.beside().is_none());

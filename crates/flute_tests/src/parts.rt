@@ -50,8 +50,7 @@ fn information_tells_its_numbers(rt: HostRuntime) -> Result<(), Fail> {
 
 #[test]
 fn bytes_are_copied_and_moved(rt: HostRuntime) -> Result<(), Fail> {
-    let mut copied = Bytes::new(rt.alloc(), b"hi")?;
-    copied.replace(b"lo");
+    let copied = Bytes::new(rt.alloc(), b"lo")?;
     let moved = Bytes::from_vec(b"lo".to_vec(rt.alloc())?)?;
     assert!(rt; copied == moved);
     assert!(rt; copied.as_slice() == b"lo".as_slice());

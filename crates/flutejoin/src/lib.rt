@@ -38,7 +38,7 @@ mod packet;
 mod sender;
 mod show;
 
-pub use aside::{Aside, Asides, MemoryAside};
+pub use aside::{Aside, Asides};
 pub use carousel::send_to;
 pub use command_fault::{CommandFault, at_input, load_fault};
 pub use extract::extract_all::extract_all_to;

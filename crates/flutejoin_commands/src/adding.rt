@@ -5,14 +5,11 @@ ghost use Rattle.flutejoin.specs.Info.{AddsFacts, InfoFails};
 ghost use Rattle.flutejoin.specs.Limits.{limits_of};
 ghost use Rattle.flutejoin.specs.Lines.{entries_line};
 ghost use Rattle.flutejoin.specs.declared.command_fault.CommandFault.TheVariants.{CannotWrite};
-ghost use Rattle.flutejoin_commands.specs.Commands.{Succeeds, Fails, CouldBeDone, IsWholeAlways};
-ghost use Rattle.flutejoin_commands.specs.Commands.{devices, with_beside};
+ghost use Rattle.flutejoin_commands.specs.Commands.{CouldBeDone};
 ghost use Rattle.flutejoin_commands.specs.Works.{AddsInformation, AddFails};
 
 use crate::nothing::{Nothing, fault_or};
-use crate::output_command::write_into;
 use crate::work::Work;
-use flute_output::Folder;
 use flute_parts::{Info, Key, Sink, Source};
 use flutejoin::{
     ANY_OBJECTS, ANY_SESSIONS, ANY_SYMBOLS, CommandFault, MAX_ENTRIES, MAX_OBJECTS, MAX_SESSIONS,
@@ -84,35 +81,4 @@ impl<R: Source + Drop> Work for InfoWork<R> {
         lines.push_count("entries", *entries);
         lines
     }
-}
-
-/// Leaves as OUT the journal of all that a journal contains and the information of an object, and
-/// in the report the number of its entries. OUT may be the journal.
-///
-/// # Errors
-///
-/// Those of [`info_to`], then `Full` if the journal has more entries than the commands read, then
-/// `CannotCreate`, then `CannotWrite`, as [`write_into`] says.
-pub fn info_into<F: Folder + Drop, R: Source + Drop, P: Sink>(
-    folder: F,
-    work: InfoWork<R>,
-    report: &mut P,
-) -> (Result<(), CommandFault>, F)
-    ensures added { OnOk result.0 (Succeeds
-        (AddsInformation (R.unread work.source) work.key work.info) entries_line
-        (with_beside (devices (F.entries folder) (F.failures folder)
-        (P.written report.old) (P.failures report.old)))
-        (devices (F.entries result.1) (F.failures result.1)
-        (P.written report.new) (P.failures report.new))) }
-    ensures failed { IfErr result.0 (Fails
-        (AddsInformation (R.unread work.source) work.key work.info)
-        (AddFails (limits_of work.any_size) (R.unread work.source) work.key work.info) entries_line
-        (CouldBeDone (AddsInformation (R.unread work.source) work.key work.info))
-        (devices (F.entries folder) (F.failures folder)
-        (P.written report.old) (P.failures report.old))
-        (devices (F.entries result.1) (F.failures result.1)
-        (P.written report.new) (P.failures report.new))) }
-    ensures any_moment { IsWholeAlways (F.entries folder) (F.entries result.1) }
-{
-    write_into(folder, work, report)
 }

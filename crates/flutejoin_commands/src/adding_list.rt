@@ -4,14 +4,11 @@ ghost use Rattle.flutejoin.specs.InfoLists.{AddsList, AddListFails};
 ghost use Rattle.flutejoin.specs.Limits.{limits_of};
 ghost use Rattle.flutejoin.specs.Lines.{entries_line};
 ghost use Rattle.flutejoin.specs.declared.command_fault.CommandFault.TheVariants.{CannotWrite};
-ghost use Rattle.flutejoin_commands.specs.Commands.{Succeeds, Fails, CouldBeDone, IsWholeAlways};
-ghost use Rattle.flutejoin_commands.specs.Commands.{devices, with_beside};
+ghost use Rattle.flutejoin_commands.specs.Commands.{CouldBeDone};
 ghost use Rattle.flutejoin_commands.specs.Works.{AddListReadFails, AddsListRead};
 
 use crate::nothing::{Nothing, fault_or};
-use crate::output_command::write_into;
 use crate::work::Work;
-use flute_output::Folder;
 use flute_parts::{Sink, Source};
 use flutejoin::{
     ANY_OBJECTS, ANY_SESSIONS, ANY_SYMBOLS, CommandFault, MAX_ENTRIES, MAX_OBJECTS, MAX_SESSIONS,
@@ -85,36 +82,4 @@ impl<R: Source + Drop> Work for InfoListWork<R> {
         lines.push_count("entries", *entries);
         lines
     }
-}
-
-/// Leaves as OUT the journal of all that a journal contains and of the information in a list,
-/// and in the report the number of its entries. OUT may be the journal.
-///
-/// # Errors
-///
-/// Those of [`info_list_to`], then `Full` if the journal has more entries than the commands read,
-/// then `CannotCreate`, then `CannotWrite`, as [`write_into`] says.
-pub fn info_list_into<F: Folder + Drop, R: Source + Drop, P: Sink>(
-    folder: F,
-    work: InfoListWork<R>,
-    report: &mut P,
-) -> (Result<(), CommandFault>, F)
-    ensures added { OnOk result.0 (Succeeds
-        (AddsListRead (R.unread work.source) (R.unread work.list)) entries_line
-        (with_beside (devices (F.entries folder) (F.failures folder)
-        (P.written report.old) (P.failures report.old)))
-        (devices (F.entries result.1) (F.failures result.1)
-        (P.written report.new) (P.failures report.new))) }
-    ensures failed { IfErr result.0 (Fails
-        (AddsListRead (R.unread work.source) (R.unread work.list))
-        (AddListReadFails (limits_of work.any_size) (R.unread work.source) (R.unread work.list))
-        entries_line
-        (CouldBeDone (AddsListRead (R.unread work.source) (R.unread work.list)))
-        (devices (F.entries folder) (F.failures folder)
-        (P.written report.old) (P.failures report.old))
-        (devices (F.entries result.1) (F.failures result.1)
-        (P.written report.new) (P.failures report.new))) }
-    ensures any_moment { IsWholeAlways (F.entries folder) (F.entries result.1) }
-{
-    write_into(folder, work, report)
 }

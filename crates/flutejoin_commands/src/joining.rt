@@ -6,14 +6,11 @@ ghost use Rattle.flutejoin.specs.Joined.{choice_of};
 ghost use Rattle.flutejoin.specs.Joining.{JoinsTo};
 ghost use Rattle.flutejoin.specs.Limits.{limits_of};
 ghost use Rattle.flutejoin.specs.declared.command_fault.CommandFault.TheVariants.{CannotWrite};
-ghost use Rattle.flutejoin_commands.specs.Commands.{Succeeds, Fails, CouldBeDone, IsWholeAlways};
-ghost use Rattle.flutejoin_commands.specs.Commands.{devices, with_beside};
+ghost use Rattle.flutejoin_commands.specs.Commands.{CouldBeDone};
 ghost use Rattle.flutejoin_commands.specs.Works.{JoinsAll, JoinAllFails, join_lines};
 
 use crate::nothing::{Nothing, fault_or};
-use crate::output_command::write_into;
 use crate::work::Work;
-use flute_output::Folder;
 use flute_parts::{Sender, Sink, Source};
 use flute_streams::Scope;
 use flutejoin::{
@@ -117,42 +114,4 @@ impl<R: Source + Drop, A: Asides<Input = R>> Work for JoinWork<R, A> {
         lines.push_count("entries", counts.entries);
         lines
     }
-}
-
-/// Leaves as OUT the journal of all that the inputs contain of the chosen objects, and in the
-/// report its numbers. OUT may be one of the inputs.
-///
-/// # Errors
-///
-/// Those of [`join_to`], then `Full` if the journal has more entries than the commands read, then
-/// `CannotCreate`, then `CannotWrite`, as [`write_into`] says.
-pub fn join_into<F: Folder + Drop, R: Source + Drop, A: Asides<Input = R> + Drop, P: Sink>(
-    folder: F,
-    work: JoinWork<R, A>,
-    report: &mut P,
-) -> (Result<(), CommandFault>, F)
-    ensures joined { OnOk result.0 (Succeeds
-        (JoinsAll R.unread (A.tells work.asides) (limits_of work.any_size) work.sender work.scope
-        work.inputs.items)
-        (join_lines work.scope)
-        (with_beside (devices (F.entries folder) (F.failures folder)
-        (P.written report.old) (P.failures report.old)))
-        (devices (F.entries result.1) (F.failures result.1)
-        (P.written report.new) (P.failures report.new))) }
-    ensures failed { IfErr result.0 (Fails
-        (JoinsAll R.unread (A.tells work.asides) (limits_of work.any_size) work.sender work.scope
-        work.inputs.items)
-        (JoinAllFails R.unread (A.tells work.asides) (limits_of work.any_size) work.sender
-        work.scope work.inputs.items)
-        (join_lines work.scope)
-        (CouldBeDone
-        (JoinsAll R.unread (A.tells work.asides) (limits_of work.any_size) work.sender work.scope
-        work.inputs.items))
-        (devices (F.entries folder) (F.failures folder)
-        (P.written report.old) (P.failures report.old))
-        (devices (F.entries result.1) (F.failures result.1)
-        (P.written report.new) (P.failures report.new))) }
-    ensures any_moment { IsWholeAlways (F.entries folder) (F.entries result.1) }
-{
-    write_into(folder, work, report)
 }

@@ -1,11 +1,9 @@
 //! The commands of the program `flutejoin`, each from its open inputs to what it leaves.
 //!
 //! A command that writes an output is a [`Work`], done by [`write_into`]: OUT is then what it
-//! wrote, whole, and a report has its lines; or OUT is as it was. [`join_into`], [`merge_into`],
-//! [`extract_into`], [`info_into`] and [`carousel_into`] say what that is for each command. An
-//! output that takes its bytes itself, as a pipe, is an [`Outlet`]: [`write_through`],
-//! [`write_held`]. [`show_on`], [`gaps_on`] and [`packet_on`] print, and [`open_inputs`] opens
-//! inputs by their names.
+//! wrote, whole, and a report has its lines; or OUT is as it was. An output that takes its bytes
+//! itself, as a pipe, is an [`Outlet`]: [`write_through`], [`write_held`]. [`show_on`], [`gaps_on`]
+//! and [`packet_on`] print, and [`open_inputs`] opens inputs by their names.
 //!
 //! Where an output is at a name, [`leave`] does one of these with what the name leads to, in a
 //! [`World`]; [`join`], [`merge`], [`info`], [`extract`], [`carousel`], [`show`], [`gaps`] and
@@ -49,15 +47,15 @@ mod std_report;
 mod work;
 mod world;
 
-pub use adding::{InfoWork, info_into};
-pub use adding_list::{InfoListWork, info_list_into};
+pub use adding::InfoWork;
+pub use adding_list::InfoListWork;
 pub use commands::{carousel, extract, forget, info, info_list, join, merge};
-pub use extracting::{ExtractWork, extract_into};
+pub use extracting::ExtractWork;
 pub use extracting_all::extract_all_into;
-pub use forgetting::{ForgetWork, forget_into};
-pub use joining::{JoinWork, join_into};
+pub use forgetting::ForgetWork;
+pub use joining::JoinWork;
 pub use leaving::{leave, leave_held};
-pub use merging::{MergeWork, merge_into};
+pub use merging::MergeWork;
 pub use nothing::{Nothing, fault_or};
 pub use opening::{Inputs, NotOpened, open_input, open_inputs, open_two};
 pub use outlet::Outlet;
@@ -66,7 +64,7 @@ pub use output_command::write_into;
 pub use printing::{gaps_on, hand_on, packet_on, show_on};
 pub use prints::{extract_all, gaps, packet, show};
 pub use report::Report;
-pub use sending::{SendWork, carousel_into};
+pub use sending::SendWork;
 pub use std_report::StdReport;
 pub use work::Work;
 pub use world::World;

@@ -2,13 +2,13 @@
 ghost use Rattle.std.specs.Prelude.{◌≡◌, ◌++◌, string_bytes, List, [], ◌∷◌, IfOk};
 ghost use Rattle.std.specs.Prelude.{MatchOption, map, option_map};
 ghost use Rattle.std.specs.Option.{ForSome};
-ghost use Rattle.flute_output_memory.specs.Memory.{memory_entries};
+ghost use Rattle.flute_memory.specs.Memory.{memory_entries};
 ghost use Rattle.flutejoin_commands.specs.Closings.{closing};
 ghost use Rattle.flutejoin_memory.specs.NamedFiles.{changed};
 ghost use Rattle.flutejoin_memory.specs.MemoryFiles.{NamedFile, files_of, names_of, closed_as};
 
 use crate::told::Told;
-use flute_output_memory::MemoryFolder;
+use flute_memory::MemoryFolder;
 use std::alloc::{AllocError, Global};
 
 /// A name, and the bytes that it has, if it has some.

@@ -3,7 +3,8 @@ ghost use Rattle.std.specs.Prelude.{◌≡◌, true};
 
 use crate::owned_source::OwnedSource;
 use flute_parts::Failures;
-use flutejoin::{Asides, CommandFault, MemoryAside};
+use flutejoin::{Asides, CommandFault};
+use flutejoin_replicas::MemoryAside;
 use std::alloc::Global;
 
 /// What is put aside is held in memory.

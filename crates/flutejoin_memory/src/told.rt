@@ -2,10 +2,10 @@
 //! time.
 ghost use Rattle.std.specs.Prelude.{◌≡◌, ◌∷◌, List, []};
 ghost use Rattle.std.specs.Borrow.{ftrue};
-ghost use Rattle.flute_output_memory.specs.Memory.{memory_entries};
+ghost use Rattle.flute_memory.specs.Memory.{memory_entries};
 ghost use Rattle.flutejoin_commands.specs.Closings.{Closing, closing};
 
-use flute_output_memory::MemoryFolder;
+use flute_memory::MemoryFolder;
 use std::marker::Model;
 
 /// The outputs that were closed, the last first.

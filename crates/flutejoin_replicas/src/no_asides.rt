@@ -1,8 +1,9 @@
 //! No room for what is to be put aside.
 ghost use Rattle.std.specs.Prelude.{◌≡◌, true};
 
+use crate::memory_aside::MemoryAside;
 use flute_parts::{Failures, Source};
-use flutejoin::{Asides, CommandFault, MemoryAside};
+use flutejoin::{Asides, CommandFault};
 use std::marker::PhantomData;
 
 /// Nothing can be put aside: all is held in memory.

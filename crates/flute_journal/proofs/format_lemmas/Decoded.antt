@@ -22,7 +22,7 @@ use Rattle.std.specs.Ordering.{ordering_then}
 use Rattle.std.specs.declared.cmp.Ordering.{Ordering}
 use Rattle.std.specs.declared.cmp.Ordering.TheVariants.{Less, Equal, Greater}
 use Rattle.std.proofs.lemmas.Bool.{eqb-true, false≢true}
-use Rattle.flute_parts.specs.Order.{key_cmp, part_cmp, same_key, same_object}
+use Rattle.flute_parts.specs.Order.{address_cmp, key_cmp, part_cmp, same_key, same_object}
 use Rattle.flute_parts.specs.Equality.{both, key_itself, object_same}
 use Rattle.flute_parts.specs.declared.address.Part.{Part}
 use Rattle.std.specs.Prelude.{MatchOption}
@@ -300,12 +300,12 @@ then-equal Less o h = absurd (false≢true h)
 then-equal Greater o h = absurd (false≢true h)
 
 -- the tests of the parts of two keys
-abbrev same_parts : Key → Key → Bool
+abbrev pub same_parts : Key → Key → Bool
 same_parts a b =
     ((a.session.sender == b.session.sender) && (a.session.tsi == b.session.tsi))
     && same_object a.object b.object
 
-key-same : (a b : Key) → true ≡ same_parts a b → a ≡ b
+pub key-same : (a b : Key) → true ≡ same_parts a b → a ≡ b
 key-same a b t =
     let p = both ((a.session.sender == b.session.sender) && (a.session.tsi == b.session.tsi))
     (same_object a.object b.object) (sym t) in
@@ -315,10 +315,15 @@ key-same a b t =
     let o = object_same a.object b.object p.1 in
     λ k. record { session = record { sender = s k; tsi = i k }; object = o k }
 
+-- of two addresses of one object the parts are compared
+pub same_object_cmp : (a b : Address) → true ≡ same_parts a.key b.key
+    → part_cmp a.part b.part ≡ address_cmp a b
+same_object_cmp a b t =
+    sym (then-equal (key_cmp a.key b.key) (part_cmp a.part b.part)
+    (subst (λ (k : Key). same_key a.key k ≡ true) (key-same a.key b.key t) (key_itself a.key)))
+
 pub same_object_after : (last : Address) (key : Key) (part : Part)
     → true ≡ same_parts last.key key
     → is_lt (part_cmp last.part part) ≡ is_after (Some last) (record { key = key; part = part })
 same_object_after last key part t =
-    let e = key-same last.key key t in
-    ap is_lt (sym (then-equal (key_cmp last.key key) (part_cmp last.part part)
-    (subst (λ (k : Key). same_key last.key k ≡ true) e (key_itself last.key))))
+    ap is_lt (same_object_cmp last (record { key = key; part = part }) t)

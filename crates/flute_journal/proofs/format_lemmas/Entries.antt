@@ -8,7 +8,7 @@ use Rattle.flute_journal.proofs.Common.{name_bytes, key_bytes, id_bytes, counted
 use Rattle.flute_journal.proofs.Common.{entry_in, AllByRecursion, IsKey, IsKeyIn, HasRoom, IsId}
 use Rattle.flute_journal.proofs.Common.{IsInfo}
 use Rattle.flute_journal.proofs.Common.{IsFact, IsFactIn}
-use Rattle.flute_journal.specs.Format.{sender_size}
+use Rattle.flute_journal.specs.Format.{entry, sender_size}
 use Rattle.flute_journal.proofs.Numbers.{in_bytes-injective}
 
 abbrev pub make_key : ℕ → ℕ → ObjectName → Key
@@ -95,6 +95,11 @@ fact_two (Info key info) p = (p, room_two key p.0)
 fact_two (InfoConflict key) p = (p, room_two key p)
 fact_two (Symbol key id bytes) p = (p, room_two key p.0)
 fact_two (SymbolConflict key id) p = (p, room_two key p.0)
+
+-- facts of the same entry are the same
+pub same_entry : (f g : Fact) → IsFact f → IsFact g → entry f ≡ entry g → f ≡ g
+same_entry f g p q e =
+    (entry_injective Two f g [] [] (fact_two f p) (fact_two g q) (ap (λ l. l ++ []) e)).0
 
 pub facts_two : (es : List Fact) → AllByRecursion IsFact es → AllByRecursion (IsFactIn Two) es
 facts_two [] p = tt

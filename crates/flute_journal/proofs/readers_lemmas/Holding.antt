@@ -98,7 +98,8 @@ behind_taken P (Some xs) (Some ys) taken h c p =
     subst (λ (l : List ℕ). P (Some l))
     (sym (ap (drop (length taken)) c ∙ drop-append_seam taken ys)) p
 
-left_all : (w : Option (List ℕ)) → left_behind [] w ≡ w
+-- behind nothing all is left
+pub left_all : (w : Option (List ℕ)) → left_behind [] w ≡ w
 left_all None = refl
 left_all (Some xs) = refl
 
@@ -108,21 +109,20 @@ pub record ReadsAnew {R : Type 0} (unread : R → Option (List ℕ)) (buffered :
     : Type 0 where
   pub own : size_of new.held ≡ 0
   pub between : R
-  pub taken : Consumes (unread old.source) (unread between) (spelled_of unread buffered old)
+  pub taken : Consumes (unread old.source) (unread between) (spelled_of buffered old)
   pub none_failed : failures between ≡ failures old.source
   pub gives :
       Gives journal_framing limit old.state new.state (unread between) (unread new.source)
-      (given_into result (fact_of_held unread buffered new))
+      (given_into result (fact_of_held buffered new))
   pub failed :
       FailsIf (is_open old.state) (failures between) (failures new.source)
-      (given_into result (fact_of_held unread buffered new))
+      (given_into result (fact_of_held buffered new))
   pub none : OnErr result (new.held ≡ held.Nothing)
 
 spells_none : (b : List ℕ) (e : HeldEntry) → size_of e ≡ 0
     → IsSpelling (spelled_in b e) (fact_held b e)
 spells_none b held.Nothing own = refl
-spells_none b (held.Own f) own = inl refl
-spells_none b (held.InBuffer key id size) own = inl (ap (λ n. take n b) own)
+spells_none b (held.Entry place v) own = inl (ap (λ n. take n b) own)
 
 pub holds_anew : {R : Type 0} {unread : R → Option (List ℕ)} {buffered : R → List ℕ}
     {failures : R → ℕ} {limit : ℕ} {old new : Reading R} {result : Result (Unit {0}) ReadFault}
@@ -130,7 +130,7 @@ pub holds_anew : {R : Type 0} {unread : R → Option (List ℕ)} {buffered : R �
     → HoldsNext unread buffered failures limit old new result
 holds_anew {unread = unread} {buffered = buffered} {failures = failures} {limit = limit}
     {old = old} {new = new} {result = result} h =
-    let given = given_into result (fact_of_held unread buffered new) in
+    let given = given_into result (fact_of_held buffered new) in
     let b = buffered new.source in
     let w = unread new.source in
     let all : left_of unread buffered new ≡ w =
@@ -140,7 +140,7 @@ holds_anew {unread = unread} {buffered = buffered} {failures = failures} {limit 
           subst (λ l. Gives journal_framing limit old.state new.state (left_of unread buffered old)
           l given) (sym all)
           (behind_taken (λ l. Gives journal_framing limit old.state new.state l w given)
-          (unread old.source) (unread h.between) (spelled_of unread buffered old)
+          (unread old.source) (unread h.between) (spelled_of buffered old)
           (λ x. unknown limit old.state new.state x w given) h.taken h.gives);
       failed =
           subst (λ n. FailsIf (is_open old.state) n (failures new.source) given) h.none_failed

@@ -167,9 +167,12 @@ fn next_in(last: &Address, bytes: &[u8]) -> Option<(SymbolId, u16)>
         return None;
     };
     let is_after = last.part < Part::Symbol(id);
+    if !is_after {
+        return None;
+    }
     match length_at(rest) {
-        Ok(length) if is_after => Some((id, length)),
-        _ => None,
+        Ok(length) => Some((id, length)),
+        Err(_) => None,
     }
 }
 
@@ -198,16 +201,16 @@ fn is_file_in(bytes: &[u8], key: &Key) -> bool
 {
     let toi = key.object.toi();
     let tsi = key.session.tsi();
-    if toi == 0 {
-        return false;
-    }
     if bytes[6] != 1 {
         return false;
     }
     if number(&bytes[..6]) != u128::from(tsi) {
         return false;
     }
-    number_of_14(&bytes[7..]) == toi
+    if number_of_14(&bytes[7..]) != toi {
+        return false;
+    }
+    toi != 0
 }
 
 // The key of which these are the bytes.

@@ -1,31 +1,62 @@
 //! The entry of a journal that is held until the next is read.
-ghost use Rattle.std.specs.Prelude.{◌≡◌, drop, take};
+ghost use Rattle.std.specs.Prelude.{◌≡◌, ℕ, List, drop, take, option_copied};
 ghost use Rattle.std.specs.Io.KnownBytes.{Consumes};
-ghost use Rattle.flute_journal.specs.HeldEntries.{fact_held, fact_in, size_of, spelled_in};
+ghost use Rattle.flute_parts.specs.Addresses.{fact_of};
+ghost use Rattle.flute_parts.specs.declared.fact.Fact.{Fact};
+ghost use Rattle.flute_journal.specs.HeldEntries.{fact_held, fact_in, place_of, size_of};
+ghost use Rattle.flute_journal.specs.HeldEntries.{spelled_in, value_held};
 ghost use Rattle.flute_journal.specs.declared.readers.held_entry.HeldEntry.TheVariants as held;
 
-use flute_parts::{Fact, FactRef, Key, Source, SymbolId};
+use flute_parts::{Address, Bytes, Fact, FactRef, Info, Part, Source};
 use std::alloc::Global;
 use std::mem;
+
+// How many bytes of a symbol's entry stand before the symbol, in version 2.
+const HEAD_LEN: usize = 44;
 
 /// The entry of a journal that is held until the next is read.
 #[derive(Debug, Drop)]
 pub enum HeldEntry {
     /// None is held.
     Nothing,
-    /// A fact that has memory of its own.
-    Own(Fact),
-    /// A symbol whose entry lies at the front of its source's buffer, as version 2 spells it. It is
-    /// taken from the source once the entry is let go of.
-    InBuffer {
-        key: Key,
-        id: SymbolId,
-        /// How many bytes the entry has.
-        size: usize,
+    /// This one is.
+    Entry {
+        /// The address of its fact.
+        place: Address,
+        /// What it says of that address.
+        value: HeldValue,
     },
 }
 
+/// What an entry that is held says of its address.
+#[derive(Debug, Drop)]
+pub enum HeldValue {
+    /// The transmission information.
+    Info(Info),
+    /// Two different values came.
+    Conflict,
+    /// An encoding symbol, whose bytes have memory of their own.
+    Symbol(Bytes),
+    /// An encoding symbol whose entry lies at the front of its source's buffer, as version 2 spells
+    /// it, in so many bytes. It is taken from the source once it is let go of.
+    InBuffer(usize),
+}
+
 impl HeldEntry {
+    /// The entry of a fact, which has memory of its own.
+    pub fn of(fact: Fact) -> HeldEntry
+        ensures fact { (buffer : List ℕ) → fact_held buffer result ≡ Some fact }
+        ensures own { size_of result ≡ 0 }
+    {
+        let place = fact.address();
+        let value = match fact {
+            Fact::Info { info, .. } => HeldValue::Info(info),
+            Fact::InfoConflict { .. } | Fact::SymbolConflict { .. } => HeldValue::Conflict,
+            Fact::Symbol { bytes, .. } => HeldValue::Symbol(bytes),
+        };
+        HeldEntry::Entry { place, value }
+    }
+
     /// The fact that is held by a reader whose source's buffer lends these bytes.
     #[inline(always)]
     pub fn fact<'a>(&'a self, buffer: &'a [u8]) -> Option<FactRef<'a>>
@@ -33,12 +64,19 @@ impl HeldEntry {
     {
         match self {
             HeldEntry::Nothing => None,
-            HeldEntry::Own(fact) => Some(fact.as_ref()),
-            HeldEntry::InBuffer { key, id, size } => Some(FactRef::Symbol {
-                key: *key,
-                id: *id,
-                bytes: behind(front(buffer, *size), 44),
-            }),
+            HeldEntry::Entry { place, value } => Some(value.fact(place, buffer)),
+        }
+    }
+
+    /// The address of that fact.
+    #[inline(always)]
+    pub fn place(&self) -> Option<&Address>
+        ensures { (buffer : List ℕ)
+            → option_copied result ≡ place_of (fact_held buffer self.now) }
+    {
+        match self {
+            HeldEntry::Nothing => None,
+            HeldEntry::Entry { place, .. } => Some(place),
         }
     }
 
@@ -57,7 +95,10 @@ impl HeldEntry {
         ensures { result ≡ size_of self.now }
     {
         match self {
-            HeldEntry::InBuffer { size, .. } => *size,
+            HeldEntry::Entry {
+                value: HeldValue::InBuffer(size),
+                ..
+            } => *size,
             _ => 0,
         }
     }
@@ -73,8 +114,41 @@ impl HeldEntry {
         let size = self.spelled(source.buffer()).len();
         source.consume(size);
         match mem::replace(self, HeldEntry::Nothing) {
-            HeldEntry::Own(fact) => fact.into_vec(alloc),
+            HeldEntry::Entry {
+                value: HeldValue::Symbol(bytes),
+                ..
+            } => bytes.into_vec(),
             _ => Vec::new(alloc),
+        }
+    }
+}
+
+impl HeldValue {
+    // The fact that says this of an address. A value that is none of its part is a conflict.
+    #[inline(always)]
+    fn fact<'a>(&'a self, place: &Address, buffer: &'a [u8]) -> FactRef<'a>
+        ensures { fact_of result
+            ≡ value_held buffer.now place.now.key place.now.part self.now }
+    {
+        let key = place.key;
+        match place.part {
+            Part::Info => match self {
+                HeldValue::Info(info) => FactRef::Info { key, info: *info },
+                _ => FactRef::InfoConflict { key },
+            },
+            Part::Symbol(id) => match self {
+                HeldValue::Symbol(bytes) => FactRef::Symbol {
+                    key,
+                    id,
+                    bytes: bytes.as_slice(),
+                },
+                HeldValue::InBuffer(size) => FactRef::Symbol {
+                    key,
+                    id,
+                    bytes: behind(front(buffer, *size), HEAD_LEN),
+                },
+                _ => FactRef::SymbolConflict { key, id },
+            },
         }
     }
 }

@@ -8,6 +8,7 @@ ghost use Rattle.flute_journal.specs.HeldEntries.{HoldsNext, reading, spelled_in
 ghost use Rattle.flute_journal.specs.Readers.{source_of, limit_of, state_of};
 ghost use Rattle.flute_journal.specs.JournalFraming.{journal_framing};
 ghost use Rattle.flute_journal.specs.Framing.{Gives, is_open, state_after};
+ghost use Rattle.flute_journal.specs.declared.readers.held_entry.HeldEntry.TheVariants as HeldEntry;
 ghost use Rattle.flute_journal.specs.declared.readers.reader_state.ReaderState.TheVariants as ReaderState;
 
 use crate::fault::ReadFault;
@@ -126,11 +127,13 @@ impl<'a, R: Source> JournalReader<'a, R> {
         self.source.buffer()
     }
 
-    /// Lets go of the entry that is held.
+    /// Lets go of the entry that is held, so that nothing is: what its source has left is then what
+    /// follows that entry.
     pub fn let_go(&mut self, alloc: Global, held: &mut HeldEntry)
         ensures source { (source_of self.new).ghost_name ≡ (source_of self.old).ghost_name }
         ensures limit { limit_of self.new ≡ limit_of self.old }
         ensures state { state_of self.new ≡ state_of self.old }
+        ensures nothing { held.new ≡ HeldEntry.Nothing }
         ensures takes { Consumes (R.unread (source_of self.old).now)
             (R.unread (source_of self.new).now)
             (spelled_in (R.buffered (source_of self.old).now) held.old) }
@@ -180,7 +183,7 @@ fn hold_anew<R: Source>(
 {
     let spare = held.let_go(alloc, source);
     if let Some(fact) = read_at(alloc, source, max_entries, state, spare)? {
-        *held = HeldEntry::Own(fact);
+        *held = HeldEntry::of(fact);
     }
     Ok(())
 }

@@ -11,8 +11,8 @@ ghost use Rattle.flute_journal.specs.declared.fault.ReadFault.TheVariants.{OutOf
 use crate::fault::ReadFault;
 use crate::format::number::length_in;
 use crate::format::{Kind, Version, next_symbol_in, symbol_in};
-use crate::readers::held_entry::{HeldEntry, behind};
-use flute_parts::{Address, Bytes, Fact, Key, Source, SymbolId};
+use crate::readers::held_entry::{HeldEntry, HeldValue, behind};
+use flute_parts::{Address, Bytes, Fact, Key, Part, Source, SymbolId};
 use flute_wire::Datagram;
 
 /// Takes the next entry of a journal of this version, if it is of a symbol, lies whole in the
@@ -53,14 +53,14 @@ pub fn hold_next<R: Source>(
     last: &Address,
     held: &mut HeldEntry,
 ) -> Option<SymbolId>
-    ensures takes { IfSome result (λ id. MatchOption (fact_held (R.buffered source.new) held.new) ⊥
-        (λ f. (address f ≡ symbol_address last.now.key id) × TakesEntry Two (Some last.now)
+    ensures holds { IfSome result (λ id.
+        MatchOption (fact_held (R.buffered source.new) held.new) ⊥ (λ f.
+        (address f ≡ symbol_address last.now.key id)
+        × IsSpelling (spelled_in (R.buffered source.new) held.new) (Some f)
+        × TakesEntry Two (Some last.now)
         (left_behind (spelled_in (R.buffered source.old) held.old) (R.unread source.old))
         (left_behind (spelled_in (R.buffered source.new) held.new) (R.unread source.new))
         (Ok (Some f)))) }
-    ensures spelled { IfSome result (λ _. IsSpelling
-        (spelled_in (R.buffered source.new) held.new)
-        (fact_held (R.buffered source.new) held.new)) }
     ensures nothing { result ≡ None → (source.new ≡ source.old) × (held.new ≡ held.old) }
     ensures failures { R.failures source.new ≡ R.failures source.old }
 {
@@ -68,10 +68,12 @@ pub fn hold_next<R: Source>(
     let taken = held.spelled(buffer).len();
     let (id, _, size) = next_in(behind(buffer, taken), last)?;
     source.consume(taken);
-    *held = HeldEntry::InBuffer {
-        key: last.key,
-        id,
-        size,
+    *held = HeldEntry::Entry {
+        place: Address {
+            key: last.key,
+            part: Part::Symbol(id),
+        },
+        value: HeldValue::InBuffer(size),
     };
     Some(id)
 }

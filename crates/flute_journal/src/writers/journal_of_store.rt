@@ -36,7 +36,7 @@ pub fn write_store<const SESSIONS: u32, const OBJECTS: u32, const SYMBOLS: u32, 
     writer.header();
     let mut count = 0;
     for fact in facts {
-        writer.entry(&fact, &[]);
+        writer.entry(&fact);
         if writer.failed {
             return Err(SaveFault::Write);
         }

@@ -4,7 +4,6 @@ ghost use Rattle.flute_parts.specs.Addresses.{fact_of};
 ghost use Rattle.flute_store.specs.Walk.{IsSized};
 ghost use Rattle.flute_journal.specs.Format.{header, entry, end};
 ghost use Rattle.flute_parts.specs.Ranges.{IsFact};
-ghost use Rattle.flute_journal.specs.HeldEntries.{IsSpelling};
 ghost use Rattle.flute_journal.specs.JournalWriters.{Puts};
 
 use crate::format::{HEADER, HeadBytes, end_of, put_head, symbol_value};
@@ -42,23 +41,16 @@ impl<'a, W: Sink> JournalWriter<'a, W> {
         self.put(&HEADER);
     }
 
-    /// Writes an entry. `spelled` are its bytes, if they lie in memory already, or else none.
+    /// Writes an entry that is spelled already.
     #[inline(always)]
-    pub fn entry(&mut self, fact: &FactRef<'_>, spelled: &[u8])
-        requires sized { IsSized (fact_of fact.now) }
-        requires spelled { IsSpelling spelled.now (Some (fact_of fact.now)) }
-        ensures valid { IsFact (fact_of fact.now) }
-        ensures puts { Puts W.written W.failures (entry (fact_of fact.now)) self.old self.new }
+    pub fn spelled(&mut self, entry: &[u8])
+        ensures { Puts W.written W.failures entry.now self.old self.new }
     {
-        if spelled.is_empty() {
-            self.spell(fact);
-        } else {
-            self.put(spelled);
-        }
+        self.put(entry);
     }
 
-    // Writes an entry that is to be spelled.
-    fn spell(&mut self, fact: &FactRef<'_>)
+    /// Writes the entry of a fact.
+    pub fn entry(&mut self, fact: &FactRef<'_>)
         requires sized { IsSized (fact_of fact.now) }
         ensures valid { IsFact (fact_of fact.now) }
         ensures puts { Puts W.written W.failures (entry (fact_of fact.now)) self.old self.new }

@@ -8,6 +8,7 @@ use Rattle.flute_streams.proofs.Common.{take-append-drop, length-take-le, length
 use Rattle.flute_streams.proofs.Common.{slice_get_within, get_or_from_slice_get, ◌≢◌}
 use Rattle.flute_streams.proofs.Common.{slice_get, Address, LoadFault, Behaviour, StopsAt, Advances}
 use Rattle.flute_streams.proofs.Common.{place_of, GoesOnAt, GoOnAt, StopAt}
+use Rattle.std.proofs.lemmas.Option.{slice_get_read}
 
 -- there is an element at each number below the length
 pub item_at : {X : Type 0} (xs : List X) (k : ℕ) → k < length xs
@@ -64,6 +65,14 @@ module _ {S : Type 0} (b : Behaviour S) (place : Option Address) where
         take_more old k x (shorter k old now e (slice_get_within now k x is)),
         (as_it_was k old now x e is).0,
       )
+
+  -- a stream that was not reached is the same
+  pub not_reached : {k : ℕ} {old now : List S} → WentSoFar k old now → k < length now
+      → slice_get now k ≡ slice_get old k
+  not_reached {k = k} {old = old} {now = now} w within =
+      let x = item_at now k within in
+      x.1 ∙ sym (slice_get_read old (length old) k x.0 refl (shorter k old now w.rest within)
+      (sym (as_it_was k old now x.0 w.rest x.1).0))
 
   -- stream k holds another address: it stays
   pub one_stays : {k : ℕ} {old now : List S} {x : S} → WentSoFar k old now

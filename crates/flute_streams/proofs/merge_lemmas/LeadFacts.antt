@@ -21,29 +21,27 @@ use Rattle.flute_streams.proofs.merge_lemmas.LowestFacts.{up_to-trans, less_up_t
 
 -- The next address: the lowest of the other streams.
 
-pub lower-first : (next : Option Address) (p : Address) (o : Option Fact) → NoneBefore next o
-    → NoneBefore (Some (lower_of next p)) o
+pub lower-first : (next : Option Address) (p : Address) (o : Option Address)
+    → NoneBefore next o → NoneBefore (Some (lower_of next p)) o
 lower-first next p None h = tt
-lower-first None p (Some f) h = absurd h
-lower-first (Some a) p (Some f) h = elim (cases_Bool (is_lt (address_cmp a p))) [
-  | inl e ↦ subst (λ t. IsNotBefore (if t then a else p) f) (sym e) h
-  | inr e ↦ subst (λ t. IsNotBefore (if t then a else p) f) (sym e)
-      (up_to-trans p a (address f) refl refl
-      (up_to_turned a p (address_cmp a p) refl e) h)
+lower-first None p (Some q) h = absurd h
+lower-first (Some a) p (Some q) h = elim (cases_Bool (is_lt (address_cmp a p))) [
+  | inl e ↦ subst (λ t. address_cmp (if t then a else p) q ≢ Greater) (sym e) h
+  | inr e ↦ subst (λ t. address_cmp (if t then a else p) q ≢ Greater) (sym e)
+      (up_to-trans p a q refl refl (up_to_turned a p (address_cmp a p) refl e) h)
 ]
 
-pub lower-second : (next : Option Address) (f : Fact)
-    → NoneBefore (Some (lower_of next (address f))) (Some f)
-lower-second None f = up_to_itself (address f)
-lower-second (Some a) f = elim (cases_Bool (is_lt (address_cmp a (address f)))) [
-  | inl e ↦ subst (λ t. IsNotBefore (if t then a else address f) f) (sym e)
-      (less (address_cmp a (address f)) refl e)
-  | inr e ↦ subst (λ t. IsNotBefore (if t then a else address f) f) (sym e)
-      (up_to_itself (address f))
+pub lower-second : (next : Option Address) (p : Address)
+    → NoneBefore (Some (lower_of next p)) (Some p)
+lower-second None p = up_to_itself p
+lower-second (Some a) p = elim (cases_Bool (is_lt (address_cmp a p))) [
+  | inl e ↦ subst (λ t. address_cmp (if t then a else p) p ≢ Greater) (sym e)
+      (less (address_cmp a p) refl e)
+  | inr e ↦ subst (λ t. address_cmp (if t then a else p) p ≢ Greater) (sym e) (up_to_itself p)
 ]
   where
-    less : (o : Ordering) → address_cmp a (address f) ≡ o → is_lt o ≡ true
-        → address_cmp a (address f) ≢ Greater
+    less : (o : Ordering) → address_cmp a p ≡ o → is_lt o ≡ true
+        → address_cmp a p ≢ Greater
     less Less e h k = cc
     less o e h k = absurd cc
 
@@ -51,32 +49,33 @@ lower-second (Some a) f = elim (cases_Bool (is_lt (address_cmp a (address f)))) 
 pub record FirstsFrom {S : Type 0} (b : Behaviour S) (number k : ℕ) (streams : List S)
     (next : Option Address) : Type 0 where
   pub none_before : (j : ℕ) (s : S) → j < k → slice_get streams j ≡ Some s → j ≢ number
-      → NoneBefore next (b.held s)
+      → NoneBefore next (place_of (b.held s))
 
 module _ {S : Type 0} (b : Behaviour S) {number k : ℕ} {streams : List S}
     {next : Option Address} where
-  pub firsts_more : (o : Option Fact)
-      → ((s : S) → slice_get streams k ≡ Some s → o ≡ b.held s)
+  pub firsts_more : (o : Option Address)
+      → ((s : S) → slice_get streams k ≡ Some s → o ≡ place_of (b.held s))
       → FirstsFrom b number k streams next
       → FirstsFrom b number (k + 1) streams (lower_next next o)
   firsts_more o held h = record {
     none_before = λ j s l i n. elim (cases_Bool (eqb j k)) [
       | inl e ↦ subst (λ x. NoneBefore (lower_next next o) x)
           (held s (subst (λ m. slice_get streams m ≡ Some s) (eqb-true j k e) i)) (next-held o)
-      | inr e ↦ lowered o (b.held s) (h.none_before j s (omega (arith, l, eqb-false j k e)) i n)
+      | inr e ↦ lowered o (place_of (b.held s))
+          (h.none_before j s (omega (arith, l, eqb-false j k e)) i n)
     ];
   }
     where
-      next-held : (o : Option Fact) → NoneBefore (lower_next next o) o
+      next-held : (o : Option Address) → NoneBefore (lower_next next o) o
       next-held None = tt
-      next-held (Some f) = lower-second next f
+      next-held (Some p) = lower-second next p
 
-      lowered : (o x : Option Fact) → NoneBefore next x → NoneBefore (lower_next next o) x
+      lowered : (o x : Option Address) → NoneBefore next x → NoneBefore (lower_next next o) x
       lowered o x h = grind (arith, lower-first)
 
   -- once all streams were looked at, this one leads
-  pub lead-new : (o : Option Fact) → number < length streams → length streams ≤ k
-      → ((s : S) → slice_get streams number ≡ Some s → o ≡ b.held s)
+  pub lead-new : (o : Option Address) → number < length streams → length streams ≤ k
+      → ((s : S) → slice_get streams number ≡ Some s → o ≡ place_of (b.held s))
       → FirstsFrom b number k streams next
       → IsBelowNext o next → Leads b streams number next
   lead-new o within all held h below =
@@ -99,8 +98,8 @@ module _ {S : Type 0} (b : Behaviour S) {number k : ℕ} {streams : List S}
 abbrev IsOver : Fact → Option Fact → Type 0
 IsOver g o = IfSome o (λ f. address_cmp (address g) (address f) ≡ Less)
 
-over : (g : Fact) (next : Option Address) (o : Option Fact) → IsBelowNext (Some g) next
-    → NoneBefore next o → IsOver g o
+over : (g : Fact) (next : Option Address) (o : Option Fact)
+    → IsBelowNext (Some (address g)) next → NoneBefore next (place_of o) → IsOver g o
 over g next None l h = tt
 over g None (Some f) l h = absurd h
 over g (Some a) (Some f) l h =
@@ -190,13 +189,14 @@ module _ {S : Type 0} (b : Behaviour S) where
       → (l : Leads b streams number next) → o ≡ b.held l.stream
       → IsLowest (heads b streams) o
   lead-lowest streams number next None l e =
-      absurd (subst (λ x. IsBelowNext x next) (sym e) l.below)
+      absurd (subst (λ x. IsBelowNext (place_of x) next) (sym e) l.below)
   lead-lowest streams number next (Some g) l e =
       lead_lowest g number l.stream streams l.is (sym e) (others_over g (sym e))
     where
       others_over : (g : Fact) → b.held l.stream ≡ Some g → OthersOver g number streams
       others_over g e j s i n =
-          over g next (b.held s) (subst (λ x. IsBelowNext x next) e l.below) (l.others j s i n)
+          over g next (b.held s) (subst (λ x. IsBelowNext (place_of x) next) e l.below)
+          (l.others j s i n)
 
   -- Only the leading stream is advanced.
 
@@ -241,12 +241,12 @@ module _ {S : Type 0} (b : Behaviour S) where
   elsewhere streams number next a l at = by_held (b.held l.stream) refl
     where
       by_held : (o : Option Fact) → b.held l.stream ≡ o → OthersElsewhere (Some a) number streams
-      by_held None e = absurd (subst (λ x. IsBelowNext x next) e l.below)
+      by_held None e = absurd (subst (λ x. IsBelowNext (place_of x) next) e l.below)
       by_held (Some g) e = λ j s i n.
           let p : Some (address g) ≡ Some a = ap place_of (sym e) ∙ at l.stream l.is in
           subst (λ x. place_of (b.held s) ≢ x) p
           (over_place g (b.held s) (over g next (b.held s)
-          (subst (λ x. IsBelowNext x next) e l.below) (l.others j s i n)))
+          (subst (λ x. IsBelowNext (place_of x) next) e l.below) (l.others j s i n)))
 
   pub lead-goes : {streams new : List S} {number : ℕ} {next : Option Address} (a : Address)
       → Leads b streams number next → StandsAt b (Some a) streams number
@@ -279,9 +279,10 @@ module _ {S : Type 0} (b : Behaviour S) where
   set_elsewhere (s ∷ streams) k j y n = refl
 
   -- it still leads, where what it holds is below the next address
-  pub still-leads : {streams new : List S} {number : ℕ} {next : Option Address} {o : Option Fact}
-      → Leads b streams number next → Advances b number streams new (Ok tt)
-      → ((s : S) → slice_get new number ≡ Some s → o ≡ b.held s) → IsBelowNext o next
+  pub still-leads : {streams new : List S} {number : ℕ} {next : Option Address}
+      {o : Option Address} → Leads b streams number next → Advances b number streams new (Ok tt)
+      → ((s : S) → slice_get new number ≡ Some s → o ≡ place_of (b.held s))
+      → IsBelowNext o next
       → Leads b new number next
   still-leads l v held below = grind (arith, set_here, set_elsewhere)
 

@@ -1,25 +1,21 @@
 -- What is held at the end of a merge is let go of: the sources then have left what the streams had.
 use Rattle.flute_streams.proofs.Common.{Fact, List, None, Option}
-use Rattle.flute_streams.proofs.Common.{ReadsEntries, Some, [], ap, refl, ◌∙◌, ◌++◌, ◌≡◌, ℕ}
+use Rattle.flute_streams.proofs.Common.{ReadsEntries, Some, ap, ◌∙◌, ◌++◌, ◌≡◌, ℕ}
 use Rattle.std.proofs.Math.Seq.{drop-append_seam}
 use Rattle.std.specs.Io.KnownBytes.{Consumes}
 use Rattle.std.specs.Prelude.{drop, length}
+use Rattle.flute_journal.proofs.Public.{left_all}
 use Rattle.flute_journal.specs.HeldEntries.{fact_held, left_behind, spelled_in}
 use Rattle.flute_journal.specs.declared.readers.held_entry.HeldEntry.{HeldEntry}
 use Rattle.flute_journal.specs.declared.readers.held_entry.HeldEntry.TheVariants as held
 use Rattle.flute_streams.specs.Merges.{Stopped}
 use Rattle.flute_streams.specs.declared.merge.two_streams.MergeFault.{MergeFault}
 
-left_all : (u : Option (List ℕ)) → left_behind [] u ≡ u
-left_all None = refl
-left_all (Some xs) = refl
-
--- behind nothing all is left
+-- where nothing is held all is left
 pub nothing_held : (b : List ℕ) (e : HeldEntry) (u : Option (List ℕ)) → fact_held b e ≡ None
     → left_behind (spelled_in b e) u ≡ u
 nothing_held b held.Nothing u none = left_all u
-nothing_held b (held.Own f) u none = absurd cc
-nothing_held b (held.InBuffer key id size) u none = absurd cc
+nothing_held b (held.Entry place v) u none = absurd cc
 
 consumes : (input u v : Option (List ℕ)) (held bytes : List ℕ) → Consumes u v held
     → Consumes input (left_behind held u) bytes → Consumes input v bytes

@@ -2,22 +2,20 @@
 use Rattle.flute_streams.proofs.Common.{Bool, Info, InfoConflict, Symbol, SymbolConflict, SymbolId}
 use Rattle.flute_streams.proofs.Common.{bytes_eq, ◌&&◌, Address, AllByRecursion, Behaviour}
 use Rattle.flute_streams.proofs.Common.{Equal}
-use Rattle.flute_streams.proofs.Common.{Fact, Greater, IsNotBefore, Key, Less, List, Lowest, Option}
+use Rattle.flute_streams.proofs.Common.{Fact, Greater, IsNotBefore, Key, Less, List, Lowest}
 use Rattle.flute_streams.proofs.Common.{Ordering, Part, Some, StandAfter, [], address, address_cmp}
 use Rattle.flute_streams.proofs.Common.{address_itself, address_same, address_total, alone-at}
 use Rattle.flute_streams.proofs.Common.{alone-elsewhere, ap, append-nil, append_assoc, arith}
 use Rattle.flute_streams.proofs.Common.{conflict_at, conflict_in, fact_at, fact_at-after}
 use Rattle.flute_streams.proofs.Common.{fact_at-append, fact_same, false, get_or}
 use Rattle.flute_streams.proofs.Common.{get_or_from_slice_get, heads, is_eq, is_lt, joined}
-use Rattle.flute_streams.proofs.Common.{same_Some, suc, zero}
 use Rattle.flute_streams.proofs.Common.{joined-apart, joined-none, joined-same, length, option_list}
-use Rattle.flute_streams.proofs.Common.{refl, rules, same_fact, slice_get, subst, sym, take}
+use Rattle.flute_streams.proofs.Common.{refl, rules, same_fact, subst, sym, take}
 use Rattle.flute_streams.proofs.Common.{take_more, true, ℕ, ◌++◌, ◌+◌, ◌<◌, ◌∙◌}
 use Rattle.flute_streams.proofs.Common.{◌∷◌, ◌≡◌, ◌≢◌}
 use Rattle.flute_journal.proofs.Public.{all_append, all_map}
 use Rattle.flute_streams.proofs.merge_lemmas.GoingOn.{item_at}
-use Rattle.flute_journal.specs.HeldEntries.{IsSpelling}
-use Rattle.flute_streams.specs.Lowest.{AreSpelled}
+use Rattle.flute_streams.specs.Lowest.{held_at, held_in}
 use Rattle.flute_parts.specs.{
   Equality.{key_itself, symbol_id_itself},
   Facts.{same_information},
@@ -67,34 +65,16 @@ heads-append b (x ∷ xs) ys =
     cc (heads-append b xs ys, append_assoc (option_list (b.held x)) (heads b xs) (heads b ys))
 
 -- what is held by one stream more
-pub heads-more : {S : Type 0} (b : Behaviour S) (xs : List S) (k : ℕ) (o : Option Fact)
-    → k < length xs → ((x : S) → slice_get xs k ≡ Some x → o ≡ b.held x)
-    → heads b (take (k + 1) xs) ≡ heads b (take k xs) ++ option_list o
-heads-more b xs k o within held =
+pub heads-more : {S : Type 0} (b : Behaviour S) (xs : List S) (k : ℕ) → k < length xs
+    → heads b (take (k + 1) xs) ≡ heads b (take k xs) ++ option_list (held_at b xs k)
+heads-more b xs k within =
     let x = item_at xs k within in
     ap (heads b) (take_more xs k x.0 within)
     ∙ heads-append b (take k xs) (get_or xs k x.0 ∷ [])
     ∙ ap (λ s. heads b (take k xs) ++ (option_list (b.held s) ++ []))
     (get_or_from_slice_get xs k x.0 x.0 x.1)
     ∙ ap (λ l. heads b (take k xs) ++ l) (append-nil (option_list (b.held x.0)))
-    ∙ ap (λ p. heads b (take k xs) ++ option_list p) (sym (held x.0 x.1))
-
-all_at : {X : Type 0} (P : X → Type 0) (xs : List X) (k : ℕ) {x : X} → AllByRecursion P xs
-    → slice_get xs k ≡ Some x → P x
-all_at P [] k h e = absurd cc
-all_at P (y ∷ ys) zero h e = subst P (same_Some _ _ e) h.0
-all_at P (y ∷ ys) (suc k) h e = all_at P ys k h.1 e
-
--- the bytes that one stream has of what it holds
-pub spelled-at : {S : Type 0} (b : Behaviour S) (streams : List S) (k : ℕ) {o : Option Fact}
-    {bytes : List ℕ} → AreSpelled b streams → k < length streams
-    → ((s : S) → slice_get streams k ≡ Some s → o ≡ b.held s)
-    → ((s : S) → slice_get streams k ≡ Some s → bytes ≡ b.spelled s) → IsSpelling bytes o
-spelled-at b streams k {o = o} {bytes = bytes} all within held spelled =
-    let x = item_at streams k within in
-    let own = all_at (λ s. IsSpelling (b.spelled s) (b.held s)) streams k all x.1 in
-    subst (IsSpelling bytes) (sym (held x.0 x.1))
-    (subst (λ l. IsSpelling l (b.held x.0)) (sym (spelled x.0 x.1)) own)
+    ∙ ap (λ s. heads b (take k xs) ++ option_list (held_in b s)) (sym x.1)
 
 pub less_up_to : (a b c : Address) (o : Ordering) → address_cmp a b ≡ Less
     → address_cmp b c ≡ o → IsUpTo o → address_cmp a c ≡ Less

@@ -1,6 +1,6 @@
 -- Lemmas on Ranks (specs/Ranks): the rank of a part, and the value at the address with a rank.
-use Rattle.flute_streams.proofs.Common.{◌≡◌, ◌≢◌, ℕ, zero, suc, ◌+◌, ◌-◌}
-use Rattle.flute_streams.proofs.Common.{◌*◌, ◌/◌, ◌%◌, ◌<◌, true}
+use Rattle.flute_streams.proofs.Common.{◌≡◌, ◌≢◌, ℕ, zero, suc, ◌+◌}
+use Rattle.flute_streams.proofs.Common.{◌*◌, ◌/◌, ◌%◌, ◌<◌, ◌≤◌, true}
 use Rattle.flute_streams.proofs.Common.{false, List, [], ◌∷◌, ◌++◌, Option, Some, None}
 use Rattle.flute_streams.proofs.Common.{inl, inr}
 use Rattle.flute_streams.proofs.Common.{◌⊎◌, refl, sym, ap, ◌∙◌, subst, append-nil}
@@ -11,7 +11,7 @@ use Rattle.flute_streams.proofs.Common.{alone-at, alone-elsewhere, conflict_at, 
 use Rattle.flute_streams.proofs.Common.{fact_at-append, fact_at-nil, fact_same, joined}
 use Rattle.flute_streams.proofs.Common.{joined-apart, joined-none, joined-same, same_fact}
 use Rattle.flute_streams.proofs.Common.{address_itself, option_list, place_of, same_Some}
-use Rattle.flute_streams.proofs.Common.{FactRef, IfSome, IsNotBefore, Lowest, fact_in, fact_of}
+use Rattle.flute_streams.proofs.Common.{IfSome, IsNotBefore, Lowest, address_same, cases_Bool}
 use Rattle.flute_journal.proofs.Public.{all_append}
 use Rattle.flute_streams.proofs.merge_lemmas.LowestFacts.{conflict-place, up_to_itself, up_to_less}
 use Rattle.std.specs.{Ordering.{nat_cmp, ordering_then}, Cmp.{nat_cmp_is}}
@@ -23,7 +23,7 @@ use Rattle.flute_parts.specs.declared.{
   address.Part.TheVariants.{Info as InfoPart, Symbol as SymbolPart},
 }
 use Rattle.flute_streams.specs.Lowest.{ComesTo}
-use Rattle.flute_streams.specs.Ranks.{HoldsFrom, IsFrom, part_at, place_at_rank}
+use Rattle.flute_streams.specs.Ranks.{AllFrom, StandsFrom, IsFrom, part_at, place_at_rank}
 
 -- the part with a rank
 
@@ -48,12 +48,6 @@ rank-symbol sbn esi h =
     let e : 1 + sbn * 65536 + esi ≡ suc n = omega arith in
     ap part_at e ∙ part_suc n
     ∙ same_symbol (n / 65536) sbn (n % 65536) esi (omega (arith, h)) (omega (arith, h))
-
-pub symbol-rank : (rank : ℕ) → rank ≢ 0
-    → symbol_part ((rank - 1) / 65536) ((rank - 1) % 65536) ≡ part_at rank
-symbol-rank rank h =
-    let e : suc (rank - 1) ≡ rank = omega (arith, h) in
-    sym (part_suc (rank - 1)) ∙ ap part_at e
 
 -- parts rise with their ranks
 
@@ -98,16 +92,26 @@ place_rises key m n h =
     then_equal (key_cmp key key) (part_cmp (part_at m) (part_at n)) (tied_itself key_total key)
     ∙ parts_rise m n h
 
--- a fact is the part with a rank
-pub from-part : (key : Key) (rank : ℕ) (f : Fact) → address f ≡ place_at_rank key rank
-    → IsFrom key rank f
-from-part key rank f e = record {
-  above = λ n h.
-      subst (λ a. address_cmp (place_at_rank key n) a ≡ Less) (sym e) (place_rises key n rank h);
-  not_before =
-      subst (λ a. address_cmp (place_at_rank key rank) a ≢ Greater) (sym e)
-      (up_to_itself (place_at_rank key rank));
+-- a place is that of the part with a rank
+pub from-part : (key : Key) (rank : ℕ) (a : Address) → a ≡ place_at_rank key rank
+    → StandsFrom key rank (Some a)
+from-part key rank a e = record {
+  from = record {
+    above = λ n h.
+        subst (λ x. address_cmp (place_at_rank key n) x ≡ Less) (sym e)
+        (place_rises key n rank h);
+    not_before =
+        subst (λ x. address_cmp (place_at_rank key rank) x ≢ Greater) (sym e)
+        (up_to_itself (place_at_rank key rank));
+  };
+  exact = λ h. ap Some e;
 }
+
+-- a stream behind all parts, or at its end, has a rank above those of all
+pub from-behind : (key : Key) {rank : ℕ} (place : Option Address) → 4294967296 < rank
+    → AllFrom key rank place → StandsFrom key rank place
+from-behind key place high from =
+    record { from = from; exact = λ h. absurd (omega (arith, h, high)) }
 
 abbrev at_part : Key → Part → Address
 at_part key part = record { key = key; part = part }
@@ -120,9 +124,10 @@ pub same_place : (a : Address) (key : Key) (rank : ℕ) → a.key ≡ key
 same_place a key rank e p = part_eq a.key key a.part (part_at rank) e (sym p)
 
 -- what is held at a rank is not before its address
-pub not-before : (a : Address) (key : Key) (rank : ℕ) (f : Fact) → a ≡ place_at_rank key rank
-    → HoldsFrom key rank (Some f) → IsNotBefore a f
-not-before a key rank f e from = subst (λ x. IsNotBefore x f) (sym e) from.not_before
+pub not-before : (a : Address) (key : Key) (rank : ℕ) (o : Option Fact)
+    → a ≡ place_at_rank key rank → AllFrom key rank (place_of o) → IfSome o (IsNotBefore a)
+not-before a key rank None e from = tt
+not-before a key rank (Some f) e from = subst (λ x. IsNotBefore x f) (sym e) from.not_before
 
 -- what is held at a higher rank stands elsewhere
 
@@ -134,12 +139,12 @@ apart a f less =
     ap is_eq g
 
 behind : (a : Address) (key : Key) (rank higher : ℕ) (f : Fact) → a ≡ place_at_rank key rank
-    → rank < higher → HoldsFrom key higher (Some f) → address_cmp a (address f) ≡ Less
+    → rank < higher → IsFrom key higher (address f) → address_cmp a (address f) ≡ Less
 behind a key rank higher f e l from =
     subst (λ x. address_cmp x (address f) ≡ Less) (sym e) (from.above rank l)
 
 pub elsewhere : (a : Address) (key : Key) (rank higher : ℕ) (o : Option Fact)
-    → a ≡ place_at_rank key rank → rank < higher → HoldsFrom key higher o
+    → a ≡ place_at_rank key rank → rank < higher → AllFrom key higher (place_of o)
     → place_of o ≢ Some a
 elsewhere a key rank higher None e l from = λ q. absurd cc
 elsewhere a key rank higher (Some f) e l from = λ q.
@@ -147,6 +152,19 @@ elsewhere a key rank higher (Some f) e l from = λ q.
     let same : is_eq (address_cmp (address f) a) ≡ true =
     subst (λ x. is_eq (address_cmp x a) ≡ true) (sym at) (address_itself a) in
     let other = apart a f (behind a key rank higher f e l from) in
+    absurd cc
+
+-- what stands at a lower rank stands elsewhere
+pub lower-elsewhere : (a : Address) (key : Key) (rank lower : ℕ) {place : Option Address}
+    → a ≡ place_at_rank key rank → lower < rank → rank ≤ 4294967296
+    → StandsFrom key lower place → place ≢ Some a
+lower-elsewhere a key rank lower e l few from p =
+    let is = same_Some (place_at_rank key lower) (place_at_rank key rank)
+    (sym (from.exact (omega (arith, l, few))) ∙ p ∙ ap Some e) in
+    let less = place_rises key lower rank l in
+    let same : is_eq (address_cmp (place_at_rank key lower) (place_at_rank key rank)) ≡ true =
+    subst (λ x. is_eq (address_cmp (place_at_rank key lower) x) ≡ true) is
+    (address_itself (place_at_rank key lower)) in
     absurd cc
 
 -- the value at an address, and one fact more
@@ -163,10 +181,10 @@ comes_alone : (a : Address) (facts : List Fact) (f : Fact) → fact_at facts a �
 comes_alone a facts f h e = grind (arith, fact_at-append, joined, alone-at)
 
 -- once all facts are joined, their value is the lowest
-pub comes-lowest : (a : Address) (facts : List Fact) (o : Option FactRef)
-    → ComesTo a facts (fact_in o) → IfSome o (λ fact. Lowest facts (fact_of fact))
+pub comes-lowest : (a : Address) (facts : List Fact) (o : Option Fact) → ComesTo a facts o
+    → IfSome o (Lowest facts)
 comes-lowest a facts None h = tt
-comes-lowest a facts (Some fact) h = record {
+comes-lowest a facts (Some g) h = record {
   comes = ap (fact_at facts) h.place ∙ h.comes;
   first = subst (λ x. AllByRecursion (IsNotBefore x) facts) (sym h.place) h.first;
 }
@@ -221,9 +239,19 @@ module _ (a : Address) (facts : List Fact) where
     first = first_more f n h.first;
   }
 
+  -- what is held elsewhere changes nothing
+  pub comes-other : (v o : Option Fact) → place_of o ≢ Some a → IfSome o (IsNotBefore a)
+      → ComesTo a facts v → ComesTo a (facts ++ option_list o) v
+  comes-other v None apart n h =
+      subst (λ (x : List Fact). ComesTo a x v) (sym (append-nil facts)) h
+  comes-other v (Some f) apart n h = elim (cases_Bool (is_eq (address_cmp (address f) a))) [
+    | inl e ↦ absurd (apart (ap Some (address_same (address f) a e)))
+    | inr e ↦ comes-elsewhere v f e n h
+  ]
+
   -- what is held at a higher rank changes nothing
   pub comes-behind : {v : Option Fact} (key : Key) (rank higher : ℕ) (o : Option Fact)
-      → a ≡ place_at_rank key rank → rank < higher → HoldsFrom key higher o
+      → a ≡ place_at_rank key rank → rank < higher → AllFrom key higher (place_of o)
       → ComesTo a facts v → ComesTo a (facts ++ option_list o) v
   comes-behind {v = v} key rank higher None e l from h =
       subst (λ (x : List Fact). ComesTo a x v) (sym (append-nil facts)) h

@@ -1,11 +1,11 @@
 -- Lemmas on AreRanked (specs/Ranks): ranking streams one after another.
 use Rattle.flute_streams.proofs.Common.{◌≡◌, ◌≢◌, ℕ, zero, suc, ◌+◌, ◌-◌}
-use Rattle.flute_streams.proofs.Common.{◌<◌, ◌≤◌, Bool, true}
+use Rattle.flute_streams.proofs.Common.{◌<◌, ◌≤◌, ◌/◌, Bool, true}
 use Rattle.flute_streams.proofs.Common.{List, ◌++◌, length, take, Option, Some, Ok, IfSome}
 use Rattle.flute_streams.proofs.Common.{inl, inr, ◌⊎◌, sym, ap, ◌∙◌}
 use Rattle.flute_streams.proofs.Common.{subst, arith, cases_Bool, eqb, eqb-false, eqb-true}
-use Rattle.flute_streams.proofs.Common.{slice_get, slice_get_within, same_Some, Address, Fact}
-use Rattle.flute_streams.proofs.Common.{option_list, Behaviour, Advances, heads}
+use Rattle.flute_streams.proofs.Common.{slice_get, slice_get_within, Address, Fact}
+use Rattle.flute_streams.proofs.Common.{option_list, place_of, Behaviour, Advances, heads}
 use Rattle.flute_streams.proofs.merge_lemmas.GoingOn.{NoneAt, WentSoFar, all_went, item_at}
 use Rattle.flute_streams.proofs.merge_lemmas.GoingOn.{more_stay}
 use Rattle.flute_streams.proofs.merge_lemmas.LeadFacts.{set_elsewhere}
@@ -15,8 +15,8 @@ use Rattle.std.proofs.Common.{slice_index}
 use Rattle.flute_parts.specs.declared.key.Key.{Key}
 use Rattle.flute_streams.specs.declared.merge.ranks.Ranks.{Ranks}
 use Rattle.flute_streams.specs.Advances.{GoOnAt}
-use Rattle.flute_streams.specs.Lowest.{ComesTo}
-use Rattle.flute_streams.specs.Ranks.{AreAbove, AreLow, AreRanked, HoldsFrom, IsRanking}
+use Rattle.flute_streams.specs.Lowest.{ComesTo, StandsOn, first_at, held_at, held_in}
+use Rattle.flute_streams.specs.Ranks.{AreAbove, AreLow, AreRanked, StandsFrom, IsRanking}
 use Rattle.flute_streams.specs.Ranks.{place_at_rank}
 
 -- of ranks, only that with this number may be another
@@ -32,23 +32,24 @@ module _ {S : Type 0} (b : Behaviour S) (key : Key) where
   -- the streams before k are ranked
   pub record AreRankedTo (k : ℕ) (streams : List S) (ranks : List ℕ) : Type 0 where
     pub from : (j : ℕ) (s : S) → j < k → slice_get streams j ≡ Some s
-        → HoldsFrom key (slice_index ranks j) (b.held s)
+        → StandsFrom key (slice_index ranks j) (place_of (b.held s))
 
   -- so is the next, and the others are as they were
   pub ranked_more : (k : ℕ) {streams : List S} {ranks : List ℕ} (new : List ℕ)
-      (o : Option Fact) → ((s : S) → slice_get streams k ≡ Some s → o ≡ b.held s)
-      → HoldsFrom key (slice_index new k) o → OthersStay k ranks new
+      (o : Option Address)
+      → ((s : S) → slice_get streams k ≡ Some s → o ≡ place_of (b.held s))
+      → StandsFrom key (slice_index new k) o → OthersStay k ranks new
       → AreRankedTo k streams ranks → AreRankedTo (k + 1) streams new
   ranked_more k {streams = streams} new o held from stay h = record {
     from = λ j s l i. elim (cases_Bool (eqb j k)) [
       | inl e ↦
           let same = eqb-true j k e in
           let at = held s (subst (λ n. slice_get streams n ≡ Some s) same i) in
-          subst (λ n. HoldsFrom key (slice_index new n) (b.held s)) (sym same)
-          (subst (HoldsFrom key (slice_index new k)) at from)
+          subst (λ n. StandsFrom key (slice_index new n) (place_of (b.held s))) (sym same)
+          (subst (StandsFrom key (slice_index new k)) at from)
       | inr e ↦
           let apart = eqb-false j k e in
-          subst (λ r. HoldsFrom key r (b.held s)) (sym (stay j apart))
+          subst (λ r. StandsFrom key r (place_of (b.held s))) (sym (stay j apart))
           (h.from j s (omega (arith, l, apart)) i)
     ];
   }
@@ -67,7 +68,8 @@ module _ {S : Type 0} (b : Behaviour S) (key : Key) where
   pub record AreRankedFrom (k : ℕ) (known : Bool) (streams : List S)
       (ranks : List ℕ) : Type 0 where
     pub from : (j : ℕ) (s : S) → (k ≤ j) ⊎ (known ≡ true)
-        → slice_get streams j ≡ Some s → HoldsFrom key (slice_index ranks j) (b.held s)
+        → slice_get streams j ≡ Some s
+        → StandsFrom key (slice_index ranks j) (place_of (b.held s))
 
   pub rest_from : (k n : ℕ) {known : Bool} {streams : List S} {ranks : List ℕ} → k ≤ n
       → AreRankedFrom k known streams ranks → AreRankedFrom n known streams ranks
@@ -84,7 +86,7 @@ module _ {S : Type 0} (b : Behaviour S) (key : Key) where
       → AreRankedFrom k known streams ranks → NoneAt b (Some a) k n streams
   passed_elsewhere {a = a} rank k n {ranks = ranks} at above h j s l r i =
       elsewhere a key rank (slice_index ranks j) (b.held s) at (above j l r)
-      (h.from j s (inl l) i)
+      (h.from j s (inl l) i).from
 
   -- where the streams from k on have higher ranks, all at the address went on
   pub went_all : (a : Address) {rank k n : ℕ} {known : Bool} {old now : List S}
@@ -103,7 +105,7 @@ module _ {S : Type 0} (b : Behaviour S) (key : Key) where
       (ranks others : List ℕ) : Type 0 where
     pub advanced : Advances b k old new (Ok tt)
     pub ranked : set ≡ true → (s : S) → slice_get new k ≡ Some s
-        → HoldsFrom key (slice_index others k) (b.held s)
+        → StandsFrom key (slice_index others k) (place_of (b.held s))
     pub stay : OthersStay k ranks others
 
   pub rest_moved : (k : ℕ) {known set : Bool} (now : Bool) {old new : List S}
@@ -118,14 +120,14 @@ module _ {S : Type 0} (b : Behaviour S) (key : Key) where
             | inl l ↦ absurd (omega (arith, l, same))
             | inr n ↦ n
           ] in
-          subst (λ n. HoldsFrom key (slice_index others n) (b.held s)) (sym same)
+          subst (λ n. StandsFrom key (slice_index others n) (place_of (b.held s))) (sym same)
           (m.ranked (both all).1 s (subst (λ n. slice_get new n ≡ Some s) same i))
       | inr e ↦
           let apart = eqb-false j k e in
           let was : slice_get old j ≡ Some s =
           sym (set_elsewhere b old k j m.advanced.after apart)
           ∙ ap (λ l. slice_get l j) (sym m.advanced.now) ∙ i in
-          subst (λ r. HoldsFrom key r (b.held s)) (sym (m.stay j apart))
+          subst (λ r. StandsFrom key r (place_of (b.held s))) (sym (m.stay j apart))
           (h.from j s (elim w [
             | inl l ↦ inl (omega (arith, l))
             | inr n ↦ inr (both n).0
@@ -133,15 +135,28 @@ module _ {S : Type 0} (b : Behaviour S) (key : Key) where
     ];
   }
 
+-- a stream that has the lowest rank, which is that of a part, stands there
+pub stands-ranked : {S : Type 0} (b : Behaviour S) {streams : List S} (key : Key)
+    {ranks lows : List ℕ} (k : ℕ) {rank : ℕ} → k < length streams
+    → AreRanked b streams key ranks lows → slice_index ranks k ≤ rank
+    → rank ≤ slice_index lows (k / 8) → rank ≤ 4294967296
+    → StandsOn b (place_at_rank key rank) streams (first_at k)
+stands-ranked b {streams = streams} key {ranks = ranks} k {rank = rank} within ranked up least few =
+    let x = item_at streams k within in
+    let low = ranked.low k (omega (arith, within, ranked.few)) in
+    let same : slice_index ranks k ≡ rank = omega (arith, up, least, low) in
+    ap (λ s. place_of (held_in b s)) x.1
+    ∙ (ranked.from k x.0 x.1).exact (omega (arith, same, few))
+    ∙ ap (λ r. Some (place_at_rank key r)) same
+
 -- the value at an address of what the first streams hold, and one stream more
 
 module _ {S : Type 0} (b : Behaviour S) (streams : List S) (k : ℕ) (a : Address) where
-  pub comes-more : (v o : Option Fact) → k < length streams
-      → ((s : S) → slice_get streams k ≡ Some s → o ≡ b.held s)
-      → ComesTo a (heads b (take k streams) ++ option_list o) v
+  pub comes-more : (v : Option Fact) → k < length streams
+      → ComesTo a (heads b (take k streams) ++ option_list (held_at b streams k)) v
       → ComesTo a (heads b (take (k + 1) streams)) v
-  comes-more v o within held h =
-      subst (λ (l : List Fact). ComesTo a l v) (sym (heads-more b streams k o within held)) h
+  comes-more v within h =
+      subst (λ (l : List Fact). ComesTo a l v) (sym (heads-more b streams k within)) h
 
 module _ {S : Type 0} (b : Behaviour S) (streams : List S) (a : Address) where
   comes_passed : (k n : ℕ) {v : Option Fact} {rank : ℕ} {key : Key} {ranks lows : List ℕ}
@@ -161,11 +176,12 @@ module _ {S : Type 0} (b : Behaviour S) (streams : List S) (a : Address) where
       h in
       let behind =
       comes-behind a (heads b (take j streams)) key rank (slice_index ranks j) (b.held x.0) at
-      (above j (omega arith) (omega arith)) (ranked.from j x.0 x.1) before in
+      (above j (omega arith) (omega arith)) (ranked.from j x.0 x.1).from before in
       let same : j + 1 ≡ k + suc n = omega arith in
       subst (λ i. ComesTo a (heads b (take i streams)) v) same
-      (comes-more b streams j a v (b.held x.0) (omega (arith, within))
-      (λ s i. ap b.held (same_Some x.0 s (sym x.1 ∙ i))) behind)
+      (comes-more b streams j a v (omega (arith, within))
+      (subst (λ s. ComesTo a (heads b (take j streams) ++ option_list (held_in b s)) v)
+      (sym x.1) behind))
 
   -- none of those up to m stands there
   pub comes-up-to : (k m : ℕ) {v : Option Fact} {rank : ℕ} {key : Key} {ranks lows : List ℕ}

@@ -249,9 +249,8 @@ module _ {C : Type 0} (takes : C → Fact → Bool) (s : C) where
     chosen_goes_on h o = record { gave = λ start F p. goes start F p h o; fewer = h.passes.fewer }
 
 -- whether a stream's head is passed over is whether the fact that it holds is
-pub answered : {C : Type 0} (takes : C → Fact → Bool) {s z : C} {head held : Option Fact}
-    {result is : Bool} → head ≡ held → result ≡ is_passed_over takes z head → z ≡ s
-    → result ≡ is → is_passed_over takes s held ≡ is
-answered takes {z = z} {held = held} {is = is} h r e i =
-    subst (λ x. is_passed_over takes x held ≡ is) e
-    (subst (λ o. is_passed_over takes z o ≡ is) h (sym r ∙ i))
+pub answered : {C : Type 0} (takes : C → Fact → Bool) {s z : C} (held : Option Fact)
+    {result is : Bool} → result ≡ is_passed_over takes z held → z ≡ s → result ≡ is
+    → is_passed_over takes s held ≡ is
+answered takes held {is = is} r e i =
+    subst (λ x. is_passed_over takes x held ≡ is) e (sym r ∙ i)

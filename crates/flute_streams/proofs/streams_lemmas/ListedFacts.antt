@@ -11,6 +11,9 @@ use Rattle.flute_streams.proofs.Common.{fact_in, option_list, GoesOn}
 use Rattle.flute_journal.proofs.Public.{all_split}
 use Rattle.flute_journal.proofs.Public.{Rises, rising-rises, rises-rising}
 use Rattle.flute_streams.specs.Listed.{listed_behaviour}
+use Rattle.flute_streams.specs.WalkStreams.{placed}
+use Rattle.flute_parts.specs.declared.fact.Fact.TheVariants.{Info, InfoConflict, Symbol}
+use Rattle.flute_parts.specs.declared.fact.Fact.TheVariants.{SymbolConflict}
 
 rises_front : (l : Option Address) (xs ys : List Fact) → Rises l (xs ++ ys) → Rises l xs
 rises_front l [] ys r = tt
@@ -23,10 +26,17 @@ some_of : (P : Fact → Type 0) (o : Option Fact) → AllByRecursion P (option_l
 some_of P o h = grind (arith)
 
 -- the next fact of a walk
-pub walked : (r : Option FactRef) (xs ys : List Fact) → YieldsFact (λ (l : List Fact). l) xs r ys
+walked : (r : Option FactRef) (xs ys : List Fact) → YieldsFact (λ (l : List Fact). l) xs r ys
     → (xs ≡ option_list (fact_in r) ++ ys) × (fact_in r ≡ None → ys ≡ [])
     × IfSome (fact_in r) IsSized
 walked r xs ys h = grind (arith)
+
+-- a fact is said at its own address
+pub placed-itself : (f : Fact) → placed (address f).key (address f).part f ≡ f
+placed-itself (Info key info) = refl
+placed-itself (InfoConflict key) = refl
+placed-itself (Symbol key id bytes) = refl
+placed-itself (SymbolConflict key id) = refl
 
 spells_none : (o : Option Fact) → IsSpelling [] o
 spells_none None = refl
@@ -84,3 +94,13 @@ module _ {S : Type 0} (held : S → Option Fact) (rest : S → List Fact) (is_so
       told G None left all h n e = sym (e ∙ ap (λ (l : List Fact). (G ++ []) ++ l) n
           ∙ append-nil (G ++ []) ∙ append-nil G)
       told G (Some f) left all h n e = absurd (let p : Some f ≡ None = h in cc)
+
+-- a walk goes on to its next fact
+pub walk_goes_on : {S : Type 0} (held : S → Option Fact) (rest : S → List Fact) (s t : S)
+    (r : Option FactRef) → YieldsFact (λ (l : List Fact). l) (rest s) r (rest t)
+    → held t ≡ fact_in r → GoesOn (listed_behaviour held rest (λ _. Unit {0})) s t
+walk_goes_on held rest s t r yields is =
+    let w = walked r (rest s) (rest t) yields in
+    listed_goes_on held rest (λ _. Unit {0}) s t
+    (w.0 ∙ ap (λ o. option_list o ++ rest t) (sym is)) (λ e. w.1 (sym is ∙ e))
+    (inr (subst (λ o. IfSome o IsSized) (sym is) w.2))

@@ -72,7 +72,12 @@ impl Choice for Scope {
     ghost takes = { of_scope };
 
     #[inline(always)]
+    fn takes_all(&self) -> bool {
+        self.is_all()
+    }
+
+    #[inline(always)]
     fn takes_fact(&self, fact: &FactRef<'_>) -> bool {
-        self.is_all() || self.takes(&fact.address().key)
+        self.takes(&fact.address().key)
     }
 }

@@ -109,6 +109,11 @@ impl Choice for Selection {
     ghost takes = { selects };
 
     #[inline(always)]
+    fn takes_all(&self) -> bool {
+        self.is_all()
+    }
+
+    #[inline(always)]
     fn takes_fact(&self, fact: &FactRef<'_>) -> bool {
         self.selects(fact)
     }
@@ -122,6 +127,11 @@ impl Choice for AllBut {
     ghost use Rattle.flute_streams.specs.Selections.{leaves};
 
     ghost takes = { λ rest. leaves rest.0 };
+
+    #[inline(always)]
+    fn takes_all(&self) -> bool {
+        false
+    }
 
     #[inline(always)]
     fn takes_fact(&self, fact: &FactRef<'_>) -> bool {

@@ -1,11 +1,13 @@
 //! Streams that are advanced together.
 ghost use Rattle.std.specs.Prelude.{◌≡◌, ◌≢◌, ◌<◌, true, false, length, IfOk, IfErr};
-ghost use Rattle.flute_streams.specs.Streams.{fact_in, place_of};
+ghost use Rattle.std.specs.Prelude.{option_copied};
 ghost use Rattle.flute_streams.specs.Advances.{GoOnAt, StopsIn};
+ghost use Rattle.flute_streams.specs.Lowest.{held_at};
+ghost use Rattle.flute_streams.specs.Streams.{place_of};
 
 use crate::merge::streams_fault::InputFault;
 use crate::streams::Streams;
-use flute_parts::{Address, FactRef};
+use flute_parts::Address;
 use std::alloc::Global;
 
 /// Which streams were advanced.
@@ -18,6 +20,7 @@ pub struct Advanced {
 }
 
 /// Advances each stream that holds a fact at this address, or each that holds none, in their order.
+/// The one with the number `first` is known to do so, if there is one.
 ///
 /// # Errors
 ///
@@ -27,19 +30,23 @@ pub struct Advanced {
 pub fn advance_at<G: Streams>(
     alloc: Global,
     streams: &mut G,
-    place: Option<Address>,
+    place: Option<&Address>,
+    first: usize,
 ) -> Result<Advanced, InputFault>
-    ensures go_on { IfOk result (λ _. GoOnAt G.Stream.behaviour place (G.streams streams.old)
-        (G.streams streams.new)) }
+    requires first { place_of (held_at G.Stream.behaviour (G.streams streams.old) first)
+        ≡ option_copied place }
+    ensures go_on { IfOk result (λ _. GoOnAt G.Stream.behaviour (option_copied place.entry)
+        (G.streams streams.old) (G.streams streams.new)) }
     ensures last { IfOk result (λ moved.
         0 < moved.count → moved.last < length (G.streams streams.new)) }
     ensures stops { IfErr result
-        (StopsIn G.Stream.behaviour place (G.streams streams.old) (G.streams streams.new)) }
+        (StopsIn G.Stream.behaviour (option_copied place.entry) (G.streams streams.old)
+        (G.streams streams.new)) }
     ensures names { G.names streams.new ≡ G.names streams.old }
 {
     let mut moved = Advanced { count: 0, last: 0 };
     for number in 0..streams.count() {
-        if is_at(&streams.head(number), &place) {
+        if stands_at(streams, number, place, first) {
             if let Err(fault) = streams.advance(number, alloc) {
                 return Err(InputFault { number, fault });
             }
@@ -50,14 +57,32 @@ pub fn advance_at<G: Streams>(
     Ok(moved)
 }
 
-/// Whether a stream that holds this is at this address, or holds nothing if there is none.
+// Whether the stream with this number is at this address, as the one with the number `first` is.
 #[inline(always)]
-pub fn is_at(head: &Option<FactRef<'_>>, place: &Option<Address>) -> bool
-    ensures at { result ≡ true → place_of (fact_in head.now) ≡ place.now }
-    ensures elsewhere { result ≡ false → place_of (fact_in head.now) ≢ place.now }
+fn stands_at<G: Streams>(streams: &G, number: usize, place: Option<&Address>, first: usize) -> bool
+    requires number { number < length (G.streams streams.now) }
+    requires first { number ≡ first
+        → place_of (held_at G.Stream.behaviour (G.streams streams.now) number)
+        ≡ option_copied place }
+    ensures at { result ≡ true
+        → place_of (held_at G.Stream.behaviour (G.streams streams.now) number)
+        ≡ option_copied place.entry }
+    ensures elsewhere { result ≡ false
+        → place_of (held_at G.Stream.behaviour (G.streams streams.now) number)
+        ≢ option_copied place.entry }
 {
-    match (head, place) {
-        (Some(fact), Some(address)) => fact.address() == *address,
+    number == first || is_at(streams.place(number), place)
+}
+
+// Whether a stream that is here is at this address, or holds nothing if there is none.
+#[inline(always)]
+fn is_at(here: Option<&Address>, place: Option<&Address>) -> bool
+    ensures at { result ≡ true → option_copied here.entry ≡ option_copied place.entry }
+    ensures elsewhere { result ≡ false
+        → option_copied here.entry ≢ option_copied place.entry }
+{
+    match (here, place) {
+        (Some(here), Some(place)) => here == place,
         (None, None) => true,
         _ => false,
     }

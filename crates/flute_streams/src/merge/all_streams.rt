@@ -16,6 +16,7 @@ ghost use Rattle.flute_streams.specs.StreamMerges.{streams_sink_failed};
 
 use crate::merge::advance::advance_at;
 use crate::merge::leading::Lead;
+use crate::merge::lowest::write_lowest;
 use crate::merge::ranks::Ranks;
 use crate::merge::stopped::first_fault;
 use crate::merge::streams_fault::{InputFault, StreamsFault};
@@ -176,7 +177,7 @@ fn merge_into<const SESSIONS: u32, const OBJECTS: u32, const SYMBOLS: u32, G: St
     ensures same_sink { writer.new.sink.ghost_name ≡ writer.old.sink.ghost_name }
     ensures names { G.names streams.new ≡ G.names streams.old }
 {
-    if let Err(fault) = advance_at(alloc, streams, None) {
+    if let Err(fault) = advance_at(alloc, streams, None, 0) {
         return Err(StreamsFault::Input(fault));
     }
     writer.header();
@@ -188,14 +189,18 @@ fn merge_into<const SESSIONS: u32, const OBJECTS: u32, const SYMBOLS: u32, G: St
     let mut entries = 0;
     let mut lead = Lead::new();
     let mut ranks = Ranks::new();
-    while let Some((fact, spelled)) = lead.lowest(&ranks, streams) {
-        writer.entry(&fact, spelled);
+    while let Some(lowest) = lead.lowest(&ranks, streams) {
+        write_lowest(streams, &lowest, writer);
         if stops(writer, patient) {
             return Err(StreamsFault::Write);
         }
-        let place = fact.address();
+        let first = lowest.number;
+        let Some(place) = streams.place(first) else {
+            unreachable!();
+        };
+        let place = *place;
         within = count_place(&mut tally, within, &place);
-        if let Err(fault) = lead.advance::<G, W>(&mut ranks, alloc, streams, place) {
+        if let Err(fault) = lead.advance::<G, W>(&mut ranks, alloc, streams, &place, first) {
             return Err(StreamsFault::Input(fault));
         }
         entries += 1;

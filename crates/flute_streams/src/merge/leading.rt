@@ -1,23 +1,23 @@
 //! What is known of the lowest address, so that not each stream has to be looked at: the stream
 //! that holds a fact below all others leads until it has passed the next address; and many streams
-//! have ranks if few at a time were advanced of late.
+//! have ranks.
 ghost use Rattle.std.specs.Prelude.{◌≡◌, ◌<◌, true, false, Some, length, IfSome, OnOk, IfErr};
+ghost use Rattle.std.specs.Prelude.{option_copied};
 ghost use Rattle.std.specs.Ordering.{is_lt};
 ghost use Rattle.flute_parts.specs.Order.{address_cmp};
-ghost use Rattle.flute_parts.specs.Addresses.{address, fact_of};
-ghost use Rattle.flute_streams.specs.Streams.{fact_in, place_of, heads};
-ghost use Rattle.flute_journal.specs.HeldEntries.{IsSpelling};
-ghost use Rattle.flute_streams.specs.Lowest.{AreSpelled, IsLowest, value_of};
+ghost use Rattle.flute_streams.specs.Streams.{heads};
+ghost use Rattle.flute_streams.specs.Lowest.{AreSpelled, IsLowest, Stands, StandsOn, first_at};
+ghost use Rattle.flute_streams.specs.Lowest.{value_of};
 ghost use Rattle.flute_streams.specs.Leads.{Leads, IsBelowNext, StandsAt, lower_of, lower_next};
 ghost use Rattle.flute_streams.specs.Ranks.{IsLed, IsRanking};
 ghost use Rattle.flute_streams.specs.Advances.{GoOnAt, StopsIn};
 
 use crate::merge::advance::advance_at;
-use crate::merge::lowest::lowest_held;
+use crate::merge::lowest::{LowestValue, lowest_held};
 use crate::merge::ranks::{MANY, MOST, Ranks};
 use crate::merge::streams_fault::InputFault;
 use crate::streams::Streams;
-use flute_parts::{Address, FactRef, Sink};
+use flute_parts::{Address, Sink};
 use std::alloc::Global;
 
 /// The stream that leads: it holds a fact below those of all others.
@@ -43,26 +43,20 @@ impl Lead {
         }
     }
 
-    /// The value of the facts that streams hold at the lowest of their addresses, and the bytes of
-    /// its entry, if they lie in memory. None if none is held.
+    /// The value at the lowest address at which streams hold facts. None if none is held.
     #[inline(always)]
-    pub fn lowest<'a, G: Streams>(
-        &self,
-        ranks: &Ranks,
-        streams: &'a G,
-    ) -> Option<(FactRef<'a>, &'a [u8])>
+    pub fn lowest<G: Streams>(&self, ranks: &Ranks, streams: &G) -> Option<LowestValue>
         requires led { IsLed G.Stream.behaviour (G.streams streams.now) self.now ranks.now }
         requires spelled { AreSpelled G.Stream.behaviour (G.streams streams.now) }
         ensures lowest { IsLowest (heads G.Stream.behaviour (G.streams streams.now))
-            (value_of result) }
-        ensures spelled { IfSome result (λ lowest.
-            IsSpelling lowest.1.now (Some (fact_of lowest.0))) }
-        ensures held { self.now.known ≡ true → StandsAt G.Stream.behaviour
-            (place_of (value_of result)) (G.streams streams.now) self.now.number }
+            (value_of G.Stream.behaviour (G.streams streams.now) result) }
+        ensures stands { IfSome result (Stands G.Stream.behaviour (G.streams streams.now)) }
+        ensures leading { self.now.known ≡ true
+            → IfSome result (λ l. l.number ≡ self.now.number) }
     {
         if self.known {
-            return match streams.head(self.number) {
-                Some(fact) => Some((fact, streams.spelled(self.number))),
+            return match streams.place(self.number) {
+                Some(_) => Some(LowestValue::first(self.number)),
                 None => None,
             };
         }
@@ -76,7 +70,7 @@ impl Lead {
 
     /// Advances each stream that holds a fact at this address, the lowest, in their order, once it
     /// was written to a sink of the kind `W`: the loop of each kind has a step of its own, which is
-    /// inlined. Streams that have ranks get new ones.
+    /// inlined. The first of those streams has the number `first`. Many streams get ranks.
     ///
     /// # Errors
     ///
@@ -87,16 +81,18 @@ impl Lead {
         ranks: &mut Ranks,
         alloc: Global,
         streams: &mut G,
-        place: Address,
+        place: &Address,
+        first: usize,
     ) -> Result<(), InputFault>
         requires led { IsLed G.Stream.behaviour (G.streams streams.old) self.old ranks.old }
-        requires held { self.old.known ≡ true
-            → StandsAt G.Stream.behaviour (Some place) (G.streams streams.old) self.old.number }
-        ensures go_on { OnOk result (GoOnAt G.Stream.behaviour (Some place) (G.streams streams.old)
-            (G.streams streams.new)) }
+        requires leading { self.old.known ≡ true → first ≡ self.old.number }
+        requires first { StandsOn G.Stream.behaviour place.now (G.streams streams.old)
+            (first_at first) }
+        ensures go_on { OnOk result (GoOnAt G.Stream.behaviour (Some place.now)
+            (G.streams streams.old) (G.streams streams.new)) }
         ensures led { OnOk result
             (IsLed G.Stream.behaviour (G.streams streams.new) self.new ranks.new) }
-        ensures stops { IfErr result (StopsIn G.Stream.behaviour (Some place)
+        ensures stops { IfErr result (StopsIn G.Stream.behaviour (Some place.now)
             (G.streams streams.old) (G.streams streams.new)) }
         ensures names { G.names streams.new ≡ G.names streams.old }
     {
@@ -104,10 +100,10 @@ impl Lead {
             return self.follow(alloc, streams);
         }
         if streams.count() >= MANY {
-            return self.advance_many::<G, W>(ranks, alloc, streams, place);
+            return self.advance_many::<G, W>(ranks, alloc, streams, place, first);
         }
         ranks.forget();
-        let moved = advance_at(alloc, streams, Some(place))?;
+        let moved = advance_at(alloc, streams, Some(place), first)?;
         // of two or three streams each is looked at as fast as a lead (a join of two journals has
         // three)
         if moved.count == 1 && streams.count() > 3 {
@@ -125,15 +121,18 @@ impl Lead {
         ranks: &mut Ranks,
         alloc: Global,
         streams: &mut G,
-        place: Address,
+        place: &Address,
+        first: usize,
     ) -> Result<(), InputFault>
         requires unknown { self.old.known ≡ false }
+        requires first { StandsOn G.Stream.behaviour place.now (G.streams streams.old)
+            (first_at first) }
         requires ranking { IsRanking G.Stream.behaviour (G.streams streams.old) ranks.old }
-        ensures go_on { OnOk result (GoOnAt G.Stream.behaviour (Some place) (G.streams streams.old)
-            (G.streams streams.new)) }
+        ensures go_on { OnOk result (GoOnAt G.Stream.behaviour (Some place.now)
+            (G.streams streams.old) (G.streams streams.new)) }
         ensures led { OnOk result
             (IsLed G.Stream.behaviour (G.streams streams.new) self.new ranks.new) }
-        ensures stops { IfErr result (StopsIn G.Stream.behaviour (Some place)
+        ensures stops { IfErr result (StopsIn G.Stream.behaviour (Some place.now)
             (G.streams streams.old) (G.streams streams.new)) }
         ensures names { G.names streams.new ≡ G.names streams.old }
     {
@@ -141,15 +140,15 @@ impl Lead {
             ranks.advance(alloc, streams, place)?
         } else {
             ranks.forget();
-            advance_at(alloc, streams, Some(place))?
+            advance_at(alloc, streams, Some(place), first)?
         };
         if moved.count == 1 && ranks.may_lead(moved.last) {
             self.look(streams, moved.last);
         }
         if self.known {
             ranks.forget();
-        } else if streams.count() <= MOST {
-            ranks.renew(streams, moved.count, place.key);
+        } else if streams.count() <= MOST && !ranks.are_known() {
+            ranks.rank(streams, place.key);
         }
         Ok(())
     }
@@ -173,7 +172,7 @@ impl Lead {
         if let Err(fault) = streams.advance(number, alloc) {
             return Err(InputFault { number, fault });
         }
-        self.known = is_below(&streams.head(number), &self.next);
+        self.known = is_below(streams.place(number), &self.next);
         Ok(())
     }
 
@@ -185,48 +184,48 @@ impl Lead {
         ensures { self.new.known ≡ true
             → Leads G.Stream.behaviour (G.streams streams.now) self.new.number self.new.next }
     {
-        let head = streams.head(number);
+        let place = streams.place(number);
         self.number = number;
         self.next = None;
         self.known = false;
         for other in 0..streams.count() {
             if other != number {
-                self.next = lower_next(&self.next, &streams.head(other));
-                if !is_below(&head, &self.next) {
+                self.next = lower_next(&self.next, streams.place(other));
+                if !is_below(place, &self.next) {
                     return;
                 }
             }
         }
-        self.known = is_below(&head, &self.next);
+        self.known = is_below(place, &self.next);
     }
 }
 
-// Whether a stream that holds this is below an address. If there is none, any held fact is.
+// Whether a stream that is here is below an address. If there is none, it is so anywhere.
 #[inline(always)]
-fn is_below(head: &Option<FactRef<'_>>, next: &Option<Address>) -> bool
-    ensures { result ≡ true → IsBelowNext (fact_in head.now) next.now }
+fn is_below(here: Option<&Address>, next: &Option<Address>) -> bool
+    ensures { result ≡ true → IsBelowNext (option_copied here.entry) next.now }
 {
-    match (head, next) {
-        (Some(fact), Some(next)) => is_before(fact, next),
+    match (here, next) {
+        (Some(here), Some(next)) => is_before(here, next),
         (Some(_), None) => true,
         _ => false,
     }
 }
 
 #[inline(always)]
-fn is_before(fact: &FactRef<'_>, place: &Address) -> bool
-    ensures { result ≡ is_lt (address_cmp (address (fact_of fact.now)) place.now) }
+fn is_before(first: &Address, second: &Address) -> bool
+    ensures { result ≡ is_lt (address_cmp first.now second.now) }
 {
-    fact.address().cmp(place).is_lt()
+    first.cmp(second).is_lt()
 }
 
-// The lower of an address and that of what a stream holds, of which there may be one only, or none.
+// The lower of two addresses, of which there may be one only, or none.
 #[inline(always)]
-fn lower_next(next: &Option<Address>, head: &Option<FactRef<'_>>) -> Option<Address>
-    ensures { result ≡ lower_next next.now (fact_in head.now) }
+fn lower_next(next: &Option<Address>, here: Option<&Address>) -> Option<Address>
+    ensures { result ≡ lower_next next.now (option_copied here.entry) }
 {
-    match head {
-        Some(fact) => Some(lower_of(next, fact.address())),
+    match here {
+        Some(here) => Some(lower_of(next, *here)),
         None => *next,
     }
 }
@@ -236,7 +235,7 @@ fn lower_of(first: &Option<Address>, second: Address) -> Address
     ensures { result ≡ lower_of first.now second }
 {
     match first {
-        Some(first) if first.cmp(&second).is_lt() => *first,
+        Some(first) if is_before(first, &second) => *first,
         _ => second,
     }
 }

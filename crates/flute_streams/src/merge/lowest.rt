@@ -1,108 +1,180 @@
 //! What streams hold at the lowest address.
-ghost use Rattle.std.specs.Prelude.{◌≡◌, ◌∷◌, ◌++◌, [], List, IfSome, Some};
-ghost use Rattle.flute_parts.specs.Order.{address_cmp};
+ghost use Rattle.std.specs.Prelude.{◌≡◌, ◌++◌, ◌<◌, List, IfSome, Some, length, option_copied};
+ghost use Rattle.std.specs.Prelude.{slice_get};
 ghost use Rattle.flute_parts.specs.Addresses.{address, fact_of};
+ghost use Rattle.flute_parts.specs.Order.{address_cmp};
 ghost use Rattle.flute_parts.specs.Facts.{conflict_at, same_fact};
+ghost use Rattle.flute_parts.specs.Ranges.{IsFact};
+ghost use Rattle.flute_parts.specs.declared.address.Address.{Address as Place};
 ghost use Rattle.flute_parts.specs.declared.fact.Fact.{Fact};
-ghost use Rattle.flute_streams.specs.Streams.{fact_in, heads};
-ghost use Rattle.flute_journal.specs.HeldEntries.{IsSpelling};
-ghost use Rattle.flute_streams.specs.Lowest.{AreSpelled, IsLowest, value_of};
-ghost use Rattle.flute_streams.specs.Changes.{changed};
+ghost use Rattle.flute_store.specs.Walk.{IsSized};
+ghost use Rattle.flute_journal.specs.Format.{entry};
+ghost use Rattle.flute_journal.specs.JournalWriters.{Puts};
+ghost use Rattle.flute_streams.specs.Streams.{heads, option_list, place_of};
+ghost use Rattle.flute_streams.specs.Lowest.{AreSpelled, IsLowest, Joins, Stands, held_at};
+ghost use Rattle.flute_streams.specs.Lowest.{first_at, place_at, value_at};
+ghost use Rattle.flute_streams.specs.Lowest.{value_of};
 
 use crate::merge::same_bytes::same_bytes;
 use crate::streams::Streams;
-use flute_parts::{Address, FactRef, Part};
+use flute_journal::JournalWriter;
+use flute_parts::{Address, FactRef, Part, Sink};
 use std::cmp::Ordering;
 
-/// The value of the facts that streams hold at the lowest of their addresses, and the bytes of its
-/// entry, if they lie in memory. None if none is held.
+/// The value at the lowest address at which streams hold facts.
+#[derive(Clone, Copy)]
+pub struct LowestValue {
+    /// The number of the first stream that is there.
+    pub number: usize,
+    /// Whether those that are there hold different values: then it is a conflict, and else what
+    /// that stream holds.
+    pub conflict: bool,
+}
+
+impl LowestValue {
+    /// What the stream with this number holds, which is the first there.
+    #[inline(always)]
+    pub fn first(number: usize) -> LowestValue
+        ensures { result ≡ first_at number }
+    {
+        LowestValue {
+            number,
+            conflict: false,
+        }
+    }
+
+    /// The value, with what one stream more holds at that address. `spelled` are the bytes of the
+    /// first one's entry, or none.
+    #[inline(always)]
+    pub fn joined<G: Streams>(self, streams: &G, spelled: &[u8], number: usize) -> LowestValue
+        requires own { (s : G.Stream) → slice_get (G.streams streams.now) self.number ≡ Some s
+            → spelled.now ≡ G.Stream.behaviour.spelled s }
+        requires spelled { AreSpelled G.Stream.behaviour (G.streams streams.now) }
+        requires stands { Stands G.Stream.behaviour (G.streams streams.now) self }
+        requires here { place_at G.Stream.behaviour (G.streams streams.now) (first_at number)
+            ≡ place_at G.Stream.behaviour (G.streams streams.now) self }
+        ensures { Joins G.Stream.behaviour (G.streams streams.now) self number result }
+    {
+        if self.conflict || hold_same(streams, spelled, self.number, number) {
+            return self;
+        }
+        LowestValue {
+            number: self.number,
+            conflict: true,
+        }
+    }
+}
+
+/// The value at the lowest address at which streams hold facts. None if none is held.
 #[tactic(auto, using(std::proofs::Common::take_all))]
 #[inline(always)]
-pub fn lowest_held<'a, G: Streams>(streams: &'a G) -> Option<(FactRef<'a>, &'a [u8])>
+pub fn lowest_held<G: Streams>(streams: &G) -> Option<LowestValue>
     requires { AreSpelled G.Stream.behaviour (G.streams streams.now) }
     ensures lowest { IsLowest (heads G.Stream.behaviour (G.streams streams.now))
-        (value_of result) }
-    ensures spelled { IfSome result (λ lowest.
-        IsSpelling lowest.1.now (Some (fact_of lowest.0))) }
+        (value_of G.Stream.behaviour (G.streams streams.now) result) }
+    ensures stands { IfSome result (Stands G.Stream.behaviour (G.streams streams.now)) }
 {
     let mut lowest = None;
-    let mut spelled: &[u8] = &[];
-    let all = streams.count();
-    for number in 0..all {
-        if let Some(fact) = streams.head(number) {
-            match change_by(&lowest, &fact) {
-                Change::Lower => {
-                    lowest = Some(fact);
-                    spelled = streams.spelled(number);
-                }
-                Change::Conflict => {
-                    lowest = Some(conflict_at(&fact.address()));
-                    spelled = &[];
-                }
-                Change::Nothing => {}
-            }
+    for number in 0..streams.count() {
+        if let Some(_) = streams.place(number) {
+            lowest = Some(with_more(streams, lowest, number));
         }
     }
-    match lowest {
-        Some(fact) => Some((fact, spelled)),
-        None => None,
+    lowest
+}
+
+// The lowest value, with one stream more, which holds a fact.
+#[inline(always)]
+fn with_more<G: Streams>(streams: &G, lowest: Option<LowestValue>, number: usize) -> LowestValue
+    requires spelled { AreSpelled G.Stream.behaviour (G.streams streams.now) }
+    requires stands { IfSome lowest (Stands G.Stream.behaviour (G.streams streams.now)) }
+    requires here { Stands G.Stream.behaviour (G.streams streams.now) (first_at number) }
+    ensures lowest { (facts : List Fact)
+        → IsLowest facts (value_of G.Stream.behaviour (G.streams streams.now) lowest)
+        → IsLowest (facts ++ option_list
+        (held_at G.Stream.behaviour (G.streams streams.now) number))
+        (value_at G.Stream.behaviour (G.streams streams.now) result) }
+    ensures stands { Stands G.Stream.behaviour (G.streams streams.now) result }
+{
+    let Some(lowest) = lowest else {
+        return LowestValue::first(number);
+    };
+    match order_of(streams.place(number), streams.place(lowest.number)) {
+        Ordering::Less => LowestValue::first(number),
+        Ordering::Greater => lowest,
+        Ordering::Equal => lowest.joined(streams, streams.spelled(lowest.number), number),
     }
 }
 
-/// How the value of facts at the lowest of their addresses changes by one fact more.
-#[derive(Clone, Copy)]
-pub enum Change {
-    /// It is below them, or is the first.
-    Lower,
-    /// It is at that address with another value.
-    Conflict,
-    /// It is above, or is the same.
-    Nothing,
-}
-
-// The change that a fact makes to the value of others.
+// The order of two addresses that are there.
 #[inline(always)]
-fn change_by(lowest: &Option<FactRef<'_>>, fact: &FactRef<'_>) -> Change
-    ensures { (facts : List Fact) → IsLowest facts (fact_in lowest.now)
-        → IsLowest (facts ++ fact_of fact.now ∷ [])
-        (changed (fact_in lowest.now) (fact_of fact.now) result) }
+fn order_of(first: Option<&Address>, second: Option<&Address>) -> Ordering
+    ensures { (a p : Place) → option_copied first.entry ≡ Some a
+        → option_copied second.entry ≡ Some p → result ≡ address_cmp a p }
 {
-    match lowest {
-        Some(lowest) => change_of(lowest, fact),
-        None => Change::Lower,
+    match (first, second) {
+        (Some(first), Some(second)) => cmp(first, second),
+        _ => Ordering::Equal,
     }
 }
 
+// The order of two addresses. Most are of one object.
+#[tactic(auto, using(crate::proofs::Cited::same_object_cmp))]
 #[inline(always)]
-fn change_of(lowest: &FactRef<'_>, fact: &FactRef<'_>) -> Change
-    ensures { (facts : List Fact) → IsLowest facts (fact_in (Some lowest.now))
-        → IsLowest (facts ++ fact_of fact.now ∷ [])
-        (changed (fact_in (Some lowest.now)) (fact_of fact.now) result) }
+fn cmp(first: &Address, second: &Address) -> Ordering
+    ensures { result ≡ address_cmp first.now second.now }
 {
-    match order_of(fact, lowest) {
-        Ordering::Less => Change::Lower,
-        Ordering::Greater => Change::Nothing,
-        Ordering::Equal => {
-            if is_same(lowest, fact) {
-                Change::Nothing
-            } else {
-                Change::Conflict
-            }
-        }
+    if first.key == second.key {
+        first.part.cmp(&second.part)
+    } else {
+        first.cmp(second)
     }
 }
 
+// Whether two streams that are at one address hold the same value there. If the bytes of both
+// entries lie in memory, only these are compared: those of the first are `one`.
 #[inline(always)]
-fn order_of(first: &FactRef<'_>, second: &FactRef<'_>) -> Ordering
-    ensures { result ≡ address_cmp (address (fact_of first.now)) (address (fact_of second.now)) }
+fn hold_same<G: Streams>(streams: &G, one: &[u8], first: usize, second: usize) -> bool
+    requires own { (s : G.Stream) → slice_get (G.streams streams.now) first ≡ Some s
+        → one.now ≡ G.Stream.behaviour.spelled s }
+    requires spelled { AreSpelled G.Stream.behaviour (G.streams streams.now) }
+    requires first { first < length (G.streams streams.now) }
+    requires second { second < length (G.streams streams.now) }
+    requires place { place_of (held_at G.Stream.behaviour (G.streams streams.now) first)
+        ≡ place_of (held_at G.Stream.behaviour (G.streams streams.now) second) }
+    ensures { (g f : Fact) → held_at G.Stream.behaviour (G.streams streams.now) first ≡ Some g
+        → held_at G.Stream.behaviour (G.streams streams.now) second ≡ Some f
+        → result ≡ same_fact g f }
 {
-    first.address().cmp(&second.address())
+    let other = streams.spelled(second);
+    if one.is_empty() || other.is_empty() {
+        hold_same_facts(streams, first, second)
+    } else {
+        same_bytes(one, other)
+    }
 }
 
-/// Whether two facts at one address are the same. The address is not compared again.
+// The same, whatever lies in memory.
+#[inline(never)]
+fn hold_same_facts<G: Streams>(streams: &G, first: usize, second: usize) -> bool
+    requires first { first < length (G.streams streams.now) }
+    requires second { second < length (G.streams streams.now) }
+    requires place { place_of (held_at G.Stream.behaviour (G.streams streams.now) first)
+        ≡ place_of (held_at G.Stream.behaviour (G.streams streams.now) second) }
+    ensures { (g f : Fact) → held_at G.Stream.behaviour (G.streams streams.now) first ≡ Some g
+        → held_at G.Stream.behaviour (G.streams streams.now) second ≡ Some f
+        → result ≡ same_fact g f }
+{
+    match (streams.head(first), streams.head(second)) {
+        (Some(one), Some(other)) => is_same(&one, &other),
+        _ => false,
+    }
+}
+
+// Whether two facts at one address are the same. The address is not compared again.
 #[tactic(auto, using(crate::proofs::merge_lemmas::LowestFacts::same_at))]
 #[inline(always)]
-pub fn is_same(first: &FactRef<'_>, second: &FactRef<'_>) -> bool
+fn is_same(first: &FactRef<'_>, second: &FactRef<'_>) -> bool
     requires { address (fact_of first.now) ≡ address (fact_of second.now) }
     ensures { result ≡ same_fact (fact_of first.now) (fact_of second.now) }
 {
@@ -117,9 +189,59 @@ pub fn is_same(first: &FactRef<'_>, second: &FactRef<'_>) -> bool
     }
 }
 
-/// The fact that there is a conflict at an address.
+/// Writes the entry of the value at the lowest address: as its bytes, if they lie in memory.
 #[inline(always)]
-pub fn conflict_at<'a>(place: &Address) -> FactRef<'a>
+pub fn write_lowest<G: Streams, W: Sink>(
+    streams: &G,
+    lowest: &LowestValue,
+    writer: &mut JournalWriter<'_, W>,
+)
+    requires spelled { AreSpelled G.Stream.behaviour (G.streams streams.now) }
+    requires stands { Stands G.Stream.behaviour (G.streams streams.now) lowest.now }
+    requires sized { IfSome (value_at G.Stream.behaviour (G.streams streams.now) lowest.now)
+        IsSized }
+    ensures valid { IfSome (value_at G.Stream.behaviour (G.streams streams.now) lowest.now)
+        IsFact }
+    ensures puts { IfSome (value_at G.Stream.behaviour (G.streams streams.now) lowest.now)
+        (λ f. Puts W.written W.failures (entry f) writer.old writer.new) }
+{
+    if !lowest.conflict {
+        let spelled = streams.spelled(lowest.number);
+        if !spelled.is_empty() {
+            writer.spelled(spelled);
+            return;
+        }
+    }
+    write_value(streams, lowest, writer)
+}
+
+// The same, whatever lies in memory.
+#[inline(never)]
+fn write_value<G: Streams, W: Sink>(
+    streams: &G,
+    lowest: &LowestValue,
+    writer: &mut JournalWriter<'_, W>,
+)
+    requires stands { Stands G.Stream.behaviour (G.streams streams.now) lowest.now }
+    requires sized { IfSome (value_at G.Stream.behaviour (G.streams streams.now) lowest.now)
+        IsSized }
+    ensures valid { IfSome (value_at G.Stream.behaviour (G.streams streams.now) lowest.now)
+        IsFact }
+    ensures puts { IfSome (value_at G.Stream.behaviour (G.streams streams.now) lowest.now)
+        (λ f. Puts W.written W.failures (entry f) writer.old writer.new) }
+{
+    let Some(fact) = streams.head(lowest.number) else {
+        unreachable!();
+    };
+    if lowest.conflict {
+        writer.entry(&conflict_at(&fact.address()));
+    } else {
+        writer.entry(&fact);
+    }
+}
+
+// The fact that there is a conflict at an address.
+fn conflict_at<'a>(place: &Address) -> FactRef<'a>
     ensures { fact_of result ≡ conflict_at place.now }
 {
     let key = place.key;

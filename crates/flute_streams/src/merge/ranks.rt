@@ -1,25 +1,20 @@
 //! Which parts of one object streams hold, so that of many streams only those at the lowest
 //! address are looked at.
 ghost use Rattle.std.specs.Prelude.{◌≡◌, true, false, ℕ, ◌≢◌, ◌<◌, ◌≤◌};
-ghost use Rattle.std.specs.Prelude.{◌/◌, [], ◌∷◌, ◌++◌};
-ghost use Rattle.std.specs.Prelude.{List, None, Some, length, IfSome, IfOk, IfErr, OnOk};
-ghost use Rattle.std.specs.Prelude.{slice_get, slice_index};
-ghost use Rattle.std.specs.Ordering.{is_eq};
-ghost use Rattle.flute_parts.specs.Order.{address_cmp};
-ghost use Rattle.flute_parts.specs.Addresses.{address, fact_of};
-ghost use Rattle.flute_parts.specs.declared.fact.Fact.{Fact};
-ghost use Rattle.flute_streams.specs.Streams.{fact_in, heads, place_of};
-ghost use Rattle.flute_journal.specs.HeldEntries.{IsSpelling};
-ghost use Rattle.flute_streams.specs.Lowest.{AreSpelled, ComesTo, IsNotBefore, Lowest};
+ghost use Rattle.std.specs.Prelude.{◌/◌, ◌+◌};
+ghost use Rattle.std.specs.Prelude.{None, Some, length, IfSome, IfOk, IfErr, OnOk};
+ghost use Rattle.std.specs.Prelude.{option_copied, slice_get, slice_index};
+ghost use Rattle.flute_streams.specs.Streams.{heads};
+ghost use Rattle.flute_streams.specs.Lowest.{AreSpelled, IsLowest, Stands, value_at};
 ghost use Rattle.flute_streams.specs.Advances.{GoOnAt, StopsIn};
-ghost use Rattle.flute_streams.specs.Changes.{changed};
-ghost use Rattle.flute_streams.specs.Ranks.{AreAbove, AreLow, HoldsFrom, IsRanking, part_at};
+ghost use Rattle.flute_streams.specs.Ranks.{AreAbove, AreLow, AreLowBut, AreLowFrom, StandsFrom};
+ghost use Rattle.flute_streams.specs.Ranks.{IsRanking, part_at};
 
-use crate::merge::advance::{Advanced, is_at};
-use crate::merge::lowest::{Change, conflict_at, is_same};
+use crate::merge::advance::Advanced;
+use crate::merge::lowest::LowestValue;
 use crate::merge::streams_fault::InputFault;
 use crate::streams::Streams;
-use flute_parts::{Address, FactRef, Key, Part, SymbolId};
+use flute_parts::{Address, Key, Part, SymbolId};
 use std::alloc::Global;
 use std::cmp::Ordering;
 
@@ -37,9 +32,6 @@ const BLOCKS: usize = 16;
 
 // A stream that was advanced alone for so many turns may lead though there are ranks.
 const LONG: u32 = 4;
-
-// After so many turns in which few streams were advanced they get ranks.
-const LATELY: u32 = 8;
 
 // The rank of a stream that holds no part of the object: above those of all parts.
 const BEHIND: u64 = u64::MAX;
@@ -59,8 +51,6 @@ pub struct Ranks {
     last: usize,
     /// How many times in succession it was.
     alone: u32,
-    /// How many of late were the turns in which at most half of the streams were advanced.
-    sparse: u32,
 }
 
 impl Ranks {
@@ -74,7 +64,6 @@ impl Ranks {
             lows: [BEHIND; BLOCKS],
             last: 0,
             alone: 0,
-            sparse: 0,
         }
     }
 
@@ -123,26 +112,6 @@ impl Ranks {
         self.alone >= LONG
     }
 
-    /// Ranks the streams after a turn in this object in which so many were advanced, if of late
-    /// these were few, and forgets the ranks if they were many.
-    #[inline(always)]
-    pub fn renew<G: Streams>(&mut self, streams: &G, moved: usize, key: Key)
-        requires few { length (G.streams streams.now) ≤ 128 }
-        requires ranking { IsRanking G.Stream.behaviour (G.streams streams.now) self.old }
-        ensures { IsRanking G.Stream.behaviour (G.streams streams.now) self.new }
-    {
-        self.sparse = if moved <= streams.count() / 2 {
-            self.sparse.saturating_add(1).min(2 * LATELY)
-        } else {
-            self.sparse / 2
-        };
-        if self.sparse < LATELY {
-            self.forget();
-        } else if !self.are_known() {
-            self.rank(streams, key);
-        }
-    }
-
     /// Ranks the streams among the parts of this object. They have no ranks if one holds a fact of
     /// an object before that.
     #[inline(never)]
@@ -152,7 +121,7 @@ impl Ranks {
     {
         self.key = None;
         for number in 0..streams.count() {
-            if !set_rank(&mut self.ranks, number, &key, &streams.head(number)) {
+            if !set_rank(&mut self.ranks, number, &key, streams.place(number)) {
                 return;
             }
         }
@@ -160,47 +129,32 @@ impl Ranks {
         self.key = Some(key);
     }
 
-    /// The value of the facts that streams hold at the lowest of their addresses, and the bytes of
-    /// its entry, if they lie in memory. None if that is no part of the object, or the streams have
-    /// no ranks.
+    /// The value at the lowest address at which streams hold facts. None if that is no part of the
+    /// object, or the streams have no ranks.
     #[inline(never)]
-    pub fn lowest_held<'a, G: Streams>(&self, streams: &'a G) -> Option<(FactRef<'a>, &'a [u8])>
+    pub fn lowest_held<G: Streams>(&self, streams: &G) -> Option<LowestValue>
         requires ranking { IsRanking G.Stream.behaviour (G.streams streams.now) self.now }
         requires spelled { AreSpelled G.Stream.behaviour (G.streams streams.now) }
-        ensures { IfSome result (λ lowest.
-            Lowest (heads G.Stream.behaviour (G.streams streams.now)) (fact_of lowest.0)
-            × IsSpelling lowest.1.now (Some (fact_of lowest.0))) }
+        ensures lowest { IfSome result (λ l. IsLowest
+            (heads G.Stream.behaviour (G.streams streams.now))
+            (value_at G.Stream.behaviour (G.streams streams.now) l)) }
+        ensures stands { IfSome result (Stands G.Stream.behaviour (G.streams streams.now)) }
     {
-        let key = self.key?;
+        self.key?;
         let all = streams.count();
         let rank = lowest_of(&self.lows, all);
-        let place = Address {
-            key,
-            part: part_of(rank)?,
-        };
-        let mut value = None;
-        let mut spelled: &[u8] = &[];
-        let mut next = 0;
+        if !is_of_part(rank) {
+            return None;
+        }
+        let first = self.next_at(0, all, rank)?;
+        let spelled = streams.spelled(first);
+        let mut lowest = LowestValue::first(first);
+        let mut next = first + 1;
         while let Some(number) = self.next_at(next, all, rank) {
-            if let Some(fact) = streams.head(number) {
-                match change_at(&place, &value, &fact) {
-                    Change::Lower => {
-                        value = Some(fact);
-                        spelled = streams.spelled(number);
-                    }
-                    Change::Conflict => {
-                        value = Some(conflict_at(&place));
-                        spelled = &[];
-                    }
-                    Change::Nothing => {}
-                }
-            }
+            lowest = lowest.joined(streams, spelled, number);
             next = number + 1;
         }
-        match value {
-            Some(fact) => Some((fact, spelled)),
-            None => None,
-        }
+        Some(lowest)
     }
 
     /// Advances each stream that holds a fact at this address of the object, in their order.
@@ -212,17 +166,17 @@ impl Ranks {
         &mut self,
         alloc: Global,
         streams: &mut G,
-        place: Address,
+        place: &Address,
     ) -> Result<Advanced, InputFault>
         requires ranking { IsRanking G.Stream.behaviour (G.streams streams.old) self.old }
-        requires object { self.old.key ≡ Some place.key }
-        ensures go_on { OnOk result (GoOnAt G.Stream.behaviour (Some place) (G.streams streams.old)
-            (G.streams streams.new)) }
+        requires object { self.old.key ≡ Some place.now.key }
+        ensures go_on { OnOk result (GoOnAt G.Stream.behaviour (Some place.now)
+            (G.streams streams.old) (G.streams streams.new)) }
         ensures ranking { OnOk result (IsRanking G.Stream.behaviour (G.streams streams.new)
             self.new) }
         ensures last { IfOk result (λ moved.
             0 < moved.count → moved.last < length (G.streams streams.new)) }
-        ensures stops { IfErr result (StopsIn G.Stream.behaviour (Some place)
+        ensures stops { IfErr result (StopsIn G.Stream.behaviour (Some place.now)
             (G.streams streams.old) (G.streams streams.new)) }
         ensures names { G.names streams.new ≡ G.names streams.old }
     {
@@ -231,17 +185,20 @@ impl Ranks {
         let mut known = true;
         let all = streams.count();
         let mut next = 0;
+        let mut block = 0;
         while let Some(number) = self.next_at(next, all, rank) {
-            if is_at(&streams.head(number), &Some(place)) {
+            if self.ranks[number] == rank {
                 if let Err(fault) = streams.advance(number, alloc) {
                     return Err(InputFault { number, fault });
                 }
-                known = known & self.rank_one(number, &place.key, &streams.head(number));
+                known = known & self.rank_one(block, number, &place.key, streams.place(number));
+                block = number / BLOCK;
                 moved.count += 1;
                 moved.last = number;
             }
             next = number + 1;
         }
+        self.lows[block] = lowest_in(&self.ranks, block);
         if !known {
             self.key = None;
         }
@@ -253,7 +210,7 @@ impl Ranks {
     #[inline(always)]
     fn next_at(&self, from: usize, all: usize, rank: u64) -> Option<usize>
         requires few { all ≤ 128 }
-        requires low { AreLow self.now.lows self.now.ranks }
+        requires low { AreLowFrom from self.now.lows self.now.ranks }
         ensures next { IfSome result (λ n. (from ≤ n) × (n < all)
             × (slice_index self.now.ranks n ≤ rank) × AreAbove rank from n self.now.ranks) }
         ensures none { result ≡ None → AreAbove rank from all self.now.ranks }
@@ -271,22 +228,26 @@ impl Ranks {
         None
     }
 
-    // Gives the stream with this number, which holds this now, a rank among the parts of an object.
-    // False if it holds a part of an object before that.
+    // Gives the stream with this number, which is here now, a rank among the parts of an object.
+    // False if that is a part of an object before that. The lowest rank of a block is renewed once
+    // a stream of another block follows: here that of `block`, where the one before it is.
     #[inline(always)]
-    fn rank_one(&mut self, number: usize, key: &Key, head: &Option<FactRef<'_>>) -> bool
-        requires { number < 128 }
+    fn rank_one(&mut self, block: usize, number: usize, key: &Key, place: Option<&Address>) -> bool
+        requires few { number < 128 }
+        requires blocks { block < 16 }
         ensures set { result ≡ true
-            → HoldsFrom key.now (slice_index self.new.ranks number) (fact_in head.now) }
+            → StandsFrom key.now (slice_index self.new.ranks number) (option_copied place.entry) }
         ensures others { (k : ℕ) → k ≢ number
             → slice_index self.new.ranks k ≡ slice_index self.old.ranks k }
-        ensures low { AreLow self.old.lows self.old.ranks → AreLow self.new.lows self.new.ranks }
+        ensures low { (next : ℕ) → next ≤ number
+            → AreLowBut block next self.old.lows self.old.ranks
+            → AreLowBut (number / 8) (number + 1) self.new.lows self.new.ranks }
         ensures key { self.new.key ≡ self.old.key }
     {
-        let is_set = set_rank(&mut self.ranks, number, key, head);
-        let block = number / BLOCK;
-        self.lows[block] = lowest_in(&self.ranks, block);
-        is_set
+        if number / BLOCK != block {
+            self.lows[block] = lowest_in(&self.ranks, block);
+        }
+        set_rank(&mut self.ranks, number, key, place)
     }
 }
 
@@ -327,17 +288,17 @@ fn lowest_of(lows: &[u64; BLOCKS], all: usize) -> u64
     lowest
 }
 
-// Gives a stream that holds this a rank among the parts of an object. False if it holds a part of
-// an object before that.
+// Gives a stream that is here a rank among the parts of an object. False if this is a part of an
+// object before that.
 #[inline(always)]
-fn set_rank(ranks: &mut [u64; MOST], number: usize, key: &Key, head: &Option<FactRef<'_>>) -> bool
+fn set_rank(ranks: &mut [u64; MOST], number: usize, key: &Key, place: Option<&Address>) -> bool
     requires { number < 128 }
     ensures set { result ≡ true
-        → HoldsFrom key.now (slice_index ranks.new number) (fact_in head.now) }
+        → StandsFrom key.now (slice_index ranks.new number) (option_copied place.entry) }
     ensures others { (k : ℕ) → k ≢ number
         → slice_index ranks.new k ≡ slice_index ranks.old k }
 {
-    match rank_of(key, head) {
+    match rank_of(key, place) {
         Some(rank) => {
             ranks[number] = rank;
             true
@@ -346,26 +307,28 @@ fn set_rank(ranks: &mut [u64; MOST], number: usize, key: &Key, head: &Option<Fac
     }
 }
 
-// The rank of a stream that holds this. None if that is a part of an object before this one.
+// The rank of a stream that is here. None if this is a part of an object before that one.
 #[inline(always)]
-fn rank_of(key: &Key, head: &Option<FactRef<'_>>) -> Option<u64>
-    ensures { IfSome result (λ rank. HoldsFrom key.now rank (fact_in head.now)) }
+fn rank_of(key: &Key, place: Option<&Address>) -> Option<u64>
+    ensures { IfSome result (λ rank. StandsFrom key.now rank (option_copied place.entry)) }
 {
-    let Some(fact) = head else {
+    let Some(place) = place else {
         return Some(BEHIND);
     };
-    let place = fact.address();
+    if place.key == *key {
+        return Some(number_of(place.part));
+    }
     match place.key.cmp(key) {
-        Ordering::Less => None,
-        Ordering::Equal => Some(number_of(place.part)),
         Ordering::Greater => Some(BEHIND),
+        _ => None,
     }
 }
 
 // The rank of a part.
 #[inline(always)]
 fn number_of(part: Part) -> u64
-    ensures { part_at result ≡ part }
+    ensures part { part_at result ≡ part }
+    ensures few { result ≤ 4294967296 }
 {
     match part {
         Part::Info => 0,
@@ -373,45 +336,10 @@ fn number_of(part: Part) -> u64
     }
 }
 
-// The part with this rank. None if there is none.
+// Whether a part has this rank.
 #[inline(always)]
-fn part_of(rank: u64) -> Option<Part>
-    ensures { IfSome result (λ part. part ≡ part_at rank) }
+fn is_of_part(rank: u64) -> bool
+    ensures { result ≡ true → rank ≤ 4294967296 }
 {
-    if rank == 0 {
-        return Some(Part::Info);
-    }
-    let symbol = rank - 1;
-    if symbol >= 1 << 32 {
-        return None;
-    }
-    let sbn = (symbol / 65_536) as u16;
-    let esi = (symbol % 65_536) as u16;
-    Some(Part::Symbol(SymbolId { sbn, esi }))
-}
-
-// How the value of facts at an address changes by one more fact that is there or after it.
-#[inline(always)]
-fn change_at(place: &Address, value: &Option<FactRef<'_>>, fact: &FactRef<'_>) -> Change
-    requires there { IfSome (fact_in value.now) (λ g. address g ≡ place.now) }
-    requires not_before { IsNotBefore place.now (fact_of fact.now) }
-    ensures { (facts : List Fact) → ComesTo place.now facts (fact_in value.now)
-        → ComesTo place.now (facts ++ fact_of fact.now ∷ [])
-        (changed (fact_in value.now) (fact_of fact.now) result) }
-{
-    if !is_fact_at(fact, place) {
-        return Change::Nothing;
-    }
-    match value {
-        Some(value) if is_same(value, fact) => Change::Nothing,
-        Some(_) => Change::Conflict,
-        None => Change::Lower,
-    }
-}
-
-#[inline(always)]
-fn is_fact_at(fact: &FactRef<'_>, place: &Address) -> bool
-    ensures { result ≡ is_eq (address_cmp (address (fact_of fact.now)) place.now) }
-{
-    fact.address().cmp(place).is_eq()
+    rank <= 1 << 32
 }

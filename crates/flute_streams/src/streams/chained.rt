@@ -5,7 +5,7 @@ use crate::streams::Streams;
 use crate::streams::either::Either;
 use crate::streams::stream::Stream;
 use flute_journal::LoadFault;
-use flute_parts::FactRef;
+use flute_parts::{Address, FactRef};
 use std::alloc::Global;
 
 /// How many of the others are taken.
@@ -52,6 +52,15 @@ impl<'a, A: Stream, G: Streams> Streams for Chained<'a, A, G> {
             (*self.first).head()
         } else {
             self.others.head(number - 1)
+        }
+    }
+
+    #[inline(always)]
+    fn place(&self, number: usize) -> Option<&Address> {
+        if number == 0 {
+            (*self.first).place()
+        } else {
+            self.others.place(number - 1)
         }
     }
 

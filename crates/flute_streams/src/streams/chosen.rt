@@ -1,12 +1,12 @@
 //! A stream of which only some facts are taken.
 ghost use Rattle.std.specs.Prelude.{◌≡◌};
-ghost use Rattle.flute_streams.specs.Streams.{IsNew, fact_in};
+ghost use Rattle.flute_streams.specs.Streams.{IsNew};
 ghost use Rattle.flute_streams.specs.ChosenStreams.{chosen_behaviour, is_passed_over};
 
 use crate::choice::Choice;
 use crate::streams::stream::Stream;
 use flute_journal::LoadFault;
-use flute_parts::FactRef;
+use flute_parts::{Address, FactRef};
 use std::alloc::Global;
 
 /// A stream whose facts that are not taken are passed over, and counted.
@@ -47,6 +47,11 @@ impl<S: Stream, C: Choice> Stream for Chosen<S, C> {
     }
 
     #[inline(always)]
+    fn place(&self) -> Option<&Address> {
+        self.stream.place()
+    }
+
+    #[inline(always)]
     fn spelled(&self) -> &[u8] {
         self.stream.spelled()
     }
@@ -54,7 +59,7 @@ impl<S: Stream, C: Choice> Stream for Chosen<S, C> {
     #[inline(always)]
     fn advance(&mut self, alloc: Global) -> Result<(), LoadFault> {
         self.stream.advance(alloc)?;
-        while is_other(&self.choice, &self.stream.head()) {
+        while is_other(&self.choice, &self.stream) {
             self.others = self.others.saturating_add(1);
             self.stream.advance(alloc)?;
         }
@@ -64,11 +69,14 @@ impl<S: Stream, C: Choice> Stream for Chosen<S, C> {
 
 // Whether a stream holds a fact that is not taken.
 #[inline(always)]
-fn is_other<C: Choice>(choice: &C, head: &Option<FactRef<'_>>) -> bool
-    ensures { result ≡ is_passed_over C.takes choice.now (fact_in head.now) }
+fn is_other<C: Choice, S: Stream>(choice: &C, stream: &S) -> bool
+    ensures { result ≡ is_passed_over C.takes choice.now (S.behaviour.held stream.now) }
 {
-    match head {
-        Some(fact) => !choice.takes_fact(fact),
+    if choice.takes_all() {
+        return false;
+    }
+    match stream.head() {
+        Some(fact) => !choice.takes_fact(&fact),
         None => false,
     }
 }

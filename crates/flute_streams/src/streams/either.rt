@@ -3,7 +3,7 @@ ghost use Rattle.flute_streams.specs.Eithers.{either_behaviour};
 
 use crate::streams::stream::Stream;
 use flute_journal::LoadFault;
-use flute_parts::FactRef;
+use flute_parts::{Address, FactRef};
 use std::alloc::Global;
 
 /// A stream of one kind or of another.
@@ -22,6 +22,13 @@ impl<A: Stream, B: Stream> Stream for Either<A, B> {
         match self {
             Either::First(stream) => stream.head(),
             Either::Second(stream) => stream.head(),
+        }
+    }
+
+    fn place(&self) -> Option<&Address> {
+        match self {
+            Either::First(stream) => stream.place(),
+            Either::Second(stream) => stream.place(),
         }
     }
 

@@ -1,19 +1,20 @@
 //! One fact as a stream.
-ghost use Rattle.std.specs.Prelude.{◌≡◌, ◌∷◌, []};
+ghost use Rattle.std.specs.Prelude.{◌≡◌, ◌∷◌, [], ℕ, List};
+ghost use Rattle.flute_journal.specs.HeldEntries.{fact_held};
 ghost use Rattle.flute_store.specs.Walk.{IsSized};
 ghost use Rattle.flute_streams.specs.Streams.{option_list, IsNew};
 ghost use Rattle.flute_streams.specs.FactStreams.{fact_behaviour};
 
 use crate::streams::stream::Stream;
-use flute_journal::LoadFault;
-use flute_parts::{Fact, FactRef};
+use flute_journal::{HeldEntry, LoadFault};
+use flute_parts::{Address, Fact, FactRef};
 use std::alloc::Global;
 
 /// The stream of one fact.
 #[derive(Debug, Drop)]
 pub struct FactStream {
     pub next: Option<Fact>,
-    pub held: Option<Fact>,
+    pub held: HeldEntry,
 }
 
 impl FactStream {
@@ -27,7 +28,7 @@ impl FactStream {
     {
         FactStream {
             next: Some(fact),
-            held: None,
+            held: HeldEntry::Nothing,
         }
     }
 }
@@ -36,10 +37,11 @@ impl Stream for FactStream {
     ghost behaviour = { fact_behaviour };
 
     fn head(&self) -> Option<FactRef<'_>> {
-        match &self.held {
-            Some(fact) => Some(fact.as_ref()),
-            None => None,
-        }
+        self.held.fact(&[])
+    }
+
+    fn place(&self) -> Option<&Address> {
+        self.held.place()
     }
 
     fn spelled(&self) -> &[u8] {
@@ -47,7 +49,17 @@ impl Stream for FactStream {
     }
 
     fn advance(&mut self, _alloc: Global) -> Result<(), LoadFault> {
-        self.held = self.next.take();
+        self.held = held_of(self.next.take());
         Ok(())
+    }
+}
+
+// The entry of a fact, if there is one.
+fn held_of(fact: Option<Fact>) -> HeldEntry
+    ensures { (buffer : List ℕ) → fact_held buffer result ≡ fact }
+{
+    match fact {
+        Some(fact) => HeldEntry::of(fact),
+        None => HeldEntry::Nothing,
     }
 }

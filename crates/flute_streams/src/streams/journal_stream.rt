@@ -10,7 +10,7 @@ ghost use Rattle.flute_journal.specs.declared.readers.reader_state.ReaderState.T
 
 use crate::streams::stream::Stream;
 use flute_journal::{HeldEntry, JournalReader, LoadFault};
-use flute_parts::{FactRef, Source};
+use flute_parts::{Address, FactRef, Source};
 use std::alloc::Global;
 
 /// A journal that is read entry by entry, of which one entry is held.
@@ -49,6 +49,11 @@ impl<'a, R: Source> Stream for JournalStream<'a, R> {
     }
 
     #[inline(always)]
+    fn place(&self) -> Option<&Address> {
+        self.held.place()
+    }
+
+    #[inline(always)]
     fn spelled(&self) -> &[u8] {
         self.held.spelled(self.reader.buffer())
     }
@@ -68,7 +73,8 @@ pub struct LentStream<'r, 'a, R> {
 }
 
 impl<'r, 'a, R: Source> LentStream<'r, 'a, R> {
-    /// Lets go of the entry that is held: the source has then been read up to it, and no further.
+    /// Lets go of the entry that is held, so that nothing is: what its source has left is then what
+    /// follows that entry.
     pub fn let_go(&mut self, alloc: Global)
         ensures loans { SameLoans self.old self.new }
         ensures source { (source_of self.new.reader.now).ghost_name
@@ -76,6 +82,7 @@ impl<'r, 'a, R: Source> LentStream<'r, 'a, R> {
         ensures takes { Consumes (R.unread (source_of self.old.reader.now).now)
             (R.unread (source_of self.new.reader.now).now)
             (spelled_in (R.buffered (source_of self.old.reader.now).now) self.old.held.now) }
+        ensures nothing { self.new.held.now ≡ held.Nothing }
         ensures failures { R.failures (source_of self.new.reader.now).now
             ≡ R.failures (source_of self.old.reader.now).now }
     {
@@ -90,6 +97,12 @@ impl<'r, 'a, R: Source> Stream for LentStream<'r, 'a, R> {
     fn head(&self) -> Option<FactRef<'_>> {
         let held = &*self.held;
         held.fact(self.reader.buffer())
+    }
+
+    #[inline(always)]
+    fn place(&self) -> Option<&Address> {
+        let held = &*self.held;
+        held.place()
     }
 
     #[inline(always)]

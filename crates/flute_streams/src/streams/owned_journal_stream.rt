@@ -8,7 +8,7 @@ ghost use Rattle.flute_journal.specs.declared.readers.reader_state.ReaderState.T
 
 use crate::streams::stream::Stream;
 use flute_journal::{Before, HeldEntry, LoadFault, ReaderState, read_into};
-use flute_parts::{FactRef, Source};
+use flute_parts::{Address, FactRef, Source};
 use std::alloc::Global;
 
 /// A journal that is read as a stream, with its source. One entry of it is held.
@@ -61,6 +61,11 @@ impl<R: Source> Stream for OwnedJournalStream<R> {
     #[inline(always)]
     fn head(&self) -> Option<FactRef<'_>> {
         self.held.fact(self.source.buffer())
+    }
+
+    #[inline(always)]
+    fn place(&self) -> Option<&Address> {
+        self.held.place()
     }
 
     #[inline(always)]

@@ -1,9 +1,9 @@
 //! Facts that come in strictly rising order of their addresses.
-ghost use Rattle.std.specs.Prelude.{◌≡◌, OnOk, IfErr};
-ghost use Rattle.flute_streams.specs.Streams.{Behaviour, fact_in, GoesOn, StopsAt};
+ghost use Rattle.std.specs.Prelude.{◌≡◌, OnOk, IfErr, option_copied};
+ghost use Rattle.flute_streams.specs.Streams.{Behaviour, fact_in, place_of, GoesOn, StopsAt};
 
 use flute_journal::LoadFault;
-use flute_parts::FactRef;
+use flute_parts::{Address, FactRef};
 use std::alloc::Global;
 
 /// Facts that come in strictly rising order of their addresses. A stream holds the next of them.
@@ -14,6 +14,10 @@ pub trait Stream {
     /// The fact that it holds. None before it was first advanced, and once no fact was left.
     fn head(&self) -> Option<FactRef<'_>>
         ensures { fact_in result ≡ behaviour.held self.now };
+
+    /// The address of that fact.
+    fn place(&self) -> Option<&Address>
+        ensures { option_copied result ≡ place_of (behaviour.held self.now) };
 
     /// The bytes of that fact's entry, as version 2 of a journal spells it, if they lie in memory:
     /// else none.

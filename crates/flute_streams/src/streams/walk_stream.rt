@@ -2,12 +2,13 @@
 ghost use Rattle.std.specs.Prelude.{◌≡◌, None, length};
 ghost use Rattle.flute_parts.specs.Addresses.{fact_of};
 ghost use Rattle.flute_parts.specs.Facts.{IsRising};
-ghost use Rattle.flute_streams.specs.Streams.{fact_in, IsNew};
+ghost use Rattle.flute_streams.specs.Streams.{IsNew};
 ghost use Rattle.flute_streams.specs.Listed.{listed_behaviour};
+ghost use Rattle.flute_streams.specs.WalkStreams.{placed, placed_in};
 
 use crate::streams::stream::Stream;
 use flute_journal::LoadFault;
-use flute_parts::FactRef;
+use flute_parts::{Address, FactRef, Part};
 use flute_store::{HasObjects, Walk};
 use std::alloc::Global;
 
@@ -15,17 +16,18 @@ use std::alloc::Global;
 #[derive(Drop)]
 pub struct WalkStream<'a, S: HasObjects + 'a> {
     walk: Walk<'a, S>,
-    held: Option<FactRef<'a>>,
+    /// A fact and its address.
+    held: Option<(Address, FactRef<'a>)>,
 }
 
 impl<'a, S: HasObjects + 'a> WalkStream<'a, S> {
     /// The stream of what a walk over a store has left. It takes no memory.
     pub fn new(walk: Walk<'a, S>) -> WalkStream<'a, S>
         requires { IsRising walk }
-        ensures new { IsNew (listed_behaviour (λ s. fact_in s.held) (λ s. s.walk)
+        ensures new { IsNew (listed_behaviour (λ s. placed_in s.held) (λ s. s.walk)
             (λ _. Unit {0})) result }
         ensures facts { result.walk ≡ walk.entry }
-        ensures most { (listed_behaviour (λ s. fact_in s.held) (λ s. s.walk)
+        ensures most { (listed_behaviour (λ s. placed_in s.held) (λ s. s.walk)
             (λ _. Unit {0})).most result ≡ length walk.entry }
     {
         WalkStream { walk, held: None }
@@ -33,11 +35,19 @@ impl<'a, S: HasObjects + 'a> WalkStream<'a, S> {
 }
 
 impl<'a, S: HasObjects + 'a> Stream for WalkStream<'a, S> {
-    ghost behaviour = { listed_behaviour (λ s. fact_in s.held) (λ s. s.walk) (λ _. Unit {0}) };
+    ghost behaviour = { listed_behaviour (λ s. placed_in s.held) (λ s. s.walk) (λ _. Unit {0}) };
 
+    #[inline(always)]
     fn head(&self) -> Option<FactRef<'_>> {
         match &self.held {
-            Some(fact) => Some(copied(fact)),
+            Some((place, fact)) => Some(placed(place, fact)),
+            None => None,
+        }
+    }
+
+    fn place(&self) -> Option<&Address> {
+        match &self.held {
+            Some((place, _)) => Some(place),
             None => None,
         }
     }
@@ -47,19 +57,28 @@ impl<'a, S: HasObjects + 'a> Stream for WalkStream<'a, S> {
     }
 
     fn advance(&mut self, _alloc: Global) -> Result<(), LoadFault> {
-        self.held = self.walk.next();
+        self.held = match self.walk.next() {
+            Some(fact) => Some((fact.address(), fact)),
+            None => None,
+        };
         Ok(())
     }
 }
 
-// The same fact again.
-fn copied<'a>(fact: &FactRef<'a>) -> FactRef<'a>
-    ensures { fact_of result ≡ fact_of fact.now }
+// What a fact says of its part, as a fact at this address.
+#[inline(always)]
+fn placed<'a>(place: &Address, fact: &FactRef<'a>) -> FactRef<'a>
+    ensures { fact_of result ≡ placed place.now.key place.now.part (fact_of fact.now) }
 {
-    match *fact {
-        FactRef::Info { key, info } => FactRef::Info { key, info },
-        FactRef::InfoConflict { key } => FactRef::InfoConflict { key },
-        FactRef::Symbol { key, id, bytes } => FactRef::Symbol { key, id, bytes },
-        FactRef::SymbolConflict { key, id } => FactRef::SymbolConflict { key, id },
+    let key = place.key;
+    match place.part {
+        Part::Info => match *fact {
+            FactRef::Info { info, .. } => FactRef::Info { key, info },
+            _ => FactRef::InfoConflict { key },
+        },
+        Part::Symbol(id) => match *fact {
+            FactRef::Symbol { bytes, .. } => FactRef::Symbol { key, id, bytes },
+            _ => FactRef::SymbolConflict { key, id },
+        },
     }
 }

@@ -1,8 +1,7 @@
 //! Sinks and sources over memory, over writers and readers, and those that fail.
 
-use flute_parts::{
-    MemorySink, MemorySource, ShortSink, ShortSource, Sink, Source, StdSink, StdSource,
-};
+use flute_memory::{ShortSink, ShortSource};
+use flute_parts::{MemorySink, MemorySource, Sink, Source, StdSink, StdSource};
 use std::test::Fail;
 
 #[test]

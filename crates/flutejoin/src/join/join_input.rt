@@ -7,7 +7,7 @@ ghost use Rattle.flutejoin.specs.InputStreams.{passed_over};
 use crate::join::peeked_source::PeekedSource;
 use crate::limits::MAX_ENTRIES;
 use flute_journal::{Kind, LoadFault, ReadFault, kind_of};
-use flute_parts::{FactRef, Source};
+use flute_parts::{Address, FactRef, Source};
 use flute_streams::{Chosen, OwnedJournalStream, Scope, Stream};
 use std::alloc::Global;
 
@@ -70,6 +70,14 @@ impl<R: Source> Stream for JoinInput<R> {
     fn head(&self) -> Option<FactRef<'_>> {
         match self {
             JoinInput::Journal(journal) => journal.head(),
+            _ => None,
+        }
+    }
+
+    #[inline(always)]
+    fn place(&self) -> Option<&Address> {
+        match self {
+            JoinInput::Journal(journal) => journal.place(),
             _ => None,
         }
     }

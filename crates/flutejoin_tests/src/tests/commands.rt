@@ -4,11 +4,11 @@ use super::*;
 use flute_parts::{Info, MemorySink, MemorySource, SymbolId};
 use flute_streams::Selection;
 use flutejoin::{
-    CommandFault, MAX_OBJECTS, MAX_SESSIONS, MAX_SYMBOLS, MemoryAside, Style, extract_to,
-    forget_input, forget_to, gaps_from, info_to, merge_to, packet_to, sender_of, show_to,
+    CommandFault, MAX_OBJECTS, MAX_SESSIONS, MAX_SYMBOLS, Style, extract_to, forget_input,
+    forget_to, gaps_from, info_to, merge_to, packet_to, sender_of, show_to,
 };
 use flutejoin_line::{Line, line_of};
-use flutejoin_replicas::{gaps_to, load, save_to};
+use flutejoin_replicas::{MemoryAside, gaps_to, load, save_to};
 use test_vectors::{bytes, journals};
 
 #[test]

@@ -1,5 +1,6 @@
 -- hold_anew: the next entry, the end or a fault is read behind the entry that was let go of.
-use Rattle.flute_journal.proofs.Common.{Err, ap, refl, ◌∙◌, err_from_is_err_and}
+use Rattle.flute_journal.proofs.Common.{Err, FailsIf, Gives, Ok, ap, refl, subst, sym, ◌∙◌}
+use Rattle.flute_journal.proofs.Common.{err_from_is_err_and, is_open, journal_framing}
 use Rattle.flute_journal.proofs.readers_lemmas.Holding.{holds_anew}
 use Rattle.flute_journal.proofs.readers.journal_reader.hold_anew.Goals as goal
 
@@ -21,13 +22,20 @@ pub returns-in-Some : goal.returns-in-Some
 returns-in-Some g c =
     let is = c.in-Some.is in
     let read = rw is at c.in_ok-fact.ensures in
+    let fact = sym (c.of.ensures.fact (g.R.Source.buffered c.read_at.new.source)) in
     holds_anew (record {
-      own = refl;
+      own = c.of.ensures.own;
       between = c.let_go-spare.new.source;
       taken = c.let_go-spare.ensures.takes;
       none_failed = c.let_go-spare.ensures.failures;
-      gives = read.gives;
-      failed = read.failures;
+      gives =
+          subst (λ o. Gives journal_framing c.args.max_entries c.args.state.now c.read_at.new.state
+          (g.R.Source.unread c.let_go-spare.new.source) (g.R.Source.unread c.read_at.new.source)
+          (Ok o)) fact read.gives;
+      failed =
+          subst (λ o. FailsIf (is_open c.args.state.now)
+          (g.R.Source.failures c.let_go-spare.new.source)
+          (g.R.Source.failures c.read_at.new.source) (Ok o)) fact read.failures;
       none = tt;
     })
 

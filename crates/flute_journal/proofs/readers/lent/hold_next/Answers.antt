@@ -3,8 +3,8 @@ use Rattle.flute_journal.proofs.Common.{inr, refl}
 use Rattle.flute_journal.proofs.readers_lemmas.Holding.{held_next}
 use Rattle.flute_journal.proofs.readers.lent.hold_next.Goals as goal
 
-pub returns-clause-takes : goal.returns-clause-takes
-returns-clause-takes g c =
+pub returns-clause-holds : goal.returns-clause-holds
+returns-clause-holds g c =
     let h = held_next {e = c.args.held.now} (record {
       buffer = c.buffer-buffer.result.now;
       lent = c.buffer-buffer.ensures.buffered;
@@ -12,15 +12,4 @@ returns-clause-takes g c =
       front = c.buffer-buffer.ensures.front;
       begins = rw c.behind.ensures at c.in_ok-id.ensures;
     }) c.consume.ensures.buffered c.consume.ensures.bytes in
-    (refl, (h.valid, h.in_order, h.consumes))
-
-pub returns-clause-spelled : goal.returns-clause-spelled
-returns-clause-spelled g c =
-    let h = held_next {e = c.args.held.now} (record {
-      buffer = c.buffer-buffer.result.now;
-      lent = c.buffer-buffer.ensures.buffered;
-      held = c.spelled-taken.ensures;
-      front = c.buffer-buffer.ensures.front;
-      begins = rw c.behind.ensures at c.in_ok-id.ensures;
-    }) c.consume.ensures.buffered c.consume.ensures.bytes in
-    inr (h.valid.0, h.spelled)
+    (refl, inr (h.valid.0, h.spelled), (h.valid, h.in_order, h.consumes))

@@ -1,16 +1,32 @@
 -- merge_into: each exit follows by a lemma on the state of the merge before it.
-use Rattle.flute_streams.proofs.Common.{◌≢◌, ℕ, [], true, Some, sym, subst, arith, fact_of}
+use Rattle.flute_streams.proofs.Common.{◌≢◌, ℕ, [], true, IfSome, Some, ap, arith, subst, sym}
+use Rattle.flute_streams.proofs.Common.{option_copied, ◌∙◌}
 use Rattle.flute_streams.proofs.Common.{header, entry, end, GoOnAt, StopsIn, IsCounted}
 use Rattle.flute_streams.proofs.Common.{Input, NoneFails, OneFails, Write}
 use Rattle.flute_journal.proofs.Public.{puts-part, left_out}
 use Rattle.flute_streams.proofs.merge_lemmas.Finished.{cut_journal}
+use Rattle.flute_streams.proofs.merge_lemmas.Places.{at_lowest, none-new, placed, stands-within}
+use Rattle.flute_streams.proofs.merge_lemmas.Places.{written_at}
 use Rattle.flute_streams.proofs.merge_lemmas.StreamStates.{stop_first, stop_header, state_turn}
 use Rattle.flute_streams.proofs.merge_lemmas.StreamStates.{turn-falls, sized-lowest, few-joined}
 use Rattle.flute_streams.proofs.merge_lemmas.StreamStates.{no_failure, stop_entry, stop_input}
 use Rattle.flute_streams.proofs.merge_lemmas.StreamStates.{stop_end, finished, spelled_now}
 use Rattle.flute_streams.proofs.merge_lemmas.StreamStates.{Stopping}
+use Rattle.flute_store.specs.Walk.{IsSized}
 use Rattle.flute_streams.proofs.merge.all_streams.merge_into.Given.{Over}
 use Rattle.flute_streams.proofs.merge.all_streams.merge_into.Goals as goal
+
+pub advance_at-requires : goal.advance_at-requires
+advance_at-requires g c = record {
+  first =
+      none-new g.G.Stream.Stream.behaviour (g.G.Streams.streams c.args.streams.now)
+      c.requires.new;
+}
+
+pub place-requires : goal.place-requires
+place-requires g c =
+    stands-within g.G.Stream.Stream.behaviour (g.G.Streams.streams c.loop-lowest.streams)
+    c.in-Some.lowest c.in-Some.ensures.stands
 
 -- an input stopped before the header was written
 first_stop : (g : Over) (c : goal.In-Err g)
@@ -64,28 +80,34 @@ returns-then-stops-clause-failures g c = (header_stop g c).1
 
 pub lowest-requires-clause-spelled : goal.lowest-requires-clause-spelled
 lowest-requires-clause-spelled g c =
-    spelled_now g.G.Stream.Stream.behaviour c.loop-fact.invariant.state
+    spelled_now g.G.Stream.Stream.behaviour c.loop-lowest.invariant.state
 
-pub entry-requires : goal.entry-requires
-entry-requires g c =
-    record {
-      sized = sized-lowest g.G.Stream.Stream.behaviour c.loop-fact.invariant.state
-          c.in-Some.ensures.lowest;
-      spelled = c.in-Some.ensures.spelled;
-    }
+pub write_lowest-requires-clause-spelled : goal.write_lowest-requires-clause-spelled
+write_lowest-requires-clause-spelled g c =
+    spelled_now g.G.Stream.Stream.behaviour c.loop-lowest.invariant.state
+
+pub write_lowest-requires-clause-sized : goal.write_lowest-requires-clause-sized
+write_lowest-requires-clause-sized g c =
+    let v = at_lowest g.G.Stream.Stream.behaviour (g.G.Streams.streams c.loop-lowest.streams)
+    c.in-Some.ensures.stands c.in-Some.ensures.lowest in
+    subst (λ o. IfSome o IsSized) (sym v.value.is)
+    (sized-lowest g.G.Stream.Stream.behaviour c.loop-lowest.invariant.state v.lowest)
 
 -- an entry could not be written
 entry_stop : (g : Over) (c : goal.Then-stops-2 g)
     → Stopping g.G.Stream.Stream.behaviour c.args.patient (g.G.Streams.streams c.args.streams.now)
-    (g.G.Streams.streams c.loop-fact.streams) (g.W.Sink.written c.args.writer.now.sink.now)
-    (g.W.Sink.written c.entry.new.self.sink.now) Write
+    (g.G.Streams.streams c.loop-lowest.streams) (g.W.Sink.written c.args.writer.now.sink.now)
+    (g.W.Sink.written c.write_lowest.new.writer.sink.now) Write
 entry_stop g c =
+    let v = written_at g.G.Stream.Stream.behaviour (g.G.Streams.streams c.loop-lowest.streams)
+    c.in-Some.ensures.stands c.in-Some.ensures.lowest c.write_lowest.ensures.valid
+    c.write_lowest.ensures.puts in
     let stops = c.stops-in-Some.ensures.stops c.if-stops-2.true in
-    let good = c.loop-fact.invariant.eager stops.1 in
-    stop_entry g.G.Stream.Stream.behaviour c.loop-fact.invariant.state c.in-Some.ensures.lowest
-    c.entry.ensures.valid c.args.patient good
-    (puts-part c.loop-fact.writer.failed c.entry.new.self.failed _ _
-    (entry (fact_of c.in-Some.fact)) good stops.0 c.entry.ensures.puts.puts)
+    let good = c.loop-lowest.invariant.eager stops.1 in
+    stop_entry g.G.Stream.Stream.behaviour c.loop-lowest.invariant.state v.lowest
+    v.valid c.args.patient good
+    (puts-part c.loop-lowest.writer.failed c.write_lowest.new.writer.failed _ _
+    (entry v.value.fact) good stops.0 v.puts.puts)
 
 pub returns-then-stops-2-clause-short : goal.returns-then-stops-2-clause-short
 returns-then-stops-2-clause-short g c = (entry_stop g c).short
@@ -95,24 +117,29 @@ returns-then-stops-2-clause-reads_ahead g c = (entry_stop g c).reads_ahead
 
 pub returns-then-stops-2-clause-failures : goal.returns-then-stops-2-clause-failures
 returns-then-stops-2-clause-failures g c =
-    no_failure g.G.Stream.Stream.behaviour c.loop-fact.invariant.state
+    no_failure g.G.Stream.Stream.behaviour c.loop-lowest.invariant.state
 
 -- an input stopped after an entry was written
 input_stop : (g : Over) (c : goal.In-Err-advance g)
     → Stopping g.G.Stream.Stream.behaviour c.args.patient (g.G.Streams.streams c.args.streams.now)
     (g.G.Streams.streams c.advance.new.streams) (g.W.Sink.written c.args.writer.now.sink.now)
-    (g.W.Sink.written c.entry.new.self.sink.now) (Input c.in-Err-advance.fault)
+    (g.W.Sink.written c.write_lowest.new.writer.sink.now) (Input c.in-Err-advance.fault)
     × OneFails g.G.Stream.Stream.behaviour c.in-Err-advance.fault.number
     c.in-Err-advance.fault.fault (g.G.Streams.streams c.args.streams.now)
     (g.G.Streams.streams c.advance.new.streams)
 input_stop g c =
-    stop_input g.G.Stream.Stream.behaviour c.loop-fact.invariant.state c.in-Some.ensures.lowest
-    c.entry.ensures.valid c.args.patient c.entry.new.self.failed
-    (g.G.Streams.streams c.advance.new.streams) _ c.in-Err-advance.fault c.entry.ensures.puts.puts
+    let v = written_at g.G.Stream.Stream.behaviour (g.G.Streams.streams c.loop-lowest.streams)
+    c.in-Some.ensures.stands c.in-Some.ensures.lowest c.write_lowest.ensures.valid
+    c.write_lowest.ensures.puts in
+    let at = placed g.G.Stream.Stream.behaviour (g.G.Streams.streams c.loop-lowest.streams) v.value
+    c.in-Some.ensures.stands c.place.ensures (ap option_copied c.in-Some-place.is) in
+    stop_input g.G.Stream.Stream.behaviour c.loop-lowest.invariant.state v.lowest
+    v.valid c.args.patient c.write_lowest.new.writer.failed
+    (g.G.Streams.streams c.advance.new.streams) _ c.in-Err-advance.fault v.puts.puts
     (c.stops-in-Some.ensures.goes_on c.if-stops-2.false)
     (subst (λ a. StopsIn g.G.Stream.Stream.behaviour (Some a)
-    (g.G.Streams.streams c.loop-fact.streams)
-    (g.G.Streams.streams c.advance.new.streams) c.in-Err-advance.fault) c.address-place.ensures
+    (g.G.Streams.streams c.loop-lowest.streams)
+    (g.G.Streams.streams c.advance.new.streams) c.in-Err-advance.fault) (sym at)
     c.in-Err-advance.ensures.stops)
 
 pub returns-in-Err-advance-clause-short : goal.returns-in-Err-advance-clause-short
@@ -132,38 +159,71 @@ returns-in-Err-advance-clause-failures g c = (input_stop g c).1
 
 pub overflow_add-entries : goal.overflow_add-entries
 overflow_add-entries g c =
-    let next = state_turn g.G.Stream.Stream.behaviour c.loop-fact.invariant.state
-    c.in-Some.ensures.lowest c.entry.ensures.valid
-    c.entry.new.self.failed (IsCounted g.row.SESSIONS g.row.OBJECTS g.row.SYMBOLS
+    let v = written_at g.G.Stream.Stream.behaviour (g.G.Streams.streams c.loop-lowest.streams)
+    c.in-Some.ensures.stands c.in-Some.ensures.lowest c.write_lowest.ensures.valid
+    c.write_lowest.ensures.puts in
+    let at = placed g.G.Stream.Stream.behaviour (g.G.Streams.streams c.loop-lowest.streams) v.value
+    c.in-Some.ensures.stands c.place.ensures (ap option_copied c.in-Some-place.is) in
+    let next = state_turn g.G.Stream.Stream.behaviour c.loop-lowest.invariant.state
+    v.lowest v.valid
+    c.write_lowest.new.writer.failed (IsCounted g.row.SESSIONS g.row.OBJECTS g.row.SYMBOLS
     c.count_place-within.new.tally c.count_place-within.result)
     (g.G.Streams.streams c.advance.new.streams) _
-    (λ F r k. c.count_place-within.ensures F (fact_of c.in-Some.fact)
-    (sym c.address-place.ensures) r k) c.entry.ensures.puts.puts
+    (λ F r k. c.count_place-within.ensures F v.value.fact
+    at r k) v.puts.puts
     (subst (λ a. GoOnAt g.G.Stream.Stream.behaviour (Some a)
-    (g.G.Streams.streams c.loop-fact.streams) (g.G.Streams.streams c.advance.new.streams))
-    c.address-place.ensures c.in_default-advance.ensures.go_on) in
+    (g.G.Streams.streams c.loop-lowest.streams) (g.G.Streams.streams c.advance.new.streams))
+    (sym at) c.in_default-advance.ensures.go_on) in
     omega (arith, few-joined g.G.Stream.Stream.behaviour next, c.requires.few)
 
-pub loop-fact-smaller : goal.loop-fact-smaller
-loop-fact-smaller g c =
-    turn-falls g.G.Stream.Stream.behaviour c.loop-fact.invariant.state
-    c.in-Some.ensures.lowest (g.G.Streams.streams c.advance.new.streams)
+pub loop-lowest-preserved : goal.loop-lowest-preserved
+loop-lowest-preserved g c =
+    let v = written_at g.G.Stream.Stream.behaviour (g.G.Streams.streams c.loop-lowest.streams)
+    c.in-Some.ensures.stands c.in-Some.ensures.lowest c.write_lowest.ensures.valid
+    c.write_lowest.ensures.puts in
+    let at = placed g.G.Stream.Stream.behaviour (g.G.Streams.streams c.loop-lowest.streams) v.value
+    c.in-Some.ensures.stands c.place.ensures (ap option_copied c.in-Some-place.is) in
+    let i = c.loop-lowest.invariant in
+    record {
+      state = state_turn g.G.Stream.Stream.behaviour i.state v.lowest v.valid
+          c.write_lowest.new.writer.failed (IsCounted g.row.SESSIONS g.row.OBJECTS g.row.SYMBOLS
+          c.count_place-within.new.tally c.count_place-within.result)
+          (g.G.Streams.streams c.advance.new.streams) _
+          (λ F r k. c.count_place-within.ensures F v.value.fact at r k) v.puts.puts
+          (subst (λ a. GoOnAt g.G.Stream.Stream.behaviour (Some a)
+          (g.G.Streams.streams c.loop-lowest.streams) (g.G.Streams.streams c.advance.new.streams))
+          (sym at) c.in_default-advance.ensures.go_on);
+      sink_failures = omega (arith, i.sink_failures, v.puts.fails);
+      eager = c.stops-in-Some.ensures.goes_on c.if-stops-2.false;
+      same_sink = v.puts.same_sink ∙ i.same_sink;
+      led = c.in_default-advance.ensures.led;
+      names = c.advance.ensures.names ∙ i.names;
+    }
+
+pub loop-lowest-smaller : goal.loop-lowest-smaller
+loop-lowest-smaller g c =
+    let v = at_lowest g.G.Stream.Stream.behaviour (g.G.Streams.streams c.loop-lowest.streams)
+    c.in-Some.ensures.stands c.in-Some.ensures.lowest in
+    let at = placed g.G.Stream.Stream.behaviour (g.G.Streams.streams c.loop-lowest.streams) v.value
+    c.in-Some.ensures.stands c.place.ensures (ap option_copied c.in-Some-place.is) in
+    turn-falls g.G.Stream.Stream.behaviour c.loop-lowest.invariant.state
+    v.lowest (g.G.Streams.streams c.advance.new.streams)
     (subst (λ a. GoOnAt g.G.Stream.Stream.behaviour (Some a)
-    (g.G.Streams.streams c.loop-fact.streams) (g.G.Streams.streams c.advance.new.streams))
-    c.address-place.ensures c.in_default-advance.ensures.go_on)
+    (g.G.Streams.streams c.loop-lowest.streams) (g.G.Streams.streams c.advance.new.streams))
+    (sym at) c.in_default-advance.ensures.go_on)
 
 -- the end could not be written
 end_stop : (g : Over) (c : goal.Then-stops-3 g)
     → Stopping g.G.Stream.Stream.behaviour c.args.patient (g.G.Streams.streams c.args.streams.now)
-    (g.G.Streams.streams c.loop-fact.streams) (g.W.Sink.written c.args.writer.now.sink.now)
+    (g.G.Streams.streams c.loop-lowest.streams) (g.W.Sink.written c.args.writer.now.sink.now)
     (g.W.Sink.written c.end.new.self.sink.now) Write
 end_stop g c =
     let stops = c.stops-2.ensures.stops c.if-stops-3.true in
-    let good = c.loop-fact.invariant.eager stops.1 in
-    stop_end g.G.Stream.Stream.behaviour c.loop-fact.invariant.state
+    let good = c.loop-lowest.invariant.eager stops.1 in
+    stop_end g.G.Stream.Stream.behaviour c.loop-lowest.invariant.state
     c.in_default-lowest.ensures.lowest c.args.patient good
-    (puts-part c.loop-fact.writer.failed c.end.new.self.failed _ _ (end c.loop-fact.entries) good
-    stops.0 c.end.ensures.puts)
+    (puts-part c.loop-lowest.writer.failed c.end.new.self.failed _ _
+    (end c.loop-lowest.entries) good stops.0 c.end.ensures.puts)
 
 pub returns-then-stops-3-clause-short : goal.returns-then-stops-3-clause-short
 returns-then-stops-3-clause-short g c = (end_stop g c).short
@@ -173,19 +233,20 @@ returns-then-stops-3-clause-reads_ahead g c = (end_stop g c).reads_ahead
 
 pub returns-then-stops-3-clause-failures : goal.returns-then-stops-3-clause-failures
 returns-then-stops-3-clause-failures g c =
-    no_failure g.G.Stream.Stream.behaviour c.loop-fact.invariant.state
+    no_failure g.G.Stream.Stream.behaviour c.loop-lowest.invariant.state
 
 pub returns-clause-ended : goal.returns-clause-ended
 returns-clause-ended g c =
-    finished g.G.Stream.Stream.behaviour c.loop-fact.tally c.loop-fact.within c.end.new.self.failed
-    c.loop-fact.invariant.state _ c.requires.few c.in_default-lowest.ensures.lowest
+    finished g.G.Stream.Stream.behaviour c.loop-lowest.tally c.loop-lowest.within
+    c.end.new.self.failed c.loop-lowest.invariant.state _ c.requires.few
+    c.in_default-lowest.ensures.lowest
     c.end.ensures.puts
 
 pub returns-clause-merged : goal.returns-clause-merged
 returns-clause-merged g c = (returns-clause-ended g c).merged
 
 pub returns-clause-failures : goal.returns-clause-failures
-returns-clause-failures g c = no_failure g.G.Stream.Stream.behaviour c.loop-fact.invariant.state
+returns-clause-failures g c = no_failure g.G.Stream.Stream.behaviour c.loop-lowest.invariant.state
 
 pub returns-clause-cut : goal.returns-clause-cut
 returns-clause-cut g c = λ e.
@@ -198,16 +259,17 @@ some_end n e = cc
 
 pub returns-then-not-within-clause-ended : goal.returns-then-not-within-clause-ended
 returns-then-not-within-clause-ended g c =
-    finished g.G.Stream.Stream.behaviour c.loop-fact.tally c.loop-fact.within true
-    c.loop-fact.invariant.state _ c.requires.few c.in_default-lowest.ensures.lowest
-    (left_out c.loop-fact.writer.failed _ (end c.loop-fact.entries) (some_end c.loop-fact.entries))
+    finished g.G.Stream.Stream.behaviour c.loop-lowest.tally c.loop-lowest.within true
+    c.loop-lowest.invariant.state _ c.requires.few c.in_default-lowest.ensures.lowest
+    (left_out c.loop-lowest.writer.failed _ (end c.loop-lowest.entries)
+    (some_end c.loop-lowest.entries))
 
 pub returns-then-not-within-clause-merged : goal.returns-then-not-within-clause-merged
 returns-then-not-within-clause-merged g c = (returns-then-not-within-clause-ended g c).merged
 
 pub returns-then-not-within-clause-failures : goal.returns-then-not-within-clause-failures
 returns-then-not-within-clause-failures g c =
-    no_failure g.G.Stream.Stream.behaviour c.loop-fact.invariant.state
+    no_failure g.G.Stream.Stream.behaviour c.loop-lowest.invariant.state
 
 pub returns-then-not-within-clause-cut : goal.returns-then-not-within-clause-cut
 returns-then-not-within-clause-cut g c = λ e.

@@ -4,8 +4,8 @@ use Rattle.flute_streams.proofs.merge_lemmas.StreamStates.{State}
 use Rattle.flute_streams.specs.Ranks.{IsLed}
 use Rattle.flute_streams.proofs.merge.all_streams.merge_into.Given as goal
 
-abbrev pub invariant-loop-fact : goal.invariant-loop-fact
-invariant-loop-fact g l = record {
+abbrev pub invariant-loop-lowest : goal.invariant-loop-lowest
+invariant-loop-lowest g l = record {
   state : State g.G.Stream.Stream.behaviour l.writer.failed
       (IsCounted g.row.SESSIONS g.row.OBJECTS g.row.SYMBOLS l.tally l.within)
       (g.G.Streams.streams l.fn.streams) (g.G.Streams.streams l.streams)
@@ -18,5 +18,5 @@ invariant-loop-fact g l = record {
   names : g.G.Streams.names l.streams ≡ g.G.Streams.names l.fn.streams;
 }
 
-abbrev pub decreases-loop-fact : goal.decreases-loop-fact
-decreases-loop-fact g l = most_of g.G.Stream.Stream.behaviour (g.G.Streams.streams l.streams)
+abbrev pub decreases-loop-lowest : goal.decreases-loop-lowest
+decreases-loop-lowest g l = most_of g.G.Stream.Stream.behaviour (g.G.Streams.streams l.streams)

@@ -1,6 +1,6 @@
 -- MemoryWorld::close: what is closed comes before all that the names had.
 use Rattle.std.proofs.Common.{Some, ap, map}
-use Rattle.flute_output_memory.specs.Memory.{memory_entries}
+use Rattle.flute_memory.specs.Memory.{memory_entries}
 use Rattle.flutejoin_memory.specs.NamedFiles.{with_bytes}
 use Rattle.flutejoin_memory.proofs.Replacing.{closes}
 use Rattle.flutejoin_memory.proofs.memory_world.MemoryWorldWorld.close.Goals as goal

@@ -20,7 +20,7 @@ use denote.RattleType.{owns}
 use denote.Builtin.{RefOf}
 use denote.Text.{StrRefOf}
 use denote.Slice.{slice_val}
-use Rattle.flute_output_memory.specs.contracts.memory_folder.MemoryFolder as MemoryFolder
+use Rattle.flute_memory.specs.contracts.memory_folder.MemoryFolder as MemoryFolder
 use denote.Signature.{plain, types_at}
 use denote.Steps.{nothing}
 use denote.Triple.Clauses.{Clauses, closing}
@@ -28,7 +28,7 @@ use denote.Triple.Entry.{alive}
 use denote.Triple.Spec.{Meets, triple_of}
 use denote.Triple.Table.{entered}
 use denote.Triple.Walked.{says, Stays, stay_dropped, walk_of, ends_at, walk_Meets, Goes-dropped}
-use Rattle.flute_output_memory.specs.Memory.{memory_entries}
+use Rattle.flute_memory.specs.Memory.{memory_entries}
 use Rattle.flutejoin_commands.specs.Closings.{closing as noted}
 use Rattle.flutejoin_memory.proofs.Empty.{none, none_made}
 use Rattle.flutejoin_memory.specs.contracts.told.Told as Told

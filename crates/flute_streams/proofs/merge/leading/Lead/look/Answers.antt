@@ -1,5 +1,5 @@
 -- Lead::look: one stream more: it holds nothing before the next address, or is the one to lead.
-use Rattle.flute_streams.proofs.Common.{◌≤◌, length, sym, subst, arith, fact_in, Leads}
+use Rattle.flute_streams.proofs.Common.{◌≤◌, length, option_copied, sym, subst, arith, Leads}
 use Rattle.flute_streams.proofs.merge_lemmas.LeadFacts.{lead-new}
 use Rattle.flute_streams.proofs.merge.leading.Lead.look.Goals as goal
 
@@ -10,5 +10,5 @@ returns g c = λ below.
     let h = c.loop-other.invariant in
     let all : length streams ≤ c.loop-other.other = omega (arith, h.all, c.loop-other-test.false) in
     subst (λ n. Leads b streams n c.loop-other.self.next) (sym h.number)
-    (lead-new b (fact_in c.head-head.result) c.requires all c.head-head.ensures h.firsts
+    (lead-new b (option_copied c.place-place.result) c.requires all c.place-place.ensures h.firsts
     (c.is_below-self.ensures below))

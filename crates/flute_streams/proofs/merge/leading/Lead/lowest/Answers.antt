@@ -1,23 +1,26 @@
-use Rattle.flute_streams.proofs.Common.{Some, ap, fact_in, sym, ◌∙◌}
-use Rattle.std.proofs.lemmas.Option.{slice_get_within}
+use Rattle.flute_streams.proofs.Common.{ap, option_copied, place_of, slice_get_within, sym, ◌∙◌}
 use Rattle.flute_streams.proofs.merge_lemmas.LeadFacts.{lead-lowest}
-use Rattle.flute_streams.proofs.merge_lemmas.LowestFacts.{spelled-at}
+use Rattle.flute_streams.proofs.merge_lemmas.Places.{read-at}
+use Rattle.flute_streams.specs.Lowest.{held_at, held_in}
 use Rattle.flute_streams.proofs.merge.leading.Lead.lowest.Goals as goal
 
 pub returns-in-Some-clause-lowest : goal.returns-in-Some-clause-lowest
 returns-in-Some-clause-lowest g c =
+    let b = g.G.Stream.Stream.behaviour in
+    let xs = g.G.Streams.streams c.args.streams.now in
     let l = c.requires.led.leads c.if-self.true in
-    lead-lowest g.G.Stream.Stream.behaviour
-    (g.G.Streams.streams c.args.streams.now) c.args.self.now.number c.args.self.now.next
-    (fact_in (Some c.in-Some.fact)) l
-    (ap fact_in (sym c.in-Some.is) ∙ c.head.ensures l.stream l.is)
+    rw c.first.ensures
+    (lead-lowest b xs c.args.self.now.number c.args.self.now.next
+    (held_at b xs c.args.self.now.number) l (ap (held_in b) l.is))
 
-pub returns-in-Some-clause-spelled : goal.returns-in-Some-clause-spelled
-returns-in-Some-clause-spelled g c =
-    let streams = g.G.Streams.streams c.args.streams.now in
-    let number = c.args.self.now.number in
+pub returns-in-Some-clause-stands : goal.returns-in-Some-clause-stands
+returns-in-Some-clause-stands g c =
+    let b = g.G.Stream.Stream.behaviour in
+    let xs = g.G.Streams.streams c.args.streams.now in
     let l = c.requires.led.leads c.if-self.true in
-    let is = c.in-Some.is in
-    rw is at
-    (spelled-at g.G.Stream.Stream.behaviour streams number c.requires.spelled
-    (slice_get_within streams number l.stream l.is) c.head.ensures c.spelled.ensures)
+    let k = c.args.self.now.number in
+    rw c.first.ensures (
+      c.in-Some.field-0.now,
+      sym (read-at b xs k place_of (slice_get_within xs k l.stream l.is) c.place.ensures)
+          ∙ ap option_copied c.in-Some.is,
+    )

@@ -2,7 +2,7 @@
 use Rattle.flute_streams.proofs.Common.{◌≡◌, ◌-◌, ◌<◌, ◌≤◌, Some, length}
 use Rattle.flute_streams.proofs.merge_lemmas.GoingOn.{WentSoFar}
 use Rattle.flute_streams.proofs.merge_lemmas.RankedStreams.{AreRankedFrom}
-use Rattle.flute_streams.specs.Ranks.{AreLow}
+use Rattle.flute_streams.specs.Ranks.{AreLowBut}
 use Rattle.flute_streams.proofs.merge.ranks.Ranks.advance.Given as goal
 
 abbrev pub invariant-loop-number : goal.invariant-loop-number
@@ -13,7 +13,8 @@ invariant-loop-number g l = record {
   names : g.G.Streams.names l.streams ≡ g.G.Streams.names l.fn.streams;
   ranked : AreRankedFrom g.G.Stream.Stream.behaviour l.fn.place.key l.next l.known
       (g.G.Streams.streams l.streams) l.self.ranks;
-  low : AreLow l.self.lows l.self.ranks;
+  low : AreLowBut l.block l.next l.self.lows l.self.ranks;
+  block : l.block < 16;
   next : l.next ≤ l.all;
   key : l.self.key ≡ Some l.fn.place.key;
   count : l.moved.count ≤ l.next;

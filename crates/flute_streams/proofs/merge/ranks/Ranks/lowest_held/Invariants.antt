@@ -1,15 +1,18 @@
--- Ranks::lowest_held: the value at that address of what the first streams hold.
-use Rattle.flute_streams.proofs.Common.{◌-◌, ◌≤◌, take, fact_in, heads}
-use Rattle.flute_journal.specs.HeldEntries.{IsSpelling}
-use Rattle.flute_streams.specs.Lowest.{ComesTo}
+-- Ranks::lowest_held: the value at that rank of what the first streams hold.
+use Rattle.flute_streams.proofs.Common.{Key, Some, heads, take, ◌-◌, ◌≡◌, ◌≤◌}
+use Rattle.flute_streams.specs.Lowest.{ComesTo, StandsOn, value_at}
+use Rattle.flute_streams.specs.Ranks.{place_at_rank}
 use Rattle.flute_streams.proofs.merge.ranks.Ranks.lowest_held.Given as goal
 
 abbrev pub invariant-loop-number : goal.invariant-loop-number
 invariant-loop-number g l = record {
-  comes : ComesTo l.place
+  comes : (key : Key) → l.fn.self.key ≡ Some key → ComesTo (place_at_rank key l.rank)
       (heads g.G.Stream.Stream.behaviour (take l.next (g.G.Streams.streams l.fn.streams)))
-      (fact_in l.value);
-  spelled : IsSpelling l.spelled (fact_in l.value);
+      (value_at g.G.Stream.Stream.behaviour (g.G.Streams.streams l.fn.streams) l.lowest);
+  stands : (key : Key) → l.fn.self.key ≡ Some key
+      → StandsOn g.G.Stream.Stream.behaviour (place_at_rank key l.rank)
+      (g.G.Streams.streams l.fn.streams) l.lowest;
+  number : l.lowest.number ≡ l.first;
   next : l.next ≤ l.all;
 }
 

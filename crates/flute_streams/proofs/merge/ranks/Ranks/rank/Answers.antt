@@ -1,5 +1,5 @@
 -- Ranks::rank: one stream more is ranked, or none is.
-use Rattle.flute_streams.proofs.Common.{◌≤◌, length, arith, fact_in, subst, sym, IfSome}
+use Rattle.flute_streams.proofs.Common.{◌≤◌, length, arith, option_copied, subst, sym, IfSome}
 use Rattle.flute_streams.proofs.merge_lemmas.RankedStreams.{ranked_more, ranked_all}
 use Rattle.flute_streams.specs.Ranks.{AreRanked}
 use Rattle.flute_streams.proofs.merge.ranks.Ranks.rank.Goals as goal
@@ -16,7 +16,7 @@ pub loop-number-preserved : goal.loop-number-preserved
 loop-number-preserved g c = record {
   ranked =
       ranked_more g.G.Stream.Stream.behaviour c.args.key c.loop-number.number
-      c.set_rank.new.ranks (fact_in c.head.result) c.head.ensures
+      c.set_rank.new.ranks (option_copied c.place.result) c.place.ensures
       (c.set_rank.ensures.set c.if-not-set_rank.false) c.set_rank.ensures.others
       c.loop-number.invariant.ranked;
   all = c.loop-number.invariant.all;

@@ -1,0 +1,58 @@
+//! A source that gives little at a time, and fails.
+ghost use Rattle.std.specs.Prelude.{◌≡◌, ◌<◌, Some};
+
+use flute_parts::{DeviceFault, Failures, Source};
+
+/// A source for tests: it gives the bytes of a slice in short pieces, until it fails for
+/// good. It takes no memory.
+#[derive(Debug, Drop)]
+pub struct ShortSource<'a> {
+    unread: &'a [u8],
+    piece: usize,
+    good: usize,
+    failures: Failures,
+    ghost some_piece: { 0 < piece },
+}
+
+impl<'a> ShortSource<'a> {
+    /// A source of these bytes that gives at most `piece` of them at a time, which is at least 1,
+    /// and fails in each call from the moment that it has given `good` of them.
+    pub fn new(bytes: &'a [u8], piece: usize, good: usize) -> ShortSource<'a>
+        requires { 0 < piece }
+        ensures bytes { ⟦<ShortSource<'a> as Source>⟧.unread result ≡ Some bytes.now }
+        ensures failures { ⟦<ShortSource<'a> as Source>⟧.failures result ≡ 0 }
+    {
+        ShortSource {
+            unread: bytes,
+            piece,
+            good,
+            failures: Failures::none(),
+        }
+    }
+}
+
+impl Source for ShortSource<'_> {
+    ghost failures = { λ s. s.failures.count };
+
+    ghost unread = { λ s. Some s.unread.now };
+
+    fn read(&mut self, buffer: &mut [u8]) -> Result<usize, DeviceFault> {
+        if self.good == 0 {
+            self.failures = self.failures.and_one();
+            return Err(DeviceFault);
+        }
+        let most = self.piece.min(self.good);
+        let count = most.min(self.unread.len()).min(buffer.len());
+        let (given, rest) = self.unread.split_at(count);
+        buffer[..count].copy_from_slice(given);
+        self.unread = rest;
+        self.good -= count;
+        Ok(count)
+    }
+
+    fn buffer(&self) -> &[u8] {
+        &[]
+    }
+
+    fn consume(&mut self, _count: usize) {}
+}

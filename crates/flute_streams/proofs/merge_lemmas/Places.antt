@@ -1,0 +1,354 @@
+-- Lemmas on LowestValue (specs/Lowest): what the stream there holds, and one stream more.
+use Rattle.flute_streams.proofs.Common.{Address, AllByRecursion, AreNew, Behaviour, Bool, Equal}
+use Rattle.flute_streams.proofs.Common.{Fact}
+use Rattle.flute_streams.proofs.Common.{Greater, IfSome, IsFact, IsLowest, Less, Lowest, heads}
+use Rattle.flute_streams.proofs.Common.{List, None, Option, Some}
+use Rattle.flute_streams.proofs.Common.{[], address, address_cmp, ap, arith}
+use Rattle.flute_streams.proofs.Common.{bytes_eq, cases_Bool, conflict_at, entry, fact_same}
+use Rattle.flute_streams.proofs.Common.{if◌then◌else◌, inl, inr, length, option_list}
+use Rattle.flute_streams.proofs.Common.{place_of, refl, same_Some, same_fact, slice_get, subst, suc}
+use Rattle.flute_streams.proofs.Common.{sym, true, false, zero, ℕ, ◌++◌, ◌<◌, ◌∙◌, ◌∷◌, ◌≡◌, ◌≢◌}
+use Rattle.std.specs.Prelude.{◌==◌}
+use Rattle.std.proofs.lemmas.Slice.Eq.{bytes_eq-Decides}
+use Rattle.flute_parts.specs.Equality.{bytes_same, fact_itself}
+use Rattle.flute_journal.proofs.Public.{same_entry}
+use Rattle.flute_journal.specs.HeldEntries.{IsSpelling}
+use Rattle.flute_journal.specs.JournalWriters.{Puts}
+use Rattle.flute_journal.specs.declared.writers.journal_writer.JournalWriter.{JournalWriter}
+use Rattle.flute_streams.proofs.Common.{Ordering}
+use Rattle.flute_streams.proofs.merge_lemmas.GoingOn.{item_at}
+use Rattle.flute_streams.proofs.merge_lemmas.LowestFacts.{conflict-place, lowest_alone}
+use Rattle.flute_streams.proofs.merge_lemmas.LowestFacts.{lowest_apart, lowest_same, lowest_stays}
+use Rattle.flute_streams.proofs.merge_lemmas.LowestFacts.{lowest_turns, up_to_itself}
+use Rattle.flute_streams.proofs.merge_lemmas.RankFacts.{comes-apart, comes-first, comes-same}
+use Rattle.flute_streams.specs.Lowest.{AreSpelled, ComesTo, IsNotBefore, Joins, Stands, StandsOn}
+use Rattle.flute_streams.specs.Lowest.{conflict_of, first_at, held_at, held_in, place_at}
+use Rattle.flute_streams.specs.Lowest.{value_at, value_of}
+use Rattle.flute_streams.specs.declared.merge.lowest.LowestValue.{LowestValue}
+
+-- what is read of the stream with that number
+pub read-at : {S X : Type 0} (b : Behaviour S) (streams : List S) (k : ℕ)
+    (read : Option Fact → X) {o : X} → k < length streams
+    → ((s : S) → slice_get streams k ≡ Some s → o ≡ read (b.held s))
+    → o ≡ read (held_at b streams k)
+read-at b streams k read within h =
+    let x = item_at streams k within in
+    h x.0 x.1 ∙ ap (λ s. read (held_in b s)) (sym x.1)
+
+all_at : {X : Type 0} (P : X → Type 0) (xs : List X) (k : ℕ) {x : X} → AllByRecursion P xs
+    → slice_get xs k ≡ Some x → P x
+all_at P [] k h e = absurd cc
+all_at P (y ∷ ys) zero h e = subst P (same_Some _ _ e) h.0
+all_at P (y ∷ ys) (suc k) h e = all_at P ys k h.1 e
+
+-- the bytes that one stream has of what it holds
+pub spelled-at : {S : Type 0} (b : Behaviour S) (streams : List S) (k : ℕ) {bytes : List ℕ}
+    → AreSpelled b streams → k < length streams
+    → ((s : S) → slice_get streams k ≡ Some s → bytes ≡ b.spelled s)
+    → IsSpelling bytes (held_at b streams k)
+spelled-at b streams k {bytes = bytes} all within spelled =
+    let x = item_at streams k within in
+    let own = all_at (λ s. IsSpelling (b.spelled s) (b.held s)) streams k all x.1 in
+    subst (λ s. IsSpelling bytes (held_in b s)) (sym x.1)
+    (subst (λ l. IsSpelling l (b.held x.0)) (sym (spelled x.0 x.1)) own)
+
+pub held-within : {S : Type 0} (b : Behaviour S) (streams : List S) (k : ℕ) {f : Fact}
+    → held_at b streams k ≡ Some f → k < length streams
+held-within b [] k e = absurd cc
+held-within b (s ∷ streams) zero e = omega arith
+held-within b (s ∷ streams) (suc k) e =
+    let h = held-within b streams k e in omega (arith, h)
+
+pub place-some : (o : Option Fact) (a : Address) → place_of o ≡ Some a
+    → (f : Fact) × (o ≡ Some f) × (address f ≡ a)
+place-some None a e = absurd cc
+place-some (Some f) a e = (f, refl, same_Some (address f) a e)
+
+-- the value where a stream stands
+pub record HasValue {S : Type 0} (b : Behaviour S) (streams : List S)
+    (l : LowestValue) : Type 0 where
+  pub fact : Fact
+  pub is : value_at b streams l ≡ Some fact
+  pub at : place_at b streams l ≡ Some (address fact)
+
+pub has_value : {S : Type 0} (b : Behaviour S) (streams : List S) (l : LowestValue)
+    → Stands b streams l → HasValue b streams l
+has_value b streams l stands =
+    let held = held_at b streams l.number in
+    let h = place-some held stands.0 stands.1 in
+    elim (cases_Bool l.conflict) [
+      | inl e ↦ record {
+        fact = conflict_at (address h.0);
+        is = ap (λ c. if c then conflict_of held else held) e ∙ ap conflict_of h.1;
+        at = ap place_of h.1 ∙ ap Some (sym (conflict-place (address h.0)));
+      }
+      | inr e ↦ record {
+        fact = h.0;
+        is = ap (λ c. if c then conflict_of held else held) e ∙ h.1;
+        at = ap place_of h.1;
+      }
+    ]
+
+pub stands-within : {S : Type 0} (b : Behaviour S) (streams : List S) (l : LowestValue)
+    → Stands b streams l → l.number < length streams
+stands-within b streams l stands =
+    held-within b streams l.number
+    (place-some (held_at b streams l.number) stands.0 stands.1).1
+
+pub place-none : (o : Option Fact) → place_of o ≡ None → o ≡ None
+place-none None e = refl
+place-none (Some f) e = absurd cc
+
+pub not-empty : {bytes : List ℕ} {r : Bool} → r ≡ (length bytes == 0) → r ≡ false
+    → bytes ≢ []
+not-empty h e n = let t = ap (λ (l : List ℕ). length l == 0) n in absurd cc
+
+pub some-of : (P : Fact → Type 0) {o : Option Fact} {f : Fact} → o ≡ Some f → IfSome o P
+    → P f
+some-of P e h = subst (λ o. IfSome o P) e h
+
+-- Of two streams, the bytes of the same fact are the same.
+
+same_spelled : (g f : Fact) (one other : List ℕ) → IsFact g × (one ≡ entry g)
+    → IsFact f × (other ≡ entry f) → bytes_eq one other ≡ same_fact g f
+same_spelled g f one other p q = elim (cases_Bool (bytes_eq one other)) [
+  | inl e ↦
+      let same : g ≡ f =
+      same_entry g f p.0 q.0 (sym p.1 ∙ bytes_same one other e ∙ q.1) in
+      e ∙ sym (subst (λ x. same_fact g x ≡ true) same (fact_itself g))
+  | inr e ↦ elim (cases_Bool (same_fact g f)) [
+    | inl s ↦
+        let same : one ≡ other = p.1 ∙ ap entry (fact_same g f s) ∙ sym q.1 in
+        let is : bytes_eq one other ≡ true =
+        subst (λ l. bytes_eq one l ≡ true) same ((bytes_eq-Decides one one).1 refl) in
+        absurd cc
+    | inr s ↦ e ∙ sym s
+  ]
+]
+
+spelled_some : (bytes : List ℕ) (f : Fact) → bytes ≢ [] → IsSpelling bytes (Some f)
+    → IsFact f × (bytes ≡ entry f)
+spelled_some bytes f some h = elim h [ inl none ↦ absurd (some none) | inr is ↦ is ]
+
+pub spelled-same : {one other : List ℕ} {o p : Option Fact} (g f : Fact) → IsSpelling one o
+    → IsSpelling other p → one ≢ [] → other ≢ [] → o ≡ Some g → p ≡ Some f
+    → bytes_eq one other ≡ same_fact g f
+spelled-same {one = one} {other = other} g f h k some any e d =
+    same_spelled g f one other (spelled_some one g some (subst (IsSpelling one) e h))
+    (spelled_some other f any (subst (IsSpelling other) d k))
+
+-- the order of the place of a stream, which holds a fact, and that of a value
+pub record Compared {S : Type 0} (b : Behaviour S) (streams : List S) (k : ℕ) (l : LowestValue)
+    (order : Ordering) : Type 0 where
+  pub fact : Fact
+  pub here : held_at b streams k ≡ Some fact
+  pub value : HasValue b streams l
+  pub is : address_cmp (address fact) (address value.fact) ≡ order
+
+-- as the addresses that were read of them have it
+pub compared : {S : Type 0} (b : Behaviour S) (streams : List S) (l : LowestValue) {k : ℕ}
+    {p q : Option Address} {order : Ordering} → Stands b streams l
+    → Stands b streams (first_at k)
+    → ((s : S) → slice_get streams k ≡ Some s → p ≡ place_of (b.held s))
+    → ((s : S) → slice_get streams l.number ≡ Some s → q ≡ place_of (b.held s))
+    → ((a c : Address) → p ≡ Some a → q ≡ Some c → order ≡ address_cmp a c)
+    → Compared b streams k l order
+compared b streams l {k = k} stands here first second is =
+    let f = place-some (held_at b streams k) here.0 here.1 in
+    let v = has_value b streams l stands in
+    record {
+      fact = f.0;
+      here = f.1;
+      value = v;
+      is = sym (is (address f.0) (address v.fact)
+          (read-at b streams k place_of (held-within b streams k f.1) first ∙ ap place_of f.1)
+          (read-at b streams l.number place_of (stands-within b streams l stands) second
+          ∙ v.at));
+    }
+
+-- the value at the lowest address
+pub record AtLowest {S : Type 0} (b : Behaviour S) (streams : List S)
+    (l : LowestValue) : Type 0 where
+  pub value : HasValue b streams l
+  pub lowest : Lowest (heads b streams) value.fact
+
+pub at_lowest : {S : Type 0} (b : Behaviour S) (streams : List S) {l : LowestValue}
+    → Stands b streams l → IsLowest (heads b streams) (value_at b streams l)
+    → AtLowest b streams l
+at_lowest b streams {l = l} stands h =
+    let v = has_value b streams l stands in
+    record { value = v; lowest = subst (IsLowest (heads b streams)) v.is h }
+
+-- it was written
+pub record WrittenAt {S W : Type 0} (b : Behaviour S) (streams : List S) (l : LowestValue)
+    (written : W → Option (List ℕ)) (failures : W → ℕ) (old new : JournalWriter W)
+    : Type 0 where
+  pub value : HasValue b streams l
+  pub lowest : Lowest (heads b streams) value.fact
+  pub valid : IsFact value.fact
+  pub puts : Puts written failures (entry value.fact) old new
+
+pub written_at : {S W : Type 0} (b : Behaviour S) (streams : List S) {l : LowestValue}
+    {written : W → Option (List ℕ)} {failures : W → ℕ} {old new : JournalWriter W}
+    → Stands b streams l → IsLowest (heads b streams) (value_at b streams l)
+    → IfSome (value_at b streams l) IsFact
+    → IfSome (value_at b streams l) (λ f. Puts written failures (entry f) old new)
+    → WrittenAt b streams l written failures old new
+written_at b streams {written = written} {failures = failures} {old = old} {new = new} stands h
+    valid puts =
+    let v = at_lowest b streams stands h in
+    record {
+      value = v.value;
+      lowest = v.lowest;
+      valid = some-of IsFact v.value.is valid;
+      puts = some-of (λ f. Puts written failures (entry f) old new) v.value.is puts;
+    }
+
+-- its address is that of the stream
+pub placed : {S : Type 0} (b : Behaviour S) (streams : List S) {l : LowestValue}
+    {o : Option Address} {a : Address} (v : HasValue b streams l) → Stands b streams l
+    → ((s : S) → slice_get streams l.number ≡ Some s → o ≡ place_of (b.held s))
+    → o ≡ Some a → address v.fact ≡ a
+placed b streams {l = l} {a = a} v stands h e =
+    same_Some (address v.fact) a
+    (sym v.at ∙ sym (read-at b streams l.number place_of (stands-within b streams l stands) h)
+    ∙ e)
+
+-- the first of new streams holds nothing
+pub none-new : {S : Type 0} (b : Behaviour S) (streams : List S) → AreNew b streams
+    → place_of (held_at b streams 0) ≡ None
+none-new b [] new = refl
+none-new b (s ∷ streams) new = ap place_of new.0.held
+
+-- those that stand at one address
+
+pub all-there : {S : Type 0} (b : Behaviour S) (streams : List S) (a : Address)
+    (l : LowestValue) (lowest : Option LowestValue) → StandsOn b a streams l
+    → IfSome lowest (StandsOn b a streams)
+    → IfSome lowest (λ m. place_at b streams l ≡ place_at b streams m)
+all-there b streams a l None on stands = tt
+all-there b streams a l (Some m) on stands = on ∙ sym stands
+
+pub stand-on : {S : Type 0} (b : Behaviour S) (streams : List S) (a : Address)
+    (lowest : Option LowestValue) → IfSome lowest (StandsOn b a streams)
+    → IfSome lowest (Stands b streams)
+stand-on b streams a None stands = tt
+stand-on b streams a (Some m) stands = (a, stands)
+
+-- where it was found there is a value
+pub found-there : {S : Type 0} (b : Behaviour S) (streams : List S) (a : Address)
+    (lowest : Option LowestValue) → IfSome lowest (StandsOn b a streams)
+    → IfSome (value_of b streams lowest) (Lowest (heads b streams))
+    → IfSome lowest (λ l. IsLowest (heads b streams) (value_at b streams l))
+found-there b streams a None stands h = tt
+found-there b streams a (Some l) stands h =
+    let v = has_value b streams l (a, stands) in
+    subst (IsLowest (heads b streams)) (sym v.is)
+    (some-of (Lowest (heads b streams)) v.is h)
+
+module _ {S : Type 0} (b : Behaviour S) (streams : List S) where
+  pub place-joined : (l : LowestValue) (k : ℕ) (r : LowestValue) → Joins b streams l k r
+      → place_at b streams r ≡ place_at b streams l
+  place-joined l k r j = ap (λ n. place_of (held_at b streams n)) j.number
+
+  -- where values differ, the next value there changes nothing
+  pub joins-conflict : (l : LowestValue) (k : ℕ) → Stands b streams l
+      → place_at b streams (first_at k) ≡ place_at b streams l → l.conflict ≡ true
+      → Joins b streams l k l
+  joins-conflict l k stands here e = record {
+    number = refl;
+    same = λ g f v h s. v;
+    apart = λ g f v h s.
+        let held = held_at b streams l.number in
+        let x = place-some held stands.0 stands.1 in
+        let at = same_Some (address f) (address x.0)
+        (sym (ap place_of h) ∙ here ∙ ap place_of x.1) in
+        ap (λ c. if c then conflict_of held else held) e ∙ ap conflict_of x.1
+        ∙ ap (λ a. Some (conflict_at a)) (sym at);
+  }
+
+  -- nor does the same value
+  pub joins-same : (l : LowestValue) (k : ℕ) → l.conflict ≡ false
+      → ((g f : Fact) → held_at b streams l.number ≡ Some g → held_at b streams k ≡ Some f
+      → true ≡ same_fact g f) → Joins b streams l k l
+  joins-same l k e alike = record {
+    number = refl;
+    same = λ g f v h s. v;
+    apart = λ g f v h s.
+        let held = held_at b streams l.number in
+        let t = alike g f (sym (ap (λ c. if c then conflict_of held else held) e) ∙ v) h in
+        absurd cc;
+  }
+
+  -- One stream more, which holds the fact f.
+  module _ (facts : List Fact) (k : ℕ) {f : Fact} (here : held_at b streams k ≡ Some f) where
+    -- it is the first
+    pub lowest-first : facts ≡ []
+        → IsLowest (facts ++ option_list (held_at b streams k)) (held_at b streams k)
+    lowest-first none =
+        subst (λ o. IsLowest (facts ++ option_list o) o) (sym here) (lowest_alone facts f none)
+
+    module _ (l : LowestValue) {g : Fact} (is : value_at b streams l ≡ Some g)
+        (h : IsLowest facts (value_at b streams l)) where
+      low : IsLowest facts (Some g)
+      low = subst (IsLowest facts) is h
+
+      -- it is below the lowest place
+      pub lowest-below : address_cmp (address f) (address g) ≡ Less
+          → IsLowest (facts ++ option_list (held_at b streams k)) (held_at b streams k)
+      lowest-below less =
+          subst (λ o. IsLowest (facts ++ option_list o) o) (sym here)
+          (lowest_turns facts f g low less)
+
+      -- it is above the lowest place
+      pub lowest-above : address_cmp (address f) (address g) ≡ Greater
+          → IsLowest (facts ++ option_list (held_at b streams k)) (value_at b streams l)
+      lowest-above greater =
+          subst (λ o. IsLowest (facts ++ option_list o) (value_at b streams l)) (sym here)
+          (subst (IsLowest (facts ++ f ∷ [])) (sym is) (lowest_stays facts f g low greater))
+
+      -- it is there
+      pub lowest-joined : address_cmp (address f) (address g) ≡ Equal → (r : LowestValue)
+          → Joins b streams l k r
+          → IsLowest (facts ++ option_list (held_at b streams k)) (value_at b streams r)
+      lowest-joined equal r j =
+          subst (λ o. IsLowest (facts ++ option_list o) (value_at b streams r)) (sym here)
+          (elim (cases_Bool (same_fact g f)) [
+            | inl e ↦ subst (IsLowest (facts ++ f ∷ [])) (sym (j.same g f is here e))
+                (lowest_same facts f g low equal e)
+            | inr e ↦ subst (IsLowest (facts ++ f ∷ [])) (sym (j.apart g f is here e))
+                (lowest_apart facts f g low equal e)
+          ])
+
+  -- What comes to be the value at that address, with one stream more that is there.
+  module _ (facts : List Fact) (k : ℕ) (a : Address)
+      (on : StandsOn b a streams (first_at k)) where
+    held : (f : Fact) × (held_at b streams k ≡ Some f) × (address f ≡ a)
+    held = place-some (held_at b streams k) a on
+
+    not_before : IsNotBefore a held.0
+    not_before = subst (λ x. IsNotBefore x held.0) held.2 (up_to_itself (address held.0))
+
+    pub comes-alone : ComesTo a facts None
+        → ComesTo a (facts ++ option_list (held_at b streams k)) (held_at b streams k)
+    comes-alone h =
+        subst (λ o. ComesTo a (facts ++ option_list o) o) (sym held.1)
+        (comes-first a facts held.0 held.2 not_before h)
+
+    pub comes-joined : (l r : LowestValue) → StandsOn b a streams l → Joins b streams l k r
+        → ComesTo a facts (value_at b streams l)
+        → ComesTo a (facts ++ option_list (held_at b streams k)) (value_at b streams r)
+    comes-joined l r stands j h =
+        let v = has_value b streams l (a, stands) in
+        let low = subst (ComesTo a facts) v.is h in
+        subst (λ o. ComesTo a (facts ++ option_list o) (value_at b streams r)) (sym held.1)
+        (elim (cases_Bool (same_fact v.fact held.0)) [
+          | inl e ↦
+              subst (ComesTo a (facts ++ held.0 ∷ []))
+              (sym (j.same v.fact held.0 v.is held.1 e))
+              (comes-same a facts v.fact held.0 held.2 not_before e low)
+          | inr e ↦
+              subst (ComesTo a (facts ++ held.0 ∷ []))
+              (sym (j.apart v.fact held.0 v.is held.1 e))
+              (comes-apart a facts v.fact held.0 held.2 not_before e low)
+        ])
