@@ -74,6 +74,44 @@ def fill(descriptor: int) -> None:
             os.write(descriptor, bytes(99) + b"\n")
 
 
+# Runs the tool again and again until it waits for datagrams for the first time. Each run ends by a
+# signal, which comes one step of Python later than in the run before.
+STEPS = """
+import os, signal, sys
+sys.path.insert(0, {tools!r})
+code = compile(open({tool!r}).read(), {tool!r}, "exec")
+def called(frame, event, _):
+    if frame.f_code.co_filename == {tool!r} and frame.f_code.co_name == "wait":
+        os._exit(99)
+    if frame.f_code.co_filename == {tool!r} and frame.f_code.co_name == "run":
+        frame.f_trace_opcodes = True
+        return stepped
+def stepped(frame, event, _):
+    global left
+    left -= event == "opcode"
+    if not left:
+        sys.settrace(None)
+        signal.raise_signal(signal.SIGTERM)
+    return stepped
+step, status = 0, 1
+while status != 99:
+    step += 1
+    child = os.fork()
+    if not child:
+        signal.alarm({longest})
+        left = step
+        sys.settrace(called)
+        try:
+            exec(code, dict(__name__="__main__"))
+        except SystemExit as end:
+            os._exit(end.code)
+    status = os.waitstatus_to_exitcode(os.waitpid(child, 0)[1])
+    if status not in (1, 99):
+        print("step", step, "status", status)
+print(step, "steps")
+"""
+
+
 class Receiver:
     """A run of the tool, with its folder and its output."""
 
@@ -984,6 +1022,14 @@ class Patched(Case):
         receiver.process.send_signal(signal.SIGINT)
         status, _ = receiver.end(signal.SIGCONT)
         self.assertEqual((status, records(self.path("kept/127.0.0.1.fldg"))), (0, sent))
+
+    def test_a_signal_at_any_step(self) -> None:
+        """A run that begins ends by it, whatever it does at that moment."""
+        code = STEPS.format(tool=TOOL, tools=TOOLS, longest=LONGEST_WAIT)
+        words = "--port", str(free_port()), "--interface", "127.0.0.1", "-o", "kept"
+        command = sys.executable, "-c", code, *words
+        done = subprocess.run(command, cwd=self.work, capture_output=True, text=True, check=False)
+        self.assertRegex(done.stdout, r"^[1-9][0-9]+ steps\n$")
 
     def test_an_end_while_datagrams_come(self) -> None:
         """A run ends even if there is always another datagram."""

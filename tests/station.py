@@ -979,19 +979,26 @@ def a_run_that_was_killed(work: pathlib.Path) -> None:
     check("a lock is waited for", "listening" in run.text(), run.text())
     check("its status", run.end() in (0, 1), run.text())
     code = f"""
-import os, sys, time
+import os, signal, sys, time
 sys.path.insert(0, {str(TOOLS)!r})
 from flutejoin_joining import die_with_parent
+signal.signal(signal.SIGTERM, lambda *_: None)
 ask, parent = die_with_parent(), os.getpid()
+if not os.fork():
+    ask()
+    signal.raise_signal(signal.SIGTERM)
+    print("it goes on behind the signal", flush=True)
+    os._exit(0)
+os.wait()
 if not os.fork():
     while os.getppid() == parent:
         time.sleep(0.01)
     ask()
-    print("it goes on", flush=True)
+    print("it goes on without a parent", flush=True)
 os._exit(0)
 """
     done = subprocess.run([sys.executable, "-c", code], capture_output=True, timeout=LONGEST)
-    check("a child whose parent ended", done.stdout == done.stderr == b"", done)
+    check("a child whose parent ends", done.stdout == done.stderr == b"", done)
 
 
 def in_mounts(work: pathlib.Path) -> None:

@@ -56,6 +56,8 @@ def die_with_parent(number: int = signal.SIGTERM) -> Callable[[], None]:
         prctl = None
 
     def ask() -> None:
+        # Until it runs the program, a handler of its parent's would take the signal.
+        signal.signal(signal.SIGTERM, signal.SIG_DFL)
         if prctl:
             prctl(DIE_WITH_PARENT, int(number))
         if os.getppid() != parent:
