@@ -87,7 +87,7 @@ module _ {K X : Type 0} {cmp : K → K → Ordering} (order : IsTotalOrder cmp)
   put_held_at e es x Equal p s f ih = rw p refl
   put_held_at e es x Greater p s f ih = rw p (ap (λ l. e ∷ l) (ih (rw p at f)))
 
-  pub put_held : (es : List (K × X)) (k : K) (v x : X) → IsOrdered cmp es
+  put_held : (es : List (K × X)) (k : K) (v x : X) → IsOrdered cmp es
       → value_at cmp es k ≡ Some v → insert_entry cmp es k x ≡ set_value (is_at (cmp k)) es x
   put_held [] k v x s f = absurd (none-some v f)
   put_held (e ∷ es) k v x s f =

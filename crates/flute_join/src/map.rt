@@ -178,11 +178,14 @@ impl<K: Place, V: Join, const LIMIT: u32> JoinMap<K, V, LIMIT> {
         self.insert(key, value.copy(alloc)?)
     }
 
-    /// Joins what `update` says into the value at a key, or makes it the value at a new key. The key
-    /// is looked up once.
+    /// Joins what `update` says into the value at a key, or makes it the value at a new key. The
+    /// key is looked up once.
     ///
-    /// At a held key it is never refused, and takes no memory. At a new key `Full` comes exactly if
-    /// the map has `LIMIT` keys, before any memory is asked for. A refusal leaves the map unchanged.
+    /// # Errors
+    ///
+    /// None at a held key, where no memory is taken. At a new key `Full` exactly if the map has
+    /// `LIMIT` keys, before any memory is asked for, and else `OutOfMemory`. A refusal leaves the
+    /// map unchanged, and drops the update.
     pub fn join_with<U: JoinInto<V>>(
         &mut self,
         alloc: Global,
@@ -195,10 +198,8 @@ impl<K: Place, V: Join, const LIMIT: u32> JoinMap<K, V, LIMIT> {
             (self.new ≡ map_join K.cmp V.joined self.old ((key, U.value update) ∷ [])) }
         ensures err { OnErr result (self.new ≡ self.old) }
         ensures held { IsSome (value_at K.cmp self.old key) → IsOk result }
-        ensures full { result ≡ Err JoinRefusal.Full
-            → (value_at K.cmp self.old key ≡ None) × (length self.old ≡ LIMIT) }
-        ensures room { (result ≡ Err JoinRefusal.Full → ⊥)
-            → value_at K.cmp self.old key ≡ None → length self.old < LIMIT }
+        ensures full { (result ≡ Err JoinRefusal.Full)
+            ↔ ((value_at K.cmp self.old key ≡ None) × (length self.old ≡ LIMIT)) }
         ensures ordered { IsOrdered K.cmp self.old }
         ensures within { length self.old ≤ LIMIT }
     {
@@ -217,6 +218,7 @@ impl<K: Place, V: Join, const LIMIT: u32> JoinMap<K, V, LIMIT> {
             }
             Err(_) => return Err(JoinRefusal::OutOfMemory),
         };
+        // Contracts say what a map holds after a refusal here, but not after a place is dropped.
         place.or_try_insert_with(|| update.into_value(alloc))?;
         Ok(())
     }

@@ -1,14 +1,14 @@
 //! A sink that takes little, and fails.
-ghost use Rattle.std.specs.Prelude.{◌≡◌, Some, []};
+ghost use Rattle.std.specs.Prelude.{◌≡◌, ◌+◌, Some, []};
 
-use flute_parts::{DeviceFault, Failures, Sink};
+use flute_parts::{DeviceFault, Failures, MemorySink, Sink};
 use std::alloc::Global;
 
 /// A sink for tests: it takes a given number of bytes, keeps them in memory, and then fails for
 /// good.
 #[derive(Debug, Drop)]
 pub struct ShortSink {
-    bytes: Vec<u8>,
+    sink: MemorySink,
     good: usize,
     failures: Failures,
 }
@@ -21,7 +21,7 @@ impl ShortSink {
         ensures failures { ⟦<ShortSink as Sink>⟧.failures result ≡ 0 }
     {
         ShortSink {
-            bytes: Vec::new(alloc),
+            sink: MemorySink::new(alloc),
             good,
             failures: Failures::none(),
         }
@@ -31,21 +31,21 @@ impl ShortSink {
     pub fn as_slice(&self) -> &[u8]
         ensures { ⟦<ShortSink as Sink>⟧.written self.now ≡ Some result.now }
     {
-        &self.bytes
+        self.sink.as_slice()
     }
 }
 
 impl Sink for ShortSink {
-    ghost failures = { λ s. s.failures.count };
+    ghost failures = { λ s. ⟦<MemorySink as Sink>⟧.failures s.sink + s.failures.count };
 
-    ghost written = { λ s. Some s.bytes.items };
+    ghost written = { λ s. ⟦<MemorySink as Sink>⟧.written s.sink };
 
     fn write(&mut self, bytes: &[u8]) -> Result<usize, DeviceFault> {
-        let count = self.good.min(bytes.len());
-        if self.good == 0 || self.bytes.extend_from_slice(&bytes[..count]).is_err() {
+        if self.good == 0 {
             self.failures = self.failures.and_one();
             return Err(DeviceFault);
         }
+        let count = self.sink.write(&bytes[..self.good.min(bytes.len())])?;
         self.good -= count;
         Ok(count)
     }

@@ -1,13 +1,13 @@
 //! A source that gives little at a time, and fails.
 ghost use Rattle.std.specs.Prelude.{◌≡◌, ◌<◌, Some};
 
-use flute_parts::{DeviceFault, Failures, Source};
+use flute_parts::{DeviceFault, Failures, MemorySource, Source};
 
 /// A source for tests: it gives the bytes of a slice in short pieces, until it fails for
 /// good. It takes no memory.
 #[derive(Debug, Drop)]
 pub struct ShortSource<'a> {
-    unread: &'a [u8],
+    source: MemorySource<'a>,
     piece: usize,
     good: usize,
     failures: Failures,
@@ -23,7 +23,7 @@ impl<'a> ShortSource<'a> {
         ensures failures { ⟦<ShortSource<'a> as Source>⟧.failures result ≡ 0 }
     {
         ShortSource {
-            unread: bytes,
+            source: MemorySource::new(bytes),
             piece,
             good,
             failures: Failures::none(),
@@ -31,21 +31,18 @@ impl<'a> ShortSource<'a> {
     }
 }
 
-impl Source for ShortSource<'_> {
+impl<'a> Source for ShortSource<'a> {
     ghost failures = { λ s. s.failures.count };
 
-    ghost unread = { λ s. Some s.unread.now };
+    ghost unread = { λ s. ⟦<MemorySource<'a> as Source>⟧.unread s.source };
 
     fn read(&mut self, buffer: &mut [u8]) -> Result<usize, DeviceFault> {
         if self.good == 0 {
             self.failures = self.failures.and_one();
             return Err(DeviceFault);
         }
-        let most = self.piece.min(self.good);
-        let count = most.min(self.unread.len()).min(buffer.len());
-        let (given, rest) = self.unread.split_at(count);
-        buffer[..count].copy_from_slice(given);
-        self.unread = rest;
+        let most = self.piece.min(self.good).min(buffer.len());
+        let count = self.source.read(&mut buffer[..most])?;
         self.good -= count;
         Ok(count)
     }

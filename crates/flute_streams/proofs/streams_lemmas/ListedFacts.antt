@@ -11,9 +11,6 @@ use Rattle.flute_streams.proofs.Common.{fact_in, option_list, GoesOn}
 use Rattle.flute_journal.proofs.Public.{all_split}
 use Rattle.flute_journal.proofs.Public.{Rises, rising-rises, rises-rising}
 use Rattle.flute_streams.specs.Listed.{listed_behaviour}
-use Rattle.flute_streams.specs.WalkStreams.{placed}
-use Rattle.flute_parts.specs.declared.fact.Fact.TheVariants.{Info, InfoConflict, Symbol}
-use Rattle.flute_parts.specs.declared.fact.Fact.TheVariants.{SymbolConflict}
 
 rises_front : (l : Option Address) (xs ys : List Fact) → Rises l (xs ++ ys) → Rises l xs
 rises_front l [] ys r = tt
@@ -30,13 +27,6 @@ walked : (r : Option FactRef) (xs ys : List Fact) → YieldsFact (λ (l : List F
     → (xs ≡ option_list (fact_in r) ++ ys) × (fact_in r ≡ None → ys ≡ [])
     × IfSome (fact_in r) IsSized
 walked r xs ys h = grind (arith)
-
--- a fact is said at its own address
-pub placed-itself : (f : Fact) → placed (address f).key (address f).part f ≡ f
-placed-itself (Info key info) = refl
-placed-itself (InfoConflict key) = refl
-placed-itself (Symbol key id bytes) = refl
-placed-itself (SymbolConflict key id) = refl
 
 spells_none : (o : Option Fact) → IsSpelling [] o
 spells_none None = refl

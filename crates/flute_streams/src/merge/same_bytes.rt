@@ -5,8 +5,8 @@ ghost use Rattle.std.specs.Prelude.{◌≡◌, ◌≤◌, bytes_eq, length};
 // at a time then.
 const PIECE: usize = 512;
 
-// How many bytes are compared at the end, if no more are left: three pieces then hold the entry of a
-// symbol of up to 1,428 bytes, as in an Ethernet frame.
+// How many bytes are compared at the end, if no more are left: three pieces then hold the entry of
+// a symbol of up to 1,428 bytes, as in an Ethernet frame.
 const SHORT: usize = 448;
 
 /// Whether bytes are the same.

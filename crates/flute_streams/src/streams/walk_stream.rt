@@ -2,13 +2,13 @@
 ghost use Rattle.std.specs.Prelude.{◌≡◌, None, length};
 ghost use Rattle.flute_parts.specs.Addresses.{fact_of};
 ghost use Rattle.flute_parts.specs.Facts.{IsRising};
-ghost use Rattle.flute_streams.specs.Streams.{IsNew};
+ghost use Rattle.flute_streams.specs.Streams.{IsNew, place_of};
 ghost use Rattle.flute_streams.specs.Listed.{listed_behaviour};
-ghost use Rattle.flute_streams.specs.WalkStreams.{placed, placed_in};
+ghost use Rattle.flute_streams.specs.WalkStreams.{held_fact, held_place};
 
 use crate::streams::stream::Stream;
 use flute_journal::LoadFault;
-use flute_parts::{Address, FactRef, Part};
+use flute_parts::{Address, FactRef};
 use flute_store::{HasObjects, Walk};
 use std::alloc::Global;
 
@@ -16,18 +16,19 @@ use std::alloc::Global;
 #[derive(Drop)]
 pub struct WalkStream<'a, S: HasObjects + 'a> {
     walk: Walk<'a, S>,
-    /// A fact and its address.
+    /// A fact and its address, which is lent.
     held: Option<(Address, FactRef<'a>)>,
+    ghost placed: { held_place held ≡ place_of (held_fact held) },
 }
 
 impl<'a, S: HasObjects + 'a> WalkStream<'a, S> {
     /// The stream of what a walk over a store has left. It takes no memory.
     pub fn new(walk: Walk<'a, S>) -> WalkStream<'a, S>
         requires { IsRising walk }
-        ensures new { IsNew (listed_behaviour (λ s. placed_in s.held) (λ s. s.walk)
+        ensures new { IsNew (listed_behaviour (λ s. held_fact s.held) (λ s. s.walk)
             (λ _. Unit {0})) result }
         ensures facts { result.walk ≡ walk.entry }
-        ensures most { (listed_behaviour (λ s. placed_in s.held) (λ s. s.walk)
+        ensures most { (listed_behaviour (λ s. held_fact s.held) (λ s. s.walk)
             (λ _. Unit {0})).most result ≡ length walk.entry }
     {
         WalkStream { walk, held: None }
@@ -35,12 +36,12 @@ impl<'a, S: HasObjects + 'a> WalkStream<'a, S> {
 }
 
 impl<'a, S: HasObjects + 'a> Stream for WalkStream<'a, S> {
-    ghost behaviour = { listed_behaviour (λ s. placed_in s.held) (λ s. s.walk) (λ _. Unit {0}) };
+    ghost behaviour = { listed_behaviour (λ s. held_fact s.held) (λ s. s.walk) (λ _. Unit {0}) };
 
     #[inline(always)]
     fn head(&self) -> Option<FactRef<'_>> {
         match &self.held {
-            Some((place, fact)) => Some(placed(place, fact)),
+            Some((_, fact)) => Some(copied(fact)),
             None => None,
         }
     }
@@ -65,20 +66,15 @@ impl<'a, S: HasObjects + 'a> Stream for WalkStream<'a, S> {
     }
 }
 
-// What a fact says of its part, as a fact at this address.
+// The same fact.
 #[inline(always)]
-fn placed<'a>(place: &Address, fact: &FactRef<'a>) -> FactRef<'a>
-    ensures { fact_of result ≡ placed place.now.key place.now.part (fact_of fact.now) }
+fn copied<'a>(fact: &FactRef<'a>) -> FactRef<'a>
+    ensures { fact_of result ≡ fact_of fact.now }
 {
-    let key = place.key;
-    match place.part {
-        Part::Info => match *fact {
-            FactRef::Info { info, .. } => FactRef::Info { key, info },
-            _ => FactRef::InfoConflict { key },
-        },
-        Part::Symbol(id) => match *fact {
-            FactRef::Symbol { bytes, .. } => FactRef::Symbol { key, id, bytes },
-            _ => FactRef::SymbolConflict { key, id },
-        },
+    match *fact {
+        FactRef::Info { key, info } => FactRef::Info { key, info },
+        FactRef::InfoConflict { key } => FactRef::InfoConflict { key },
+        FactRef::Symbol { key, id, bytes } => FactRef::Symbol { key, id, bytes },
+        FactRef::SymbolConflict { key, id } => FactRef::SymbolConflict { key, id },
     }
 }

@@ -1,7 +1,7 @@
 -- join_inspected: what is held is a run, or the facts of a store.
 use Rattle.std.proofs.Common.{Option, ◌∙◌, inl, inr, subst}
 use Rattle.std.specs.Prelude.{IfSome}
-use Rattle.flute_streams.specs.WalkStreams.{placed_in}
+use Rattle.flute_streams.specs.WalkStreams.{held_fact}
 use Rattle.flute_streams.specs.declared.streams.owned_journal_stream.OwnedJournalStream.{OwnedJournalStream}
 use Rattle.flutejoin.specs.Asides.{AreHeld, IsNewRun}
 use Rattle.flutejoin.specs.JoinFaults.{WantsAside}
@@ -32,7 +32,7 @@ returns-in-None-clause-joined g c = λ choice contents datagrams facts most insp
     let Held : Option (OwnedJournalStream g.row.R.Denot) → Type 0 =
     λ o. AreHeld g.R.Source.unread g.R.Source.buffered c.args.store.now o facts in
     c.join_held-in-None.ensures.joined choice contents datagrams facts most inspected
-    (walk_ends (λ s. placed_in s.held) (λ s. s.walk) c.new-walk.result c.args.store.now facts
+    (walk_ends (λ s. held_fact s.held) (λ s. s.walk) c.new-walk.result c.args.store.now facts
     (c.new-walk.ensures.facts ∙ c.walk.ensures.value) (subst Held c.in-None.is held))
 
 pub returns-in-None-clause-no_aside : goal.returns-in-None-clause-no_aside
