@@ -23,7 +23,7 @@ from typing import Any
 
 sys.dont_write_bytecode = True
 from flute_sender import partition
-from run import waits
+from run import until, waits
 
 PROGRAM = ""
 
@@ -286,8 +286,7 @@ class ExtractAll(unittest.TestCase):
         first = subprocess.Popen([PROGRAM, "extract", "--all", "-o", self.out, slow])
         with slow.open("wb") as journal:
             # It has the folder once it waits for its journal.
-            while not (self.beside.exists() and waits(first)):
-                time.sleep(0.01)
+            self.assertTrue(until(lambda: self.beside.exists() and waits(first)))
             self.extract(status=3)
             journal.write(journal_of(objects))
         self.assertEqual(first.wait(), 0)

@@ -1,7 +1,8 @@
 """Ports of 127.0.0.1 for tests.
 
 A port that the system chooses is free again until somebody listens at it, and meanwhile the system
-may give it to another socket. So these are below those that it gives, and each process has others.
+may give it to another socket. So these are below those that it gives, and processes whose numbers
+are close have others.
 """
 from __future__ import annotations
 
@@ -10,7 +11,7 @@ import itertools
 import os
 import socket
 
-FIRST, PROCESSES, OF_EACH = 10_000, 1000, 20
+FIRST, PROCESSES, OF_EACH = 10_000, 200, 100
 NUMBERS = itertools.count(FIRST + os.getpid() % PROCESSES * OF_EACH)
 
 

@@ -75,15 +75,17 @@ def fill(descriptor: int) -> None:
 
 
 # Runs the tool again and again until it waits for datagrams for the first time. Each run ends by a
-# signal, which comes one step of Python later than in the run before.
+# signal, which comes one step of the tool's `open` or `run` later than in the run before.
 STEPS = """
 import os, signal, sys
 sys.path.insert(0, {tools!r})
+import flutejoin_settings, flutejoin_status
 code = compile(open({tool!r}).read(), {tool!r}, "exec")
 def called(frame, event, _):
-    if frame.f_code.co_filename == {tool!r} and frame.f_code.co_name == "wait":
+    name = frame.f_code.co_name if frame.f_code.co_filename == {tool!r} else ""
+    if name == "wait":
         os._exit(99)
-    if frame.f_code.co_filename == {tool!r} and frame.f_code.co_name == "run":
+    if name in ("open", "run"):
         frame.f_trace_opcodes = True
         return stepped
 def stepped(frame, event, _):
@@ -105,6 +107,8 @@ while status != 99:
             exec(code, dict(__name__="__main__"))
         except SystemExit as end:
             os._exit(end.code)
+        finally:
+            os._exit(98)
     status = os.waitstatus_to_exitcode(os.waitpid(child, 0)[1])
     if status not in (1, 99):
         print("step", step, "status", status)
@@ -574,13 +578,6 @@ class Disk(Case):
         self.assertLessEqual(self.held(), 40000)
         self.assertGreater(self.held(), 10000)
 
-    def test_one_datagram_is_kept_whatever_most_is(self) -> None:
-        receiver = Receiver(self, "-o", "kept", "--most", "100")
-        sent = self.symbols(20, 1000)
-        receiver.send(sent)
-        self.assertEqual(receiver.end()[0], 0)
-        self.assertEqual(self.whole_records(), sent[-1:])
-
     def test_one_datagram_stays_whatever_most_is(self) -> None:
         """It stays as long as no other comes, also of a file that an earlier run left."""
         receiver = Receiver(self, "-o", "kept", "--most", "100")
@@ -596,6 +593,16 @@ class Disk(Case):
         receiver.send(sent[10:])
         self.assertEqual(receiver.end()[0], 0)
         self.assertEqual(self.whole_records(), sent[-1:])
+
+    def test_files_that_are_left_may_be_too_many(self) -> None:
+        """Then they go, even if no datagram comes."""
+        receiver = Receiver(self, "-o", "kept")
+        receiver.send(self.symbols(20, 1000))
+        receiver.until_kept(20, "kept/127.0.0.1.fldg")
+        self.assertEqual(receiver.end()[0], 0)
+        receiver = Receiver(self, "-o", "kept", "--most", "100")
+        receiver.until(lambda: not self.whole_records(), "no file")
+        self.assertEqual(receiver.end()[0], 1)
 
     def held(self) -> int:
         """The bytes of all files; one that is removed meanwhile counts as empty."""
@@ -721,12 +728,11 @@ class Disk(Case):
         seen: set[bytes] = set()
         for number in range(5):
             receiver = Receiver(self, "-o", "kept", *["--split", "20000"] * (number % 2))
-            before = self.held()
             timer = threading.Timer(0.1 + 0.13 * number, receiver.process.kill)
             while receiver.process.poll() is None:
                 sent += [packet(os.urandom(1000), len(sent) + each) for each in range(5)]
                 receiver.send(sent[-5:])
-                if timer.ident is None and self.held() > before:
+                if timer.ident is None and len(self.whole_records()) > len(seen):
                     # Each run writes something before it is killed.
                     timer.start()
                 time.sleep(0.002)
@@ -841,12 +847,14 @@ class Strangers(Case):
         receiver.until(lambda: len(self.names()) == 64, "64 files")
         began, sent = time.monotonic(), 0
         full = "more than 64 senders (--senders takes more, and --from names the one)"
-        while not os.path.exists(self.path("kept/127.0.0.1.fldg")):
-            # Longer than the silence that makes room at first, and less than that of a minute
-            self.assertLess(time.monotonic() - began, 50)
+        # More than the silence that makes room at first, and less than that of a minute
+        for _ in receiver.seconds(50):
+            if os.path.exists(self.path("kept/127.0.0.1.fldg")):
+                break
             receiver.send(self.symbols(1))
             sent += 1
-            time.sleep(0.1)
+        else:
+            self.fail("no room within 50 seconds")
         self.assertIn(f": {full}", receiver.stderr())
         # By now the status was replaced.
         receiver.until(lambda: self.status()["sessions"][0]["datagrams"] >= 64, "another status")
@@ -1024,12 +1032,13 @@ class Patched(Case):
         self.assertEqual((status, records(self.path("kept/127.0.0.1.fldg"))), (0, sent))
 
     def test_a_signal_at_any_step(self) -> None:
-        """A run that begins ends by it, whatever it does at that moment."""
+        """A run ends by one that comes between any two steps of its beginning."""
         code = STEPS.format(tool=TOOL, tools=TOOLS, longest=LONGEST_WAIT)
         words = "--port", str(free_port()), "--interface", "127.0.0.1", "-o", "kept"
         command = sys.executable, "-c", code, *words
         done = subprocess.run(command, cwd=self.work, capture_output=True, text=True, check=False)
         self.assertRegex(done.stdout, r"^[1-9][0-9]+ steps\n$")
+        self.assertNotIn("Traceback", done.stderr)
 
     def test_an_end_while_datagrams_come(self) -> None:
         """A run ends even if there is always another datagram."""

@@ -111,7 +111,7 @@ SETTINGS = {
     "most": (
         number_within(1, 1 << 62),
         "BYTES",
-        "keep at most so many bytes of datagram files in all, but at least one datagram: the "
+        "keep at most so many bytes of datagram files in all, or one datagram that has more: the "
         "oldest files are removed before more is written (default: all are kept); then a file has "
         "a quarter of it at most",
     ),

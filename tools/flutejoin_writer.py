@@ -273,8 +273,8 @@ class Writer(threading.Thread):
     def make_room(self, size: int) -> None:
         """Removes the oldest files if this many more bytes would be more than the run may keep.
 
-        One datagram is kept in any case. If some files cannot be removed, this is repeated once a
-        second.
+        The newest file stays if it has a single datagram and no more is to be written. If some
+        files cannot be removed, this is repeated once a second.
         """
         if self.most is None or self.opened.held + size <= self.most or self.is_stuck:
             return

@@ -218,7 +218,7 @@ impl<K: Place, V: Join, const LIMIT: u32> JoinMap<K, V, LIMIT> {
             }
             Err(_) => return Err(JoinRefusal::OutOfMemory),
         };
-        // Contracts say what a map holds after a refusal here, but not after a place is dropped.
+        // A vacant place that is dropped has no contract that the map is as before; this call has.
         place.or_try_insert_with(|| update.into_value(alloc))?;
         Ok(())
     }

@@ -30,13 +30,13 @@ fact_in None = None
 fact_in (Some fact) = Some (fact_of fact)
 
 -- the address of what is held
-abbrev pub place_of : Option Fact → Option Address
-place_of None = None
-place_of (Some f) = Some (address f)
+abbrev pub address_of : Option Fact → Option Address
+address_of None = None
+address_of (Some f) = Some (address f)
 
 -- how many bytes of the source it has
 abbrev pub size_of : HeldEntry → ℕ
-size_of (held.Entry place (value.InBuffer size)) = size
+size_of (held.Entry address (value.InBuffer size)) = size
 size_of _ = 0
 
 -- these, which are the entry as version 2 spells it: none if the fact has memory of its own
@@ -59,7 +59,7 @@ value_held buffer key (part.Symbol id) (value.InBuffer size) =
 -- the fact of an entry
 abbrev pub fact_held : List ℕ → HeldEntry → Option Fact
 fact_held buffer held.Nothing = None
-fact_held buffer (held.Entry place v) = Some (value_held buffer place.key place.part v)
+fact_held buffer (held.Entry address v) = Some (value_held buffer address.key address.part v)
 
 -- what is left of a source behind the bytes that are held
 abbrev pub left_behind : List ℕ → Option (List ℕ) → Option (List ℕ)

@@ -10,7 +10,7 @@ use Rattle.flute_parts.specs.declared.object_key.ObjectName.{ObjectName}
 use Rattle.flute_parts.specs.declared.key.Key.{Key}
 use Rattle.flute_parts.specs.declared.symbol_id.SymbolId.{SymbolId}
 use Rattle.flute_parts.specs.declared.fact.Fact.{Fact}
-use Rattle.flute_store.specs.ObjectJoin.{symbols_join, session_join, store_join}
+use Rattle.flute_store.specs.ObjectJoin.{session_join, store_join}
 use Rattle.flute_store.specs.Content.{info_cell_facts, symbols_facts}
 use Rattle.flute_store.specs.declared.update.SymbolUpdate.{SymbolUpdate}
 use Rattle.flute_store.specs.declared.update.SymbolUpdate.TheVariants.{Borrowed as BorrowedUpdate}
@@ -68,11 +68,7 @@ IsHeldSession {n} m key update =
     (os : List (ObjectName × Object n)) × (value_at session_cmp m key.session ≡ Some os)
     × IsHeldObject os key.object update
 
--- the update, joined into the symbols of an object, into a session and into a store
-abbrev pub with_symbol : List (SymbolId × Cell (List ℕ)) → SymbolId → SymbolUpdate
-    → List (SymbolId × Cell (List ℕ))
-with_symbol symbols id update = symbols_join symbols ((id, update_cell update) ∷ [])
-
+-- the update, joined into a session and into a store
 abbrev pub with_object : {n : ℕ} → List (ObjectName × Object n) → ObjectName → Update
     → List (ObjectName × Object n)
 with_object os object update = session_join os ((object, update_object update) ∷ [])

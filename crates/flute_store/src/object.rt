@@ -1,10 +1,6 @@
 //! What is held of one object.
-ghost use Rattle.std.specs.Prelude.{◌≡◌, ◌<◌, [], length, OnOk, OnErr, IsSome, IsOk};
-ghost use Rattle.flute_join.specs.Cell.{IsKnown};
-ghost use Rattle.flute_join.specs.JoinMap.{EachValue, IsSound, value_at};
-ghost use Rattle.flute_parts.specs.Order.{symbol_id_cmp};
-ghost use Rattle.flute_store.specs.Update.{with_symbol, update_symbols, HasSize, HasSizes};
-ghost use Rattle.flute_store.specs.Update.{IsHeldSymbol};
+ghost use Rattle.std.specs.Prelude.{◌≡◌, ◌<◌, [], length, OnOk, OnErr, IsOk};
+ghost use Rattle.flute_store.specs.Update.{update_symbols, HasSizes, IsHeldSymbol};
 ghost use Rattle.flute_store.specs.WellFormed.{AreSymbols};
 ghost use Rattle.flute_store.specs.ObjectJoin.{
   object_join,
@@ -53,27 +49,6 @@ impl<const SYMBOLS: u32> Join for Object<SYMBOLS> {
     }
 }
 
-// Joins an update of a symbol. After a refusal the symbols are unchanged.
-#[inline(always)]
-fn join_symbol<const SYMBOLS: u32>(
-    symbols: &mut JoinMap<SymbolId, HeldSymbol, SYMBOLS>,
-    alloc: Global,
-    id: SymbolId,
-    update: SymbolUpdate<'_>,
-) -> Result<(), JoinRefusal>
-    requires each { EachValue IsKnown symbols.old }
-    requires size { HasSize update }
-    ensures ok { OnOk result (symbols.new ≡ with_symbol symbols.old id update.entry) }
-    ensures err { OnErr result (symbols.new ≡ symbols.old) }
-    ensures full { result ≡ Err JoinRefusal.Full
-        → SYMBOLS < length (with_symbol symbols.old id update.entry) }
-    ensures held { IsSome (value_at symbol_id_cmp symbols.old id) → IsOk result }
-    ensures room { (result ≡ Err JoinRefusal.Full → ⊥)
-        → IsSound symbol_id_cmp SYMBOLS IsKnown (with_symbol symbols.old id update.entry) }
-{
-    symbols.join_with(alloc, id, update)
-}
-
 // Joins an update of a symbol, if there is one. After a refusal the symbols are unchanged.
 #[inline(always)]
 fn join_symbols<const SYMBOLS: u32>(
@@ -93,7 +68,7 @@ fn join_symbols<const SYMBOLS: u32>(
         → AreSymbols SYMBOLS (symbols_join symbols.old (update_symbols update.entry)) }
 {
     match update {
-        Some((id, update)) => join_symbol(symbols, alloc, id, update),
+        Some((id, update)) => symbols.join_with(alloc, id, update),
         None => Ok(()),
     }
 }

@@ -1,5 +1,5 @@
 //! An update of an object: what one fact or one packet adds to it.
-ghost use Rattle.std.specs.Prelude.{◌≡◌, [], ◌∷◌, length, ℕ, IfSome, IfNone, IfOk, IfErr, IsOk};
+ghost use Rattle.std.specs.Prelude.{◌≡◌, [], ◌∷◌, length, ℕ, IfSome, IfNone};
 ghost use Rattle.flute_join.specs.Cell.{cell_join};
 ghost use Rattle.flute_parts.specs.Addresses.{address};
 ghost use Rattle.flute_parts.specs.Facts.{same_information};
@@ -135,15 +135,9 @@ impl JoinInto<HeldSymbol> for SymbolUpdate<'_> {
         }
     }
 
-    /// What is held of the symbol then. Borrowed bytes are copied; they are as many as a
-    /// symbol's, so the one refusal is `OutOfMemory`. Owned bytes are moved, and like a conflict
-    /// they take no memory.
-    fn into_value(self, alloc: Global) -> Result<HeldSymbol, JoinRefusal>
-        ensures ok { IfOk result (λ held. held ≡ update_cell self.entry) }
-        ensures err { IfErr result (λ why. why ≡ JoinRefusal.OutOfMemory) }
-        ensures owned { (bytes : _) → self.entry ≡ SymbolUpdate.Owned bytes → IsOk result }
-        ensures conflict { self.entry ≡ SymbolUpdate.Conflict → IsOk result }
-    {
+    /// What is held of the symbol then. Borrowed bytes are copied; they are as many as a symbol's,
+    /// so the one refusal is `OutOfMemory`. Owned bytes are moved.
+    fn into_value(self, alloc: Global) -> Result<HeldSymbol, JoinRefusal> {
         match self {
             SymbolUpdate::Borrowed(bytes) => match Bytes::new(alloc, bytes) {
                 Ok(bytes) => Ok(HeldSymbol::of_bytes(bytes)),

@@ -3,14 +3,14 @@ use Rattle.std.specs.Prelude.{◌≡◌, ◌≢◌, ℕ, zero, suc, List, [], �
 use Rattle.flute_parts.specs.declared.address.Address.{Address}
 use Rattle.flute_journal.specs.declared.fault.LoadFault.{LoadFault}
 use Rattle.flute_streams.specs.declared.merge.streams_fault.InputFault.{InputFault}
-use Rattle.flute_streams.specs.Streams.{Behaviour, place_of, GoesOn, StopsAt, IsNew}
+use Rattle.flute_streams.specs.Streams.{Behaviour, address_of, GoesOn, StopsAt, IsNew}
 
 module _ {S : Type 0} (b : Behaviour S) where
   -- a stream is advanced if it holds that address, and is unchanged otherwise
   abbrev pub GoesOnAt : Option Address → S → S → Type 0
   GoesOnAt place old new =
-      ((place_of (b.held old) ≡ place) × GoesOn b old new)
-      ⊎ ((place_of (b.held old) ≢ place) × (new ≡ old))
+      ((address_of (b.held old) ≡ place) × GoesOn b old new)
+      ⊎ ((address_of (b.held old) ≢ place) × (new ≡ old))
 
   abbrev pub GoOnAt : Option Address → List S → List S → Type 0
   GoOnAt place [] [] = Unit {0}
@@ -21,7 +21,7 @@ module _ {S : Type 0} (b : Behaviour S) where
   -- it are unchanged
   abbrev pub StopAt : Option Address → ℕ → LoadFault → List S → List S → Type 0
   StopAt place zero fault (s ∷ old) (t ∷ new) =
-      (place_of (b.held s) ≡ place) × StopsAt b s t fault × (new ≡ old)
+      (address_of (b.held s) ≡ place) × StopsAt b s t fault × (new ≡ old)
   StopAt place (suc number) fault (s ∷ old) (t ∷ new) =
       GoesOnAt place s t × StopAt place number fault old new
   StopAt place _ fault _ _ = ⊥

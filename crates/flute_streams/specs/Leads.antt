@@ -4,7 +4,7 @@ use Rattle.std.specs.Ordering.{is_lt}
 use Rattle.std.specs.declared.cmp.Ordering.TheVariants.{Greater, Less}
 use Rattle.flute_parts.specs.Order.{address_cmp}
 use Rattle.flute_parts.specs.declared.address.Address.{Address}
-use Rattle.flute_streams.specs.Streams.{Behaviour, place_of}
+use Rattle.flute_streams.specs.Streams.{Behaviour, address_of}
 
 -- there is a place, below that address, if there is one
 abbrev pub IsBelowNext : Option Address → Option Address → Type 0
@@ -24,14 +24,14 @@ module _ {S : Type 0} (b : Behaviour S) where
   pub record Leads (streams : List S) (number : ℕ) (next : Option Address) : Type 0 where
     pub stream : S
     pub is : slice_get streams number ≡ Some stream
-    pub below : IsBelowNext (place_of (b.held stream)) next
+    pub below : IsBelowNext (address_of (b.held stream)) next
     pub others : (k : ℕ) (s : S) → slice_get streams k ≡ Some s → k ≢ number
-        → NoneBefore next (place_of (b.held s))
+        → NoneBefore next (address_of (b.held s))
 
   -- the stream that leads is at that place
   abbrev pub StandsAt : Option Address → List S → ℕ → Type 0
   StandsAt place streams number =
-      (s : S) → slice_get streams number ≡ Some s → place_of (b.held s) ≡ place
+      (s : S) → slice_get streams number ≡ Some s → address_of (b.held s) ≡ place
 
 -- the lower of two addresses, of which there may be one only
 abbrev pub lower_of : Option Address → Address → Address

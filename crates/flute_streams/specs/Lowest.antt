@@ -9,7 +9,7 @@ use Rattle.flute_parts.specs.Facts.{conflict_at, fact_at, same_fact}
 use Rattle.flute_parts.specs.declared.address.Address.{Address}
 use Rattle.flute_parts.specs.declared.fact.Fact.{Fact}
 use Rattle.flute_journal.specs.HeldEntries.{IsSpelling}
-use Rattle.flute_streams.specs.Streams.{Behaviour, place_of}
+use Rattle.flute_streams.specs.Streams.{Behaviour, address_of}
 use Rattle.flute_streams.specs.declared.merge.lowest.LowestValue.{LowestValue}
 
 -- the fact is not before that address
@@ -49,7 +49,7 @@ module _ {S : Type 0} (b : Behaviour S) where
 
   -- where the stream with its number is
   abbrev pub place_at : List S → LowestValue → Option Address
-  place_at streams l = place_of (held_at streams l.number)
+  place_at streams l = address_of (held_at streams l.number)
 
   -- the value there: what that stream holds, or a conflict
   abbrev pub value_at : List S → LowestValue → Option Fact

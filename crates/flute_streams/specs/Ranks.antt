@@ -1,4 +1,4 @@
--- Ranks of streams: which part of one object each holds, and the value at the lowest address.
+-- Ranks of streams: where each stands among the parts of one object.
 use Rattle.std.specs.Prelude.{◌≡◌, ◌≢◌, true, false, ◌≤◌, ◌<◌, ℕ, zero, suc, ◌/◌}
 use Rattle.std.specs.Prelude.{◌%◌, List, length, Option, Some, None, IfSome, slice_get}
 use Rattle.std.specs.Prelude.{slice_index}
@@ -12,7 +12,7 @@ use Rattle.flute_parts.specs.declared.key.Key.{Key}
 use Rattle.flute_streams.specs.declared.merge.leading.Lead.{Lead}
 use Rattle.flute_streams.specs.declared.merge.ranks.Ranks.{Ranks}
 use Rattle.flute_streams.specs.Leads.{Leads}
-use Rattle.flute_streams.specs.Streams.{Behaviour, place_of}
+use Rattle.flute_streams.specs.Streams.{Behaviour, address_of}
 
 -- the part of an object with this rank: the information, and then each symbol there may be
 unfoldable pub part_at : ℕ → Part
@@ -62,7 +62,7 @@ module _ {S : Type 0} (b : Behaviour S) where
     pub few : length streams ≤ 128
     pub low : AreLow lows ranks
     pub from : (k : ℕ) (s : S) → slice_get streams k ≡ Some s
-        → StandsFrom key (slice_index ranks k) (place_of (b.held s))
+        → StandsFrom key (slice_index ranks k) (address_of (b.held s))
 
   -- the streams are ranked, if there are ranks
   abbrev pub IsRanking : List S → Ranks → Type 0

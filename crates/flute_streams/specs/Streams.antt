@@ -5,7 +5,7 @@ use Rattle.std.specs.Prelude.{IfSome, Result, OnOk, IfErr, slice_get, slice_set}
 use Rattle.flute_parts.specs.Facts.{IsRising}
 use Rattle.flute_parts.specs.declared.fact.Fact.{Fact}
 use Rattle.flute_store.specs.Walk.{IsSized}
-pub use Rattle.flute_journal.specs.HeldEntries.{fact_in, place_of}
+pub use Rattle.flute_journal.specs.HeldEntries.{fact_in, address_of}
 use Rattle.flute_journal.specs.HeldEntries.{IsSpelling}
 use Rattle.flute_journal.specs.declared.fault.LoadFault.{LoadFault}
 

@@ -14,7 +14,7 @@ pub trait Choice {
     // Whether a fact is taken.
     ghost takes: { Self → Fact → Bool };
 
-    /// Whether all facts are taken, as far as that is known: if not, it is asked of each.
+    /// Whether all facts are taken. False is always right, and costs a question for each fact.
     fn takes_all(&self) -> bool
         ensures { result ≡ true → (fact : Fact) → takes self.now fact ≡ true };
 

@@ -1,7 +1,7 @@
 //! Streams that are read together.
 ghost use Rattle.std.specs.Prelude.{◌≡◌, ◌<◌, List, Some, length, option_copied, slice_get};
 ghost use Rattle.std.specs.Borrow.{GName};
-ghost use Rattle.flute_streams.specs.Streams.{Advances, fact_in, place_of};
+ghost use Rattle.flute_streams.specs.Streams.{Advances, fact_in, address_of};
 
 pub(crate) mod chained;
 pub(crate) mod chosen;
@@ -37,10 +37,10 @@ pub trait Streams {
             → fact_in result ≡ Self.Stream.behaviour.held s };
 
     /// The address of that fact.
-    fn place(&self, number: usize) -> Option<&Address>
+    fn address(&self, number: usize) -> Option<&Address>
         requires { number < length (streams self.now) }
         ensures { (s : Self.Stream) → slice_get (streams self.now) number ≡ Some s
-            → option_copied result ≡ place_of (Self.Stream.behaviour.held s) };
+            → option_copied result ≡ address_of (Self.Stream.behaviour.held s) };
 
     /// The bytes of that fact's entry, if they lie in memory: else none.
     fn spelled(&self, number: usize) -> &[u8]
@@ -81,8 +81,8 @@ impl<S: Stream> Streams for &mut S {
     }
 
     #[inline(always)]
-    fn place(&self, _number: usize) -> Option<&Address> {
-        (**self).place()
+    fn address(&self, _number: usize) -> Option<&Address> {
+        (**self).address()
     }
 
     #[inline(always)]
@@ -118,9 +118,9 @@ impl<S: Stream> Streams for &mut [S] {
     }
 
     #[inline(always)]
-    fn place(&self, number: usize) -> Option<&Address> {
+    fn address(&self, number: usize) -> Option<&Address> {
         let streams = &**self;
-        streams[number].place()
+        streams[number].address()
     }
 
     #[inline(always)]
@@ -171,8 +171,8 @@ impl<'a, S: Stream> Streams for Slice<'a, S> {
     }
 
     #[inline(always)]
-    fn place(&self, number: usize) -> Option<&Address> {
-        self.streams.place(number)
+    fn address(&self, number: usize) -> Option<&Address> {
+        self.streams.address(number)
     }
 
     #[inline(always)]

@@ -1,5 +1,5 @@
 //! Each public call of `flute_join` once, and each generic item at a concrete type.
-use flute_join::{Cell, Join, JoinMap, JoinRefusal, laws};
+use flute_join::{Cell, Join, JoinInto, JoinMap, JoinRefusal, laws};
 use std::alloc::Global;
 use std::test::Fail;
 
@@ -46,6 +46,45 @@ fn a_map_takes_a_new_key(rt: HostRuntime) -> Result<(), Fail> {
     assert!(rt; map.get_mut(&5).is_some());
     assert!(rt; map.iter().next().is_some());
     assert!(rt; map.len() == 2);
+    Ok(())
+}
+
+/// One value that is said of a key.
+#[derive(Drop)]
+struct Said {
+    value: u8,
+}
+
+impl JoinInto<Cell<u8>> for Said {
+    ghost use Rattle.flute_join.specs.declared.cell.Cell.TheVariants.{One};
+
+    ghost value = { λ s. One s.value };
+
+    ghost fits = { λ _. Unit {0} };
+
+    fn join_into(&self, held: &mut Cell<u8>) {
+        held.put(self.value);
+    }
+
+    fn into_value(self, _alloc: Global) -> Result<Cell<u8>, JoinRefusal> {
+        Ok(Cell::One(self.value))
+    }
+}
+
+/// Into a value that is held, as a new one, and where there is no room for that.
+#[test]
+fn what_is_said_is_joined(rt: HostRuntime) -> Result<(), Fail> {
+    let alloc = rt.alloc();
+    let mut held: JoinMap<u16, Cell<u8>, 1> = JoinMap::new(alloc);
+    held.add_new(4, Cell::One(1))?;
+    held.join_with(alloc, 4, Said { value: 2 })?;
+    assert!(rt; held.get(&4) == Some(&Cell::Conflict));
+    let mut new: Small = JoinMap::new(alloc);
+    new.join_with(alloc, 4, Said { value: 2 })?;
+    assert!(rt; new.get(&4) == Some(&Cell::One(2)));
+    let mut full: JoinMap<u16, Cell<u8>, 1> = JoinMap::new(alloc);
+    full.add_new(4, Cell::One(1))?;
+    assert!(rt; full.join_with(alloc, 5, Said { value: 2 }) == Err(JoinRefusal::Full));
     Ok(())
 }
 

@@ -3,7 +3,7 @@ ghost use Rattle.std.specs.Prelude.{◌≡◌, ℕ, List, drop, take, option_cop
 ghost use Rattle.std.specs.Io.KnownBytes.{Consumes};
 ghost use Rattle.flute_parts.specs.Addresses.{fact_of};
 ghost use Rattle.flute_parts.specs.declared.fact.Fact.{Fact};
-ghost use Rattle.flute_journal.specs.HeldEntries.{fact_held, fact_in, place_of, size_of};
+ghost use Rattle.flute_journal.specs.HeldEntries.{fact_held, fact_in, address_of, size_of};
 ghost use Rattle.flute_journal.specs.HeldEntries.{spelled_in, value_held};
 ghost use Rattle.flute_journal.specs.declared.readers.held_entry.HeldEntry.TheVariants as held;
 
@@ -22,7 +22,7 @@ pub enum HeldEntry {
     /// This one is.
     Entry {
         /// The address of its fact.
-        place: Address,
+        address: Address,
         /// What it says of that address.
         value: HeldValue,
     },
@@ -48,13 +48,13 @@ impl HeldEntry {
         ensures fact { (buffer : List ℕ) → fact_held buffer result ≡ Some fact }
         ensures own { size_of result ≡ 0 }
     {
-        let place = fact.address();
+        let address = fact.address();
         let value = match fact {
             Fact::Info { info, .. } => HeldValue::Info(info),
             Fact::InfoConflict { .. } | Fact::SymbolConflict { .. } => HeldValue::Conflict,
             Fact::Symbol { bytes, .. } => HeldValue::Symbol(bytes),
         };
-        HeldEntry::Entry { place, value }
+        HeldEntry::Entry { address, value }
     }
 
     /// The fact that is held by a reader whose source's buffer lends these bytes.
@@ -64,19 +64,19 @@ impl HeldEntry {
     {
         match self {
             HeldEntry::Nothing => None,
-            HeldEntry::Entry { place, value } => Some(value.fact(place, buffer)),
+            HeldEntry::Entry { address, value } => Some(value.fact(address, buffer)),
         }
     }
 
     /// The address of that fact.
     #[inline(always)]
-    pub fn place(&self) -> Option<&Address>
+    pub fn address(&self) -> Option<&Address>
         ensures { (buffer : List ℕ)
-            → option_copied result ≡ place_of (fact_held buffer self.now) }
+            → option_copied result ≡ address_of (fact_held buffer self.now) }
     {
         match self {
             HeldEntry::Nothing => None,
-            HeldEntry::Entry { place, .. } => Some(place),
+            HeldEntry::Entry { address, .. } => Some(address),
         }
     }
 
@@ -103,8 +103,8 @@ impl HeldEntry {
         }
     }
 
-    /// Lets go of it: its bytes are taken from the source that it was read from. Returns the memory
-    /// that it had of its own.
+    /// Lets go of it: its bytes are taken from the source that it was read from. Returns a vector
+    /// for the next entry, perhaps with the memory that it had of its own (no clause says which).
     pub fn let_go<R: Source>(&mut self, alloc: Global, source: &mut R) -> Vec<u8>
         ensures nothing { self.new ≡ held.Nothing }
         ensures takes { Consumes (R.unread source.old) (R.unread source.new)
@@ -126,12 +126,12 @@ impl HeldEntry {
 impl HeldValue {
     // The fact that says this of an address. A value that is none of its part is a conflict.
     #[inline(always)]
-    fn fact<'a>(&'a self, place: &Address, buffer: &'a [u8]) -> FactRef<'a>
+    fn fact<'a>(&'a self, address: &Address, buffer: &'a [u8]) -> FactRef<'a>
         ensures { fact_of result
-            ≡ value_held buffer.now place.now.key place.now.part self.now }
+            ≡ value_held buffer.now address.now.key address.now.part self.now }
     {
-        let key = place.key;
-        match place.part {
+        let key = address.key;
+        match address.part {
             Part::Info => match self {
                 HeldValue::Info(info) => FactRef::Info { key, info: *info },
                 _ => FactRef::InfoConflict { key },

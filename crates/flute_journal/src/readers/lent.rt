@@ -69,7 +69,7 @@ pub fn hold_next<R: Source>(
     let (id, _, size) = next_in(behind(buffer, taken), last)?;
     source.consume(taken);
     *held = HeldEntry::Entry {
-        place: Address {
+        address: Address {
             key: last.key,
             part: Part::Symbol(id),
         },

@@ -4,6 +4,7 @@ ghost use Rattle.flute_parts.specs.Addresses.{fact_of};
 ghost use Rattle.flute_store.specs.Walk.{IsSized};
 ghost use Rattle.flute_journal.specs.Format.{header, entry, end};
 ghost use Rattle.flute_parts.specs.Ranges.{IsFact};
+ghost use Rattle.flute_parts.specs.declared.fact.Fact.{Fact};
 ghost use Rattle.flute_journal.specs.JournalWriters.{Puts};
 
 use crate::format::{HEADER, HeadBytes, end_of, put_head, symbol_value};
@@ -41,12 +42,13 @@ impl<'a, W: Sink> JournalWriter<'a, W> {
         self.put(&HEADER);
     }
 
-    /// Writes an entry that is spelled already.
+    /// Writes the entry of a fact, of which these are the bytes as version 2 spells it.
     #[inline(always)]
-    pub fn spelled(&mut self, entry: &[u8])
-        ensures { Puts W.written W.failures entry.now self.old self.new }
+    pub fn spelled(&mut self, bytes: &[u8])
+        requires { (f : Fact) × IsFact f × (bytes.now ≡ entry f) }
+        ensures { Puts W.written W.failures bytes.now self.old self.new }
     {
-        self.put(entry);
+        self.put(bytes);
     }
 
     /// Writes the entry of a fact.

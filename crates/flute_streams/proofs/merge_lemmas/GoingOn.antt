@@ -7,7 +7,7 @@ use Rattle.flute_streams.proofs.Common.{take_more_set, drop-set-lt, take_all, le
 use Rattle.flute_streams.proofs.Common.{take-append-drop, length-take-le, length-set}
 use Rattle.flute_streams.proofs.Common.{slice_get_within, get_or_from_slice_get, ◌≢◌}
 use Rattle.flute_streams.proofs.Common.{slice_get, Address, LoadFault, Behaviour, StopsAt, Advances}
-use Rattle.flute_streams.proofs.Common.{place_of, GoesOnAt, GoOnAt, StopAt}
+use Rattle.flute_streams.proofs.Common.{address_of, GoesOnAt, GoOnAt, StopAt}
 use Rattle.std.proofs.lemmas.Option.{slice_get_read}
 
 -- there is an element at each number below the length
@@ -27,7 +27,7 @@ module _ {S : Type 0} (b : Behaviour S) (place : Option Address) where
   abbrev pub NoneAt : ℕ → ℕ → List S → Type 0
   NoneAt k n streams =
       (j : ℕ) (s : S) → k ≤ j → j < n → slice_get streams j ≡ Some s
-      → place_of (b.held s) ≢ place
+      → address_of (b.held s) ≢ place
 
   pub none_went : (old : List S) → WentSoFar 0 old old
   none_went old = record { done = tt; rest = refl }
@@ -76,7 +76,7 @@ module _ {S : Type 0} (b : Behaviour S) (place : Option Address) where
 
   -- stream k holds another address: it stays
   pub one_stays : {k : ℕ} {old now : List S} {x : S} → WentSoFar k old now
-      → slice_get now k ≡ Some x → place_of (b.held x) ≢ place → WentSoFar (k + 1) old now
+      → slice_get now k ≡ Some x → address_of (b.held x) ≢ place → WentSoFar (k + 1) old now
   one_stays {k = k} {old = old} {now = now} {x = x} w is n = record {
     done =
         subst (λ l. GoOnAt b place l (take (k + 1) now)) (sym (old_more k old now x w.rest is))
@@ -106,7 +106,7 @@ module _ {S : Type 0} (b : Behaviour S) (place : Option Address) where
 
   -- stream k holds that address, and is advanced
   pub one_goes : {k : ℕ} {old now new : List S} → WentSoFar k old now
-      → (a : Advances b k now new (Ok tt)) → place_of (b.held a.before) ≡ place
+      → (a : Advances b k now new (Ok tt)) → address_of (b.held a.before) ≡ place
       → WentSoFar (k + 1) old new
   one_goes {k = k} {old = old} {now = now} w a p =
       let x = a.before in
@@ -123,7 +123,7 @@ module _ {S : Type 0} (b : Behaviour S) (place : Option Address) where
       })
 
   stop_at : (xs ys zs : List S) (x : S) {y : S} {f : LoadFault} → GoOnAt b place xs ys
-      → place_of (b.held x) ≡ place → StopsAt b x y f
+      → address_of (b.held x) ≡ place → StopsAt b x y f
       → StopAt b place (length xs) f ((xs ++ x ∷ []) ++ zs) ((ys ++ y ∷ []) ++ zs)
   stop_at [] [] zs x h p s = (p, s, refl)
   stop_at (w ∷ xs) (z ∷ ys) zs x h p s = (h.0, stop_at xs ys zs x h.1 p s)
@@ -131,7 +131,7 @@ module _ {S : Type 0} (b : Behaviour S) (place : Option Address) where
 
   -- stream k holds that address, and stops at a fault
   pub one_stops : {k : ℕ} {old now new : List S} {f : LoadFault} → WentSoFar k old now
-      → (a : Advances b k now new (Err f)) → place_of (b.held a.before) ≡ place
+      → (a : Advances b k now new (Err f)) → address_of (b.held a.before) ≡ place
       → StopAt b place k f old new
   one_stops {k = k} {old = old} {now = now} {new = new} {f = f} w a p =
       let x = a.before in

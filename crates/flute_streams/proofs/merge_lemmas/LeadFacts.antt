@@ -11,7 +11,7 @@ use Rattle.flute_streams.proofs.Common.{Ordering}
 use Rattle.flute_streams.proofs.Common.{Less, Greater, address_cmp, address, StandAfter}
 use Rattle.flute_streams.proofs.Common.{address_total, Address, Fact, joined, fact_at-append}
 use Rattle.flute_streams.proofs.Common.{alone-at, fact_at-cons, fact_at-after, LoadFault, Behaviour}
-use Rattle.flute_streams.proofs.Common.{Advances, GoesOn, StopsAt, option_list, place_of, heads}
+use Rattle.flute_streams.proofs.Common.{Advances, GoesOn, StopsAt, option_list, address_of, heads}
 use Rattle.flute_streams.proofs.Common.{GoOnAt, StopAt, IsBelowNext, NoneBefore, Leads, StandsAt}
 use Rattle.flute_streams.proofs.Common.{lower_of, lower_next, IsNotBefore, Lowest, IsLowest}
 use Rattle.flute_journal.proofs.Public.{all_append}
@@ -49,19 +49,19 @@ lower-second (Some a) p = elim (cases_Bool (is_lt (address_cmp a p))) [
 pub record FirstsFrom {S : Type 0} (b : Behaviour S) (number k : ℕ) (streams : List S)
     (next : Option Address) : Type 0 where
   pub none_before : (j : ℕ) (s : S) → j < k → slice_get streams j ≡ Some s → j ≢ number
-      → NoneBefore next (place_of (b.held s))
+      → NoneBefore next (address_of (b.held s))
 
 module _ {S : Type 0} (b : Behaviour S) {number k : ℕ} {streams : List S}
     {next : Option Address} where
   pub firsts_more : (o : Option Address)
-      → ((s : S) → slice_get streams k ≡ Some s → o ≡ place_of (b.held s))
+      → ((s : S) → slice_get streams k ≡ Some s → o ≡ address_of (b.held s))
       → FirstsFrom b number k streams next
       → FirstsFrom b number (k + 1) streams (lower_next next o)
   firsts_more o held h = record {
     none_before = λ j s l i n. elim (cases_Bool (eqb j k)) [
       | inl e ↦ subst (λ x. NoneBefore (lower_next next o) x)
           (held s (subst (λ m. slice_get streams m ≡ Some s) (eqb-true j k e) i)) (next-held o)
-      | inr e ↦ lowered o (place_of (b.held s))
+      | inr e ↦ lowered o (address_of (b.held s))
           (h.none_before j s (omega (arith, l, eqb-false j k e)) i n)
     ];
   }
@@ -75,7 +75,7 @@ module _ {S : Type 0} (b : Behaviour S) {number k : ℕ} {streams : List S}
 
   -- once all streams were looked at, this one leads
   pub lead-new : (o : Option Address) → number < length streams → length streams ≤ k
-      → ((s : S) → slice_get streams number ≡ Some s → o ≡ place_of (b.held s))
+      → ((s : S) → slice_get streams number ≡ Some s → o ≡ address_of (b.held s))
       → FirstsFrom b number k streams next
       → IsBelowNext o next → Leads b streams number next
   lead-new o within all held h below =
@@ -99,7 +99,7 @@ abbrev IsOver : Fact → Option Fact → Type 0
 IsOver g o = IfSome o (λ f. address_cmp (address g) (address f) ≡ Less)
 
 over : (g : Fact) (next : Option Address) (o : Option Fact)
-    → IsBelowNext (Some (address g)) next → NoneBefore next (place_of o) → IsOver g o
+    → IsBelowNext (Some (address g)) next → NoneBefore next (address_of o) → IsOver g o
 over g next None l h = tt
 over g None (Some f) l h = absurd h
 over g (Some a) (Some f) l h =
@@ -108,7 +108,7 @@ over g (Some a) (Some f) l h =
 over_list : (g : Fact) (o : Option Fact) → IsOver g o → StandAfter (address g) (option_list o)
 over_list g o h = grind (arith)
 
-over_place : (g : Fact) (o : Option Fact) → IsOver g o → place_of o ≢ Some (address g)
+over_place : (g : Fact) (o : Option Fact) → IsOver g o → address_of o ≢ Some (address g)
 over_place g None h e = cc
 over_place g (Some f) h e =
     let p : address f ≡ address g = same_Some (address f) (address g) e in
@@ -189,34 +189,34 @@ module _ {S : Type 0} (b : Behaviour S) where
       → (l : Leads b streams number next) → o ≡ b.held l.stream
       → IsLowest (heads b streams) o
   lead-lowest streams number next None l e =
-      absurd (subst (λ x. IsBelowNext (place_of x) next) (sym e) l.below)
+      absurd (subst (λ x. IsBelowNext (address_of x) next) (sym e) l.below)
   lead-lowest streams number next (Some g) l e =
       lead_lowest g number l.stream streams l.is (sym e) (others_over g (sym e))
     where
       others_over : (g : Fact) → b.held l.stream ≡ Some g → OthersOver g number streams
       others_over g e j s i n =
-          over g next (b.held s) (subst (λ x. IsBelowNext (place_of x) next) e l.below)
+          over g next (b.held s) (subst (λ x. IsBelowNext (address_of x) next) e l.below)
           (l.others j s i n)
 
   -- Only the leading stream is advanced.
 
   all_stay : (a : Option Address) (streams : List S)
-      → ((j : ℕ) (s : S) → slice_get streams j ≡ Some s → place_of (b.held s) ≢ a)
+      → ((j : ℕ) (s : S) → slice_get streams j ≡ Some s → address_of (b.held s) ≢ a)
       → GoOnAt b a streams streams
   all_stay a [] h = tt
   all_stay a (s ∷ streams) h = (inr (h 0 s refl, refl), all_stay a streams (λ j t e. h (suc j) t e))
 
   abbrev OthersElsewhere : Option Address → ℕ → List S → Type 0
   OthersElsewhere a k streams =
-      (j : ℕ) (s : S) → slice_get streams j ≡ Some s → j ≢ k → place_of (b.held s) ≢ a
+      (j : ℕ) (s : S) → slice_get streams j ≡ Some s → j ≢ k → address_of (b.held s) ≢ a
 
   goes : {a : Option Address} (k : ℕ) (streams : List S) {x y : S}
-      → slice_get streams k ≡ Some x → place_of (b.held x) ≡ a → GoesOn b x y
+      → slice_get streams k ≡ Some x → address_of (b.held x) ≡ a → GoesOn b x y
       → OthersElsewhere a k streams → GoOnAt b a streams (set streams k y)
   goes k [] e p g h = absurd cc
   goes {a = a} zero (s ∷ streams) {x = x} {y = y} e p g h =
       let q = same_Some s x e in (
-        inl (ap (λ t. place_of (b.held t)) q ∙ p, subst (λ t. GoesOn b t y) (sym q) g),
+        inl (ap (λ t. address_of (b.held t)) q ∙ p, subst (λ t. GoesOn b t y) (sym q) g),
         all_stay a streams (λ j t i. h (suc j) t i (zero_apart j)),
       )
   goes (suc k) (s ∷ streams) e p g h = (
@@ -225,7 +225,7 @@ module _ {S : Type 0} (b : Behaviour S) where
   )
 
   stops : {a : Option Address} (k : ℕ) {f : LoadFault} (streams : List S) {x : S} (y : S)
-      → slice_get streams k ≡ Some x → place_of (b.held x) ≡ a → StopsAt b x y f
+      → slice_get streams k ≡ Some x → address_of (b.held x) ≡ a → StopsAt b x y f
       → OthersElsewhere a k streams
       → StopAt b a k f streams (set streams k y)
   stops k [] y e p g h = absurd cc
@@ -241,12 +241,12 @@ module _ {S : Type 0} (b : Behaviour S) where
   elsewhere streams number next a l at = by_held (b.held l.stream) refl
     where
       by_held : (o : Option Fact) → b.held l.stream ≡ o → OthersElsewhere (Some a) number streams
-      by_held None e = absurd (subst (λ x. IsBelowNext (place_of x) next) e l.below)
+      by_held None e = absurd (subst (λ x. IsBelowNext (address_of x) next) e l.below)
       by_held (Some g) e = λ j s i n.
-          let p : Some (address g) ≡ Some a = ap place_of (sym e) ∙ at l.stream l.is in
-          subst (λ x. place_of (b.held s) ≢ x) p
+          let p : Some (address g) ≡ Some a = ap address_of (sym e) ∙ at l.stream l.is in
+          subst (λ x. address_of (b.held s) ≢ x) p
           (over_place g (b.held s) (over g next (b.held s)
-          (subst (λ x. IsBelowNext (place_of x) next) e l.below) (l.others j s i n)))
+          (subst (λ x. IsBelowNext (address_of x) next) e l.below) (l.others j s i n)))
 
   pub lead-goes : {streams new : List S} {number : ℕ} {next : Option Address} (a : Address)
       → Leads b streams number next → StandsAt b (Some a) streams number
@@ -281,7 +281,7 @@ module _ {S : Type 0} (b : Behaviour S) where
   -- it still leads, where what it holds is below the next address
   pub still-leads : {streams new : List S} {number : ℕ} {next : Option Address}
       {o : Option Address} → Leads b streams number next → Advances b number streams new (Ok tt)
-      → ((s : S) → slice_get new number ≡ Some s → o ≡ place_of (b.held s))
+      → ((s : S) → slice_get new number ≡ Some s → o ≡ address_of (b.held s))
       → IsBelowNext o next
       → Leads b new number next
   still-leads l v held below = grind (arith, set_here, set_elsewhere)

@@ -6,7 +6,7 @@ use Rattle.flute_streams.proofs.Common.{List, None, Option, Some}
 use Rattle.flute_streams.proofs.Common.{[], address, address_cmp, ap, arith}
 use Rattle.flute_streams.proofs.Common.{bytes_eq, cases_Bool, conflict_at, entry, fact_same}
 use Rattle.flute_streams.proofs.Common.{if◌then◌else◌, inl, inr, length, option_list}
-use Rattle.flute_streams.proofs.Common.{place_of, refl, same_Some, same_fact, slice_get, subst, suc}
+use Rattle.flute_streams.proofs.Common.{address_of, refl, same_Some, same_fact, slice_get, subst, suc}
 use Rattle.flute_streams.proofs.Common.{sym, true, false, zero, ℕ, ◌++◌, ◌<◌, ◌∙◌, ◌∷◌, ◌≡◌, ◌≢◌}
 use Rattle.std.specs.Prelude.{◌==◌}
 use Rattle.std.proofs.lemmas.Slice.Eq.{bytes_eq-Decides}
@@ -59,7 +59,7 @@ held-within b (s ∷ streams) zero e = omega arith
 held-within b (s ∷ streams) (suc k) e =
     let h = held-within b streams k e in omega (arith, h)
 
-pub place-some : (o : Option Fact) (a : Address) → place_of o ≡ Some a
+pub place-some : (o : Option Fact) (a : Address) → address_of o ≡ Some a
     → (f : Fact) × (o ≡ Some f) × (address f ≡ a)
 place-some None a e = absurd cc
 place-some (Some f) a e = (f, refl, same_Some (address f) a e)
@@ -80,12 +80,12 @@ has_value b streams l stands =
       | inl e ↦ record {
         fact = conflict_at (address h.0);
         is = ap (λ c. if c then conflict_of held else held) e ∙ ap conflict_of h.1;
-        at = ap place_of h.1 ∙ ap Some (sym (conflict-place (address h.0)));
+        at = ap address_of h.1 ∙ ap Some (sym (conflict-place (address h.0)));
       }
       | inr e ↦ record {
         fact = h.0;
         is = ap (λ c. if c then conflict_of held else held) e ∙ h.1;
-        at = ap place_of h.1;
+        at = ap address_of h.1;
       }
     ]
 
@@ -95,7 +95,7 @@ stands-within b streams l stands =
     held-within b streams l.number
     (place-some (held_at b streams l.number) stands.0 stands.1).1
 
-pub place-none : (o : Option Fact) → place_of o ≡ None → o ≡ None
+pub place-none : (o : Option Fact) → address_of o ≡ None → o ≡ None
 place-none None e = refl
 place-none (Some f) e = absurd cc
 
@@ -149,8 +149,8 @@ pub record Compared {S : Type 0} (b : Behaviour S) (streams : List S) (k : ℕ) 
 pub compared : {S : Type 0} (b : Behaviour S) (streams : List S) (l : LowestValue) {k : ℕ}
     {p q : Option Address} {order : Ordering} → Stands b streams l
     → Stands b streams (first_at k)
-    → ((s : S) → slice_get streams k ≡ Some s → p ≡ place_of (b.held s))
-    → ((s : S) → slice_get streams l.number ≡ Some s → q ≡ place_of (b.held s))
+    → ((s : S) → slice_get streams k ≡ Some s → p ≡ address_of (b.held s))
+    → ((s : S) → slice_get streams l.number ≡ Some s → q ≡ address_of (b.held s))
     → ((a c : Address) → p ≡ Some a → q ≡ Some c → order ≡ address_cmp a c)
     → Compared b streams k l order
 compared b streams l {k = k} stands here first second is =
@@ -161,8 +161,8 @@ compared b streams l {k = k} stands here first second is =
       here = f.1;
       value = v;
       is = sym (is (address f.0) (address v.fact)
-          (read-at b streams k place_of (held-within b streams k f.1) first ∙ ap place_of f.1)
-          (read-at b streams l.number place_of (stands-within b streams l stands) second
+          (read-at b streams k address_of (held-within b streams k f.1) first ∙ ap address_of f.1)
+          (read-at b streams l.number address_of (stands-within b streams l stands) second
           ∙ v.at));
     }
 
@@ -207,49 +207,23 @@ written_at b streams {written = written} {failures = failures} {old = old} {new 
 -- its address is that of the stream
 pub placed : {S : Type 0} (b : Behaviour S) (streams : List S) {l : LowestValue}
     {o : Option Address} {a : Address} (v : HasValue b streams l) → Stands b streams l
-    → ((s : S) → slice_get streams l.number ≡ Some s → o ≡ place_of (b.held s))
+    → ((s : S) → slice_get streams l.number ≡ Some s → o ≡ address_of (b.held s))
     → o ≡ Some a → address v.fact ≡ a
 placed b streams {l = l} {a = a} v stands h e =
     same_Some (address v.fact) a
-    (sym v.at ∙ sym (read-at b streams l.number place_of (stands-within b streams l stands) h)
+    (sym v.at ∙ sym (read-at b streams l.number address_of (stands-within b streams l stands) h)
     ∙ e)
 
 -- the first of new streams holds nothing
 pub none-new : {S : Type 0} (b : Behaviour S) (streams : List S) → AreNew b streams
-    → place_of (held_at b streams 0) ≡ None
+    → address_of (held_at b streams 0) ≡ None
 none-new b [] new = refl
-none-new b (s ∷ streams) new = ap place_of new.0.held
-
--- those that stand at one address
-
-pub all-there : {S : Type 0} (b : Behaviour S) (streams : List S) (a : Address)
-    (l : LowestValue) (lowest : Option LowestValue) → StandsOn b a streams l
-    → IfSome lowest (StandsOn b a streams)
-    → IfSome lowest (λ m. place_at b streams l ≡ place_at b streams m)
-all-there b streams a l None on stands = tt
-all-there b streams a l (Some m) on stands = on ∙ sym stands
-
-pub stand-on : {S : Type 0} (b : Behaviour S) (streams : List S) (a : Address)
-    (lowest : Option LowestValue) → IfSome lowest (StandsOn b a streams)
-    → IfSome lowest (Stands b streams)
-stand-on b streams a None stands = tt
-stand-on b streams a (Some m) stands = (a, stands)
-
--- where it was found there is a value
-pub found-there : {S : Type 0} (b : Behaviour S) (streams : List S) (a : Address)
-    (lowest : Option LowestValue) → IfSome lowest (StandsOn b a streams)
-    → IfSome (value_of b streams lowest) (Lowest (heads b streams))
-    → IfSome lowest (λ l. IsLowest (heads b streams) (value_at b streams l))
-found-there b streams a None stands h = tt
-found-there b streams a (Some l) stands h =
-    let v = has_value b streams l (a, stands) in
-    subst (IsLowest (heads b streams)) (sym v.is)
-    (some-of (Lowest (heads b streams)) v.is h)
+none-new b (s ∷ streams) new = ap address_of new.0.held
 
 module _ {S : Type 0} (b : Behaviour S) (streams : List S) where
   pub place-joined : (l : LowestValue) (k : ℕ) (r : LowestValue) → Joins b streams l k r
       → place_at b streams r ≡ place_at b streams l
-  place-joined l k r j = ap (λ n. place_of (held_at b streams n)) j.number
+  place-joined l k r j = ap (λ n. address_of (held_at b streams n)) j.number
 
   -- where values differ, the next value there changes nothing
   pub joins-conflict : (l : LowestValue) (k : ℕ) → Stands b streams l
@@ -262,7 +236,7 @@ module _ {S : Type 0} (b : Behaviour S) (streams : List S) where
         let held = held_at b streams l.number in
         let x = place-some held stands.0 stands.1 in
         let at = same_Some (address f) (address x.0)
-        (sym (ap place_of h) ∙ here ∙ ap place_of x.1) in
+        (sym (ap address_of h) ∙ here ∙ ap address_of x.1) in
         ap (λ c. if c then conflict_of held else held) e ∙ ap conflict_of x.1
         ∙ ap (λ a. Some (conflict_at a)) (sym at);
   }

@@ -10,7 +10,7 @@ use Rattle.flute_streams.proofs.Common.{Address, Fact, address, address_cmp, add
 use Rattle.flute_streams.proofs.Common.{alone-at, alone-elsewhere, conflict_at, fact_at}
 use Rattle.flute_streams.proofs.Common.{fact_at-append, fact_at-nil, fact_same, joined}
 use Rattle.flute_streams.proofs.Common.{joined-apart, joined-none, joined-same, same_fact}
-use Rattle.flute_streams.proofs.Common.{address_itself, option_list, place_of, same_Some}
+use Rattle.flute_streams.proofs.Common.{address_itself, option_list, address_of, same_Some}
 use Rattle.flute_streams.proofs.Common.{IfSome, IsNotBefore, Lowest, address_same, cases_Bool}
 use Rattle.flute_journal.proofs.Public.{all_append}
 use Rattle.flute_streams.proofs.merge_lemmas.LowestFacts.{conflict-place, up_to_itself, up_to_less}
@@ -107,12 +107,6 @@ from-part key rank a e = record {
   exact = λ h. ap Some e;
 }
 
--- a stream behind all parts, or at its end, has a rank above those of all
-pub from-behind : (key : Key) {rank : ℕ} (place : Option Address) → 4294967296 < rank
-    → AllFrom key rank place → StandsFrom key rank place
-from-behind key place high from =
-    record { from = from; exact = λ h. absurd (omega (arith, h, high)) }
-
 abbrev at_part : Key → Part → Address
 at_part key part = record { key = key; part = part }
 
@@ -122,12 +116,6 @@ part_eq k l p q d e = ap (λ x. at_part x p) d ∙ ap (at_part l) e
 pub same_place : (a : Address) (key : Key) (rank : ℕ) → a.key ≡ key
     → part_at rank ≡ a.part → a ≡ place_at_rank key rank
 same_place a key rank e p = part_eq a.key key a.part (part_at rank) e (sym p)
-
--- what is held at a rank is not before its address
-pub not-before : (a : Address) (key : Key) (rank : ℕ) (o : Option Fact)
-    → a ≡ place_at_rank key rank → AllFrom key rank (place_of o) → IfSome o (IsNotBefore a)
-not-before a key rank None e from = tt
-not-before a key rank (Some f) e from = subst (λ x. IsNotBefore x f) (sym e) from.not_before
 
 -- what is held at a higher rank stands elsewhere
 
@@ -144,8 +132,8 @@ behind a key rank higher f e l from =
     subst (λ x. address_cmp x (address f) ≡ Less) (sym e) (from.above rank l)
 
 pub elsewhere : (a : Address) (key : Key) (rank higher : ℕ) (o : Option Fact)
-    → a ≡ place_at_rank key rank → rank < higher → AllFrom key higher (place_of o)
-    → place_of o ≢ Some a
+    → a ≡ place_at_rank key rank → rank < higher → AllFrom key higher (address_of o)
+    → address_of o ≢ Some a
 elsewhere a key rank higher None e l from = λ q. absurd cc
 elsewhere a key rank higher (Some f) e l from = λ q.
     let at : address f ≡ a = same_Some (address f) a q in
@@ -239,19 +227,9 @@ module _ (a : Address) (facts : List Fact) where
     first = first_more f n h.first;
   }
 
-  -- what is held elsewhere changes nothing
-  pub comes-other : (v o : Option Fact) → place_of o ≢ Some a → IfSome o (IsNotBefore a)
-      → ComesTo a facts v → ComesTo a (facts ++ option_list o) v
-  comes-other v None apart n h =
-      subst (λ (x : List Fact). ComesTo a x v) (sym (append-nil facts)) h
-  comes-other v (Some f) apart n h = elim (cases_Bool (is_eq (address_cmp (address f) a))) [
-    | inl e ↦ absurd (apart (ap Some (address_same (address f) a e)))
-    | inr e ↦ comes-elsewhere v f e n h
-  ]
-
   -- what is held at a higher rank changes nothing
   pub comes-behind : {v : Option Fact} (key : Key) (rank higher : ℕ) (o : Option Fact)
-      → a ≡ place_at_rank key rank → rank < higher → AllFrom key higher (place_of o)
+      → a ≡ place_at_rank key rank → rank < higher → AllFrom key higher (address_of o)
       → ComesTo a facts v → ComesTo a (facts ++ option_list o) v
   comes-behind {v = v} key rank higher None e l from h =
       subst (λ (x : List Fact). ComesTo a x v) (sym (append-nil facts)) h

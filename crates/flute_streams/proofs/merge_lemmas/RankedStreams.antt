@@ -5,7 +5,7 @@ use Rattle.flute_streams.proofs.Common.{List, ◌++◌, length, take, Option, So
 use Rattle.flute_streams.proofs.Common.{inl, inr, ◌⊎◌, sym, ap, ◌∙◌}
 use Rattle.flute_streams.proofs.Common.{subst, arith, cases_Bool, eqb, eqb-false, eqb-true}
 use Rattle.flute_streams.proofs.Common.{slice_get, slice_get_within, Address, Fact}
-use Rattle.flute_streams.proofs.Common.{option_list, place_of, Behaviour, Advances, heads}
+use Rattle.flute_streams.proofs.Common.{option_list, address_of, Behaviour, Advances, heads}
 use Rattle.flute_streams.proofs.merge_lemmas.GoingOn.{NoneAt, WentSoFar, all_went, item_at}
 use Rattle.flute_streams.proofs.merge_lemmas.GoingOn.{more_stay}
 use Rattle.flute_streams.proofs.merge_lemmas.LeadFacts.{set_elsewhere}
@@ -32,12 +32,12 @@ module _ {S : Type 0} (b : Behaviour S) (key : Key) where
   -- the streams before k are ranked
   pub record AreRankedTo (k : ℕ) (streams : List S) (ranks : List ℕ) : Type 0 where
     pub from : (j : ℕ) (s : S) → j < k → slice_get streams j ≡ Some s
-        → StandsFrom key (slice_index ranks j) (place_of (b.held s))
+        → StandsFrom key (slice_index ranks j) (address_of (b.held s))
 
   -- so is the next, and the others are as they were
   pub ranked_more : (k : ℕ) {streams : List S} {ranks : List ℕ} (new : List ℕ)
       (o : Option Address)
-      → ((s : S) → slice_get streams k ≡ Some s → o ≡ place_of (b.held s))
+      → ((s : S) → slice_get streams k ≡ Some s → o ≡ address_of (b.held s))
       → StandsFrom key (slice_index new k) o → OthersStay k ranks new
       → AreRankedTo k streams ranks → AreRankedTo (k + 1) streams new
   ranked_more k {streams = streams} new o held from stay h = record {
@@ -45,11 +45,11 @@ module _ {S : Type 0} (b : Behaviour S) (key : Key) where
       | inl e ↦
           let same = eqb-true j k e in
           let at = held s (subst (λ n. slice_get streams n ≡ Some s) same i) in
-          subst (λ n. StandsFrom key (slice_index new n) (place_of (b.held s))) (sym same)
+          subst (λ n. StandsFrom key (slice_index new n) (address_of (b.held s))) (sym same)
           (subst (StandsFrom key (slice_index new k)) at from)
       | inr e ↦
           let apart = eqb-false j k e in
-          subst (λ r. StandsFrom key r (place_of (b.held s))) (sym (stay j apart))
+          subst (λ r. StandsFrom key r (address_of (b.held s))) (sym (stay j apart))
           (h.from j s (omega (arith, l, apart)) i)
     ];
   }
@@ -69,7 +69,7 @@ module _ {S : Type 0} (b : Behaviour S) (key : Key) where
       (ranks : List ℕ) : Type 0 where
     pub from : (j : ℕ) (s : S) → (k ≤ j) ⊎ (known ≡ true)
         → slice_get streams j ≡ Some s
-        → StandsFrom key (slice_index ranks j) (place_of (b.held s))
+        → StandsFrom key (slice_index ranks j) (address_of (b.held s))
 
   pub rest_from : (k n : ℕ) {known : Bool} {streams : List S} {ranks : List ℕ} → k ≤ n
       → AreRankedFrom k known streams ranks → AreRankedFrom n known streams ranks
@@ -105,7 +105,7 @@ module _ {S : Type 0} (b : Behaviour S) (key : Key) where
       (ranks others : List ℕ) : Type 0 where
     pub advanced : Advances b k old new (Ok tt)
     pub ranked : set ≡ true → (s : S) → slice_get new k ≡ Some s
-        → StandsFrom key (slice_index others k) (place_of (b.held s))
+        → StandsFrom key (slice_index others k) (address_of (b.held s))
     pub stay : OthersStay k ranks others
 
   pub rest_moved : (k : ℕ) {known set : Bool} (now : Bool) {old new : List S}
@@ -120,14 +120,14 @@ module _ {S : Type 0} (b : Behaviour S) (key : Key) where
             | inl l ↦ absurd (omega (arith, l, same))
             | inr n ↦ n
           ] in
-          subst (λ n. StandsFrom key (slice_index others n) (place_of (b.held s))) (sym same)
+          subst (λ n. StandsFrom key (slice_index others n) (address_of (b.held s))) (sym same)
           (m.ranked (both all).1 s (subst (λ n. slice_get new n ≡ Some s) same i))
       | inr e ↦
           let apart = eqb-false j k e in
           let was : slice_get old j ≡ Some s =
           sym (set_elsewhere b old k j m.advanced.after apart)
           ∙ ap (λ l. slice_get l j) (sym m.advanced.now) ∙ i in
-          subst (λ r. StandsFrom key r (place_of (b.held s))) (sym (m.stay j apart))
+          subst (λ r. StandsFrom key r (address_of (b.held s))) (sym (m.stay j apart))
           (h.from j s (elim w [
             | inl l ↦ inl (omega (arith, l))
             | inr n ↦ inr (both n).0
@@ -145,7 +145,7 @@ stands-ranked b {streams = streams} key {ranks = ranks} k {rank = rank} within r
     let x = item_at streams k within in
     let low = ranked.low k (omega (arith, within, ranked.few)) in
     let same : slice_index ranks k ≡ rank = omega (arith, up, least, low) in
-    ap (λ s. place_of (held_in b s)) x.1
+    ap (λ s. address_of (held_in b s)) x.1
     ∙ (ranked.from k x.0 x.1).exact (omega (arith, same, few))
     ∙ ap (λ r. Some (place_at_rank key r)) same
 

@@ -7,7 +7,7 @@ use Rattle.flute_streams.proofs.Common.{Some, StopAt, [], address, address_itsel
 use Rattle.flute_streams.proofs.Common.{all_of, ap, append-nil, append_assoc, arith, cases_Bool}
 use Rattle.flute_streams.proofs.Common.{end, entry, fact_at, fact_at-append, false, flat_map}
 use Rattle.flute_streams.proofs.Common.{without_end, header, heads, inl, inr, is_after, joined}
-use Rattle.flute_streams.proofs.Common.{length, length-append, option_list, place_of, refl}
+use Rattle.flute_streams.proofs.Common.{length, length-append, option_list, address_of, refl}
 use Rattle.flute_streams.proofs.Common.{rising_unique, same_Some, same_address, slice_get, spelling}
 use Rattle.flute_streams.proofs.Common.{subst, suc, sym, zero, ℕ, ◌++◌, ◌∙◌, ◌∷◌}
 use Rattle.flute_streams.proofs.Common.{◌≡◌, ◌≢◌}
@@ -120,7 +120,7 @@ module _ {S : Type 0} (b : Behaviour S) where
 
   above_held : (a : Address) (F K : List Fact) (held : Option Fact)
       → Continues K (F ++ option_list held) held
-      → (place_of held ≢ Some a → IsAbove (Some a) held)
+      → (address_of held ≢ Some a → IsAbove (Some a) held)
       → Above (Some a) K (F ++ given_at (Some a) held)
   above_held a F K None c n =
       record { rest = c.rest; is = c.is; rises = subst (Rises (Some a)) (sym (c.ended refl)) tt }

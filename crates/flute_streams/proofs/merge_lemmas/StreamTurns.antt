@@ -9,7 +9,7 @@ use Rattle.flute_streams.proofs.Common.{append-nil, arith, cases_Bool, conflict_
 use Rattle.flute_streams.proofs.Common.{fact_at-cons, fact_at-elsewhere, fact_at-nil, fact_same}
 use Rattle.flute_streams.proofs.Common.{false, heads, inl, inr, is_after, is_eq, joined}
 use Rattle.flute_streams.proofs.Common.{joined-apart, joined-same, length, length-append, most_of}
-use Rattle.flute_streams.proofs.Common.{none-some, option_list, place_of, refl, same_address}
+use Rattle.flute_streams.proofs.Common.{none-some, option_list, address_of, refl, same_address}
 use Rattle.flute_streams.proofs.Common.{same_fact, subst, sym, true, ◌++◌, ◌+◌, ◌∙◌}
 use Rattle.flute_streams.proofs.Common.{◌∷◌, ◌≡◌, ◌≢◌}
 use Rattle.flute_streams.proofs.Common.{◌≤◌}
@@ -140,7 +140,7 @@ abbrev pub given_at : Option Address → Option Fact → List Fact
 given_at None o = []
 given_at (Some a) o = taken_from a o
 
-pub given_here : (p : Option Address) (o : Option Fact) → place_of o ≡ p
+pub given_here : (p : Option Address) (o : Option Fact) → address_of o ≡ p
     → given_at p o ≡ option_list o
 given_here None None e = refl
 given_here (Some a) None e = refl
@@ -148,7 +148,7 @@ given_here p (Some f) e =
     subst (λ q. given_at q (Some f) ≡ f ∷ []) e
     (ap (λ b. taken_by b f) (address_itself (address f)))
 
-pub given_elsewhere : (p : Option Address) (o : Option Fact) → place_of o ≢ p → given_at p o ≡ []
+pub given_elsewhere : (p : Option Address) (o : Option Fact) → address_of o ≢ p → given_at p o ≡ []
 given_elsewhere None o n = refl
 given_elsewhere (Some a) None n = refl
 given_elsewhere (Some a) (Some f) n = elim (cases_Bool (same_address (address f) a)) [
@@ -160,7 +160,7 @@ abbrev pub IsAbove : Option Address → Option Fact → Type 0
 IsAbove place o = IfSome o (λ f. IsTrue (is_after place (address f)))
 
 -- what is not before an address, and not there, is above it
-pub above_other : (a : Address) (o : Option Fact) → place_of o ≢ Some a
+pub above_other : (a : Address) (o : Option Fact) → address_of o ≢ Some a
     → AllByRecursion (IsNotBefore a) (option_list o) → IsAbove (Some a) o
 above_other a None n h = tt
 above_other a (Some f) n h = by_order (address_cmp a (address f)) refl
@@ -172,7 +172,7 @@ above_other a (Some f) n h = by_order (address_cmp a (address f)) refl
     by_order Greater e = absurd (h.0 e)
 
 -- what follows a fact in a rising list is above its address
-above_next : (F : List Fact) (held o : Option Fact) (p : Option Address) → place_of held ≡ p
+above_next : (F : List Fact) (held o : Option Fact) (p : Option Address) → address_of held ≡ p
     → IsRising ((F ++ option_list held) ++ option_list o) → IsAbove p o
 above_next F held o None e r = grind (arith)
 above_next F held None (Some a) e r = tt
@@ -209,7 +209,7 @@ module _ {S : Type 0} (b : Behaviour S) where
 
   -- a stream is advanced if it holds that address
   pub went_on : (p : Option Address) (r : Run S) (u : S) → Ready r
-      → (place_of (b.held r.now) ≢ p → Went p r) → GoesOnAt b p r.now u
+      → (address_of (b.held r.now) ≢ p → Went p r) → GoesOnAt b p r.now u
       → Went p (record { start = r.start; now = u; given = r.given ++ given_at p (b.held r.now) })
   went_on p r u w stays goes =
       grind (arith, given_here, length-append, above_next, given_at, given_elsewhere, append-nil)
@@ -228,7 +228,7 @@ module _ {S : Type 0} (b : Behaviour S) where
     pub went : AllByRecursion (Went p) next
 
   abbrev pub Stays : Option Address → Run S → Type 0
-  Stays p r = Ready r × (place_of (b.held r.now) ≢ p → Went p r)
+  Stays p r = Ready r × (address_of (b.held r.now) ≢ p → Went p r)
 
   pub turn : (p : Option Address) (runs : List (Run S)) (new : List S)
       → AllByRecursion (Stays p) runs → GoOnAt b p (nows runs) new → Turned p runs new
@@ -276,7 +276,7 @@ module _ {S : Type 0} (b : Behaviour S) where
         fails = n.0.fails;
         fewer = omega arith;
       },
-      λ e. absurd (e (ap place_of n.0.held)),
+      λ e. absurd (e (ap address_of n.0.held)),
     ),
     new_stays streams n.1,
   )

@@ -3,7 +3,7 @@ ghost use Rattle.std.specs.Prelude.{◌≡◌, ◌≢◌, ◌<◌, true, false, 
 ghost use Rattle.std.specs.Prelude.{option_copied};
 ghost use Rattle.flute_streams.specs.Advances.{GoOnAt, StopsIn};
 ghost use Rattle.flute_streams.specs.Lowest.{held_at};
-ghost use Rattle.flute_streams.specs.Streams.{place_of};
+ghost use Rattle.flute_streams.specs.Streams.{address_of};
 
 use crate::merge::streams_fault::InputFault;
 use crate::streams::Streams;
@@ -33,7 +33,7 @@ pub fn advance_at<G: Streams>(
     place: Option<&Address>,
     first: usize,
 ) -> Result<Advanced, InputFault>
-    requires first { place_of (held_at G.Stream.behaviour (G.streams streams.old) first)
+    requires first { address_of (held_at G.Stream.behaviour (G.streams streams.old) first)
         ≡ option_copied place }
     ensures go_on { IfOk result (λ _. GoOnAt G.Stream.behaviour (option_copied place.entry)
         (G.streams streams.old) (G.streams streams.new)) }
@@ -62,16 +62,16 @@ pub fn advance_at<G: Streams>(
 fn stands_at<G: Streams>(streams: &G, number: usize, place: Option<&Address>, first: usize) -> bool
     requires number { number < length (G.streams streams.now) }
     requires first { number ≡ first
-        → place_of (held_at G.Stream.behaviour (G.streams streams.now) number)
+        → address_of (held_at G.Stream.behaviour (G.streams streams.now) number)
         ≡ option_copied place }
     ensures at { result ≡ true
-        → place_of (held_at G.Stream.behaviour (G.streams streams.now) number)
+        → address_of (held_at G.Stream.behaviour (G.streams streams.now) number)
         ≡ option_copied place.entry }
     ensures elsewhere { result ≡ false
-        → place_of (held_at G.Stream.behaviour (G.streams streams.now) number)
+        → address_of (held_at G.Stream.behaviour (G.streams streams.now) number)
         ≢ option_copied place.entry }
 {
-    number == first || is_at(streams.place(number), place)
+    number == first || is_at(streams.address(number), place)
 }
 
 // Whether a stream that is here is at this address, or holds nothing if there is none.

@@ -195,7 +195,7 @@ fn merge_into<const SESSIONS: u32, const OBJECTS: u32, const SYMBOLS: u32, G: St
             return Err(StreamsFault::Write);
         }
         let first = lowest.number;
-        let Some(place) = streams.place(first) else {
+        let Some(place) = streams.address(first) else {
             unreachable!();
         };
         let place = *place;

@@ -55,7 +55,7 @@ impl Lead {
             → IfSome result (λ l. l.number ≡ self.now.number) }
     {
         if self.known {
-            return match streams.place(self.number) {
+            return match streams.address(self.number) {
                 Some(_) => Some(LowestValue::first(self.number)),
                 None => None,
             };
@@ -70,7 +70,7 @@ impl Lead {
 
     /// Advances each stream that holds a fact at this address, the lowest, in their order, once it
     /// was written to a sink of the kind `W`: the loop of each kind has a step of its own, which is
-    /// inlined. The first of those streams has the number `first`. Many streams get ranks.
+    /// inlined. The stream with the number `first` is one of them. Many streams get ranks.
     ///
     /// # Errors
     ///
@@ -172,7 +172,7 @@ impl Lead {
         if let Err(fault) = streams.advance(number, alloc) {
             return Err(InputFault { number, fault });
         }
-        self.known = is_below(streams.place(number), &self.next);
+        self.known = is_below(streams.address(number), &self.next);
         Ok(())
     }
 
@@ -184,13 +184,13 @@ impl Lead {
         ensures { self.new.known ≡ true
             → Leads G.Stream.behaviour (G.streams streams.now) self.new.number self.new.next }
     {
-        let place = streams.place(number);
+        let place = streams.address(number);
         self.number = number;
         self.next = None;
         self.known = false;
         for other in 0..streams.count() {
             if other != number {
-                self.next = lower_next(&self.next, streams.place(other));
+                self.next = lower_next(&self.next, streams.address(other));
                 if !is_below(place, &self.next) {
                     return;
                 }

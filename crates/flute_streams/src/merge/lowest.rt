@@ -5,12 +5,12 @@ ghost use Rattle.flute_parts.specs.Addresses.{address, fact_of};
 ghost use Rattle.flute_parts.specs.Order.{address_cmp};
 ghost use Rattle.flute_parts.specs.Facts.{conflict_at, same_fact};
 ghost use Rattle.flute_parts.specs.Ranges.{IsFact};
-ghost use Rattle.flute_parts.specs.declared.address.Address.{Address as Place};
+ghost use Rattle.flute_parts.specs.declared.address.Address.{Address};
 ghost use Rattle.flute_parts.specs.declared.fact.Fact.{Fact};
 ghost use Rattle.flute_store.specs.Walk.{IsSized};
 ghost use Rattle.flute_journal.specs.Format.{entry};
 ghost use Rattle.flute_journal.specs.JournalWriters.{Puts};
-ghost use Rattle.flute_streams.specs.Streams.{heads, option_list, place_of};
+ghost use Rattle.flute_streams.specs.Streams.{heads, option_list, address_of};
 ghost use Rattle.flute_streams.specs.Lowest.{AreSpelled, IsLowest, Joins, Stands, held_at};
 ghost use Rattle.flute_streams.specs.Lowest.{first_at, place_at, value_at};
 ghost use Rattle.flute_streams.specs.Lowest.{value_of};
@@ -76,7 +76,7 @@ pub fn lowest_held<G: Streams>(streams: &G) -> Option<LowestValue>
 {
     let mut lowest = None;
     for number in 0..streams.count() {
-        if let Some(_) = streams.place(number) {
+        if let Some(_) = streams.address(number) {
             lowest = Some(with_more(streams, lowest, number));
         }
     }
@@ -99,7 +99,7 @@ fn with_more<G: Streams>(streams: &G, lowest: Option<LowestValue>, number: usize
     let Some(lowest) = lowest else {
         return LowestValue::first(number);
     };
-    match order_of(streams.place(number), streams.place(lowest.number)) {
+    match order_of(streams.address(number), streams.address(lowest.number)) {
         Ordering::Less => LowestValue::first(number),
         Ordering::Greater => lowest,
         Ordering::Equal => lowest.joined(streams, streams.spelled(lowest.number), number),
@@ -109,7 +109,7 @@ fn with_more<G: Streams>(streams: &G, lowest: Option<LowestValue>, number: usize
 // The order of two addresses that are there.
 #[inline(always)]
 fn order_of(first: Option<&Address>, second: Option<&Address>) -> Ordering
-    ensures { (a p : Place) → option_copied first.entry ≡ Some a
+    ensures { (a p : Address) → option_copied first.entry ≡ Some a
         → option_copied second.entry ≡ Some p → result ≡ address_cmp a p }
 {
     match (first, second) {
@@ -140,8 +140,8 @@ fn hold_same<G: Streams>(streams: &G, one: &[u8], first: usize, second: usize) -
     requires spelled { AreSpelled G.Stream.behaviour (G.streams streams.now) }
     requires first { first < length (G.streams streams.now) }
     requires second { second < length (G.streams streams.now) }
-    requires place { place_of (held_at G.Stream.behaviour (G.streams streams.now) first)
-        ≡ place_of (held_at G.Stream.behaviour (G.streams streams.now) second) }
+    requires place { address_of (held_at G.Stream.behaviour (G.streams streams.now) first)
+        ≡ address_of (held_at G.Stream.behaviour (G.streams streams.now) second) }
     ensures { (g f : Fact) → held_at G.Stream.behaviour (G.streams streams.now) first ≡ Some g
         → held_at G.Stream.behaviour (G.streams streams.now) second ≡ Some f
         → result ≡ same_fact g f }
@@ -159,8 +159,8 @@ fn hold_same<G: Streams>(streams: &G, one: &[u8], first: usize, second: usize) -
 fn hold_same_facts<G: Streams>(streams: &G, first: usize, second: usize) -> bool
     requires first { first < length (G.streams streams.now) }
     requires second { second < length (G.streams streams.now) }
-    requires place { place_of (held_at G.Stream.behaviour (G.streams streams.now) first)
-        ≡ place_of (held_at G.Stream.behaviour (G.streams streams.now) second) }
+    requires place { address_of (held_at G.Stream.behaviour (G.streams streams.now) first)
+        ≡ address_of (held_at G.Stream.behaviour (G.streams streams.now) second) }
     ensures { (g f : Fact) → held_at G.Stream.behaviour (G.streams streams.now) first ≡ Some g
         → held_at G.Stream.behaviour (G.streams streams.now) second ≡ Some f
         → result ≡ same_fact g f }

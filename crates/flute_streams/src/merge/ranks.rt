@@ -14,7 +14,7 @@ use crate::merge::advance::Advanced;
 use crate::merge::lowest::LowestValue;
 use crate::merge::streams_fault::InputFault;
 use crate::streams::Streams;
-use flute_parts::{Address, Key, Part, SymbolId};
+use flute_parts::{Address, Key, Part};
 use std::alloc::Global;
 use std::cmp::Ordering;
 
@@ -121,7 +121,7 @@ impl Ranks {
     {
         self.key = None;
         for number in 0..streams.count() {
-            if !set_rank(&mut self.ranks, number, &key, streams.place(number)) {
+            if !set_rank(&mut self.ranks, number, &key, streams.address(number)) {
                 return;
             }
         }
@@ -191,7 +191,7 @@ impl Ranks {
                 if let Err(fault) = streams.advance(number, alloc) {
                     return Err(InputFault { number, fault });
                 }
-                known = known & self.rank_one(block, number, &place.key, streams.place(number));
+                known = known & self.rank_one(block, number, &place.key, streams.address(number));
                 block = number / BLOCK;
                 moved.count += 1;
                 moved.last = number;
@@ -229,8 +229,9 @@ impl Ranks {
     }
 
     // Gives the stream with this number, which is here now, a rank among the parts of an object.
-    // False if that is a part of an object before that. The lowest rank of a block is renewed once
-    // a stream of another block follows: here that of `block`, where the one before it is.
+    // False if that is a part of an object before that. The lowest rank of a block is found again
+    // once its last stream is ranked: so first that of `block`, of the stream ranked before, if
+    // this one is in another.
     #[inline(always)]
     fn rank_one(&mut self, block: usize, number: usize, key: &Key, place: Option<&Address>) -> bool
         requires few { number < 128 }

@@ -56,11 +56,11 @@ impl<'a, A: Stream, G: Streams> Streams for Chained<'a, A, G> {
     }
 
     #[inline(always)]
-    fn place(&self, number: usize) -> Option<&Address> {
+    fn address(&self, number: usize) -> Option<&Address> {
         if number == 0 {
-            (*self.first).place()
+            (*self.first).address()
         } else {
-            self.others.place(number - 1)
+            self.others.address(number - 1)
         }
     }
 

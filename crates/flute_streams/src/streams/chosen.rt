@@ -47,8 +47,8 @@ impl<S: Stream, C: Choice> Stream for Chosen<S, C> {
     }
 
     #[inline(always)]
-    fn place(&self) -> Option<&Address> {
-        self.stream.place()
+    fn address(&self) -> Option<&Address> {
+        self.stream.address()
     }
 
     #[inline(always)]

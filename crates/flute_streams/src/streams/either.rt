@@ -25,10 +25,10 @@ impl<A: Stream, B: Stream> Stream for Either<A, B> {
         }
     }
 
-    fn place(&self) -> Option<&Address> {
+    fn address(&self) -> Option<&Address> {
         match self {
-            Either::First(stream) => stream.place(),
-            Either::Second(stream) => stream.place(),
+            Either::First(stream) => stream.address(),
+            Either::Second(stream) => stream.address(),
         }
     }
 

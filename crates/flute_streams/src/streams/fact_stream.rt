@@ -40,8 +40,8 @@ impl Stream for FactStream {
         self.held.fact(&[])
     }
 
-    fn place(&self) -> Option<&Address> {
-        self.held.place()
+    fn address(&self) -> Option<&Address> {
+        self.held.address()
     }
 
     fn spelled(&self) -> &[u8] {

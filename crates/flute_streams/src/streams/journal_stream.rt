@@ -49,8 +49,8 @@ impl<'a, R: Source> Stream for JournalStream<'a, R> {
     }
 
     #[inline(always)]
-    fn place(&self) -> Option<&Address> {
-        self.held.place()
+    fn address(&self) -> Option<&Address> {
+        self.held.address()
     }
 
     #[inline(always)]
@@ -100,9 +100,9 @@ impl<'r, 'a, R: Source> Stream for LentStream<'r, 'a, R> {
     }
 
     #[inline(always)]
-    fn place(&self) -> Option<&Address> {
+    fn address(&self) -> Option<&Address> {
         let held = &*self.held;
-        held.place()
+        held.address()
     }
 
     #[inline(always)]

@@ -64,8 +64,8 @@ impl<R: Source> Stream for OwnedJournalStream<R> {
     }
 
     #[inline(always)]
-    fn place(&self) -> Option<&Address> {
-        self.held.place()
+    fn address(&self) -> Option<&Address> {
+        self.held.address()
     }
 
     #[inline(always)]

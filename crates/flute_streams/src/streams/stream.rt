@@ -1,6 +1,6 @@
 //! Facts that come in strictly rising order of their addresses.
 ghost use Rattle.std.specs.Prelude.{◌≡◌, OnOk, IfErr, option_copied};
-ghost use Rattle.flute_streams.specs.Streams.{Behaviour, fact_in, place_of, GoesOn, StopsAt};
+ghost use Rattle.flute_streams.specs.Streams.{Behaviour, fact_in, address_of, GoesOn, StopsAt};
 
 use flute_journal::LoadFault;
 use flute_parts::{Address, FactRef};
@@ -16,8 +16,8 @@ pub trait Stream {
         ensures { fact_in result ≡ behaviour.held self.now };
 
     /// The address of that fact.
-    fn place(&self) -> Option<&Address>
-        ensures { option_copied result ≡ place_of (behaviour.held self.now) };
+    fn address(&self) -> Option<&Address>
+        ensures { option_copied result ≡ address_of (behaviour.held self.now) };
 
     /// The bytes of that fact's entry, as version 2 of a journal spells it, if they lie in memory:
     /// else none.

@@ -2,7 +2,7 @@
 ghost use Rattle.std.specs.Prelude.{◌≡◌, None, length};
 ghost use Rattle.flute_parts.specs.Addresses.{fact_of};
 ghost use Rattle.flute_parts.specs.Facts.{IsRising};
-ghost use Rattle.flute_streams.specs.Streams.{IsNew, place_of};
+ghost use Rattle.flute_streams.specs.Streams.{IsNew, address_of};
 ghost use Rattle.flute_streams.specs.Listed.{listed_behaviour};
 ghost use Rattle.flute_streams.specs.WalkStreams.{held_fact, held_place};
 
@@ -18,7 +18,7 @@ pub struct WalkStream<'a, S: HasObjects + 'a> {
     walk: Walk<'a, S>,
     /// A fact and its address, which is lent.
     held: Option<(Address, FactRef<'a>)>,
-    ghost placed: { held_place held ≡ place_of (held_fact held) },
+    ghost placed: { held_place held ≡ address_of (held_fact held) },
 }
 
 impl<'a, S: HasObjects + 'a> WalkStream<'a, S> {
@@ -46,7 +46,7 @@ impl<'a, S: HasObjects + 'a> Stream for WalkStream<'a, S> {
         }
     }
 
-    fn place(&self) -> Option<&Address> {
+    fn address(&self) -> Option<&Address> {
         match &self.held {
             Some((place, _)) => Some(place),
             None => None,

@@ -45,7 +45,7 @@ fn whole_and_chosen_journals_are_merged(rt: HostRuntime) -> Result<(), Fail> {
     scope.sessions = sessions;
     scope.files = true;
     let key = file().ok_or("a key")?;
-    assert!(rt; scope.takes(&key) && !scope.is_all());
+    assert!(rt; scope.takes(&key) && !scope.is_all() && !scope.takes_all());
     let mut chosen = Chosen::new(JournalStream::new(&mut second, MANY), scope);
     let mut sink = MemorySink::new(rt.alloc());
     let joined = merge_two::<4, 4, 4, _, _, _>(rt.alloc(), &mut all, &mut chosen, &mut sink)?;
@@ -101,6 +101,7 @@ fn two_facts_are_joined(rt: HostRuntime) -> Result<(), Fail> {
     let first = file().ok_or("a key")?;
     let second = file().ok_or("a key")?;
     let first = FactStream::new(Fact::InfoConflict { key: first });
+    assert!(rt; first.address().is_none());
     let second = FactStream::new(Fact::InfoConflict { key: second });
     let mut streams = [first, second];
     let mut all = Slice::new(&mut streams);

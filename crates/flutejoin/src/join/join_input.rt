@@ -75,9 +75,9 @@ impl<R: Source> Stream for JoinInput<R> {
     }
 
     #[inline(always)]
-    fn place(&self) -> Option<&Address> {
+    fn address(&self) -> Option<&Address> {
         match self {
-            JoinInput::Journal(journal) => journal.place(),
+            JoinInput::Journal(journal) => journal.address(),
             _ => None,
         }
     }

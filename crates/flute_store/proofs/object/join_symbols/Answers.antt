@@ -1,7 +1,38 @@
-use Rattle.std.proofs.Common.{ap, sym, ◌∙◌, subst, bytes_eq}
+-- join_symbols: the joined symbols are within the limit, or there was no room for another.
+use Rattle.std.proofs.Common.{◌≡◌, ◌≢◌, ◌<◌, None, ap, arith, bytes_eq, length, refl, sym, ◌∙◌, subst}
 use Rattle.flute_store.proofs.Common
-use Common.{cell_join, join_nothing, symbol_id_cmp, symbols_join, update_symbols, AreSymbols}
+use Common.{cell_join, join_nothing, symbol_id_cmp, symbols_join, update_cell, update_symbols}
+use Common.{value_at, AreSymbols}
+use Rattle.flute_store.proofs.OnePair.{symbols_joined, joined-sound, full-beyond}
+use Rattle.flute_store.proofs.OnePair.{known-join, known-update}
 use Rattle.flute_store.proofs.object.join_symbols.Goals as goal
+
+pub returns-in-Some-clause-full : goal.returns-in-Some-clause-full
+returns-in-Some-clause-full g c = λ e.
+    let es = c.args.symbols.now in
+    let full = c.join_with.ensures.full.0 e in
+    subst (λ o. g.row.SYMBOLS < length (symbols_join es (update_symbols o))) (sym c.in-Some.is)
+    (full-beyond symbols_joined es c.in-Some.id (update_cell c.in-Some.update) g.row.SYMBOLS full.0
+    full.1)
+
+pub returns-in-Some-clause-room : goal.returns-in-Some-clause-room
+returns-in-Some-clause-room g c = λ not_full.
+    let es = c.args.symbols.now in
+    let id = c.in-Some.id in
+    let w = update_cell c.in-Some.update in
+    let within = c.join_with.ensures.within in
+    let room : value_at symbol_id_cmp es id ≡ None → length es < g.row.SYMBOLS = λ absent.
+    let not_many : length es ≢ g.row.SYMBOLS =
+    λ many. not_full (c.join_with.ensures.full.1 (absent, many)) in
+    omega (arith, within, not_many) in
+    let sound = joined-sound symbols_joined (record {
+      ordered = c.join_with.ensures.ordered;
+      within = within;
+      each = c.requires.symbols.each;
+    }) id w (value_at symbol_id_cmp es id) refl (λ v. known-join bytes_eq v w)
+    (known-update c.in-Some.update) room in
+    subst (λ o. AreSymbols g.row.SYMBOLS (symbols_join es (update_symbols o))) (sym c.in-Some.is)
+    (record { ordered = sound.ordered; within = sound.within; each = sound.each })
 
 pub returns-in-None-clause-ok : goal.returns-in-None-clause-ok
 returns-in-None-clause-ok g c =

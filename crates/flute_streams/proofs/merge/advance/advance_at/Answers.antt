@@ -1,6 +1,6 @@
 -- advance_at: one stream more, by whether it holds that address.
 use Rattle.flute_streams.proofs.Common.{◌≡◌, ◌+◌, ◌<◌, length, subst, sym, ap, ◌∙◌}
-use Rattle.flute_streams.proofs.Common.{arith, option_copied, place_of, slice_get}
+use Rattle.flute_streams.proofs.Common.{arith, option_copied, address_of, slice_get}
 use Rattle.flute_streams.proofs.merge_lemmas.GoingOn.{WentSoFar, item_at, one_stays, one_goes}
 use Rattle.flute_streams.proofs.merge_lemmas.GoingOn.{not_reached, same_length}
 use Rattle.flute_streams.specs.Lowest.{held_in}
@@ -15,8 +15,8 @@ stands_at-requires-clause-first g c = λ e.
     let i = c.loop-number.invariant in
     let within : c.loop-number.number < length (g.G.Streams.streams c.loop-number.streams) =
     omega (arith, i.all, c.loop-number-test.true) in
-    ap (λ s. place_of (held_in b s)) (not_reached b (option_copied c.args.place) i.went within)
-    ∙ ap (λ n. place_of (held_in b (slice_get (g.G.Streams.streams c.args.streams.now) n))) e
+    ap (λ s. address_of (held_in b s)) (not_reached b (option_copied c.args.place) i.went within)
+    ∙ ap (λ n. address_of (held_in b (slice_get (g.G.Streams.streams c.args.streams.now) n))) e
     ∙ c.requires.first
 
 pub loop-number-preserved : goal.loop-number-preserved
@@ -38,7 +38,7 @@ loop-number-preserved g c =
           record {
             went = subst P (sym w.streams-is)
                 (one_goes b place c.loop-number.invariant.went a
-                (ap (λ s. place_of (held_in b s)) (sym a.was)
+                (ap (λ s. address_of (held_in b s)) (sym a.was)
                 ∙ c.stands_at.ensures.at w.if-stands_at.true));
             all = subst Q (sym w.streams-is)
                 (same_length b k now
@@ -60,7 +60,7 @@ loop-number-preserved g c =
             went = subst P (sym w.streams-is)
                 (one_stays b place c.loop-number.invariant.went x.1
                 (λ e. c.stands_at.ensures.elsewhere w.if-stands_at.false
-                (ap (λ s. place_of (held_in b s)) x.1 ∙ e)));
+                (ap (λ s. address_of (held_in b s)) x.1 ∙ e)));
             all = subst Q (sym w.streams-is) c.loop-number.invariant.all;
             names = subst N (sym w.streams-is) c.loop-number.invariant.names;
             count = let m =

@@ -23,8 +23,8 @@ advance_at-requires g c = record {
       c.requires.new;
 }
 
-pub place-requires : goal.place-requires
-place-requires g c =
+pub address-requires : goal.address-requires
+address-requires g c =
     stands-within g.G.Stream.Stream.behaviour (g.G.Streams.streams c.loop-lowest.streams)
     c.in-Some.lowest c.in-Some.ensures.stands
 
@@ -132,7 +132,7 @@ input_stop g c =
     c.in-Some.ensures.stands c.in-Some.ensures.lowest c.write_lowest.ensures.valid
     c.write_lowest.ensures.puts in
     let at = placed g.G.Stream.Stream.behaviour (g.G.Streams.streams c.loop-lowest.streams) v.value
-    c.in-Some.ensures.stands c.place.ensures (ap option_copied c.in-Some-place.is) in
+    c.in-Some.ensures.stands c.address.ensures (ap option_copied c.in-Some-address.is) in
     stop_input g.G.Stream.Stream.behaviour c.loop-lowest.invariant.state v.lowest
     v.valid c.args.patient c.write_lowest.new.writer.failed
     (g.G.Streams.streams c.advance.new.streams) _ c.in-Err-advance.fault v.puts.puts
@@ -163,7 +163,7 @@ overflow_add-entries g c =
     c.in-Some.ensures.stands c.in-Some.ensures.lowest c.write_lowest.ensures.valid
     c.write_lowest.ensures.puts in
     let at = placed g.G.Stream.Stream.behaviour (g.G.Streams.streams c.loop-lowest.streams) v.value
-    c.in-Some.ensures.stands c.place.ensures (ap option_copied c.in-Some-place.is) in
+    c.in-Some.ensures.stands c.address.ensures (ap option_copied c.in-Some-address.is) in
     let next = state_turn g.G.Stream.Stream.behaviour c.loop-lowest.invariant.state
     v.lowest v.valid
     c.write_lowest.new.writer.failed (IsCounted g.row.SESSIONS g.row.OBJECTS g.row.SYMBOLS
@@ -182,7 +182,7 @@ loop-lowest-preserved g c =
     c.in-Some.ensures.stands c.in-Some.ensures.lowest c.write_lowest.ensures.valid
     c.write_lowest.ensures.puts in
     let at = placed g.G.Stream.Stream.behaviour (g.G.Streams.streams c.loop-lowest.streams) v.value
-    c.in-Some.ensures.stands c.place.ensures (ap option_copied c.in-Some-place.is) in
+    c.in-Some.ensures.stands c.address.ensures (ap option_copied c.in-Some-address.is) in
     let i = c.loop-lowest.invariant in
     record {
       state = state_turn g.G.Stream.Stream.behaviour i.state v.lowest v.valid
@@ -205,7 +205,7 @@ loop-lowest-smaller g c =
     let v = at_lowest g.G.Stream.Stream.behaviour (g.G.Streams.streams c.loop-lowest.streams)
     c.in-Some.ensures.stands c.in-Some.ensures.lowest in
     let at = placed g.G.Stream.Stream.behaviour (g.G.Streams.streams c.loop-lowest.streams) v.value
-    c.in-Some.ensures.stands c.place.ensures (ap option_copied c.in-Some-place.is) in
+    c.in-Some.ensures.stands c.address.ensures (ap option_copied c.in-Some-address.is) in
     turn-falls g.G.Stream.Stream.behaviour c.loop-lowest.invariant.state
     v.lowest (g.G.Streams.streams c.advance.new.streams)
     (subst (λ a. GoOnAt g.G.Stream.Stream.behaviour (Some a)

@@ -1,6 +1,6 @@
 -- lowest_held: one stream more.
 use Rattle.flute_streams.proofs.Common.{IsLowest, List, Fact, append-nil, arith, heads}
-use Rattle.flute_streams.proofs.Common.{length, option_list, place_of, subst, sym, take, ◌++◌, ◌<◌}
+use Rattle.flute_streams.proofs.Common.{length, option_list, address_of, subst, sym, take, ◌++◌, ◌<◌}
 use Rattle.flute_streams.proofs.Common.{ap, option_copied, ◌∙◌}
 use Rattle.flute_streams.proofs.merge_lemmas.LowestFacts.{heads-more}
 use Rattle.flute_streams.proofs.merge_lemmas.Places.{place-none, read-at}
@@ -17,8 +17,8 @@ with_more-requires-clause-here g c =
     let within : c.loop-number.number < length xs =
     omega (arith, c.loop-number-test.true, c.count-number-end.ensures) in (
       c.in-Some.field-0.now,
-      sym (read-at g.G.Stream.Stream.behaviour xs c.loop-number.number place_of within
-          c.place.ensures) ∙ ap option_copied c.in-Some.is,
+      sym (read-at g.G.Stream.Stream.behaviour xs c.loop-number.number address_of within
+          c.address.ensures) ∙ ap option_copied c.in-Some.is,
     )
 
 pub loop-number-preserved : goal.loop-number-preserved
@@ -29,9 +29,9 @@ loop-number-preserved g c =
     let before = heads b (take k xs) in
     let within : k < length xs =
     omega (arith, c.loop-number-test.true, c.count-number-end.ensures) in
-    let now = c.match-place.lowest in
+    let now = c.match-address.lowest in
     let P : List Fact → Type 0 = λ l. IsLowest l (value_of b xs now) in
-    elim c.match-place.branch [
+    elim c.match-address.branch [
       | in-Some w ↦ record {
         lowest = subst P (sym (heads-more b xs k within))
             (rw w.lowest-is (w.with_more.ensures.lowest before c.loop-number.invariant.lowest));
@@ -39,7 +39,7 @@ loop-number-preserved g c =
       }
       | in_default w ↦
           let none = place-none _
-          (sym (read-at b xs k place_of within c.place.ensures)
+          (sym (read-at b xs k address_of within c.address.ensures)
           ∙ ap option_copied w.in_default.is) in
           record {
             lowest = subst P (sym (heads-more b xs k within))

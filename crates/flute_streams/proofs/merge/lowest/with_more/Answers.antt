@@ -1,5 +1,5 @@
 use Rattle.flute_streams.proofs.Common.{IfSome, IsLowest, Some, address, address_same, ap, is_eq}
-use Rattle.flute_streams.proofs.Common.{place_of, subst, sym, ◌∙◌}
+use Rattle.flute_streams.proofs.Common.{address_of, subst, sym, ◌∙◌}
 use Rattle.flute_streams.proofs.merge_lemmas.Places.{compared, lowest-above, lowest-below}
 use Rattle.flute_streams.proofs.merge_lemmas.Places.{lowest-first, lowest-joined, place-joined}
 use Rattle.flute_streams.proofs.merge_lemmas.Places.{place-some}
@@ -22,8 +22,8 @@ joined-requires-clause-here g c =
     let l = c.in-Some.lowest in
     let v = compared b xs l
     (subst (λ o. IfSome o (Stands b xs)) c.in-Some.is c.requires.stands) c.requires.here
-    c.place.ensures c.place-2.ensures c.order_of.ensures in
-    ap place_of v.here
+    c.address.ensures c.address-2.ensures c.order_of.ensures in
+    ap address_of v.here
     ∙ ap Some (address_same (address v.fact) (address v.value.fact)
     (ap is_eq (v.is ∙ c.in-Equal.is)))
     ∙ sym v.value.at
@@ -35,7 +35,7 @@ returns-in-Less-clause-lowest g c = λ facts h.
     let l = c.in-Some.lowest in
     let v = compared b xs l
     (subst (λ o. IfSome o (Stands b xs)) c.in-Some.is c.requires.stands) c.requires.here
-    c.place.ensures c.place-2.ensures c.order_of.ensures in
+    c.address.ensures c.address-2.ensures c.order_of.ensures in
     let low = subst (λ o. IsLowest facts (value_of b xs o)) c.in-Some.is h in
     rw c.first-in-Less.ensures
     (lowest-below b xs facts c.args.number v.here l v.value.is low (v.is ∙ c.in-Less.is))
@@ -47,7 +47,7 @@ returns-in-Greater-clause-lowest g c = λ facts h.
     let l = c.in-Some.lowest in
     let v = compared b xs l
     (subst (λ o. IfSome o (Stands b xs)) c.in-Some.is c.requires.stands) c.requires.here
-    c.place.ensures c.place-2.ensures c.order_of.ensures in
+    c.address.ensures c.address-2.ensures c.order_of.ensures in
     let low = subst (λ o. IsLowest facts (value_of b xs o)) c.in-Some.is h in
     lowest-above b xs facts c.args.number v.here l v.value.is low (v.is ∙ c.in-Greater.is)
 
@@ -58,7 +58,7 @@ returns-in-Equal-clause-lowest g c = λ facts h.
     let l = c.in-Some.lowest in
     let v = compared b xs l
     (subst (λ o. IfSome o (Stands b xs)) c.in-Some.is c.requires.stands) c.requires.here
-    c.place.ensures c.place-2.ensures c.order_of.ensures in
+    c.address.ensures c.address-2.ensures c.order_of.ensures in
     let low = subst (λ o. IsLowest facts (value_of b xs o)) c.in-Some.is h in
     lowest-joined b xs facts c.args.number v.here l v.value.is low (v.is ∙ c.in-Equal.is)
     c.joined.result c.joined.ensures

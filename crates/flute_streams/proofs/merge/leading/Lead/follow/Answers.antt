@@ -7,8 +7,8 @@ pub returns-in-Err-clause-stops : goal.returns-in-Err-clause-stops
 returns-in-Err-clause-stops g c = λ a at.
     lead-stops g.G.Stream.Stream.behaviour a c.requires at c.in-Err.ensures.advances
 
-pub place-requires : goal.place-requires
-place-requires g c =
+pub address-requires : goal.address-requires
+address-requires g c =
     let l = c.requires in
     let was = slice_get_within (g.G.Streams.streams c.args.streams.now) c.args.self.now.number
     l.stream l.is in
@@ -24,4 +24,4 @@ returns-clause-go_on g c = λ a at.
 pub returns-clause-leads : goal.returns-clause-leads
 returns-clause-leads g c = λ below.
     still-leads g.G.Stream.Stream.behaviour c.requires c.in_default.ensures.advances
-    c.place.ensures (c.is_below-self.ensures below)
+    c.address.ensures (c.is_below-self.ensures below)

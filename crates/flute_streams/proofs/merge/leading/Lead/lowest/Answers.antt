@@ -1,4 +1,4 @@
-use Rattle.flute_streams.proofs.Common.{ap, option_copied, place_of, slice_get_within, sym, ◌∙◌}
+use Rattle.flute_streams.proofs.Common.{ap, option_copied, address_of, slice_get_within, sym, ◌∙◌}
 use Rattle.flute_streams.proofs.merge_lemmas.LeadFacts.{lead-lowest}
 use Rattle.flute_streams.proofs.merge_lemmas.Places.{read-at}
 use Rattle.flute_streams.specs.Lowest.{held_at, held_in}
@@ -21,6 +21,6 @@ returns-in-Some-clause-stands g c =
     let k = c.args.self.now.number in
     rw c.first.ensures (
       c.in-Some.field-0.now,
-      sym (read-at b xs k place_of (slice_get_within xs k l.stream l.is) c.place.ensures)
+      sym (read-at b xs k address_of (slice_get_within xs k l.stream l.is) c.address.ensures)
           ∙ ap option_copied c.in-Some.is,
     )

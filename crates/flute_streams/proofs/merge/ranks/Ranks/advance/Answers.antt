@@ -1,6 +1,6 @@
 -- One stream more, by whether it stands there: those before it stand elsewhere.
 use Rattle.flute_streams.proofs.Common.{ℕ, ◌≡◌, ◌≢◌, ◌+◌, ◌-◌, ◌/◌, ◌∙◌, length}
-use Rattle.flute_streams.proofs.Common.{Some, ap, inl, subst, sym, refl, arith, place_of, ◌<◌}
+use Rattle.flute_streams.proofs.Common.{Some, ap, inl, subst, sym, refl, arith, address_of, ◌<◌}
 use Rattle.std.proofs.Common.{slice_index}
 use Rattle.flute_streams.proofs.merge_lemmas.GoingOn.{WentSoFar, item_at, more_stay, one_goes}
 use Rattle.flute_streams.proofs.merge_lemmas.GoingOn.{one_stays, one_stops, same_length}
@@ -84,7 +84,7 @@ loop-number-preserved g c =
           record {
             advanced = a;
             ranked = λ e s at.
-                subst (StandsFrom key _) (w.place.ensures s at) (set.ensures.set e);
+                subst (StandsFrom key _) (w.address.ensures s at) (set.ensures.set e);
             stay = set.ensures.others;
           } in
           record {
@@ -114,7 +114,7 @@ loop-number-preserved g c =
           let x = item_at now k (omega (arith, found.1, i.all)) in
           let lower : slice_index c.loop-number.self.ranks k < rank =
           omega (arith, found.2, w.if-self-number.false) in
-          let stays : place_of (b.held x.0) ≢ Some c.args.place.now =
+          let stays : address_of (b.held x.0) ≢ Some c.args.place.now =
           lower-elsewhere c.args.place.now key rank (slice_index c.loop-number.self.ranks k) at
           lower c.number_of-rank.ensures.few (i.ranked.from k x.0 (inl found.0) x.1) in
           record {

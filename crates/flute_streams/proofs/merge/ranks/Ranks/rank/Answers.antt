@@ -16,7 +16,7 @@ pub loop-number-preserved : goal.loop-number-preserved
 loop-number-preserved g c = record {
   ranked =
       ranked_more g.G.Stream.Stream.behaviour c.args.key c.loop-number.number
-      c.set_rank.new.ranks (option_copied c.place.result) c.place.ensures
+      c.set_rank.new.ranks (option_copied c.address.result) c.address.ensures
       (c.set_rank.ensures.set c.if-not-set_rank.false) c.set_rank.ensures.others
       c.loop-number.invariant.ranked;
   all = c.loop-number.invariant.all;

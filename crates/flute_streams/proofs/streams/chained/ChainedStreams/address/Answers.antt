@@ -1,10 +1,10 @@
-use Rattle.flute_streams.proofs.Common.{place_of}
+use Rattle.flute_streams.proofs.Common.{address_of}
 use Rattle.flute_streams.proofs.streams_lemmas.Chaining.{far, other_is}
 use Rattle.flute_streams.specs.Eithers.{held_either}
-use Rattle.flute_streams.proofs.streams.chained.ChainedStreams.place.Goals as goal
+use Rattle.flute_streams.proofs.streams.chained.ChainedStreams.address.Goals as goal
 
-pub place-requires-else-number-eq0 : goal.place-requires-else-number-eq0
-place-requires-else-number-eq0 g c =
+pub address-requires-else-number-eq0 : goal.address-requires-else-number-eq0
+address-requires-else-number-eq0 g c =
     far g.A.Stream.behaviour g.G.Stream.Stream.behaviour c.args.self.now.first.now
     (g.G.Streams.streams c.args.self.now.others) c.args.number c.requires c.if-number-eq0.false
 
@@ -12,5 +12,5 @@ pub returns-else-number-eq0 : goal.returns-else-number-eq0
 returns-else-number-eq0 g c =
     other_is g.A.Stream.behaviour g.G.Stream.Stream.behaviour c.args.self.now.first.now
     (g.G.Streams.streams c.args.self.now.others) c.args.number c.requires c.if-number-eq0.false
-    (λ s. place_of (held_either g.A.Stream.behaviour g.G.Stream.Stream.behaviour s)) _
-    c.place-else-number-eq0.ensures
+    (λ s. address_of (held_either g.A.Stream.behaviour g.G.Stream.Stream.behaviour s)) _
+    c.address-else-number-eq0.ensures
