@@ -1,12 +1,16 @@
 """Bad input of flutejoin-capture, outputs that cannot be made, and captures that grow."""
 from __future__ import annotations
 
+import fcntl
 import os
 import resource
 import signal
 import sys
+import termios
 from signal import SIG_DFL, SIG_IGN, SIGHUP, SIGINT, SIGTERM
+from typing import IO
 
+import captures
 import run
 from capture_made import BEFORE, ROWS, Case, said
 from run import ROOT, until
@@ -17,6 +21,10 @@ DAMAGE = "is damaged (a packet of 808464432 bytes); the packets before that were
 FULL = "cannot write: File too large; what was written whole is kept"
 MISSING = "missing: cannot be read: No such file or directory"
 CLOSED = "standard input: cannot be read: Bad file descriptor"
+
+
+def unread(pipe: IO[bytes]) -> int:
+    return int.from_bytes(fcntl.ioctl(pipe, termios.FIONREAD, bytes(4)), sys.byteorder)
 
 
 class Inputs(Case):
@@ -78,6 +86,21 @@ class Inputs(Case):
         words = "--port 4001 -o full made/ipv6"
         self.capture_row("full", words, 3, "", text, to="/dev/full")
         self.same("the file in spite of that", "full/10.0.0.1.fldg", "got1")
+
+    def test_lines_that_nobody_reads(self) -> None:
+        """Another signal ends a run whose lines nobody takes."""
+        target, frames = bytes([10, 0, 0, 1]), []
+        for number in range(250):
+            source = bytes([10, 0, 1, number])
+            packet = captures.ip(source, target, 17, captures.udp(source, target, bytes(20)))
+            frames.append((101, packet, len(packet)))
+        self.write("flows", captures.pcap(frames, "<", 0xA1B2C3D4, 65535))
+        child = self.start([sys.executable, TOOL, "flows"], signals={SIGINT: SIG_DFL})
+        fcntl.fcntl(child.stdout, fcntl.F_SETPIPE_SZ, 4096)
+        until(lambda: unread(child.stdout) > 3800)
+        child.send_signal(SIGTERM)
+        self.holds("lines that nobody reads", child.wait(run.LONGEST) == 143, child)
+        self.finish(child)
 
     def test_full_disk(self) -> None:
         """The limit of 4,096 bytes leaves room for 3 datagrams."""

@@ -14,7 +14,7 @@ import subprocess
 import sys
 import time
 
-from files_case import PROGRAM, TOOL, Case, text
+from files_case import LONGEST, PROGRAM, TOOL, Case, text
 from flute_sender import Sent
 
 
@@ -38,6 +38,37 @@ def wait_for_answers(child: subprocess.Popen[bytes]) -> None:
             if any(int(line.split()[1], 16) & bit for line in lines):
                 return
         time.sleep(0.002)
+
+
+# Sends a signal to the run where it would be lost, or would leave something: when a child's
+# finalizer runs, behind the closing of a folder that is passed through, and when the handlers of
+# signals are set for the time in the environment.
+AT_MOMENTS = """
+import os, signal, subprocess, sys
+moment = os.environ["MOMENT"]
+def send():
+    global moment
+    moment = ""
+    os.kill(os.getpid(), signal.SIGTERM)
+def in_finalizer(child, ended=subprocess.Popen.__del__, **more):
+    if moment == "a finalizer":
+        send()
+    ended(child, **more)
+subprocess.Popen.__del__ = in_finalizer
+def closed(descriptor, close=os.close):
+    close(descriptor)
+    if moment == "a folder" and sys._getframe(1).f_code.co_name == "parent":
+        send()
+os.close = closed
+def handled(number, answer, handle=signal.signal):
+    global moment
+    if moment.isdigit() and signal.getsignal(signal.SIGTERM):
+        moment = str(int(moment) - 1)
+        if moment == "0":
+            send()
+    return handle(number, answer)
+signal.signal = handled
+"""
 
 
 class Runs(Case):
@@ -149,6 +180,36 @@ class Runs(Case):
                 shutil.rmtree(self.folder / "files.partial", ignore_errors=True)
         self.files("-o", "files", "many")
         self.assertEqual(self.tree(), wanted)
+
+    def test_signals_at_moments(self) -> None:
+        """A run that is stopped tells no fault, and leaves nothing half done."""
+        (self.folder / "sitecustomize.py").write_text(AT_MOMENTS)
+        statuses = []
+        for moment in "a finalizer", "a folder", *map(str, range(1, 40)):
+            self.environment = {"PYTHONPATH": str(self.folder), "MOMENT": moment}
+            child = self.start("-o", "files", "all")
+            _, err = child.communicate(timeout=LONGEST)
+            statuses.append(child.returncode)
+            with self.subTest(moment):
+                self.assertEqual(err, b"")
+                self.assertEqual([*self.folder.rglob("*.partial")], [])
+                self.assertEqual(list((self.folder / "tmp").iterdir()), [])
+            shutil.rmtree(self.folder / "files", ignore_errors=True)
+        stopped = statuses.index(0)
+        # Once all is told, a signal changes nothing.
+        self.assertGreater(stopped, 20)
+        self.assertEqual(set(statuses[:stopped]), {128 + signal.SIGTERM})
+        self.assertEqual(set(statuses[stopped:]), {0})
+
+    def test_a_hangup_that_is_ignored(self) -> None:
+        """It reaches no child either, as under nohup."""
+        self.program.write_text(f'#!/bin/sh\nkill -HUP $$\nexec {PROGRAM} "$@"\n')
+        before = signal.signal(signal.SIGHUP, signal.SIG_IGN)
+        try:
+            self.files("-o", "files", "all")
+        finally:
+            signal.signal(signal.SIGHUP, before)
+        self.assertEqual(self.tree(), {"h/a": self.file.content})
 
     def wait_for_work(self) -> None:
         """Waits until the children of a killed run have ended."""

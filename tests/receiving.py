@@ -10,6 +10,7 @@ from __future__ import annotations
 
 import concurrent.futures
 import contextlib
+import fcntl
 import itertools
 import json
 import os
@@ -644,6 +645,24 @@ class Disk(Case):
         status, lines = receiver.end()
         self.assertEqual((status, len(lines)), (0, 2))
         self.assertEqual(records(self.path("kept/127.0.0.1.fldg")), sent)
+
+    def test_lines_that_nobody_reads(self) -> None:
+        """Another signal ends a run whose lines nobody takes. Its files are whole."""
+        receiver = Receiver(self, "-o", "kept")
+        fcntl.fcntl(receiver.process.stdout, fcntl.F_SETPIPE_SZ, 4096)
+        for number in range(1, 61):
+            receiver.send(self.symbols(1), f"127.0.2.{number}")
+        names = [f"kept/127.0.2.{number}.fldg" for number in range(1, 61)]
+        receiver.until_kept(60, *names)
+
+        def is_ended() -> bool:
+            receiver.process.send_signal(signal.SIGTERM)
+            return receiver.process.poll() is not None
+
+        receiver.until(is_ended, "an end")
+        self.assertEqual(receiver.process.returncode, 128 + signal.SIGTERM)
+        for name in names:
+            self.assertEqual(len(records(self.path(name))), 1)
 
     def test_a_file_that_is_moved(self) -> None:
         name = "kept/127.0.0.1.fldg"

@@ -11,6 +11,7 @@ usage: tests/station.py PROGRAM [--soak] [NAME..]
 from __future__ import annotations
 
 import contextlib
+import errno
 import fcntl
 import json
 import os
@@ -221,6 +222,13 @@ def stop(process: int) -> None:
     """Stops a process, and waits until each of its threads stands still."""
     os.kill(process, signal.SIGSTOP)
     until(lambda: is_stopped(process))
+
+
+def answers(process: int, number: int) -> bool:
+    """Whether a process catches or ignores a signal."""
+    lines = pathlib.Path(f"/proc/{process}/status").read_text().splitlines()
+    sets = [int(line.split()[1], 16) for line in lines if line.startswith(("SigCgt", "SigIgn"))]
+    return any(each >> (number - 1) & 1 for each in sets)
 
 
 def is_stopped(process: int) -> bool:
@@ -569,6 +577,98 @@ def a_fault_that_lasts(work: pathlib.Path) -> None:
     until(lambda: run.text().count(told) == 2, run)
     run.end()
     check("and once more when it is there again", run.text().count(told) == 2, run.text())
+
+
+def a_join_that_does_not_read(work: pathlib.Path) -> None:
+    """Meanwhile the receiver is looked after."""
+    slow, folder = work / "slow", work / "news"
+    slow.write_text(
+        f'#!/bin/sh\ntouch {work}/joins\nwhile ! [ -e {work}/reads ]; do sleep 0.01; done\n'
+        f'exec {PROGRAM} "$@"\n'
+    )
+    slow.chmod(0o755)
+    sent = sent_file(work, 300_000, 1000)
+    datagram_file(folder / f"in/{NAME}.fldg", sent)
+    run = Run(folder, Port().number, "--flutejoin", slow, "--every", 0)
+    until((work / "joins").exists, run)
+    os.kill(receivers(run)[0], signal.SIGKILL)
+    is_begun = until(lambda: run.text().count("listening") == 2, run)
+    check("a receiver is begun again during a join", is_begun, run.text())
+    run.child.send_signal(signal.SIGUSR1)
+    is_told = until(lambda: '"bytes to join"' in run.text(), run)
+    check("a status is told during a join", is_told, run.text())
+    (work / "reads").touch()
+    check("a join that does not read: status", run.end() == 0, run.text())
+    have = journal_of(*kept(folder))
+    check("a join that does not read: all", have == journal_of(folder / f"in/{NAME}.fldg"))
+
+
+def files_of_two_writers(work: pathlib.Path) -> None:
+    """A file that cannot be read, and one that is written anew beside the last one."""
+    folder, sent = work / "news", sent_file(work, 60_000, 1000)
+    bad = str(datagram_file(folder / "in/10.0.0.9.fldg", sent))
+    good = datagram_file(folder / f"in/{NAME}.fldg", sent)
+    look = flutejoin_keeping.Part.look
+
+    def refused(part: flutejoin_keeping.Part) -> None:
+        if part.path == bad:
+            raise PermissionError(errno.EACCES, os.strerror(errno.EACCES), bad)
+        look(part)
+
+    flutejoin_keeping.Part.look = refused
+    try:
+        keep(folder)
+    finally:
+        flutejoin_keeping.Part.look = look
+    check("a file that cannot be read goes aside", len([*(folder / "aside").iterdir()]) == 1)
+    check("the others are joined", journal_of(*kept(folder)) == journal_of(good))
+
+    later = sent_file(work, 60_000, 1000, 2)
+    anew = datagram_file(folder / f"in/{NAME}.2.fldg", later[:30])
+    datagram_file(folder / f"in/{NAME}.3.fldg", sent[:1])
+    with open(anew, "r+b") as file:
+        fcntl.flock(file, fcntl.LOCK_EX)
+        file.truncate(anew.stat().st_size - 5)
+        keep(folder)
+        check("a file that is written anew stays", anew.exists())
+        datagram_file(anew, later)
+    keep(folder)
+    check("it goes once it is joined", not anew.exists())
+    datagram_file(work / "all.fldg", [*sent, *later])
+    check("with all that it has", journal_of(*kept(folder)) == journal_of(work / "all.fldg"))
+
+
+def what_is_gone(work: pathlib.Path) -> None:
+    """Settings that were there at first; a folder that is moved, which is locked again."""
+    config, folder, port = work / "news.toml", work / "news", Port()
+    config.write_text(f'[[session]]\nport = {port.number}\ninterface = "{NAME}"\n')
+    run = Run(folder, None, "--config", config)
+    text = config.read_text()
+    config.unlink()
+    os.kill(receivers(run)[0], signal.SIGKILL)
+    run.until("the receiver ended with status 2; it is begun again")
+    config.write_text(text)
+    is_begun = until(lambda: run.text().count("listening") == 2, run)
+    check("a receiver is begun again with its settings", is_begun, run.text())
+    folder.rename(work / "moved")
+    until((folder / "recent").exists, run)
+    second = of_once(folder)
+    check("a folder that is moved: a second run", second.child.returncode == 3, second.text())
+    check("is told", "another run works in it" in second.text(), second.text())
+    check("a folder that is moved: status", run.end() == 1, run.text())
+
+
+def statuses(work: pathlib.Path) -> None:
+    """A status that is asked for before a run listens; and that of a run that got nothing."""
+    run = Run(work / "news", Port().number, wait=False)
+    until(lambda: answers(run.child.pid, signal.SIGUSR1), run)
+    while "listening" not in run.text() and run.child.poll() is None:
+        run.child.send_signal(signal.SIGUSR1)
+        time.sleep(0.002)
+    check("asked for early", run.child.poll() is None, run.text())
+    os.kill(receivers(run)[0], signal.SIGKILL)
+    run.until("the receiver ended with status -9")
+    check("nothing came", run.end() == 1, run.text())
 
 
 def lines_that_nobody_reads(work: pathlib.Path) -> None:
@@ -1021,6 +1121,10 @@ TESTS = {
         runs,
         folders_at_fault,
         a_fault_that_lasts,
+        a_join_that_does_not_read,
+        files_of_two_writers,
+        what_is_gone,
+        statuses,
         lines_that_nobody_reads,
         many_signals,
         a_sender_that_starts_again,

@@ -21,6 +21,7 @@ MOST_INPUTS = 64  # of one `flutejoin join`
 PARTIAL = ".partial"
 STANDARD_OUTPUT = "-"  # as the name of an output
 STOPPING = (signal.SIGINT, signal.SIGTERM, signal.SIGHUP)
+ENDS: list[Callable[[], None]] = []  # what is still to be removed if a signal ends the run
 
 IPAddress = Union[ipaddress.IPv4Address, ipaddress.IPv6Address]
 
@@ -141,19 +142,31 @@ def stop(number: int, _frame: object) -> None:
     Later signals are ignored while the run cleans up.
     """
     answer_stops(lambda *_: None)
+    sys.unraisablehook = lambda dropped: raise_again(number, dropped)
     raise KeyboardInterrupt(number)
+
+
+def raise_again(number: int, dropped: sys.UnraisableHookArgs) -> None:
+    """Python drops an exception that is raised in a finalizer. This raises it again behind that."""
+    if dropped.exc_type is KeyboardInterrupt:
+        signal.signal(signal.SIGALRM, lambda *_: stop(number, None))
+        signal.setitimer(signal.ITIMER_REAL, 0.001)
+    else:
+        sys.__unraisablehook__(dropped)
 
 
 @contextlib.contextmanager
 def later() -> Iterator[None]:
     """A context in which signals are delayed until its end.
 
-    So a process or file that is begun in it is known, and is ended with the run.
+    So a process or file that is begun in it is known, and is ended with the run. A hangup that is
+    ignored stays ignored, also in that process.
     """
     came: list[int] = []
     before = {
         number: signal.signal(number, lambda number, _frame: came.append(number))
         for number in STOPPING
+        if signal.getsignal(number) != signal.SIG_IGN
     }
     try:
         yield
@@ -180,6 +193,8 @@ def exit_status(work: Callable[[], None], report: Report) -> int:
         keep_status()
     except KeyboardInterrupt as signalled:
         keep_status()
+        for end in ENDS:
+            end()
         return 128 + signalled.args[0]
     return report.status
 

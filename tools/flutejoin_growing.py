@@ -6,7 +6,9 @@ receiving never waits for the disk.
 from __future__ import annotations
 
 import collections
+import contextlib
 import enum
+import fcntl
 import os
 from typing import TYPE_CHECKING, NamedTuple, Optional, Tuple, Union
 
@@ -270,6 +272,8 @@ class Copy:
         while True:
             try:
                 self.target = target = self.growing.opened.open(self.path(), flags)
+                with contextlib.suppress(OSError):  # so that a station leaves it until it is whole
+                    fcntl.flock(target, fcntl.LOCK_EX)
                 return target
             except FileExistsError:
                 self.part += 1

@@ -1,6 +1,7 @@
 """The datagram files that a station joins, and their senders."""
 from __future__ import annotations
 
+import fcntl
 import os
 import stat
 from typing import NamedTuple, Optional
@@ -66,6 +67,20 @@ class Part:
                 head = file.read(len(HEADER))
         if not stat.S_ISREG(found.st_mode) or head != HEADER[: len(head)]:
             raise NoDatagramFile("is no datagram file of version 1")
+
+    def is_finished(self) -> bool:
+        """Whether it is there as at the last look, and nobody is writing it anew, with a lock."""
+        try:
+            descriptor = os.open(self.path, os.O_RDONLY)
+        except FileNotFoundError:
+            return False
+        try:
+            fcntl.flock(descriptor, fcntl.LOCK_SH | fcntl.LOCK_NB)
+            return os.fstat(descriptor).st_size == self.size
+        except BlockingIOError:
+            return False
+        finally:
+            os.close(descriptor)
 
     def is_new(self) -> bool:
         return self.end > self.taken

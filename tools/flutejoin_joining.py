@@ -3,6 +3,7 @@ from __future__ import annotations
 
 import errno
 import os
+import select
 import signal
 import subprocess
 from typing import Callable, Iterator, NamedTuple, Optional, Sequence
@@ -112,13 +113,20 @@ class Program:
         """Sends records to a join. If it ends early, its message says why."""
         pipe, child.stdin = child.stdin, None
         assert pipe
+        os.set_blocking(pipe.fileno(), False)
         try:
             with pipe:
                 for piece in fed.pieces():
-                    pipe.write(piece)
-                    self.tend()
+                    self.write(pipe.fileno(), memoryview(piece))
         except BrokenPipeError:
             pass
+
+    def write(self, pipe: int, rest: memoryview) -> None:
+        """Writes to a pipe, which may be read slowly or not at all."""
+        while rest:
+            if select.select([], [pipe], [], LOOK)[1]:
+                rest = rest[os.write(pipe, rest) :]
+            self.tend()
 
     def answer(self, child: subprocess.Popen) -> Answer:
         while True:

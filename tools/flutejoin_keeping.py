@@ -76,7 +76,7 @@ class Keeper:
         self.folder, self.program, self.settings, self.report = folder, program, settings, report
         self.states: dict[Sender, State] = collections.defaultdict(State)
         self.parts: dict[str, Part] = {}
-        self.is_receiving = False
+        self.is_receiving = self.has_joined = False
         self.incoming = os.path.join(folder, "in")
         self.small, self.journals, self.outbox, self.raw, self.aside = (
             Shelf(os.path.join(folder, name))
@@ -123,14 +123,16 @@ class Keeper:
     def can_be_read(self, sender: Sender, part: Part) -> bool:
         try:
             part.look()
-        except NoDatagramFile as fault:
-            told = str(fault)
-            if time.monotonic() >= self.states[sender].next_try:
-                self.attempt(sender, lambda: self.set_aside(part.path, told))
-            return False
+            return True
         except FileNotFoundError:
             return False
-        return True
+        except NoDatagramFile as fault:
+            told = str(fault)
+        except PermissionError as fault:
+            told = f"cannot be read: {fault.strerror}"
+        if time.monotonic() >= self.states[sender].next_try:
+            self.attempt(sender, lambda: self.set_aside(part.path, told))
+        return False
 
     def work(self, is_receiving: bool, has_patience: bool = True) -> bool:
         """Joins what is due, and returns whether anything was.
@@ -209,6 +211,7 @@ class Keeper:
             self.answer_fault(sender, batch, answer)
             return
         bring_to_disk(recent)
+        self.has_joined = True
         for part, end in zip(batch, ends):
             part.taken = end
         self.states[sender].succeed(time.monotonic())
@@ -336,7 +339,7 @@ class Keeper:
         The receiver continues that one, even after a restart.
         """
         for part in parts:
-            if part.is_last or part.is_new() or not os.path.exists(part.path):
+            if part.is_last or part.is_new() or not part.is_finished():
                 continue
             self.states[sender].suspects.discard(part.path)
             self.attempt(sender, lambda: self.take_away(sender, part))

@@ -116,8 +116,8 @@ class Place:
                     with contextlib.suppress(FileExistsError):
                         os.mkdir(part, dir_fd=folder)
                 inner = os.open(part, FOLDER, dir_fd=folder)
-                os.close(folder)
-                folder = inner
+                outer, folder = folder, inner
+                os.close(outer)
             yield folder, name
         finally:
             os.close(folder)

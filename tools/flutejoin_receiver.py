@@ -27,7 +27,7 @@ class Receiver:
         self.status_path, self.report = status_path, report
         self.child: Optional[subprocess.Popen] = None
         self.delay, self.started_at, self.start_at = FIRST_DELAY, 0.0, float("-inf")
-        self.is_stopped, self.status = False, 0
+        self.is_stopped, self.has_run, self.status = False, False, 0
 
     def tend(self) -> None:
         """Checks whether the child runs, and starts it when that is due."""
@@ -52,8 +52,9 @@ class Receiver:
 
     def end(self, child: subprocess.Popen, now: float) -> None:
         self.status, self.child = child.returncode, None
-        if self.status == 2:
+        if self.status == 2 and not self.has_run:
             raise Fault(2, "the receiver does not take its settings")
+        self.has_run = True
         if not self.is_stopped:
             if now >= self.started_at + WELL:
                 self.delay = FIRST_DELAY
