@@ -76,7 +76,8 @@ class Keeper:
         self.folder, self.program, self.settings, self.report = folder, program, settings, report
         self.states: dict[Sender, State] = collections.defaultdict(State)
         self.parts: dict[str, Part] = {}
-        self.is_receiving = self.has_joined = False
+        self.is_receiving = self.has_come = False
+        self.ends: Optional[dict[str, int]] = None  # where each file ended at the last look
         self.incoming = os.path.join(folder, "in")
         self.small, self.journals, self.outbox, self.raw, self.aside = (
             Shelf(os.path.join(folder, name))
@@ -118,6 +119,11 @@ class Keeper:
             for part in parts:
                 part.is_last = part is parts[-1] and sender.epoch == last[sender.address]
         self.parts = {os.path.basename(it.path): it for parts in found.values() for it in parts}
+        ends = {name: part.end for name, part in self.parts.items()}
+        # What was there at the first look came in another run.
+        if self.ends is not None and any(ends[name] > self.ends.get(name, 0) for name in ends):
+            self.has_come = True
+        self.ends = ends
         return found
 
     def can_be_read(self, sender: Sender, part: Part) -> bool:
@@ -211,7 +217,6 @@ class Keeper:
             self.answer_fault(sender, batch, answer)
             return
         bring_to_disk(recent)
-        self.has_joined = True
         for part, end in zip(batch, ends):
             part.taken = end
         self.states[sender].succeed(time.monotonic())
