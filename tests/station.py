@@ -520,6 +520,9 @@ def runs(work: pathlib.Path) -> None:
     check("more sessions than a join takes: status", run.child.returncode == 2, run.text())
     run = of_once(pathlib.Path(os.fsdecode(bytes(work) + b"/\xff")))
     check("a path that flutejoin does not take: status", run.child.returncode == 2, run.text())
+    words = sys.executable, STATION, "-o", "", "--port", str(port.number)
+    done = subprocess.run(words, capture_output=True, cwd=work)
+    check("no name of a folder", done.returncode == 2 and b"-o: is empty" in done.stderr, done)
     settings_in_a_file(work, sent)
     run = of_once(work / "others", "--tsi", 8)
     datagram_file(work / f"others/in/{NAME}.fldg", sent)
@@ -598,7 +601,7 @@ def a_join_that_does_not_read(work: pathlib.Path) -> None:
     is_told = until(lambda: '"bytes to join"' in run.text(), run)
     check("a status is told during a join", is_told, run.text())
     (work / "reads").touch()
-    check("a join that does not read: status", run.end() == 0, run.text())
+    check("a join that does not read: status", run.end() == 1, run.text())
     have = journal_of(*kept(folder))
     check("a join that does not read: all", have == journal_of(folder / f"in/{NAME}.fldg"))
 

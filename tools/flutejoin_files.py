@@ -41,7 +41,8 @@ class Report:
         self.tell(sys.stderr if self.has_lines_aside else sys.stdout, text)
 
     def warn(self, text: str) -> None:
-        self.tell(sys.stderr, f"{self.tool}: {text}")
+        if sys.stderr is not None:
+            self.tell(sys.stderr, f"{self.tool}: {text}")
 
     def fault(self, status: int, text: str) -> None:
         self.status = max(self.status, status)
