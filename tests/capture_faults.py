@@ -8,7 +8,6 @@ import signal
 import sys
 import termios
 from signal import SIG_DFL, SIG_IGN, SIGHUP, SIGINT, SIGTERM
-from typing import IO
 
 import captures
 import run
@@ -23,7 +22,7 @@ MISSING = "missing: cannot be read: No such file or directory"
 CLOSED = "standard input: cannot be read: Bad file descriptor"
 
 
-def unread(pipe: IO[bytes]) -> int:
+def unread(pipe: int) -> int:
     return int.from_bytes(fcntl.ioctl(pipe, termios.FIONREAD, bytes(4)), sys.byteorder)
 
 
@@ -95,12 +94,14 @@ class Inputs(Case):
             packet = captures.ip(source, target, 17, captures.udp(source, target, bytes(20)))
             frames.append((101, packet, len(packet)))
         self.write("flows", captures.pcap(frames, "<", 0xA1B2C3D4, 65535))
-        child = self.start([sys.executable, TOOL, "flows"], signals={SIGINT: SIG_DFL})
-        fcntl.fcntl(child.stdout, fcntl.F_SETPIPE_SZ, 4096)
-        until(lambda: unread(child.stdout) > 3800)
-        child.send_signal(SIGTERM)
-        self.holds("lines that nobody reads", child.wait(run.LONGEST) == 143, child)
-        self.finish(child)
+        out, into = os.pipe()
+        size = fcntl.fcntl(into, fcntl.F_SETPIPE_SZ, 4096)
+        with open(out, "rb"), open(into, "wb") as pipe:
+            child = self.start([sys.executable, TOOL, "flows"], to=pipe)
+            until(lambda: unread(out) > size - 300)
+            ends = until(lambda: child.send_signal(SIGTERM) or child.poll() is not None)
+            self.holds("lines that nobody reads", ends and child.returncode == 143, child)
+            self.finish(child)
 
     def test_full_disk(self) -> None:
         """The limit of 4,096 bytes leaves room for 3 datagrams."""

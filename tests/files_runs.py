@@ -184,22 +184,22 @@ class Runs(Case):
     def test_signals_at_moments(self) -> None:
         """A run that is stopped tells no fault, and leaves nothing half done."""
         (self.folder / "sitecustomize.py").write_text(AT_MOMENTS)
-        statuses = []
-        for moment in "a finalizer", "a folder", *map(str, range(1, 40)):
-            self.environment = {"PYTHONPATH": str(self.folder), "MOMENT": moment}
-            child = self.start("-o", "files", "all")
-            _, err = child.communicate(timeout=LONGEST)
-            statuses.append(child.returncode)
-            with self.subTest(moment):
-                self.assertEqual(err, b"")
-                self.assertEqual([*self.folder.rglob("*.partial")], [])
-                self.assertEqual(list((self.folder / "tmp").iterdir()), [])
-            shutil.rmtree(self.folder / "files", ignore_errors=True)
-        stopped = statuses.index(0)
-        # Once all is told, a signal changes nothing.
-        self.assertGreater(stopped, 20)
-        self.assertEqual(set(statuses[:stopped]), {128 + signal.SIGTERM})
-        self.assertEqual(set(statuses[stopped:]), {0})
+        statuses = [self.stopped_at("a finalizer"), self.stopped_at("a folder")]
+        # Until all is told; then a signal changes nothing.
+        while statuses[-1]:
+            self.assertEqual(statuses[-1], 128 + signal.SIGTERM)
+            statuses.append(self.stopped_at(str(len(statuses) - 1)))
+        self.assertGreater(len(statuses), 20)
+
+    def stopped_at(self, moment: str) -> int:
+        self.environment = {"PYTHONPATH": str(self.folder), "MOMENT": moment}
+        child = self.start("-o", "files", "all")
+        _, err = child.communicate(timeout=LONGEST)
+        self.assertEqual((moment, err), (moment, b""))
+        left = [*self.folder.rglob("*.partial"), *(self.folder / "tmp").iterdir()]
+        self.assertEqual((moment, left), (moment, []))
+        shutil.rmtree(self.folder / "files", ignore_errors=True)
+        return child.returncode
 
     def test_a_hangup_that_is_ignored(self) -> None:
         """It reaches no child either, as under nohup."""

@@ -12,6 +12,7 @@ import signal
 import socket
 import string
 import sys
+import time
 from typing import IO, BinaryIO, Callable, Iterator, NamedTuple, NoReturn, Optional, Union
 
 from flutejoin_records import PIECE
@@ -21,6 +22,8 @@ MOST_INPUTS = 64  # of one `flutejoin join`
 PARTIAL = ".partial"
 STANDARD_OUTPUT = "-"  # as the name of an output
 STOPPING = (signal.SIGINT, signal.SIGTERM, signal.SIGHUP)
+RAISING = (*STOPPING, signal.SIGALRM)  # what `raise_again` uses too
+AGAIN = 1  # seconds in which a signal may be a copy of the one that ended the work
 ENDS: list[Callable[[], None]] = []  # what is still to be removed if a signal ends the run
 
 IPAddress = Union[ipaddress.IPv4Address, ipaddress.IPv6Address]
@@ -147,6 +150,17 @@ def stop(number: int, _frame: object) -> None:
     raise KeyboardInterrupt(number)
 
 
+def answer_late_stops() -> None:
+    """Once all is written: lets a signal end the run that still waits for somebody to read."""
+    since = time.monotonic()
+
+    def answer(number: int, frame: object) -> None:
+        if time.monotonic() > since + AGAIN:
+            stop(number, frame)
+
+    answer_stops(answer)
+
+
 def raise_again(number: int, dropped: sys.UnraisableHookArgs) -> None:
     """Python drops an exception that is raised in a finalizer. This raises it again behind that."""
     if dropped.exc_type is KeyboardInterrupt:
@@ -166,7 +180,7 @@ def later() -> Iterator[None]:
     came: list[int] = []
     before = {
         number: signal.signal(number, lambda number, _frame: came.append(number))
-        for number in STOPPING
+        for number in RAISING
         if signal.getsignal(number) != signal.SIG_IGN
     }
     try:
@@ -183,7 +197,7 @@ def keep_status() -> None:
 
     Python lets signals kill it while it ends, and a late Ctrl-C would then change the status.
     """
-    for number in STOPPING:
+    for number in RAISING:
         signal.signal(number, signal.SIG_IGN)
 
 
@@ -194,8 +208,9 @@ def exit_status(work: Callable[[], None], report: Report) -> int:
         keep_status()
     except KeyboardInterrupt as signalled:
         keep_status()
-        for end in ENDS:
-            end()
+        while ENDS:
+            with contextlib.suppress(OSError):
+                ENDS.pop()()
         return 128 + signalled.args[0]
     return report.status
 

@@ -273,7 +273,7 @@ class Copy:
             try:
                 self.target = target = self.growing.opened.open(self.path(), flags)
                 with contextlib.suppress(OSError):  # so that a station leaves it until it is whole
-                    fcntl.flock(target, fcntl.LOCK_EX)
+                    fcntl.flock(target, fcntl.LOCK_EX | fcntl.LOCK_NB)
                 return target
             except FileExistsError:
                 self.part += 1

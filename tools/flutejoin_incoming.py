@@ -71,16 +71,20 @@ class Part:
     def is_finished(self) -> bool:
         """Whether it is there as at the last look, and nobody is writing it anew, with a lock."""
         try:
-            descriptor = os.open(self.path, os.O_RDONLY)
+            descriptor = os.open(self.path, os.O_RDONLY | os.O_NONBLOCK)
         except FileNotFoundError:
             return False
         try:
             fcntl.flock(descriptor, fcntl.LOCK_SH | fcntl.LOCK_NB)
-            return os.fstat(descriptor).st_size == self.size
         except BlockingIOError:
             return False
+        except OSError:  # a file system without locks
+            pass
         finally:
+            size = os.fstat(descriptor).st_size
             os.close(descriptor)
+        # It is locked before it has a byte.
+        return size == self.size > 0
 
     def is_new(self) -> bool:
         return self.end > self.taken

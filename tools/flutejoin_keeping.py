@@ -344,12 +344,13 @@ class Keeper:
         The receiver continues that one, even after a restart.
         """
         for part in parts:
-            if part.is_last or part.is_new() or not part.is_finished():
-                continue
-            self.states[sender].suspects.discard(part.path)
-            self.attempt(sender, lambda: self.take_away(sender, part))
+            if not part.is_last and not part.is_new():
+                self.attempt(sender, lambda: self.take_away(sender, part))
 
     def take_away(self, sender: Sender, part: Part) -> None:
+        if not part.is_finished():
+            return
+        self.states[sender].suspects.discard(part.path)
         if part.end < part.size:
             self.set_aside(part.path, "is cut at its end; what stands before that is joined")
         elif self.settings.keep_raw:
