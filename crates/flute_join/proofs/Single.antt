@@ -78,7 +78,8 @@ module _ {K X : Type 0} {cmp : K → K → Ordering} (order : IsTotalOrder cmp)
   -- a value put at a key that es has
   put_held_at : (e : K × X) (es : List (K × X)) {k : K} {v : X} (x : X) (r : Ordering)
       → cmp k e.0 ≡ r → IsOrdered cmp (e ∷ es) → value_at cmp (e ∷ es) k ≡ Some v
-      → (value_at cmp es k ≡ Some v → insert_entry cmp es k x ≡ set_value (is_at (cmp k)) es x)
+      → (value_at cmp es k ≡ Some v
+      → insert_entry cmp es k x ≡ set_value (is_at (cmp k)) es x)
       → insert_entry cmp (e ∷ es) k x ≡ set_value (is_at (cmp k)) (e ∷ es) x
   put_held_at e es {k = k} {v = v} x Less p s f ih =
       let n : value_at cmp (e ∷ es) k ≡ None =
@@ -88,7 +89,8 @@ module _ {K X : Type 0} {cmp : K → K → Ordering} (order : IsTotalOrder cmp)
   put_held_at e es x Greater p s f ih = rw p (ap (λ l. e ∷ l) (ih (rw p at f)))
 
   put_held : (es : List (K × X)) (k : K) (v x : X) → IsOrdered cmp es
-      → value_at cmp es k ≡ Some v → insert_entry cmp es k x ≡ set_value (is_at (cmp k)) es x
+      → value_at cmp es k ≡ Some v
+      → insert_entry cmp es k x ≡ set_value (is_at (cmp k)) es x
   put_held [] k v x s f = absurd (none-some v f)
   put_held (e ∷ es) k v x s f =
       put_held_at e es x (cmp k e.0) refl s f

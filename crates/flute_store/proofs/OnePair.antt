@@ -108,7 +108,8 @@ module _ {K X : Type 0} {cmp : K → K → Ordering} {join : X → X → X} (all
 
     -- so it is if there is room, where a join keeps what holds of each value
     pub joined-sound : (found : Option X) → value_at cmp es k ≡ found
-        → ((v : X) → P v → P (join v w)) → P w → (value_at cmp es k ≡ None → length es < limit)
+        → ((v : X) → P v → P (join v w)) → P w
+        → (value_at cmp es k ≡ None → length es < limit)
         → IsSound cmp limit P (with_pair es k w)
     joined-sound None f kept p room = new-sound f (room f) p
     joined-sound (Some v) f kept p room =

@@ -54,7 +54,8 @@ pub use Rattle.flute_streams.specs.StreamMerges.{GaveBefore, IsCounted, IsWithin
 pub use Rattle.flute_streams.specs.StreamMerges.{NamesInput, NoneFails, OneFails, ReadsAhead}
 pub use Rattle.flute_streams.specs.StreamMerges.{all_of}
 pub use Rattle.flute_streams.specs.Streams.{Advances, Behaviour, Continues, Gave, GoesOn, Stopped}
-pub use Rattle.flute_streams.specs.Streams.{StopsAt, fact_in, heads, most_of, option_list, address_of}
+pub use Rattle.flute_streams.specs.Streams.{StopsAt, address_of, fact_in, heads, most_of}
+pub use Rattle.flute_streams.specs.Streams.{option_list}
 pub use Rattle.flute_parts.specs.Ranges.{IsFact}
 pub use Rattle.flute_parts.proofs.Public.{alone, alone-at, alone-elsewhere, Below-from_Same}
 pub use Rattle.flute_parts.proofs.Public.{fact_at-after, fact_at-append, fact_at-cons}

@@ -54,7 +54,8 @@ AreLowFrom from lows ranks =
 -- so of all ranks but those of one block below that number
 abbrev pub AreLowBut : ℕ → ℕ → List ℕ → List ℕ → Type 0
 AreLowBut block from lows ranks =
-    (k : ℕ) → k < 128 → (k / 8 ≡ block → from ≤ k) → slice_index lows (k / 8) ≤ slice_index ranks k
+    (k : ℕ) → k < 128 → (k / 8 ≡ block → from ≤ k)
+    → slice_index lows (k / 8) ≤ slice_index ranks k
 
 module _ {S : Type 0} (b : Behaviour S) where
   -- what stream k of at most 128 holds is not before the part with rank number k

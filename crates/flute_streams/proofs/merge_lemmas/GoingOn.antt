@@ -76,7 +76,8 @@ module _ {S : Type 0} (b : Behaviour S) (place : Option Address) where
 
   -- stream k holds another address: it stays
   pub one_stays : {k : ℕ} {old now : List S} {x : S} → WentSoFar k old now
-      → slice_get now k ≡ Some x → address_of (b.held x) ≢ place → WentSoFar (k + 1) old now
+      → slice_get now k ≡ Some x → address_of (b.held x) ≢ place
+      → WentSoFar (k + 1) old now
   one_stays {k = k} {old = old} {now = now} {x = x} w is n = record {
     done =
         subst (λ l. GoOnAt b place l (take (k + 1) now)) (sym (old_more k old now x w.rest is))

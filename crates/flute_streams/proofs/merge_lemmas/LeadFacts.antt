@@ -208,7 +208,8 @@ module _ {S : Type 0} (b : Behaviour S) where
 
   abbrev OthersElsewhere : Option Address → ℕ → List S → Type 0
   OthersElsewhere a k streams =
-      (j : ℕ) (s : S) → slice_get streams j ≡ Some s → j ≢ k → address_of (b.held s) ≢ a
+      (j : ℕ) (s : S) → slice_get streams j ≡ Some s → j ≢ k
+      → address_of (b.held s) ≢ a
 
   goes : {a : Option Address} (k : ℕ) (streams : List S) {x y : S}
       → slice_get streams k ≡ Some x → address_of (b.held x) ≡ a → GoesOn b x y

@@ -6,7 +6,8 @@ use Rattle.flute_streams.proofs.Common.{List, None, Option, Some}
 use Rattle.flute_streams.proofs.Common.{[], address, address_cmp, ap, arith}
 use Rattle.flute_streams.proofs.Common.{bytes_eq, cases_Bool, conflict_at, entry, fact_same}
 use Rattle.flute_streams.proofs.Common.{if◌then◌else◌, inl, inr, length, option_list}
-use Rattle.flute_streams.proofs.Common.{address_of, refl, same_Some, same_fact, slice_get, subst, suc}
+use Rattle.flute_streams.proofs.Common.{address_of, refl, same_Some, same_fact, slice_get}
+use Rattle.flute_streams.proofs.Common.{subst, suc}
 use Rattle.flute_streams.proofs.Common.{sym, true, false, zero, ℕ, ◌++◌, ◌<◌, ◌∙◌, ◌∷◌, ◌≡◌, ◌≢◌}
 use Rattle.std.specs.Prelude.{◌==◌}
 use Rattle.std.proofs.lemmas.Slice.Eq.{bytes_eq-Decides}

@@ -67,8 +67,8 @@ module _ {xs ys us vs : List ℕ} (h : SameFront xs ys us vs) where
       ∙ same-behind h.front us vs
 
   -- a piece more is the same
-  pub same-on : {a b c d : List ℕ} (n : ℕ) → a ≡ take n us → b ≡ take n vs → c ≡ drop n us
-      → d ≡ drop n vs → bytes_eq a b ≡ true → SameFront xs ys c d
+  pub same-on : {a b c d : List ℕ} (n : ℕ) → a ≡ take n us → b ≡ take n vs
+      → c ≡ drop n us → d ≡ drop n vs → bytes_eq a b ≡ true → SameFront xs ys c d
   same-on {a = a} {b = b} {c = c} {d = d} n is_a is_b is_c is_d same =
       let e = (bytes_eq-Decides a b).0 same in
       let one : us ≡ a ++ c =

@@ -148,7 +148,8 @@ given_here p (Some f) e =
     subst (λ q. given_at q (Some f) ≡ f ∷ []) e
     (ap (λ b. taken_by b f) (address_itself (address f)))
 
-pub given_elsewhere : (p : Option Address) (o : Option Fact) → address_of o ≢ p → given_at p o ≡ []
+pub given_elsewhere : (p : Option Address) (o : Option Fact) → address_of o ≢ p
+    → given_at p o ≡ []
 given_elsewhere None o n = refl
 given_elsewhere (Some a) None n = refl
 given_elsewhere (Some a) (Some f) n = elim (cases_Bool (same_address (address f) a)) [

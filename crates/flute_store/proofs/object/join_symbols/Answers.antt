@@ -1,5 +1,6 @@
 -- join_symbols: the joined symbols are within the limit, or there was no room for another.
-use Rattle.std.proofs.Common.{◌≡◌, ◌≢◌, ◌<◌, None, ap, arith, bytes_eq, length, refl, sym, ◌∙◌, subst}
+use Rattle.std.proofs.Common.{◌≡◌, ◌≢◌, ◌<◌, None, ap, arith, bytes_eq, length, refl}
+use Rattle.std.proofs.Common.{sym, ◌∙◌, subst}
 use Rattle.flute_store.proofs.Common
 use Common.{cell_join, join_nothing, symbol_id_cmp, symbols_join, update_cell, update_symbols}
 use Common.{value_at, AreSymbols}

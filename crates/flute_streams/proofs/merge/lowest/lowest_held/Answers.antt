@@ -1,6 +1,7 @@
 -- lowest_held: one stream more.
 use Rattle.flute_streams.proofs.Common.{IsLowest, List, Fact, append-nil, arith, heads}
-use Rattle.flute_streams.proofs.Common.{length, option_list, address_of, subst, sym, take, ◌++◌, ◌<◌}
+use Rattle.flute_streams.proofs.Common.{length, option_list, address_of, subst, sym, take}
+use Rattle.flute_streams.proofs.Common.{◌++◌, ◌<◌}
 use Rattle.flute_streams.proofs.Common.{ap, option_copied, ◌∙◌}
 use Rattle.flute_streams.proofs.merge_lemmas.LowestFacts.{heads-more}
 use Rattle.flute_streams.proofs.merge_lemmas.Places.{place-none, read-at}

@@ -10,5 +10,5 @@ returns g c = λ below.
     let h = c.loop-other.invariant in
     let all : length streams ≤ c.loop-other.other = omega (arith, h.all, c.loop-other-test.false) in
     subst (λ n. Leads b streams n c.loop-other.self.next) (sym h.number)
-    (lead-new b (option_copied c.address-place.result) c.requires all c.address-place.ensures h.firsts
-    (c.is_below-self.ensures below))
+    (lead-new b (option_copied c.address-place.result) c.requires all c.address-place.ensures
+    h.firsts (c.is_below-self.ensures below))
