@@ -14,8 +14,8 @@ echo "flutejoin: proving and building the program;" \
 
 # The crates of the program, the lowest first: in this order each is read once, and no pass over all
 # sources comes before.
-libraries='flute_join flute_parts flute_output flute_wire flute_store flute_journal flute_streams'
-libraries="$libraries flutejoin flutejoin_line flutejoin_commands flutejoin_run"
+libraries='flute_join flute_parts flute_wire flute_store flute_journal flute_streams flute_output'
+libraries="$libraries flutejoin flutejoin_commands flutejoin_line flutejoin_run"
 
 # build CRATE WORD..: builds a crate by these words of rt.
 build() {
@@ -30,10 +30,30 @@ build() {
     fi
 }
 
+# build_beside CRATE: builds a library in a copy of the crates, while others are built here: often
+# one of them has work for a single processor. rt takes there the libraries below it from here, and
+# here the library from there.
+build_beside() {
+    (cd "bin/beside/crates/$1" && exec rt lib --jobs 1) >> bin/beside.log 2>&1 &
+    beside="$beside $!"
+}
+
 step=0
+beside=
 : > bin/build.log
+: > bin/beside.log
+trap 'kill $beside 2> /dev/null || true; rm -rf bin/beside' EXIT
+trap 'exit 130' INT
+trap 'exit 143' TERM
+rm -rf bin/beside
+mkdir bin/beside
+tar -c --exclude=out crates.txt HANDLES crates | tar -x -C bin/beside
 for library in $libraries; do
     build "$library" lib
+    case $library in
+    flute_parts) build_beside flute_output ;;
+    flutejoin) build_beside flutejoin_line ;;
+    esac
 done
 build flutejoin_cli run -- --version
 cp crates/flutejoin_cli/out/flutejoin_cli bin/flutejoin.new

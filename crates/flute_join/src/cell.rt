@@ -11,10 +11,9 @@ use crate::value::Value;
 use std::alloc::Global;
 
 /// What is known at one place. A conflict stays one, whatever comes after it.
-#[derive(Debug, Default, Drop, PartialEq, Eq)]
+#[derive(Debug, Drop, PartialEq, Eq)]
 pub enum Cell<T: Value> {
     /// No value came.
-    #[default]
     Absent,
     /// One value came, perhaps several times.
     One(T),

@@ -10,9 +10,26 @@ use crate::join::Join;
 use crate::place::Place;
 use crate::value::Value;
 
-/// Joining is commutative, associative and idempotent.
+/// Joining is commutative, associative and idempotent. To be below is an order, in which the join
+/// of two values is the least that is above both. What a refused join leaves, joined again, gives
+/// the join.
 pub fn joining_is_a_join<T: Join>()
-    ensures { IsJoin T.joined }
+    ensures join { IsJoin T.joined }
+
+    // Of the order:
+    ensures reflexive { (x : T) → IsBelow T.joined x x }
+    ensures transitive { (x y z : T) → IsBelow T.joined x y → IsBelow T.joined y z
+        → IsBelow T.joined x z }
+    ensures antisymmetric { (x y : T) → IsBelow T.joined x y → IsBelow T.joined y x → x ≡ y }
+
+    // Of the join in it:
+    ensures above_first { (x y : T) → IsBelow T.joined x (T.joined x y) }
+    ensures above_second { (x y : T) → IsBelow T.joined y (T.joined x y) }
+    ensures least { (x y z : T) → IsBelow T.joined x z → IsBelow T.joined y z
+        → IsBelow T.joined (T.joined x y) z }
+    ensures again { (old other left : T) → IsBelow T.joined old left
+        → IsBelow T.joined left (T.joined old other)
+        → T.joined left other ≡ T.joined old other }
 {}
 
 /// Joining cells is commutative, associative and idempotent.
@@ -20,46 +37,18 @@ pub fn joining_cells_is_a_join<T: Value>()
     ensures { IsJoin (cell_join T.eq) }
 {}
 
-/// Joining maps is commutative, associative and idempotent, of maps of maps too.
+/// Joining maps is commutative, associative and idempotent, of maps of maps too. The join of two
+/// maps has, at each key, the values of the two, joined; and its keys ascend. Joining a map of one
+/// entry into another joins the values at a held key, and inserts the entry at a new one.
 pub fn joining_maps_is_a_join<K: Place, V: Join>()
-    ensures { IsJoin (map_join K.cmp V.joined) }
-{}
-
-/// To be below is an order.
-pub fn below_is_an_order<T: Join>()
-    ensures reflexive { (x : T) → IsBelow T.joined x x }
-    ensures transitive { (x y z : T) → IsBelow T.joined x y → IsBelow T.joined y z
-        → IsBelow T.joined x z }
-    ensures antisymmetric { (x y : T) → IsBelow T.joined x y → IsBelow T.joined y x → x ≡ y }
-{}
-
-/// The join of two values is the least that is above both.
-pub fn a_join_is_the_least_above_both<T: Join>()
-    ensures above_first { (x y : T) → IsBelow T.joined x (T.joined x y) }
-    ensures above_second { (x y : T) → IsBelow T.joined y (T.joined x y) }
-    ensures least { (x y z : T) → IsBelow T.joined x z → IsBelow T.joined y z
-        → IsBelow T.joined (T.joined x y) z }
-{}
-
-/// What a refused join leaves, joined again, gives the join.
-pub fn joining_again_gives_the_join<T: Join>()
-    ensures { (old other left : T) → IsBelow T.joined old left
-        → IsBelow T.joined left (T.joined old other)
-        → T.joined left other ≡ T.joined old other }
-{}
-
-/// The join of two maps has, at each key, the values of the two, joined; and its keys ascend.
-pub fn a_joined_map_has_the_joined_values<K: Place, V: Join>()
+    ensures join { IsJoin (map_join K.cmp V.joined) }
     ensures values { (m n : List (K × V)) (key : K) → IsOrdered K.cmp m → IsOrdered K.cmp n
         → value_at K.cmp (map_join K.cmp V.joined m n) key
         ≡ join_values V.joined (value_at K.cmp m key) (value_at K.cmp n key) }
     ensures ordered { (m n : List (K × V)) → IsOrdered K.cmp m → IsOrdered K.cmp n
         → IsOrdered K.cmp (map_join K.cmp V.joined m n) }
-{}
 
-/// Joining a map of one entry into another joins the values at a held key, and inserts
-/// the entry at a new one.
-pub fn joining_one_entry<K: Place, V: Join>()
+    // Of a map of one entry:
     ensures held { (m : List (K × V)) (key : K) (held value : V) → IsOrdered K.cmp m
         → value_at K.cmp m key ≡ Some held
         → map_join K.cmp V.joined m ((key, value) ∷ [])

@@ -24,7 +24,7 @@ use std::marker::Model;
 
 /// A map in the order of its keys, with at most `LIMIT` of them. The limit is part of the type, so
 /// two maps that are joined have the same. Only what adds, joins or copies asks for memory.
-#[derive(Debug, Drop)]
+#[derive(Drop)]
 pub struct JoinMap<K: Place, V: Join, const LIMIT: u32> {
     entries: BTreeMap<K, V>,
 }

@@ -26,7 +26,7 @@ pub const END: u8 = 255;
 pub const LONGEST: usize = 49;
 
 /// What an entry says.
-#[derive(Clone, Copy, Debug, PartialEq, Eq)]
+#[derive(Clone, Copy)]
 pub enum Kind {
     /// The transmission information.
     Info,

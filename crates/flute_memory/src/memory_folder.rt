@@ -9,7 +9,7 @@ use flute_parts::{DeviceFault, Failures};
 use std::alloc::{AllocError, Global};
 
 /// A file in memory.
-#[derive(Debug, Drop)]
+#[derive(Drop)]
 pub struct StoredFile {
     pub bytes: Vec<u8>,
     pub on_disk: bool,
@@ -17,7 +17,7 @@ pub struct StoredFile {
 
 /// A folder for tests. Bytes wait in memory until a flush, and it fails for good after a given
 /// number of calls.
-#[derive(Debug, Drop)]
+#[derive(Drop)]
 pub struct MemoryFolder {
     alloc: Global,
     out: Option<StoredFile>,

@@ -8,21 +8,21 @@ use flute_parts::{DeviceFault, Failures};
 use std::alloc::Global;
 
 /// A file in memory.
-#[derive(Debug, Drop)]
+#[derive(Drop)]
 pub struct MemoryFile {
     pub name: Vec<u8>,
     pub bytes: Vec<u8>,
 }
 
 /// A folder of files in memory.
-#[derive(Debug, Drop)]
+#[derive(Drop)]
 pub struct MemoryFiles {
     pub files: Vec<MemoryFile>,
     pub on_disk: bool,
 }
 
 /// A new folder for tests. It fails for good after a given number of calls.
-#[derive(Debug, Drop)]
+#[derive(Drop)]
 pub struct MemoryNewFolder {
     alloc: Global,
     out: Option<MemoryFiles>,

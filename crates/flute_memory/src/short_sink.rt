@@ -6,7 +6,7 @@ use std::alloc::Global;
 
 /// A sink for tests: it takes a given number of bytes, keeps them in memory, and then fails for
 /// good.
-#[derive(Debug, Drop)]
+#[derive(Drop)]
 pub struct ShortSink {
     sink: MemorySink,
     good: usize,

@@ -5,7 +5,7 @@ use flute_parts::{DeviceFault, Failures, MemorySource, Source};
 
 /// A source for tests: it gives the bytes of a slice in short pieces, until it fails for
 /// good. It takes no memory.
-#[derive(Debug, Drop)]
+#[derive(Drop)]
 pub struct ShortSource<'a> {
     source: MemorySource<'a>,
     piece: usize,

@@ -10,7 +10,7 @@ use std::io::{self, BufWriter, ErrorKind, Write};
 const BUFFER: usize = 131_072;
 
 /// A file that takes bytes once it is open.
-#[derive(Debug, Drop)]
+#[derive(Drop)]
 enum Target {
     Closed,
     Open(File),

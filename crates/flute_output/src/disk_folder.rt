@@ -4,10 +4,11 @@ ghost use Rattle.std.specs.Prelude.{None};
 use crate::buffered_file::BufferedFile;
 use crate::file_id::FileId;
 use crate::folder::{Folder, Name};
+use crate::name_pair::sync_folder;
 use crate::neighbours::Neighbours;
 use flute_parts::{DeviceFault, Sink};
 use std::alloc::Global;
-use std::fs::File;
+use std::fs::{self, File};
 use std::io::{self, ErrorKind};
 use std::rt::Files;
 
@@ -43,14 +44,6 @@ impl<'a, R: Files<File = File>> DiskFolder<'a, R> {
             folder: None,
         })
     }
-
-    // The folder, which is opened first, so that later it only needs to be synced; and the file
-    // beside OUT.
-    fn open(&self) -> io::Result<(Option<File>, File)> {
-        let folder = self.names.folder(self.rt)?;
-        let file = self.names.create(self.rt, &self.inputs)?;
-        Ok((folder, file))
-    }
 }
 
 impl<R: Files<File = File>> Folder for DiskFolder<'_, R> {
@@ -59,9 +52,11 @@ impl<R: Files<File = File>> Folder for DiskFolder<'_, R> {
     ghost failures = { λ f. ⟦<BufferedFile as Sink>⟧.failures f.beside };
 
     fn create(&mut self) -> Result<(), DeviceFault> {
-        let opened = self.open();
-        let (folder, file) = self.beside.count(opened)?;
-        self.folder = folder;
+        // The folder is opened first, so that later it only needs to be synced.
+        let folder = self.names.pair.parent(self.rt);
+        self.folder = self.beside.count(folder)?;
+        let file = self.names.create(self.rt, &self.inputs);
+        let file = self.beside.count(file)?;
         self.beside.open(file);
         Ok(())
     }
@@ -84,17 +79,14 @@ impl<R: Files<File = File>> Folder for DiskFolder<'_, R> {
 
     fn put_in_place(&mut self) -> Result<(), DeviceFault> {
         let put = match self.beside.file() {
-            Some(file) => self.names.put_in_place(self.rt, file),
+            Some(file) => self.names.pair.put_in_place(self.rt, file),
             None => Err(ErrorKind::NotFound.into()),
         };
         self.beside.count(put)
     }
 
     fn sync_names(&mut self) -> Result<(), DeviceFault> {
-        let synced = match &self.folder {
-            Some(folder) => sync_folder(folder),
-            None => Ok(()),
-        };
+        let synced = sync_folder(&self.folder);
         self.beside.count(synced)
     }
 
@@ -102,20 +94,8 @@ impl<R: Files<File = File>> Folder for DiskFolder<'_, R> {
         let removed = match (self.beside.file(), name) {
             (Some(file), Name::Beside) => self.names.remove_beside(self.rt, file),
             (None, Name::Beside) => Ok(()),
-            (_, Name::Out) => self.names.remove_out(self.rt),
+            (_, Name::Out) => fs::remove_file(self.rt, &self.names.pair.out),
         };
         self.beside.count(removed)
-    }
-}
-
-// Waits until the disk has the names in a folder. A file system without such a call for folders
-// reports it as invalid.
-fn sync_folder(folder: &File) -> io::Result<()> {
-    match folder.sync_all() {
-        Err(error) => match error.kind() {
-            ErrorKind::InvalidInput | ErrorKind::Unsupported => Ok(()),
-            _ => Err(error),
-        },
-        Ok(()) => Ok(()),
     }
 }

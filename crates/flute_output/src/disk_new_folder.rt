@@ -2,6 +2,7 @@
 ghost use Rattle.std.specs.Prelude.{◌≡◌, ◌+◌, None, if◌then◌else◌, is_ok};
 
 use crate::folder_names::FolderNames;
+use crate::name_pair::sync_folder;
 use crate::new_folder::NewFolder;
 use crate::place::OpenFault;
 use flute_parts::{DeviceFault, Failures};
@@ -37,8 +38,10 @@ impl<'a, R: Files<File = File> + Alloc + Clone + Drop> DiskNewFolder<'a, R> {
     ///
     /// `CannotCreate` if the path has no name, and `OutOfMemory`.
     pub fn new(rt: &'a R, alloc: Global, path: &str) -> Result<DiskNewFolder<'a, R>, OpenFault> {
-        let names = FolderNames::new(alloc, path).map_err(open_fault)?;
-        let waiting = Vec::with_capacity(alloc, BUFFER).map_err(|_| OpenFault::OutOfMemory)?;
+        let names = FolderNames::new(alloc, path)?;
+        let Ok(waiting) = Vec::with_capacity(alloc, BUFFER) else {
+            return Err(OpenFault::OutOfMemory);
+        };
         Ok(DiskNewFolder {
             rt,
             alloc,
@@ -66,29 +69,6 @@ impl<'a, R: Files<File = File> + Alloc + Clone + Drop> DiskNewFolder<'a, R> {
         }
     }
 
-    fn make(&mut self) -> io::Result<()>
-        ensures { self.new.failures ≡ self.old.failures }
-    {
-        self.parent = self.names.parent(self.rt)?;
-        self.beside = Some(self.names.create(self.rt)?);
-        Ok(())
-    }
-
-    fn open_file(&mut self, name: &[u8]) -> io::Result<()>
-        ensures { self.new.failures ≡ self.old.failures }
-    {
-        self.path = self.names.path_of(self.alloc, name)?;
-        let mut options = OpenOptions::new();
-        self.file = Some(
-            options
-                .write(true)
-                .create_new(true)
-                .open(self.rt, &self.path)?,
-        );
-        self.waiting.clear();
-        Ok(())
-    }
-
     // Bytes wait until there is no room for more.
     fn take(&mut self, bytes: &[u8]) -> io::Result<()>
         ensures { self.new.failures ≡ self.old.failures }
@@ -110,24 +90,6 @@ impl<'a, R: Files<File = File> + Alloc + Clone + Drop> DiskNewFolder<'a, R> {
         self.waiting.clear();
         Ok(())
     }
-
-    fn close(&mut self) -> io::Result<()>
-        ensures { self.new.failures ≡ self.old.failures }
-    {
-        self.write_waiting()?;
-        match self.file.take() {
-            Some(file) => file.sync_all(),
-            None => Err(ErrorKind::NotConnected.into()),
-        }
-    }
-
-    fn remove_file(&mut self) -> io::Result<()>
-        ensures { self.new.failures ≡ self.old.failures }
-    {
-        self.file = None;
-        self.waiting.clear();
-        fs::remove_file(self.rt, &self.path)
-    }
 }
 
 impl<R: Files<File = File> + Alloc + Clone + Drop> NewFolder for DiskNewFolder<'_, R> {
@@ -136,13 +98,23 @@ impl<R: Files<File = File> + Alloc + Clone + Drop> NewFolder for DiskNewFolder<'
     ghost failures = { λ f. f.failures.count };
 
     fn create(&mut self) -> Result<(), DeviceFault> {
-        let made = self.make();
-        self.count(made)
+        let parent = self.names.pair.parent(self.rt);
+        self.parent = self.count(parent)?;
+        let beside = self.names.create(self.rt);
+        self.beside = Some(self.count(beside)?);
+        Ok(())
     }
 
     fn begin(&mut self, name: &[u8]) -> Result<(), DeviceFault> {
-        let opened = self.open_file(name);
-        self.count(opened)
+        let path = self.names.path_of(self.alloc, name);
+        self.path = self.count(path)?;
+        let opened = OpenOptions::new()
+            .write(true)
+            .create_new(true)
+            .open(self.rt, &self.path);
+        self.file = Some(self.count(opened)?);
+        self.waiting.clear();
+        Ok(())
     }
 
     fn put(&mut self, bytes: &[u8]) -> Result<(), DeviceFault> {
@@ -151,17 +123,24 @@ impl<R: Files<File = File> + Alloc + Clone + Drop> NewFolder for DiskNewFolder<'
     }
 
     fn keep(&mut self) -> Result<(), DeviceFault> {
-        let closed = self.close();
-        self.count(closed)
+        let written = self.write_waiting();
+        self.count(written)?;
+        let synced = match self.file.take() {
+            Some(file) => file.sync_all(),
+            None => Err(ErrorKind::NotConnected.into()),
+        };
+        self.count(synced)
     }
 
     fn leave(&mut self) -> Result<(), DeviceFault> {
-        let left = self.remove_file();
-        self.count(left)
+        self.file = None;
+        self.waiting.clear();
+        let removed = fs::remove_file(self.rt, &self.path);
+        self.count(removed)
     }
 
     fn sync(&mut self) -> Result<(), DeviceFault> {
-        let synced = sync_open(&self.beside);
+        let synced = sync_folder(&self.beside);
         self.count(synced)
     }
 
@@ -174,7 +153,7 @@ impl<R: Files<File = File> + Alloc + Clone + Drop> NewFolder for DiskNewFolder<'
     }
 
     fn sync_name(&mut self) -> Result<(), DeviceFault> {
-        let synced = sync_open(&self.parent);
+        let synced = sync_folder(&self.parent);
         self.count(synced)
     }
 
@@ -191,27 +170,5 @@ fn write_to(file: &mut Option<File>, bytes: &[u8]) -> io::Result<()> {
     match file {
         Some(file) => file.write_all(bytes),
         None => Err(ErrorKind::NotConnected.into()),
-    }
-}
-
-// Waits until the disk has the names in a folder. A file system without such a call for folders
-// reports it as invalid.
-fn sync_open(folder: &Option<File>) -> io::Result<()> {
-    match folder {
-        Some(folder) => match folder.sync_all() {
-            Err(error) => match error.kind() {
-                ErrorKind::InvalidInput | ErrorKind::Unsupported => Ok(()),
-                _ => Err(error),
-            },
-            Ok(()) => Ok(()),
-        },
-        None => Ok(()),
-    }
-}
-
-fn open_fault(error: io::Error) -> OpenFault {
-    match error.kind() {
-        ErrorKind::OutOfMemory => OpenFault::OutOfMemory,
-        _ => OpenFault::CannotCreate,
     }
 }

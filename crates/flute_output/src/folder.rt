@@ -7,7 +7,7 @@ ghost use Rattle.flute_output.specs.Entries.{flushed, synced, put_in_place, name
 use flute_parts::DeviceFault;
 
 /// The two entries that an output needs.
-#[derive(Clone, Copy, Debug, PartialEq, Eq)]
+#[derive(Debug, Drop)]
 pub enum Name {
     /// The name of the output.
     Out,

@@ -9,9 +9,10 @@ use std::rt::Files;
 const STANDARD_OUTPUT: &str = "/proc/self/fd/1";
 
 /// A regular file at the path of an output, and its first bytes.
-#[derive(Clone, Copy, Debug)]
+#[derive(Drop)]
 pub struct Found {
-    id: FileId,
+    /// Which file it is.
+    pub id: FileId,
     /// Its first four bytes, if it has four and they can be read.
     first: Option<[u8; 4]>,
 }
@@ -30,11 +31,6 @@ impl Found {
         })
     }
 
-    /// Which file it is.
-    pub fn id(&self) -> FileId {
-        self.id
-    }
-
     /// Its first four bytes. None if it has fewer, or they cannot be read.
     pub fn first_bytes(&self) -> &[u8] {
         match &self.first {
@@ -46,8 +42,10 @@ impl Found {
 
 /// Whether this is what standard output goes to.
 pub fn is_standard_output<R: Files>(rt: &R, found: &Metadata) -> bool {
-    let standard_output = fs::metadata(rt, STANDARD_OUTPUT);
-    standard_output.is_ok_and(|output| FileId::of(&output) == FileId::of(found))
+    match fs::metadata(rt, STANDARD_OUTPUT) {
+        Ok(output) => FileId::of(&output) == FileId::of(found),
+        Err(_) => false,
+    }
 }
 
 fn first_bytes<R: Files<File = File>>(rt: &R, path: &str) -> Option<[u8; 4]> {

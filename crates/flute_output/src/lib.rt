@@ -31,6 +31,7 @@ mod filled_folder;
 mod folder;
 mod folder_names;
 mod found;
+mod name_pair;
 mod neighbours;
 mod new_folder;
 mod output;

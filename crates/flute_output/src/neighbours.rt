@@ -3,18 +3,13 @@ ghost use Rattle.std.specs.Prelude.{◌≡◌, IfOk, option_map};
 ghost use Rattle.flute_output.specs.Modes.{kept_mode, mode_of};
 
 use crate::file_id::FileId;
+use crate::name_pair::{NamePair, found_at, lock};
 use std::alloc::Global;
-use std::fs::{self, File, Metadata, OpenOptions, Permissions, TryLockError};
+use std::fs::{self, File, Metadata, OpenOptions, Permissions};
 use std::io::{self, ErrorKind};
 use std::os::unix::fs::{OpenOptionsExt, PermissionsExt};
 use std::path::PathBuf;
 use std::rt::Files;
-
-/// What is appended to OUT's name for the file beside it.
-const SUFFIX: &str = ".partial";
-
-/// The folder of a path that names none.
-const HERE: &str = ".";
 
 /// The most links that are followed, as the system does.
 const MAX_LINKS: u32 = 40;
@@ -29,10 +24,9 @@ pub const NEW_MODE: u32 = 0o666;
 pub const ACCESS: u32 = 0o777;
 
 /// The two names, and what is known of OUT.
-#[derive(Debug, Drop)]
+#[derive(Drop)]
 pub struct Neighbours {
-    out: PathBuf,
-    beside: String,
+    pub pair: NamePair,
     /// The permissions of OUT, if it was there.
     mode: Option<u32>,
     /// Which file OUT was before the inputs were opened, if it was there.
@@ -57,18 +51,12 @@ impl Neighbours {
             ≡ kept_mode (option_map (λ m. m.now) metadata.entry)) }
     {
         let out = without_links(rt, alloc, path)?;
-        let mut beside = String::from_str(alloc, out.as_str())?;
-        beside.push_str(SUFFIX)?;
+        let pair = NamePair::new(alloc, out)?;
         let mode = match metadata {
             Some(metadata) => Some(metadata.permissions().mode() & ACCESS),
             None => None,
         };
-        Ok(Neighbours {
-            out,
-            beside,
-            mode,
-            before,
-        })
+        Ok(Neighbours { pair, mode, before })
     }
 
     /// The permissions of the new file: those of OUT, if it was there, and else those of any new
@@ -77,36 +65,6 @@ impl Neighbours {
         ensures { result ≡ mode_of self.now.mode }
     {
         self.mode.unwrap_or(NEW_MODE)
-    }
-
-    /// Whether OUT was there.
-    pub fn has_out(&self) -> bool {
-        self.mode.is_some()
-    }
-
-    /// Whether the name OUT is that of the file with this metadata.
-    pub fn is_out<R: Files>(&self, rt: &R, found: &Metadata) -> bool {
-        match fs::symlink_metadata(rt, &self.out) {
-            Ok(named) => FileId::of(&named) == FileId::of(found),
-            Err(_) => false,
-        }
-    }
-
-    /// The folder of both names, open, or `None` if it may not be read.
-    ///
-    /// # Errors
-    ///
-    /// Those of the system.
-    pub fn folder<R: Files<File = File>>(&self, rt: &R) -> io::Result<Option<File>> {
-        let opened = match self.out.parent() {
-            Some(folder) if !folder.as_str().is_empty() => fs::open(rt, folder),
-            _ => fs::open(rt, HERE),
-        };
-        match opened {
-            Ok(folder) => Ok(Some(folder)),
-            Err(error) if error.kind() == ErrorKind::PermissionDenied => Ok(None),
-            Err(error) => Err(error),
-        }
     }
 
     /// Makes the file beside OUT, empty, locked, and with OUT's mode. What a killed run left
@@ -119,11 +77,12 @@ impl Neighbours {
     /// and `AlreadyExists` if it is one of `inputs`, or no regular file. Only what a killed run
     /// left may be gone then.
     pub fn create<R: Files<File = File>>(&self, rt: &R, inputs: &[FileId]) -> io::Result<File> {
-        if self.has_out() {
+        let was_there = self.mode.is_some();
+        if was_there {
             OpenOptions::new()
                 .read(true)
                 .write(true)
-                .open(rt, &self.out)?;
+                .open(rt, &self.pair.out)?;
         }
         for _ in 0..ATTEMPTS {
             match self.make(rt) {
@@ -142,15 +101,15 @@ impl Neighbours {
             .write(true)
             .create_new(true)
             .mode(self.new_mode())
-            .open(rt, &self.beside)?;
+            .open(rt, &self.pair.beside)?;
         lock(&file)?;
-        if !self.is_beside(rt, &file)? {
+        if !self.pair.is_beside(rt, &file)? {
             return Err(ErrorKind::AlreadyExists.into());
         }
         match self.finish_making(rt, &file) {
             Ok(()) => Ok(file),
             Err(error) => {
-                let _ = fs::remove_file(rt, &self.beside);
+                let _ = fs::remove_file(rt, &self.pair.beside);
                 Err(error)
             }
         }
@@ -160,7 +119,11 @@ impl Neighbours {
     // locked, no other run puts its own in OUT's place from now on; one that did so since the
     // inputs were opened may have joined to OUT what they lack.
     fn finish_making<R: Files>(&self, rt: &R, file: &File) -> io::Result<()> {
-        if !self.is_as_before(rt)? {
+        let now = match found_at(rt, self.pair.out.as_str())? {
+            Some(found) => Some(FileId::of(&found)),
+            None => None,
+        };
+        if now != self.before {
             return Err(ErrorKind::WouldBlock.into());
         }
         match self.mode {
@@ -169,54 +132,18 @@ impl Neighbours {
         }
     }
 
-    // Whether OUT is the file that it was before the inputs were opened, or still not there.
-    fn is_as_before<R: Files>(&self, rt: &R) -> io::Result<bool> {
-        match fs::symlink_metadata(rt, &self.out) {
-            Ok(found) => Ok(self.before == Some(FileId::of(&found))),
-            Err(error) if error.kind() == ErrorKind::NotFound => Ok(self.before.is_none()),
-            Err(error) => Err(error),
-        }
-    }
-
     // A file that is locked is that of a running program.
     fn remove_leftover<R: Files<File = File>>(&self, rt: &R, inputs: &[FileId]) -> io::Result<()> {
-        match fs::symlink_metadata(rt, &self.beside) {
-            Ok(found) if found.is_file() && !inputs.contains(&FileId::of(&found)) => {}
-            Ok(_) => return Err(ErrorKind::AlreadyExists.into()),
-            Err(error) if error.kind() == ErrorKind::NotFound => return Ok(()),
-            Err(error) => return Err(error),
+        match found_at(rt, &self.pair.beside)? {
+            Some(found) if found.is_file() && !inputs.contains(&FileId::of(&found)) => {}
+            Some(_) => return Err(ErrorKind::AlreadyExists.into()),
+            None => return Ok(()),
         }
-        let leftover = match fs::open(rt, &self.beside) {
-            Err(error) if error.kind() == ErrorKind::NotFound => return Ok(()),
-            opened => opened?,
-        };
-        lock(&leftover)?;
-        if self.is_beside(rt, &leftover)? {
-            fs::remove_file(rt, &self.beside)?;
+        let leftover = self.pair.lock_beside(rt)?;
+        if leftover.is_some() {
+            fs::remove_file(rt, &self.pair.beside)?;
         }
         Ok(())
-    }
-
-    // Whether the file has the name beside OUT, and no other run has put its own there.
-    fn is_beside<R: Files>(&self, rt: &R, file: &File) -> io::Result<bool> {
-        match fs::symlink_metadata(rt, &self.beside) {
-            Ok(found) => Ok(FileId::of(&found) == FileId::of(&file.metadata()?)),
-            Err(error) if error.kind() == ErrorKind::NotFound => Ok(false),
-            Err(error) => Err(error),
-        }
-    }
-
-    /// Renames the file beside OUT to OUT.
-    ///
-    /// # Errors
-    ///
-    /// Those of the system, and `NotFound` if the name beside OUT is no longer the file's.
-    /// Nothing was renamed.
-    pub fn put_in_place<R: Files>(&self, rt: &R, file: &File) -> io::Result<()> {
-        if !self.is_beside(rt, file)? {
-            return Err(ErrorKind::NotFound.into());
-        }
-        fs::rename(rt, &self.beside, &self.out)
     }
 
     /// Removes the file beside OUT.
@@ -226,28 +153,10 @@ impl Neighbours {
     /// Those of the system, and `NotFound` if the name beside OUT is no longer the file's.
     /// Nothing was removed.
     pub fn remove_beside<R: Files>(&self, rt: &R, file: &File) -> io::Result<()> {
-        if !self.is_beside(rt, file)? {
+        if !self.pair.is_beside(rt, file)? {
             return Err(ErrorKind::NotFound.into());
         }
-        fs::remove_file(rt, &self.beside)
-    }
-
-    /// Removes OUT.
-    ///
-    /// # Errors
-    ///
-    /// Those of the system.
-    pub fn remove_out<R: Files>(&self, rt: &R) -> io::Result<()> {
-        fs::remove_file(rt, &self.out)
-    }
-}
-
-// Locks the file, or returns `WouldBlock` if another program has it locked. A file system without
-// locks is used without them.
-fn lock(file: &File) -> io::Result<()> {
-    match file.try_lock() {
-        Err(TryLockError::WouldBlock) => Err(ErrorKind::WouldBlock.into()),
-        Ok(()) | Err(TryLockError::Error(_)) => Ok(()),
+        fs::remove_file(rt, &self.pair.beside)
     }
 }
 
@@ -265,16 +174,14 @@ fn without_links<R: Files>(rt: &R, alloc: Global, path: &str) -> io::Result<Path
 
 // What the path leads to, if it is a symbolic link.
 fn linked<R: Files>(rt: &R, alloc: Global, path: &PathBuf) -> io::Result<Option<PathBuf>> {
-    match fs::symlink_metadata(rt, path) {
-        Ok(found) if found.is_symlink() => {
+    match found_at(rt, path.as_str())? {
+        Some(found) if found.is_symlink() => {
             let link = rt.read_link(alloc, path.as_str())?;
             match path.parent() {
                 Some(folder) => Ok(Some(folder.join(alloc, &link)?)),
                 None => Ok(Some(link)),
             }
         }
-        Ok(_) => Ok(None),
-        Err(error) if error.kind() == ErrorKind::NotFound => Ok(None),
-        Err(error) => Err(error),
+        _ => Ok(None),
     }
 }

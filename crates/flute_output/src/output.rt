@@ -15,7 +15,7 @@ use std::marker::Model;
 /// finished: OUT is then the file of all these bytes, or what it was.
 ///
 /// Contracts see it as its folder, which has the file beside OUT.
-#[derive(Debug, Drop)]
+#[derive(Drop)]
 pub struct Output<F: Folder + Drop> {
     folder: F,
 }

@@ -14,12 +14,21 @@ use std::rt::Files;
 const STANDARD: &str = "-";
 
 /// Why an output cannot be made.
-#[derive(Clone, Copy, Debug, PartialEq, Eq)]
+#[derive(Debug, Drop)]
 pub enum OpenFault {
     /// The path is a folder, or the system refused what was asked of it.
     CannotCreate,
     /// There was no memory.
     OutOfMemory,
+}
+
+impl From<io::Error> for OpenFault {
+    fn from(error: io::Error) -> OpenFault {
+        match error.kind() {
+            ErrorKind::OutOfMemory => OpenFault::OutOfMemory,
+            _ => OpenFault::CannotCreate,
+        }
+    }
 }
 
 /// What the path of an output leads to.
@@ -58,27 +67,11 @@ pub fn place_at<'a, R: Files<File = File>>(
     before: Option<FileId>,
     inputs: Vec<FileId>,
 ) -> Result<Place<DiskFolder<'a, R>, DeviceFile<'a, R>>, OpenFault> {
-    match led_to(rt, alloc, path, before, inputs) {
-        Ok(place) => Ok(place),
-        Err(error) => Err(match error.kind() {
-            ErrorKind::OutOfMemory => OpenFault::OutOfMemory,
-            _ => OpenFault::CannotCreate,
-        }),
-    }
-}
-
-fn led_to<'a, R: Files<File = File>>(
-    rt: &'a R,
-    alloc: Global,
-    path: &str,
-    before: Option<FileId>,
-    inputs: Vec<FileId>,
-) -> io::Result<Place<DiskFolder<'a, R>, DeviceFile<'a, R>>> {
     if path == STANDARD {
         return Ok(Place::StandardOutput);
     }
     if path.is_empty() {
-        return Err(ErrorKind::NotFound.into());
+        return Err(OpenFault::CannotCreate);
     }
     let found = match fs::metadata(rt, path) {
         Err(error) if error.kind() == ErrorKind::NotFound => None,
@@ -86,7 +79,7 @@ fn led_to<'a, R: Files<File = File>>(
     };
     if let Some(found) = &found {
         if found.is_dir() {
-            return Err(ErrorKind::IsADirectory.into());
+            return Err(OpenFault::CannotCreate);
         }
         if is_standard_output(rt, found) {
             return Ok(Place::StandardOutput);
@@ -111,10 +104,9 @@ fn beside<R: Files>(
         Some(found) if !found.is_file() => Ok(None),
         Some(found) => {
             let names = Neighbours::new(rt, alloc, path, Some(found), before)?;
-            if names.is_out(rt, found) {
-                Ok(Some(names))
-            } else {
-                Ok(None)
+            match fs::symlink_metadata(rt, &names.pair.out) {
+                Ok(named) if FileId::of(&named) == FileId::of(found) => Ok(Some(names)),
+                _ => Ok(None),
             }
         }
         None => Ok(Some(Neighbours::new(rt, alloc, path, None, before)?)),

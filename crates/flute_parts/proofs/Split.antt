@@ -20,7 +20,7 @@ use Rattle.flute_parts.specs.Information.{IsValid}
 use Rattle.flute_parts.specs.Partition.{symbol_id, ids, place}
 use Rattle.flute_parts.specs.Split.{total, IsSplit}
 use Rattle.flute_parts.proofs.Division.{div_ceil-pos, div_ceil-le, div_ceil-zero}
-use Rattle.flute_parts.proofs.Listing.{listing, split, place-hit, place-miss, listing-at}
+use Rattle.flute_parts.proofs.Listing.{listing, place-hit, place-miss, listing-at}
 use Rattle.flute_parts.proofs.Listing.{length-listing, length-split, size-large, size-small}
 use Rattle.flute_parts.proofs.Listing.{before-large, before-small, total-split, listed-of_place}
 use Rattle.flute_parts.proofs.Listing.{place-of_listed, ids-rise, next-in_block}
@@ -88,6 +88,11 @@ IsSplit-of i n e l h =
       not_empty = λ p. quotient_pos q r n t parts r_lt n_le;
     }
 
+inside : (xs : List ℕ) (n : ℕ) → 0 < get_or xs n 0 → n < length xs
+inside [] n p = absurd (omega arith)
+inside (x ∷ xs) zero p = omega arith
+inside (x ∷ xs) (suc n) p = omega (arith, inside xs n p)
+
 -- what follows from the numbers of a partition
 
 module _ (i : Information) (symbols large small length' : ℕ)
@@ -127,6 +132,21 @@ module _ (i : Information) (symbols large small length' : ℕ)
   before-second n h l =
       ap (λ xs. total (take n xs)) s.split
       ∙ before-small large (length' + 1) small length' (n - large) n (omega arith) (omega arith)
+
+  -- the symbols before a block that is there
+  pub before-block : (n j : ℕ) → j < get_or (sizes i) n 0
+      → total (take n (sizes i)) ≡ n * length' + min n large
+  before-block n j h =
+      let count = count-sizes in
+      let l = inside (sizes i) n (omega arith) in
+      elim (eq-zero-or-pos (n - large)) [
+        | inl z ↦ let b = before-first n (omega arith) in omega arith
+        | inr p ↦
+            let b = before-second n (omega arith) (omega arith) in
+            let m : (large + (n - large)) * length' ≡ n * length' =
+            ap (λ x. x * length') (omega arith) in
+            omega arith
+      ]
 
   -- an id at its place
   pub at-first : (n j k : ℕ) → n < large → j < length' + 1 → n * (length' + 1) + j ≡ k
@@ -184,22 +204,6 @@ module _ (i : Information) (symbols large small length' : ℕ)
   pub past-last : (k : ℕ) → symbols ≤ k → slice_get (ids i) k ≡ None
   past-last k h = slice_get_past (ids i) k (let e = count-ids in omega arith)
 
-  pub first-bound : (n : ℕ) → n < 65536 → n * (length' + 1) < 2 ^ 33
-  first-bound n h = let p =
-      mul-le n (length' + 1) 65536 65537 (omega arith) (let l = s.longest in omega arith) in
-      omega arith
-
-  pub second-bound : (n : ℕ) → large ≤ n → n < 65536
-      → large * (length' + 1) + (n - large) * length' < 2 ^ 33
-  second-bound n h l =
-      let e : large * (length' + 1) + (n - large) * length'
-      ≤ (large + (n - large)) * (length' + 1) = omega arith in
-      let m : large + (n - large) ≡ n = omega arith in
-      let p = first-bound n l in
-      let w : (large + (n - large)) * (length' + 1) ≡ n * (length' + 1) =
-      ap (λ x. x * (length' + 1)) m in
-      omega arith
-
 -- a symbol of a block is after the blocks before its own, and any other has no place
 
 pub place-in : (i : Information) (id : SymbolId) (k : ℕ) → id.esi < get_or (sizes i) id.sbn 0
@@ -209,11 +213,6 @@ place-in i id k h e =
     place-hit (sizes i) 0 id.sbn id.esi 0 (inside (sizes i) id.sbn (omega arith)) h
     (omega arith)
     ∙ ap Some (omega arith)
-  where
-    inside : (xs : List ℕ) (n : ℕ) → 0 < get_or xs n 0 → n < length xs
-    inside [] n p = absurd (omega arith)
-    inside (x ∷ xs) zero p = omega arith
-    inside (x ∷ xs) (suc n) p = omega (arith, inside xs n p)
 
 pub place-out : (i : Information) (id : SymbolId) → get_or (sizes i) id.sbn 0 ≤ id.esi
     → place i id ≡ None

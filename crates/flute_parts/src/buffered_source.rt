@@ -8,7 +8,7 @@ use crate::std_source::StdSource;
 use std::io::{BufRead, BufReader, Read};
 
 /// A source over a buffered reader, as [`StdSource`] is, that lends what its buffer holds.
-#[derive(Debug, Drop)]
+#[derive(Drop)]
 pub struct BufferedSource<R: Read> {
     source: StdSource<BufReader<R>>,
 }

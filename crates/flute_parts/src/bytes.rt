@@ -25,7 +25,7 @@ impl Model for Bytes {
 }
 
 /// Why bytes are no symbol. Their number is looked at first.
-#[derive(Clone, Copy, Debug, PartialEq, Eq, Error)]
+#[derive(Clone, Copy, Debug, Error)]
 pub enum BytesFault {
     /// There is no byte.
     #[error("Empty")]

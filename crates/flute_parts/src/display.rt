@@ -75,17 +75,12 @@ impl fmt::Display for FactRef<'_> {
             FactRef::InfoConflict { key } => write!(f, "{key} info conflict"),
             FactRef::Symbol { key, id, bytes } => {
                 write!(f, "{key} {id} length {} ", bytes.len())?;
-                write_hex(f, bytes)
+                for byte in *bytes {
+                    write!(f, "{byte:02x}")?;
+                }
+                Ok(())
             }
             FactRef::SymbolConflict { key, id } => write!(f, "{key} {id} conflict"),
         }
     }
-}
-
-// The bytes, each by two hexadecimal digits.
-fn write_hex<W: fmt::Write>(f: &mut fmt::Formatter<W>, bytes: &[u8]) -> fmt::Result {
-    for byte in bytes {
-        write!(f, "{byte:02x}")?;
-    }
-    Ok(())
 }

@@ -24,47 +24,37 @@ use crate::object_key::ObjectKey;
 use crate::session_key::SessionKey;
 use crate::symbol_id::SymbolId;
 
-/// Lists with the same facts have the same value at each address, in whatever order these come and
-/// however often.
-pub fn members_decide()
-    ensures members { MembersDecide }
-    ensures order { OrderIsFree }
-    ensures repeats { RepeatsAreFree }
-{}
-
-/// Lists with the same value at each address can replace one another in longer lists.
-pub fn same_is_kept()
-    ensures { AppendKeepsSame }
-{}
-
-/// A list that contains nothing more than another is below it, and this is an order.
-pub fn below_is_an_order()
-    ensures reflexive { BelowIsReflexive }
-    ensures transitive { BelowIsTransitive }
-    ensures both_ways { BelowBothWays }
-    ensures append { AppendKeepsBelow }
-{}
-
-/// If a list is over limits, each list above it is over them too.
-pub fn over_is_monotone()
-    ensures { OverIsMonotone }
-{}
-
-/// The value of a list of facts at an address.
+/// The value of a list of facts at an address. A list at rising addresses has one fact at each, and
+/// is the only such list with the same values.
 pub fn facts_agree_or_conflict()
     ensures absent { AbsentWhereNoneStands }
     ensures value { ValueWhereAllAgree }
     ensures conflict { ConflictWhereTwoDiffer }
     ensures told_conflict { ConflictWhereOneIsTold }
     ensures address { AnswersStandThere }
-{}
 
-/// A list of facts at rising addresses has one fact at each, and is the only such list
-/// with the same values.
-pub fn rising_lists_agree()
+    // Of a list at rising addresses:
     ensures one { RisingHasOneFact }
     ensures tells { RisingTellsItsFacts }
     ensures unique { RisingIsUnique }
+{}
+
+/// Lists with the same facts have the same value at each address, in whatever order these come and
+/// however often, and lists with the same values can replace one another in longer lists. A list
+/// that contains nothing more than another is below it, and this is an order. If a list is over
+/// limits, each list above it is over them too.
+pub fn lists_are_compared()
+    ensures members { MembersDecide }
+    ensures order { OrderIsFree }
+    ensures repeats { RepeatsAreFree }
+    ensures append_same { AppendKeepsSame }
+
+    // Of lists below each other:
+    ensures reflexive { BelowIsReflexive }
+    ensures transitive { BelowIsTransitive }
+    ensures both_ways { BelowBothWays }
+    ensures append { AppendKeepsBelow }
+    ensures over { OverIsMonotone }
 {}
 
 /// Names and addresses compare in the order of their definitions.
@@ -76,20 +66,14 @@ pub fn names_are_ordered()
     ensures addresses { (a b : Address) → ⟦<Address as Ord>⟧.cmp a b ≡ address_cmp a b }
 {}
 
-/// The symbols of a partition are in rising order, each at its place.
-pub fn symbols_are_in_order()
+/// The symbols that transmission information asks for are in rising order, each at its place. A
+/// symbol fits with the full length, and the last one also without its padding. Transmission
+/// information is valid exactly if it has no fault.
+pub fn symbols_are_listed()
     ensures places { PlacesAreInverse }
     ensures rise { IdsRise }
     ensures follow { IdsFollow }
     ensures count { IdsAreCounted }
-{}
-
-/// A symbol fits with the full length, and the last one also without its padding.
-pub fn symbols_fit()
-    ensures { FitsMeans }
-{}
-
-/// Transmission information is valid exactly if it has no fault.
-pub fn valid_has_no_fault()
-    ensures { ValidHasNoFault }
+    ensures fit { FitsMeans }
+    ensures valid { ValidHasNoFault }
 {}

@@ -6,7 +6,7 @@ use crate::failures::Failures;
 use std::alloc::Global;
 
 /// A sink that keeps its bytes in memory. It fails only if it finds no memory for more.
-#[derive(Debug, Drop)]
+#[derive(Drop)]
 pub struct MemorySink {
     bytes: Vec<u8>,
     failures: Failures,

@@ -6,7 +6,7 @@ use crate::source::Source;
 
 /// A source that gives the bytes of a slice, as many at a time as it is asked for. It never fails,
 /// and takes no memory.
-#[derive(Debug, Drop)]
+#[derive(Drop)]
 pub struct MemorySource<'a> {
     unread: &'a [u8],
 }

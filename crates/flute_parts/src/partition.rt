@@ -1,8 +1,7 @@
 //! The block partition of an object (RFC 5052, section 9.1).
-ghost use Rattle.std.specs.Prelude.{◌≡◌, ◌<◌, ◌≤◌, ◌^◌, length, slice_get, slice_index, take};
+ghost use Rattle.std.specs.Prelude.{◌≡◌, ◌≤◌, ◌^◌, length, slice_get, slice_index};
 ghost use Rattle.flute_parts.specs.Information.{sizes};
 ghost use Rattle.flute_parts.specs.Partition.{ids, place, fits};
-ghost use Rattle.flute_parts.specs.Split.{total};
 
 use crate::info::Info;
 use crate::symbol_id::SymbolId;
@@ -100,23 +99,11 @@ impl Partition {
         if u32::from(id.esi) >= self.block_len(id.sbn) {
             return None;
         }
-        Some(self.symbols_before(id.sbn) + u64::from(id.esi))
-    }
-
-    // The number of symbols in the blocks before this one.
-    fn symbols_before(&self, sbn: u16) -> u64
-        requires { sbn < length (sizes self.now) }
-        ensures value { result ≡ total (take sbn (sizes self.now)) }
-        ensures bound { result < 2 ^ 33 }
-    {
-        let block = u64::from(sbn);
-        let large_blocks = u64::from(self.large_blocks);
+        let block = u64::from(id.sbn);
         let small_length = u64::from(self.small_length);
-        if block <= large_blocks {
-            block * (small_length + 1)
-        } else {
-            large_blocks * (small_length + 1) + (block - large_blocks) * small_length
-        }
+        // Each larger block has one symbol more than the smaller ones.
+        let larger = block.min(u64::from(self.large_blocks));
+        Some(block * small_length + larger + u64::from(id.esi))
     }
 
     /// The symbol at a place. None from the number of symbols on.

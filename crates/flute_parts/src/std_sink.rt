@@ -14,7 +14,7 @@ const REPEATS: u32 = 64;
 ///
 /// An interrupted call is repeated at most 64 times, and then it is a failure. No clause has that
 /// bound. A writer that takes none of some bytes has failed.
-#[derive(Debug, Drop)]
+#[derive(Drop)]
 pub struct StdSink<W> {
     writer: W,
     failures: Failures,

@@ -15,7 +15,7 @@ const REPEATS: u32 = 64;
 ///
 /// An interrupted call is repeated at most 64 times, and then it is a failure. No clause has that
 /// bound.
-#[derive(Debug, Drop)]
+#[derive(Drop)]
 pub struct StdSource<R> {
     pub(crate) reader: R,
     pub(crate) failures: Failures,

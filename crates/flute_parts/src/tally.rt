@@ -11,7 +11,7 @@ use crate::key::Key;
 ///
 /// As the addresses rise, a session, an object or a symbol that differs from the last was not named
 /// before. So a tally has the same size however many addresses it has counted.
-#[derive(Clone, Copy, Debug)]
+#[derive(Clone, Copy)]
 pub struct Tally<const SESSIONS: u32, const OBJECTS: u32, const SYMBOLS: u32> {
     last: Option<Key>,
     sessions: u32,
@@ -54,7 +54,13 @@ impl<const SESSIONS: u32, const OBJECTS: u32, const SYMBOLS: u32> Tally<
             → Counts SESSIONS OBJECTS SYMBOLS F self.old
             → result ≡ false → Over (F ++ f ∷ []) SESSIONS OBJECTS SYMBOLS }
     {
-        self.count_key(&next.key) && self.count_part(&next.part)
+        if !self.count_key(&next.key) {
+            return false;
+        }
+        match next.part {
+            Part::Info => true,
+            Part::Symbol(_) => add_one(&mut self.symbols, SYMBOLS),
+        }
     }
 
     // Counts the session and the object of the next address, each if it is new.
@@ -83,36 +89,6 @@ impl<const SESSIONS: u32, const OBJECTS: u32, const SYMBOLS: u32> Tally<
                 add_one(&mut self.sessions, SESSIONS) && add_one(&mut self.objects, OBJECTS)
             }
         }
-    }
-
-    // Counts its symbol, if it has one.
-    fn count_part(&mut self, part: &Part) -> bool
-        ensures within { (F : List Fact) (f : Fact) → (address f).part ≡ part.now
-            → IsRising (F ++ f ∷ [])
-            → CountsKey SESSIONS OBJECTS SYMBOLS F f self.old
-            → result ≡ true → Counts SESSIONS OBJECTS SYMBOLS (F ++ f ∷ []) self.new }
-        ensures over { (F : List Fact) (f : Fact) → (address f).part ≡ part.now
-            → IsRising (F ++ f ∷ [])
-            → CountsKey SESSIONS OBJECTS SYMBOLS F f self.old
-            → result ≡ false → Over (F ++ f ∷ []) SESSIONS OBJECTS SYMBOLS }
-    {
-        match part {
-            Part::Info => true,
-            Part::Symbol(_) => add_one(&mut self.symbols, SYMBOLS),
-        }
-    }
-}
-
-/// The tally of no address.
-impl<const SESSIONS: u32, const OBJECTS: u32, const SYMBOLS: u32> Default
-    for Tally<SESSIONS, OBJECTS, SYMBOLS> {
-    ghost use Rattle.std.specs.Prelude.{[]};
-    ghost use Rattle.flute_parts.specs.Tally.{Counts};
-
-    ghost is_default = { Counts SESSIONS OBJECTS SYMBOLS [] };
-
-    fn default() -> Self {
-        Tally::new()
     }
 }
 

@@ -4,8 +4,9 @@ use Rattle.std.proofs.Common.{Option, Some, None, refl, sym, ap, ◌∙◌, subs
 use Rattle.flute_store.proofs.Lookups.{Above, above-before, blocks_from-all, blocks_from-next}
 use Rattle.flute_store.proofs.Lookups.{blocks_from-end, Entry, value-past, value-here}
 use Rattle.std.{specs.Io.KnownBytes.{Appends}, proofs.KnownBytes.{Appends-trans}}
+use Rattle.std.{specs.Prelude.{MatchOption}, specs.Borrow.{Bor}}
 use Rattle.flute_join.proofs.Public.{not_cons_nil}
-use Rattle.flute_parts.specs.Devices.{AppendsPart}
+use Rattle.flute_parts.specs.{Devices.{AppendsPart}, SymbolBytes.{HasSymbolSize}}
 use Rattle.flute_parts.proofs.Public.{AppendsPart-first, AppendsPart-second}
 use Rattle.flute_store.proofs.Runs.{runs-listed}
 use Rattle.flute_store.proofs.ToldObjects.{ToldGaps, wants-told, told-information}
@@ -13,13 +14,15 @@ use Rattle.flute_store.proofs.{WholeObjects.{gapless-whole}, ObjectLength.{objec
 use Rattle.flute_store.proofs.Upcoming.{here, AtHere, AtPassed, Tells, told, others_left}
 use Rattle.flute_store.proofs.Upcoming.{symbols-first, symbols-end, others-above, inside-less}
 use Rattle.flute_store.proofs.Upcoming.{block-left, taken, taken-left}
+use Rattle.flute_join.specs.declared.cell.Cell.TheVariants.{Conflict}
+use Rattle.flute_store.specs.{BytesLeft.{GivesBytes}, Wanted.{want_cell}}
 use Rattle.flute_store.proofs.Common
 use Common.{flat_map, value_at, Cell, One, Information, IsValid, symbol_id_cmp, ids, symbol_id, Key}
 use Common.{SymbolId, Fact, Reason, Gap, Object, End, BlockEnd, Passed, Fitting, Wanted, HeldScan}
 use Common.{Turn, Whole, object, value_bytes, runs, gaps, listed, symbol_fact, IsTold, wanted}
 use Common.{blocks_from, Walk, at_start, left, pending, all_left, gaps_left, IsWalk, after_pass}
 use Common.{after_take, after_begin, upcoming_of, Keeps, walk_in, bound, IsHeldScan, Turns}
-use Common.{cell_bytes, found_bytes, held_bytes, bytes_left, KeepsBytes, GivesFirst, IsNotWhole}
+use Common.{cell_bytes, found_bytes, held_bytes, bytes_left, KeepsBytes, IsNotWhole}
 use Common.{WritesWhole, WritesPart, info_address, Info, fact_at}
 
 -- this turn gives no bytes
@@ -133,10 +136,20 @@ keeps-on u v w k l =
       onward = omega arith;
     }
 
--- a fitting symbol is given
-pub gives-first : (u v w : HeldScan) (e : Entry) (es : List Entry) → KeepsBytes u v
-    → v.held ≡ e ∷ es → Turns v (Some Turn.Fitting) w → GivesFirst u (cell_bytes e.1) w
-gives-first u v w e es k h s =
+-- a fitting symbol has one value, which is given
+pub gives-first : (u v w : HeldScan) (e : Entry) (es : List Entry) (value : Option (Bor (List ℕ)))
+    → KeepsBytes u v → v.held ≡ e ∷ es → Turns v (Some Turn.Fitting) w
+    → MatchOption value (e.1 ≡ Conflict) (λ bytes. (e.1 ≡ One bytes.now) × HasSymbolSize bytes.now)
+    → GivesBytes u value w
+gives-first u v w e es None k h s m =
+    let t = told (walk_in v) Fitting s.turns.1 in
+    let f : t.first ≡ e = let held = sym t.held ∙ h in cc in
+    let at = here (walk_in v) in
+    let why = ap (λ (x : Entry). want_cell v.walk.partition at (Some x.1)) f
+    ∙ ap (λ c. want_cell v.walk.partition at (Some c)) m in
+    let none = sym why ∙ t.why_is in
+    absurd cc
+gives-first u v w e es (Some bytes) k h s m =
     let t = told (walk_in v) Fitting s.turns.1 in
     let f : t.first ≡ e = let held = sym t.held ∙ h in cc in
     record {
@@ -144,7 +157,8 @@ gives-first u v w e es k h s =
       whole = s.turns.0.left_is ∙ k.whole;
       first =
           sym k.bytes ∙ take-bytes (walk_in v) k.walk.walk t
-          ∙ (λ i. cell_bytes (f i).1 ++ bytes_left (sym s.turns.2 i));
+          ∙ (λ i. cell_bytes (f i).1 ++ bytes_left (sym s.turns.2 i))
+          ∙ ap (λ c. cell_bytes c ++ bytes_left (walk_in w)) m.0;
       bound_is = s.bound_is ∙ k.bound_is;
       ticked = omega arith;
     }
@@ -260,32 +274,34 @@ module _ {n : ℕ} {F : List Fact} {key : Key} {x : Object n} {info : Informatio
   pub whole-object : gs ≡ [] → Whole F key info
   whole-object f = gapless-whole F key info information (are_gaps ∙ f)
 
-  -- the bytes of the symbols are those of the object
-  told-bytes : (again : List Entry) → again ≡ x.symbols
-      → take info.transfer_length (held_bytes again (ids info)) ≡ object F key info
-  told-bytes again a =
-      ap (λ (s : List Entry). take info.transfer_length (held_bytes s (ids info))) a
+  -- the bytes that a walk from the start gives are those of the object
+  told-bytes : {walk : Walk} {length : ℕ} (again : List Entry) → again ≡ x.symbols
+      → walk ≡ at_start info again → length ≡ info.transfer_length
+      → take length (bytes_left walk) ≡ object F key info
+  told-bytes {walk} {length} again a start l =
+      ap (λ n. take n (bytes_left walk)) l
+      ∙ ap (take info.transfer_length) (ap bytes_left start ∙ bytes-start info again)
+      ∙ ap (λ (s : List Entry). take info.transfer_length (held_bytes s (ids info))) a
       ∙ sym (object-told F key x info t.told)
 
-  -- what write_object writes: the whole object, or a prefix of it
-  module _ {W : Type 0} {written : W → Option (List ℕ)} {old new : W} (again : List Entry)
-      (f : gs ≡ []) (a : again ≡ x.symbols) where
-    pub writes-whole : {length : ℕ}
-        → Appends (written old) (written new)
-        (take info.transfer_length (held_bytes again (ids info))) → length ≡ info.transfer_length
+  -- what is written by it: the whole object, or a prefix of it
+  module _ {W : Type 0} {written : W → Option (List ℕ)} {old new : W} {walk : Walk} {length : ℕ}
+      (again : List Entry) (f : gs ≡ []) (a : again ≡ x.symbols)
+      (start : walk ≡ at_start info again) (l : length ≡ info.transfer_length) where
+    pub writes-whole : Appends (written old) (written new) (take length (bytes_left walk))
         → IsValid info → WritesWhole written F key old new length
-    writes-whole w l v = record {
+    writes-whole w v = record {
       info = info;
       whole = whole-object f;
-      bytes = subst (Appends (written old) (written new)) (told-bytes again a) w;
+      bytes = subst (Appends (written old) (written new)) (told-bytes again a start l) w;
       length_is = l;
       exact = object-length F key info v (whole-object f) ∙ sym l;
     }
 
-    pub writes-part : AppendsPart (written old) (written new)
-        (take info.transfer_length (held_bytes again (ids info))) → WritesPart written F key old new
+    pub writes-part : AppendsPart (written old) (written new) (take length (bytes_left walk))
+        → WritesPart written F key old new
     writes-part w = record {
       info = info;
       whole = whole-object f;
-      bytes = subst (AppendsPart (written old) (written new)) (told-bytes again a) w;
+      bytes = subst (AppendsPart (written old) (written new)) (told-bytes again a start l) w;
     }

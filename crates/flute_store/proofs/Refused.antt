@@ -11,11 +11,6 @@ IsFull r = r ≡ Err Full
 abbrev IsFault : {T : Type 0} → TakeFault → Result T TakeFault → Type 0
 IsFault f r = r ≡ Err f
 
-pub still_full : {S T : Type 0} (why : JoinRefusal) (P : Type 0) → IsFull {T = S} (Err why) ↔ P
-    → IsFull {T = T} (Err why) ↔ P
-still_full Full P h = (λ e. h.0 refl, λ p. refl)
-still_full OutOfMemory P h = ((λ e. cc), (λ p. let e = h.1 p in cc))
-
 pub full_fault : {S T : Type 0} (why : JoinRefusal) (P : Type 0) → IsFull {T = S} (Err why) ↔ P
     → IsFault {T = T} fault.Full (Err (fault_of why)) ↔ P
 full_fault Full P h = (λ e. h.0 refl, λ p. refl)

@@ -1,25 +1,17 @@
 //! `Store::extract`: whole objects, written symbol after symbol.
-ghost use Rattle.std.specs.Prelude.{◌≡◌, ◌+◌, ◌<◌, ◌^◌, [], length, take};
-ghost use Rattle.std.specs.Prelude.{MatchOption, if◌then◌else◌, is_ok};
-ghost use Rattle.flute_join.specs.Cell.{IsKnown};
-ghost use Rattle.flute_join.specs.JoinMap.{IsOrdered, EachValue};
-ghost use Rattle.flute_parts.specs.Order.{symbol_id_cmp};
-ghost use Rattle.flute_parts.specs.Partition.{ids};
+ghost use Rattle.std.specs.Prelude.{◌≡◌, ◌+◌, [], take, if◌then◌else◌, is_ok};
 ghost use Rattle.flute_parts.specs.Devices.{Writes};
-ghost use Rattle.flute_store.specs.Wanted.{wanted};
 ghost use Rattle.flute_store.specs.PartitionScan.{all_left};
 ghost use Rattle.flute_store.specs.HeldScan.{walk_in, IsHeldScan};
-ghost use Rattle.flute_store.specs.BytesLeft.{cell_bytes, held_bytes, bytes_left, GivesBytes};
+ghost use Rattle.flute_store.specs.BytesLeft.{bytes_left, GivesBytes};
 ghost use Rattle.flute_store.specs.Extract.{Extracts, failed};
 
 use crate::gaps::Gaps;
 use crate::held_scan::HeldScan;
-use crate::held_symbol::HeldSymbol;
 use crate::store::Store;
 use crate::turn::Turn;
 use flute_join::Cell;
-use flute_parts::{DeviceFault, Info, Key, Sink, SymbolId};
-use std::collections::btree_map;
+use flute_parts::{DeviceFault, Key, Sink, SymbolId};
 use thiserror::Error;
 
 /// Why an object is not written. The first that applies is returned.
@@ -45,27 +37,6 @@ pub enum ExtractFault {
     Write,
 }
 
-// The one value of a symbol, or no bytes.
-fn bytes_in<'a>(held: &'a HeldSymbol) -> &'a [u8]
-    ensures { result.now ≡ cell_bytes held.now }
-{
-    match held.value() {
-        Some(bytes) => bytes,
-        None => &[],
-    }
-}
-
-// The first `len` of the bytes, or all of them if there are no more.
-fn up_to(bytes: &[u8], len: u64) -> &[u8]
-    ensures { result.now ≡ take len bytes.now }
-{
-    if len < bytes.len() as u64 {
-        &bytes[..len as usize]
-    } else {
-        bytes
-    }
-}
-
 impl<'a> HeldScan<'a> {
     // The bytes of the next symbol, which is passed. No symbol that is left is wanted.
     fn next_bytes(&mut self) -> Option<&'a [u8]>
@@ -80,7 +51,7 @@ impl<'a> HeldScan<'a> {
                     let Some((_, held)) = first else {
                         return None;
                     };
-                    return Some(bytes_in(held));
+                    return held.value();
                 }
                 Some(Turn::Passed) => {}
                 None => {}
@@ -103,30 +74,12 @@ impl<'a> HeldScan<'a> {
     {
         let mut rest = len;
         while let Some(bytes) = self.next_bytes() {
-            let bytes = up_to(bytes, rest);
+            let bytes = &bytes[..rest.min(bytes.len() as u64) as usize];
             sink.write_all(bytes)?;
             rest -= bytes.len() as u64;
         }
         Ok(())
     }
-}
-
-// Writes the object of this transmission information and these symbols, of which none is wanted.
-fn write_object<W: Sink>(
-    info: &Info,
-    symbols: btree_map::Iter<'_, SymbolId, HeldSymbol>,
-    sink: &mut W,
-) -> Result<(), DeviceFault>
-    requires ordered { IsOrdered symbol_id_cmp symbols }
-    requires known { EachValue IsKnown symbols }
-    requires few { length symbols < 2 ^ 32 }
-    requires whole { wanted info.now symbols (ids info.now) ≡ [] }
-    ensures bytes { Writes (W.written sink.old) (W.written sink.new)
-        (take info.now.transfer_length (held_bytes symbols.entry (ids info.now))) result }
-    ensures failures { W.failures sink.new ≡ W.failures sink.old + (if is_ok result then 0 else 1) }
-{
-    let mut walk = HeldScan::new(info, symbols);
-    walk.write(sink, info.length())
 }
 
 impl<const SESSIONS: u32, const OBJECTS: u32, const SYMBOLS: u32> Store<
@@ -165,8 +118,10 @@ impl<const SESSIONS: u32, const OBJECTS: u32, const SYMBOLS: u32> Store<
                 },
             });
         }
-        match write_object(info, object.symbols.iter(), sink) {
-            Ok(()) => Ok(info.length()),
+        let length = info.length();
+        let mut walk = HeldScan::new(info, object.symbols.iter());
+        match walk.write(sink, length) {
+            Ok(()) => Ok(length),
             Err(_) => Err(ExtractFault::Write),
         }
     }

@@ -24,7 +24,7 @@ use std::marker::Model;
 use thiserror::Error;
 
 /// Why the gaps of an object are not returned. The first reason that applies is.
-#[derive(Clone, Copy, Debug, PartialEq, Eq, Error)]
+#[derive(Clone, Copy, Debug, Error)]
 pub enum GapFault {
     /// Nothing of the object is held.
     #[error("no object")]
@@ -41,7 +41,7 @@ pub enum GapFault {
 ///
 /// It walks the held symbols and the blocks side by side: however long the object is, all its gaps
 /// take no more ticks than there are blocks and held symbols, and one. It takes no memory.
-#[derive(Debug, Drop)]
+#[derive(Drop)]
 pub struct Gaps<'a> {
     walk: HeldScan<'a>,
 }

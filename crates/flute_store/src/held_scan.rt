@@ -6,9 +6,8 @@ ghost use Rattle.flute_join.specs.JoinMap.{IsOrdered, EachValue};
 ghost use Rattle.flute_parts.specs.Order.{symbol_id_cmp};
 ghost use Rattle.flute_parts.specs.Partition.{ids};
 ghost use Rattle.flute_store.specs.PartitionScan.{at_start, gaps_left, ShowsNext, PassesGap};
-ghost use Rattle.flute_store.specs.PartitionScan.{length_of};
 ghost use Rattle.flute_store.specs.HeldScan.{walk_in, bound, IsHeldScan, Turns, IsAheadOf};
-ghost use Rattle.flute_store.specs.HeldScan.{HasEnded, with_end, counted};
+ghost use Rattle.flute_store.specs.HeldScan.{HasEnded, counted};
 
 use crate::gap::Gap;
 use crate::held_symbol::HeldSymbol;
@@ -19,7 +18,7 @@ use flute_parts::{Info, SymbolId};
 use std::collections::btree_map;
 
 /// A walk over the blocks and all held symbols of an object, whose steps are counted.
-#[derive(Debug, Drop)]
+#[derive(Drop)]
 pub struct HeldScan<'a> {
     pub walk: PartitionScan,
     /// The held symbols that are not passed.
@@ -49,14 +48,15 @@ impl<'a> HeldScan<'a> {
         }
     }
 
-    // The next held symbol.
+    // The next held symbol, and how long its one value is.
     fn next_held(&self) -> Option<Held>
         requires { EachValue IsKnown self.now.held }
         ensures { ShowsNext self.now.held result }
     {
-        match self.held.first() {
-            Some((id, held)) => Some((id, length_of(held))),
-            None => None,
+        let (id, held) = self.held.first()?;
+        match held.value() {
+            Some(bytes) => Some((id, Some(bytes.len()))),
+            None => Some((id, None)),
         }
     }
 
@@ -78,23 +78,16 @@ impl<'a> HeldScan<'a> {
     {
         match turn {
             Some(Turn::Gap(_)) => {}
-            Some(Turn::End) => self.end(),
+            Some(Turn::End) if self.ended => {}
+            Some(Turn::End) => {
+                self.ended = true;
+                self.ticks += 1;
+            }
             Some(Turn::Fitting | Turn::Wanted | Turn::Passed) => {
                 self.held.pass();
                 self.ticks += 1;
             }
             None => self.ticks += 1,
-        }
-    }
-
-    // Notes that nothing is left.
-    fn end(&mut self)
-        requires { self.old.ticks < 2 ^ 64 - 1 }
-        ensures { self.new ≡ with_end self.old }
-    {
-        if !self.ended {
-            self.ended = true;
-            self.ticks += 1;
         }
     }
 
@@ -119,15 +112,5 @@ impl<'a> HeldScan<'a> {
                 None => {}
             }
         }
-    }
-}
-
-// How long the one value of a symbol is.
-fn length_of(held: &HeldSymbol) -> Option<usize>
-    ensures { result ≡ length_of held.now }
-{
-    match held.value() {
-        Some(bytes) => Some(bytes.len()),
-        None => None,
     }
 }

@@ -14,7 +14,7 @@ use std::marker::Model;
 ///
 /// A symbol has a byte at least, so a conflict is held as no bytes: it takes no tag beside
 /// them, and no memory.
-#[derive(Debug, Drop)]
+#[derive(Drop)]
 pub struct HeldSymbol {
     octets: Vec<u8>,
 }

@@ -10,10 +10,10 @@ use flute_parts::{Key, ObjectKey, SessionKey};
 use std::marker::Model;
 
 /// The keys of a session that are left.
-#[derive(Debug, Drop)]
+#[derive(Drop)]
 pub struct SessionKeys<'a, O: Drop + 'a> {
-    session: SessionKey,
-    objects: Entries<'a, ObjectKey, O>,
+    pub(crate) session: SessionKey,
+    pub(crate) objects: Entries<'a, ObjectKey, O>,
 }
 
 impl<'a, O: Drop + 'a> Model for SessionKeys<'a, O> {
@@ -25,16 +25,6 @@ impl<'a, O: Drop + 'a> Model for SessionKeys<'a, O> {
     ghost use Rattle.flute_store.specs.Keys.{session_keys};
 
     ghost view = { λ k. session_keys k.session k.objects };
-}
-
-impl<'a, O: Drop + 'a> SessionKeys<'a, O> {
-    ghost use Rattle.flute_store.specs.Keys.{session_keys};
-
-    pub(crate) fn new(session: SessionKey, objects: Entries<'a, ObjectKey, O>) -> Self
-        ensures { result ≡ session_keys session objects.entry }
-    {
-        SessionKeys { session, objects }
-    }
 }
 
 impl<'a, O: Drop + 'a> Iterator for SessionKeys<'a, O> {
@@ -54,10 +44,10 @@ impl<'a, O: Drop + 'a> Iterator for SessionKeys<'a, O> {
 }
 
 /// The keys of the objects of a store that are left, in rising order.
-#[derive(Debug, Drop)]
+#[derive(Drop)]
 pub struct Keys<'a, S: HasObjects + 'a> {
-    session: Option<SessionKeys<'a, S::Object>>,
-    sessions: Entries<'a, SessionKey, S>,
+    pub(crate) session: Option<SessionKeys<'a, S::Object>>,
+    pub(crate) sessions: Entries<'a, SessionKey, S>,
 }
 
 impl<'a, S: HasObjects + 'a> Model for Keys<'a, S> {
@@ -72,18 +62,6 @@ impl<'a, S: HasObjects + 'a> Model for Keys<'a, S> {
     ghost view = { λ k. option_rest k.session ++ flat_map (λ e. S.keys_of e.0 e.1) k.sessions };
 
     ghost invariant = { λ k. EachValue S.is_sound k.sessions };
-}
-
-impl<'a, S: HasObjects + 'a> Keys<'a, S> {
-    pub(crate) fn new(sessions: Entries<'a, SessionKey, S>) -> Self
-        requires { EachValue S.is_sound sessions }
-        ensures { result ≡ flat_map (λ e. S.keys_of e.0 e.1) sessions.entry }
-    {
-        Keys {
-            session: None,
-            sessions,
-        }
-    }
 }
 
 impl<'a, S: HasObjects + 'a> Iterator for Keys<'a, S> {

@@ -9,24 +9,32 @@ ghost use Rattle.flute_store.specs.Laws.{GapsAreRuns, GapsAreUnique, WholeHasNoG
 ghost use Rattle.flute_store.specs.Laws.{WholeHasItsLength};
 ghost use Rattle.flute_store.specs.Sent.{DatagramsGiveTheObject};
 
-/// What a refused `absorb` leaves, joined again with success, gives the join.
-pub fn absorbing_again_gives_the_join()
-    ensures { (old other left new : List Known) → Below old left → Below left (old ++ other)
+/// What is held at an address is joined with what comes there.
+///
+/// - `again`: what a refused `absorb` leaves, joined again with success, gives the join.
+/// - `cells`: at a held address a fact needs no new session, object or symbol.
+pub fn what_is_held_is_joined()
+    ensures again { (old other left new : List Known) → Below old left → Below left (old ++ other)
         → Same new (left ++ other)
         → Same new (old ++ other) }
-{}
-
-/// At a held address a fact needs no new session, object or symbol.
-pub fn held_addresses_have_cells()
-    ensures { (held : List Known) (fact : Known)
+    ensures cells { (held : List Known) (fact : Known)
         → fact_at held (address fact) ≢ None → HasCell held fact }
 {}
 
-/// Lists of facts with the same value at each address have the same whole objects, bytes and gaps.
-pub fn objects_agree()
+/// The facts of an object say all of it.
+///
+/// - `whole`, `bytes`, `gaps`: lists of facts with the same value at each address have the same
+///   whole objects, bytes and gaps.
+/// - `length`: a whole object has as many bytes as its transfer length says, never one more or
+///   less.
+/// - `datagrams`: if an object's facts are those of the datagrams that carry it, from its sender,
+///   in any order and with any repeats, it is whole, and its bytes are those that were sent.
+pub fn facts_give_the_objects()
     ensures whole { SameWhole }
     ensures bytes { SameObject }
     ensures gaps { SameGaps }
+    ensures length { WholeHasItsLength }
+    ensures datagrams { DatagramsGiveTheObject }
 {}
 
 /// Gaps are the maximal runs of the symbols that are not held as one fitting value, and an object
@@ -36,15 +44,4 @@ pub fn gaps_are_maximal_runs()
     ensures runs { GapsAreRuns }
     ensures unique { GapsAreUnique }
     ensures whole { WholeHasNoGap }
-{}
-
-/// A whole object has as many bytes as its transfer length says, never one more or less.
-pub fn whole_objects_have_their_length()
-    ensures { WholeHasItsLength }
-{}
-
-/// If an object's facts are those of the datagrams that carry it, from its sender, in any order and
-/// with any repeats, it is whole, and its bytes are those that were sent.
-pub fn datagrams_give_the_object()
-    ensures { DatagramsGiveTheObject }
 {}

@@ -17,7 +17,7 @@ use flute_parts::{Info, SymbolId};
 use std::alloc::Global;
 
 /// An object: its transmission information and its symbols.
-#[derive(Debug, Drop)]
+#[derive(Drop)]
 pub struct Object<const SYMBOLS: u32> {
     pub info: Cell<Info>,
     pub symbols: JoinMap<SymbolId, HeldSymbol, SYMBOLS>,

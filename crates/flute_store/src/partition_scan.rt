@@ -3,11 +3,11 @@ ghost use Rattle.std.specs.Prelude.{◌≡◌, ◌+◌, ◌<◌, ◌≤◌, ◌^
 ghost use Rattle.flute_join.specs.declared.cell.Cell.{Cell};
 ghost use Rattle.flute_parts.specs.declared.symbol_id.SymbolId.{SymbolId as Id};
 ghost use Rattle.flute_parts.specs.Information.{sizes};
-ghost use Rattle.flute_parts.specs.Partition.{symbol_id, ids};
+ghost use Rattle.flute_parts.specs.Partition.{ids};
 ghost use Rattle.flute_store.specs.PartitionScan.{at_start, walk_of, IsPlace, upcoming_at};
 ghost use Rattle.flute_store.specs.PartitionScan.{until_next, ended_run, missing_gap};
 ghost use Rattle.flute_store.specs.PartitionScan.{after_missing, after_wanted, after_block};
-ghost use Rattle.flute_store.specs.PartitionScan.{turn_of, want_length};
+ghost use Rattle.flute_store.specs.PartitionScan.{turn_of};
 
 use crate::gap::{Gap, Reason};
 use crate::turn::Turn;
@@ -36,7 +36,7 @@ pub type Held = (SymbolId, Option<usize>);
 
 /// A walk over the blocks of an object, beside the symbols that are held of it, which are shown to
 /// it one after another.
-#[derive(Debug, Drop)]
+#[derive(Drop)]
 pub struct PartitionScan {
     pub partition: Partition,
     /// The block that was begun last, its next symbol and its length.
@@ -69,17 +69,6 @@ impl PartitionScan {
         }
     }
 
-    // The next symbol of the block.
-    fn here(&self) -> SymbolId
-        requires { self.now.esi < 65536 }
-        ensures { result ≡ symbol_id self.now.sbn self.now.esi }
-    {
-        SymbolId {
-            sbn: self.sbn,
-            esi: self.esi as u16,
-        }
-    }
-
     // What comes next.
     fn upcoming(&self, next: &Option<Held>) -> Upcoming
         requires { IsPlace self.now }
@@ -95,11 +84,16 @@ impl PartitionScan {
         let Some((id, length)) = next else {
             return Upcoming::NotHeld;
         };
-        match id.cmp(&self.here()) {
+        let here = SymbolId {
+            sbn: self.sbn,
+            esi: self.esi as u16,
+        };
+        match id.cmp(&here) {
             Ordering::Less => Upcoming::Passed,
-            Ordering::Equal => match want(&self.partition, *id, *length) {
-                Some(reason) => Upcoming::Wanted(reason),
-                None => Upcoming::Fitting,
+            Ordering::Equal => match length {
+                Some(length) if self.partition.fits(*id, *length) => Upcoming::Fitting,
+                Some(_) => Upcoming::Wanted(Reason::Misfit),
+                None => Upcoming::Wanted(Reason::Conflicting),
             },
             Ordering::Greater => Upcoming::NotHeld,
         }
@@ -154,7 +148,12 @@ impl PartitionScan {
         ensures gap { result ≡ missing_gap self.old next.now }
         ensures walk { self.new ≡ after_missing self.old next.now }
     {
-        let until = self.until(next);
+        let until = match next {
+            Some((id, _)) if id.sbn == self.sbn && u32::from(id.esi) < self.size => {
+                u32::from(id.esi)
+            }
+            _ => self.size,
+        };
         let gap = Gap {
             sbn: self.sbn,
             first: self.esi as u16,
@@ -163,18 +162,6 @@ impl PartitionScan {
         };
         self.esi = until;
         gap
-    }
-
-    // The end of the symbols of the block, from the next one on, that are not held.
-    fn until(&self, next: &Option<Held>) -> u32
-        ensures { result ≡ until_next self.now.sbn self.now.size next.now }
-    {
-        match next {
-            Some((id, _)) if id.sbn == self.sbn && u32::from(id.esi) < self.size => {
-                u32::from(id.esi)
-            }
-            _ => self.size,
-        }
     }
 
     /// What comes next, given the next held symbol that was not passed, if one is left.
@@ -207,16 +194,5 @@ impl PartitionScan {
             }
             Upcoming::NotHeld => Some(Turn::Gap(self.missing(next))),
         }
-    }
-}
-
-// Why a held symbol is wanted, if it is.
-fn want(partition: &Partition, id: SymbolId, length: Option<usize>) -> Option<Reason>
-    ensures { result ≡ want_length partition.now id length }
-{
-    match length {
-        Some(length) if partition.fits(id, length) => None,
-        Some(_) => Some(Reason::Misfit),
-        None => Some(Reason::Conflicting),
     }
 }

@@ -8,7 +8,7 @@ use std::collections::btree_map;
 use std::marker::Model;
 
 /// The held symbols that are left, the first of which can be looked at.
-#[derive(Debug, Drop)]
+#[derive(Drop)]
 pub struct PeekableSymbols<'a> {
     first: Option<(&'a SymbolId, &'a HeldSymbol)>,
     rest: btree_map::Iter<'a, SymbolId, HeldSymbol>,

@@ -17,7 +17,7 @@ use std::marker::Model;
 /// A scan over what is held of an object with one value of its transmission information, in the
 /// order of a journal: symbol after symbol, along with the symbols of its partition. It holds none
 /// of them, and takes no memory.
-#[derive(Debug, Drop)]
+#[derive(Drop)]
 pub struct ObjectScan {
     key: Key,
     info: Info,

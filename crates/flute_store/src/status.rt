@@ -35,7 +35,7 @@ pub enum Status {
 }
 
 /// How many symbols are wanted for each reason.
-#[derive(Debug, Drop)]
+#[derive(Drop)]
 pub struct Wanted {
     pub missing: u64,
     pub conflicting: u64,
@@ -80,19 +80,6 @@ impl Wanted {
         }
     }
 
-    // The symbols of all these gaps.
-    fn count(mut gaps: Gaps<'_>) -> Wanted
-        requires runs { AreRuns gaps.gaps }
-        requires few { length (flat_map listed gaps.gaps) ≤ 2 ^ 32 }
-        ensures { IsCount result (flat_map listed gaps.entry.gaps) }
-    {
-        let mut wanted = Wanted::none();
-        while let Some(gap) = gaps.next() {
-            wanted.add(gap);
-        }
-        wanted
-    }
-
     /// How much is held of an object of so many bytes, of which these are wanted.
     pub fn status(&self, length: u64) -> Status
         ensures { result ≡ status_of self.now length }
@@ -130,7 +117,11 @@ impl<const SESSIONS: u32, const OBJECTS: u32, const SYMBOLS: u32> Store<
             Cell::Conflict => return Some(Status::ConflictingInformation),
             Cell::One(info) => info,
         };
-        let wanted = Wanted::count(Gaps::new(info, object.symbols.iter()));
+        let mut gaps = Gaps::new(info, object.symbols.iter());
+        let mut wanted = Wanted::none();
+        while let Some(gap) = gaps.next() {
+            wanted.add(gap);
+        }
         Some(wanted.status(info.length()))
     }
 }

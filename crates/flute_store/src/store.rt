@@ -57,7 +57,7 @@ use std::marker::Model;
 ///
 /// No session is held without an object, and no object without transmission information or a
 /// symbol.
-#[derive(Debug, Drop)]
+#[derive(Drop)]
 pub struct Store<const SESSIONS: u32, const OBJECTS: u32, const SYMBOLS: u32> {
     pub(crate) sessions: Sessions<SESSIONS, OBJECTS, SYMBOLS>,
 }
@@ -78,29 +78,6 @@ impl<const SESSIONS: u32, const OBJECTS: u32, const SYMBOLS: u32> Model
     ghost view = { λ s. content s.sessions };
 
     ghost invariant = { λ s. IsStore SESSIONS OBJECTS s.sessions };
-}
-
-// Joins the sessions of another store. A refusal leaves sessions between the old ones and the join.
-fn join_sessions<const SESSIONS: u32, const OBJECTS: u32, const SYMBOLS: u32>(
-    sessions: &mut Sessions<SESSIONS, OBJECTS, SYMBOLS>,
-    alloc: Global,
-    other: &Sessions<SESSIONS, OBJECTS, SYMBOLS>,
-) -> Result<(), JoinRefusal>
-    requires store { IsStore SESSIONS OBJECTS sessions.old }
-    requires other { IsStore SESSIONS OBJECTS other.now }
-    ensures ok { OnOk result (sessions.new ≡ store_join sessions.old other.now) }
-    ensures store { IsStore SESSIONS OBJECTS sessions.new }
-    ensures above { IsBelow store_join sessions.old sessions.new }
-    ensures below { IsBelow store_join sessions.new (store_join sessions.old other.now) }
-    ensures full { IfErr result (λ why. why ≡ JoinRefusal.Full
-        → MapOver session_cmp session_join SESSIONS
-        (MapOver object_cmp object_join OBJECTS ObjectOver)
-        sessions.old other.now) }
-    ensures memory { IfErr result (λ why. why ≡ JoinRefusal.OutOfMemory
-        → MapNeedsMemory session_cmp (MapNeedsMemory object_cmp ObjectNeedsMemory)
-        sessions.old other.now) }
-{
-    sessions.join_from(alloc, other)
 }
 
 impl<const SESSIONS: u32, const OBJECTS: u32, const SYMBOLS: u32> Store<
@@ -138,7 +115,7 @@ impl<const SESSIONS: u32, const OBJECTS: u32, const SYMBOLS: u32> Store<
     {
         // From this the proof knows that the other store is one.
         let _ = &other.sessions;
-        join_sessions(&mut self.sessions, alloc, &other.sessions)
+        self.sessions.join_from(alloc, &other.sessions)
     }
 
     // Joins an update of an object. After a refusal the store is unchanged.
@@ -196,32 +173,6 @@ impl<const SESSIONS: u32, const OBJECTS: u32, const SYMBOLS: u32> Store<
         self.join_update(alloc, &key, Update::of_owned(fact))
     }
 
-    // Adds the facts of a packet that this sender sent. After a refusal the store is unchanged.
-    fn take_packet(
-        &mut self,
-        alloc: Global,
-        sender: Sender,
-        packet: &Packet<'_>,
-    ) -> Result<Taken, JoinRefusal>
-        requires { IfSome packet.now.symbol (λ symbol. HasSymbolSize symbol.1) }
-        ensures ok { OnOk result (Same self.new (self.old ++ facts_of sender packet.now)) }
-        ensures number { IfOk result (λ taken. taken.facts ≡ length (facts_of sender packet.now)) }
-        ensures err { OnErr result (self.new ≡ self.old) }
-        ensures full { (result ≡ Err JoinRefusal.Full)
-            ↔ Over (self.old ++ facts_of sender packet.now) SESSIONS OBJECTS SYMBOLS }
-        ensures held { AllByRecursion (HasCell self.old) (facts_of sender packet.now)
-            → IsOk result }
-    {
-        // From this the proof knows that the store is within its limits.
-        let _ = &self.sessions;
-        let Some(update) = Update::of_packet(packet) else {
-            return Ok(Taken { facts: 0 });
-        };
-        let facts = update.count();
-        self.join_update(alloc, &packet.key(sender), update)?;
-        Ok(Taken { facts })
-    }
-
     /// Adds the facts of a datagram that this sender sent: the transmission information of its
     /// object and its encoding symbol, as far as it has them. What is held at an address already is
     /// joined, as by [`add`](Store::add). Whether a symbol fits the transmission information is not
@@ -255,10 +206,16 @@ impl<const SESSIONS: u32, const OBJECTS: u32, const SYMBOLS: u32> Store<
     {
         // From this the proof knows that the store is within its limits.
         let _ = &self.sessions;
-        match read(datagram) {
-            Ok(packet) => Ok(self.take_packet(alloc, sender, &packet)?),
-            Err(refusal) => Err(TakeFault::Datagram(refusal)),
-        }
+        let packet = match read(datagram) {
+            Ok(packet) => packet,
+            Err(refusal) => return Err(TakeFault::Datagram(refusal)),
+        };
+        let Some(update) = Update::of_packet(&packet) else {
+            return Ok(Taken { facts: 0 });
+        };
+        let facts = update.count();
+        self.join_update(alloc, &packet.key(sender), update)?;
+        Ok(Taken { facts })
     }
 
     /// The facts in the rising order of their addresses: sessions, in each its FDT Instances and
@@ -275,7 +232,10 @@ impl<const SESSIONS: u32, const OBJECTS: u32, const SYMBOLS: u32> Store<
         // From this the proof knows that the store is within its limits.
         let _ = &self.sessions;
         let sessions = self.sessions.iter();
-        Walk::new(sessions)
+        Walk {
+            session: None,
+            sessions,
+        }
     }
 
     /// Every store has its facts in the rising order of their addresses, and within its limits. A
@@ -296,7 +256,10 @@ impl<const SESSIONS: u32, const OBJECTS: u32, const SYMBOLS: u32> Store<
         // From this the proof knows that each session has an object.
         let _ = &self.sessions;
         let sessions = self.sessions.iter();
-        Keys::new(sessions)
+        Keys {
+            session: None,
+            sessions,
+        }
     }
 
     /// Whether a value or a conflict is held at the address. It takes no memory, and looks up the

@@ -5,7 +5,7 @@ use flute_wire::Refusal;
 use thiserror::Error;
 
 /// What a datagram added.
-#[derive(Clone, Copy, Debug, PartialEq, Eq)]
+#[derive(Debug, Drop)]
 pub struct Taken {
     /// The number of its facts: 0, 1 or 2. They are counted whether or not they were known.
     pub facts: u64,
@@ -13,7 +13,7 @@ pub struct Taken {
 
 /// Why a datagram is not taken. The first that applies is returned, and after each the store is
 /// unchanged.
-#[derive(Clone, Copy, Debug, PartialEq, Eq, Error)]
+#[derive(Clone, Copy, Debug, Error)]
 pub enum TakeFault {
     /// The datagram is no packet, for this reason.
     #[error("{0}")]

@@ -19,7 +19,7 @@ use flute_parts::{FactRef, Info, Key, ObjectKey, SessionKey, SymbolId};
 use std::marker::Model;
 
 /// The facts of an object that are left.
-#[derive(Debug, Drop)]
+#[derive(Drop)]
 pub struct ObjectWalk<'a> {
     key: Key,
     info: Option<FactRef<'a>>,
@@ -119,7 +119,7 @@ impl<const SYMBOLS: u32> HasFacts for Object<SYMBOLS> {
 }
 
 /// The facts of a session that are left.
-#[derive(Debug, Drop)]
+#[derive(Drop)]
 pub struct SessionWalk<'a, O: HasFacts + 'a> {
     session: SessionKey,
     object: Option<ObjectWalk<'a>>,
@@ -225,16 +225,16 @@ impl<const OBJECTS: u32, const SYMBOLS: u32> HasObjects for Objects<OBJECTS, SYM
 
     fn keys(&self, session: SessionKey) -> SessionKeys<'_, Object<SYMBOLS>> {
         let objects = self.iter();
-        SessionKeys::new(session, objects)
+        SessionKeys { session, objects }
     }
 }
 
 /// The facts of a store that are left. The type has a parameter for the store's maps, since in a
 /// function generic in a number the toolchain takes no reference from an iterator.
-#[derive(Debug, Drop)]
+#[derive(Drop)]
 pub struct Walk<'a, S: HasObjects + 'a> {
-    session: Option<SessionWalk<'a, S::Object>>,
-    sessions: Entries<'a, SessionKey, S>,
+    pub(crate) session: Option<SessionWalk<'a, S::Object>>,
+    pub(crate) sessions: Entries<'a, SessionKey, S>,
 }
 
 impl<'a, S: HasObjects + 'a> Model for Walk<'a, S> {
@@ -249,18 +249,6 @@ impl<'a, S: HasObjects + 'a> Model for Walk<'a, S> {
     ghost view = { λ w. option_rest w.session ++ flat_map (λ e. S.facts_of e.0 e.1) w.sessions };
 
     ghost invariant = { λ w. EachValue S.is_sound w.sessions };
-}
-
-impl<'a, S: HasObjects + 'a> Walk<'a, S> {
-    pub(crate) fn new(sessions: Entries<'a, SessionKey, S>) -> Walk<'a, S>
-        requires { EachValue S.is_sound sessions }
-        ensures { result ≡ flat_map (λ e. S.facts_of e.0 e.1) sessions.entry }
-    {
-        Walk {
-            session: None,
-            sessions,
-        }
-    }
 }
 
 impl<'a, S: HasObjects + 'a> Iterator for Walk<'a, S> {

@@ -19,7 +19,7 @@ pub use Rattle.flute_journal.specs.declared.fault.LoadFault.TheVariants.{Read}
 pub use Rattle.flute_journal.specs.declared.fault.LoadFault.{LoadFault}
 pub use Rattle.flute_journal.specs.declared.fault.ReadFault.{ReadFault}
 pub use Rattle.flute_journal.specs.declared.format.version.Version.{Version}
-pub use Rattle.flute_streams.specs.declared.streams.journal_stream.LentStream.{LentStream}
+pub use Rattle.flute_streams.specs.declared.streams.lent_stream.LentStream.{LentStream}
 pub use Rattle.flute_journal.specs.declared.readers.reader_state.ReaderState.TheVariants.{Ended}
 pub use Rattle.flute_journal.specs.declared.readers.reader_state.ReaderState.TheVariants.{Failed}
 pub use Rattle.flute_journal.specs.declared.readers.reader_state.ReaderState.TheVariants.{Header}

@@ -11,8 +11,9 @@ use Rattle.flute_journal.specs.declared.readers.reader_state.ReaderState.{Reader
 use Rattle.flute_journal.specs.declared.readers.reader_state.ReaderState.TheVariants.{Header, Items}
 use Rattle.flute_journal.specs.declared.readers.reader_state.ReaderState.TheVariants.{Ended}
 use Rattle.flute_journal.specs.declared.readers.reader_state.ReaderState.TheVariants.{Failed}
-use Rattle.flute_streams.specs.declared.streams.journal_stream.JournalStream.{JournalStream}
-use Rattle.flute_streams.specs.declared.streams.journal_stream.LentStream.{LentStream}
+use Rattle.flute_journal.specs.declared.readers.held_entry.HeldEntry.{HeldEntry}
+use Rattle.flute_journal.specs.declared.readers.journal_reader.JournalReader.{JournalReader}
+use Rattle.flute_streams.specs.declared.streams.lent_stream.LentStream.{LentStream}
 use Rattle.flute_journal.specs.declared.format.version.Version.{Version}
 use Rattle.flute_journal.specs.Format.{spelling_in}
 use Rattle.flute_journal.specs.Input.{Fails}
@@ -59,8 +60,13 @@ FailsBy old new None = new ≡ old
 FailsBy old new (Some (Read fault)) = Fails {T = Option Fact} old new (Err fault)
 FailsBy old new (Some fault) = new ≡ old
 
+-- a journal that is read entry by entry, of which one entry is held
+pub record JournalState (R : Type 0) : Type 0 where
+  pub reader : JournalReader R
+  pub held : HeldEntry
+
 -- its source, where its reader is, and the entry that is held
-abbrev pub reading_of : {R : Type 0} → JournalStream R → Reading R
+abbrev pub reading_of : {R : Type 0} → JournalState R → Reading R
 reading_of s = reading (source_of s.reader).now (state_of s.reader) s.held
 
 -- the bytes are the journal of these entries
@@ -72,29 +78,29 @@ pub record IsJournalOfAll (bytes : Option (List ℕ)) (entries : List Fact) : Ty
 
 module _ {R : Type 0} (unread : R → Option (List ℕ)) (buffered : R → List ℕ) where
   -- what is left of the source behind the entry that is held
-  abbrev pub unread_of : JournalStream R → Option (List ℕ)
+  abbrev pub unread_of : JournalState R → Option (List ℕ)
   unread_of s = left_of unread buffered (reading_of s)
 
-  abbrev pub held_by : JournalStream R → Option Fact
+  abbrev pub held_by : JournalState R → Option Fact
   held_by s = fact_of_held buffered (reading_of s)
 
   module _ (failures : R → ℕ) where
     -- it still reads the same source, which failed since then as the fault says
-    pub record FailsSince (start now : JournalStream R) (fault : Option LoadFault) : Type 0 where
+    pub record FailsSince (start now : JournalState R) (fault : Option LoadFault) : Type 0 where
       pub same_source : (source_of now.reader).ghost_name ≡ (source_of start.reader).ghost_name
       pub failed_as :
           FailsBy (failures (source_of start.reader).now) (failures (source_of now.reader).now)
           fault
 
     -- since it was new, these entries were given
-    pub record PassesSince (start now : JournalStream R) (entries : List Fact) : Type 0 where
+    pub record PassesSince (start now : JournalState R) (entries : List Fact) : Type 0 where
       pub fails : FailsSince start now None
       pub same_limit : limit_of now.reader ≡ limit_of start.reader
       pub read :
           ReadAt (limit_of start.reader) (unread_of start) (unread_of now) (state_of now.reader)
           entries (held_by now)
 
-    abbrev pub journal_behaviour : Behaviour (JournalStream R)
+    abbrev pub journal_behaviour : Behaviour (JournalState R)
     journal_behaviour = record {
       held = held_by;
       spelled = λ s. spelled_of buffered (reading_of s);
@@ -111,7 +117,7 @@ module _ {R : Type 0} (unread : R → Option (List ℕ)) (buffered : R → List 
     }
 
 -- a journal whose reader and held entry are lent
-abbrev pub lent : {R : Type 0} → LentStream R → JournalStream R
+abbrev pub lent : {R : Type 0} → LentStream R → JournalState R
 lent s = record { reader = s.reader.now; held = s.held.now }
 
 -- they are lent by the same references

@@ -2,7 +2,6 @@
 //! `trials/journal`.
 
 mod datagram_files;
-mod many;
 mod reading;
 mod stores;
 mod streams;
@@ -28,23 +27,9 @@ fn file() -> Option<Key> {
 
 #[test]
 fn laws_can_be_called() {
-    laws::entry_has_one_reading();
-    laws::every_fact_has_an_entry();
-    laws::one_journal_for_one_content();
-    laws::a_journal_has_one_version();
-    flute_streams::laws::merging_merged_is_merging_all();
-    laws::no_journal_begins_another();
-    laws::a_journal_has_one_content();
-    laws::a_journal_within_a_bound_is_one();
-    laws::a_journal_stops_at_the_bound();
-    laws::a_journal_has_no_fault();
-    laws::bytes_stop_once();
-    laws::first_entries_are_below();
-    laws::rising_facts_have_one_spelling();
+    laws::entries_are_facts();
+    laws::a_journal_is_its_content();
     laws::bytes_are_a_journal_or_stop();
-    laws::a_file_has_one_reading();
-    laws::a_file_has_no_fault();
     laws::bytes_are_a_file_or_stop();
-    laws::a_file_stops_once();
-    laws::a_file_stops_at_the_bound();
+    flute_streams::laws::merging_merged_is_merging_all();
 }

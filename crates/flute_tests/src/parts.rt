@@ -83,16 +83,10 @@ fn faults_have_names(rt: HostRuntime) -> Result<(), Fail> {
 
 #[test]
 fn laws_can_be_called() {
-    laws::members_decide();
-    laws::same_is_kept();
-    laws::below_is_an_order();
-    laws::over_is_monotone();
     laws::facts_agree_or_conflict();
-    laws::rising_lists_agree();
+    laws::lists_are_compared();
     laws::names_are_ordered();
-    laws::symbols_are_in_order();
-    laws::symbols_fit();
-    laws::valid_has_no_fault();
+    laws::symbols_are_listed();
 }
 
 #[test]

@@ -105,10 +105,7 @@ fn gaps_and_statuses_are_shown(rt: HostRuntime) -> Result<(), Fail> {
 /// The laws do nothing when they are called, and have no condition.
 #[test]
 fn laws_have_no_condition() {
-    laws::absorbing_again_gives_the_join();
-    laws::held_addresses_have_cells();
-    laws::objects_agree();
+    laws::what_is_held_is_joined();
+    laws::facts_give_the_objects();
     laws::gaps_are_maximal_runs();
-    laws::whole_objects_have_their_length();
-    laws::datagrams_give_the_object();
 }

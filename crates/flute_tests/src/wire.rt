@@ -61,6 +61,5 @@ fn bytes_are_kept(rt: HostRuntime) -> Result<(), Fail> {
 fn laws_have_no_condition() {
     one_reading();
     computed_reading();
-    an_object_is_cut_into_symbols();
     an_object_is_told_by_its_datagrams();
 }

@@ -12,7 +12,8 @@ use Rattle.std.proofs.lemmas.List.{length-drop, take-append-drop, nil_from_lengt
 use Rattle.flute_parts.specs.Information.{info_fault}
 use Rattle.flute_parts.specs.declared.info.InfoFault.{InfoFault}
 use Rattle.flute_parts.specs.BigEndian.{big_endian}
-use Rattle.flute_wire.specs.Header.{Fields, first_word, tsi_len, toi_len, toi_in, extension_area}
+use Rattle.flute_wire.specs.declared.first_word.FirstWord.{FirstWord}
+use Rattle.flute_wire.specs.Header.{first_word, tsi_len, toi_len, toi_in, extension_area}
 use Rattle.flute_wire.specs.Header.{after_header}
 use Rattle.flute_wire.specs.Extensions.{HeaderExtension, HasExtensions, IsExtension}
 use Rattle.flute_wire.specs.Extensions.{extension_bytes, bodies, ext_fti, ext_fdt, ext_cenc}
@@ -285,12 +286,12 @@ packet-Some d c s =
     let whole : IsWhole d (first_word d) = record {
       limit = t.limit;
       word = b.long;
-      version = ap (λ (w : Fields). w.version) (sym b.word) ∙ t.version;
+      version = ap (λ (w : FirstWord). w.version) (sym b.word) ∙ t.version;
       fixed = b.fixed;
       header = b.header;
       tsi = omega (arith, tsi, t.tsi);
       toi = omega (arith, toi, t.toi);
-      codepoint = ap (λ (w : Fields). w.codepoint) (sym b.word) ∙ t.codepoint;
+      codepoint = ap (λ (w : FirstWord). w.codepoint) (sym b.word) ∙ t.codepoint;
     } in
     let x : HasExtensions (extension_area d) p.extensions =
     subst (λ (l : List ℕ). HasExtensions l p.extensions) (sym b.area) h.extensions in

@@ -13,7 +13,7 @@ use Rattle.flute_wire.specs.declared.refusal.Refusal.TheVariants.{NoToi, Codepoi
 use Rattle.flute_wire.specs.declared.refusal.Refusal.TheVariants.{Repeated, FtiLength, Information}
 use Rattle.flute_wire.specs.declared.refusal.Refusal.TheVariants.{NoInstance, FluteVersion}
 use Rattle.flute_wire.specs.declared.refusal.Refusal.TheVariants.{ContentEncoded, PayloadIdCut}
-use Rattle.flute_wire.specs.Header.{Fields}
+use Rattle.flute_wire.specs.declared.first_word.FirstWord.{FirstWord}
 use Rattle.flute_parts.specs.BigEndian.{big_endian}
 use Rattle.flute_wire.specs.Header.{fields, first_word, cci_len, tsi_len, toi_len, header_len}
 use Rattle.flute_wire.specs.Header.{fixed_words, tsi_at, toi_at, extensions_at, extension_area}
@@ -125,12 +125,12 @@ none_by : (d : List ℕ) (p : Parts) → HasParts d p → IsAccepted d p → ByP
     → HasExtensions (extension_area d) p.extensions → (r : Refusal) → Applies r d → ⊥
 none_by d p h t b x TooLong a = let l = t.limit in omega arith
 none_by d p h t b x TooShort a = let l = b.long in omega arith
-none_by d p h t b x LctVersion a = a (ap (λ (w : Fields). w.version) (sym b.word) ∙ t.version)
+none_by d p h t b x LctVersion a = a (ap (λ (w : FirstWord). w.version) (sym b.word) ∙ t.version)
 none_by d p h t b x HeaderLength a = let l = b.fixed in omega arith
 none_by d p h t b x HeaderCut a = let l = b.header in omega arith
 none_by d p h t b x NoTsi a = let l = h.tsi ∙ ap tsi_len b.word in let m = t.tsi in omega arith
 none_by d p h t b x NoToi a = let l = h.toi ∙ ap toi_len b.word in let m = t.toi in omega arith
-none_by d p h t b x Codepoint a = a (ap (λ (w : Fields). w.codepoint) (sym b.word) ∙ t.codepoint)
+none_by d p h t b x Codepoint a = a (ap (λ (w : FirstWord). w.codepoint) (sym b.word) ∙ t.codepoint)
 none_by d p h t b x ExtensionLength a = a p.extensions x
 none_by d p h t b x Repeated a =
     elim (carried d p.extensions x (λ es. (1 < length (bodies ext_fti es))

@@ -9,7 +9,7 @@ use Rattle.std.proofs.lemmas.Bool.{cases_lt}
 use Rattle.flute_parts.specs.Information.{Information}
 use Rattle.flute_parts.specs.declared.symbol_id.SymbolId.{SymbolId}
 use Rattle.flute_parts.specs.Information.{info_fault}
-use Rattle.flute_wire.specs.Header.{Fields}
+use Rattle.flute_wire.specs.declared.first_word.FirstWord.{FirstWord}
 use Rattle.flute_wire.specs.declared.refusal.Refusal.TheVariants.{TooLong, TooShort, LctVersion}
 use Rattle.flute_wire.specs.declared.refusal.Refusal.TheVariants.{HeaderLength, HeaderCut, NoTsi}
 use Rattle.flute_wire.specs.declared.refusal.Refusal.TheVariants.{NoToi, Codepoint}
@@ -49,7 +49,7 @@ stable m n h =
     ]
 
 -- what the first checks leave true
-pub record IsWhole (d : List ℕ) (w : Fields) : Type 0 where
+pub record IsWhole (d : List ℕ) (w : FirstWord) : Type 0 where
   pub limit : length d ≤ 65535
   pub word : 4 ≤ length d
   pub version : w.version ≡ 1

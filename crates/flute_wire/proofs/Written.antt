@@ -17,7 +17,8 @@ use Rattle.flute_parts.specs.ObjectName.{toi_of, instance_of}
 use Rattle.flute_parts.specs.declared.object_key.ObjectName.{ObjectName}
 use Rattle.flute_parts.specs.declared.object_key.ObjectName.TheVariants.{Instance, File}
 use Rattle.flute_wire.specs.declared.writing.WriteFault.TheVariants.{Tsi, Toi, EmptySymbol, TooLong}
-use Rattle.flute_wire.specs.Header.{Fields, fields, cci_len, tsi_len, toi_len, header_len}
+use Rattle.flute_wire.specs.declared.first_word.FirstWord.{FirstWord}
+use Rattle.flute_wire.specs.Header.{fields, cci_len, tsi_len, toi_len, header_len}
 use Rattle.flute_wire.specs.Extensions.{HeaderExtension, HasExtensions, bodies, ext_fti, ext_fdt}
 use Rattle.flute_wire.specs.Extensions.{ext_cenc, fti_information, fdt_version, fdt_instance}
 use Rattle.flute_wire.specs.Extensions.{content_encoding, first}
@@ -265,8 +266,8 @@ spelled c e z none =
       has_parts c,
       record {
         limit = p.limit;
-        version = ap (λ (w : Fields). w.version) f;
-        codepoint = ap (λ (w : Fields). w.codepoint) f;
+        version = ap (λ (w : FirstWord). w.version) f;
+        codepoint = ap (λ (w : FirstWord). w.codepoint) f;
         tsi = omega arith;
         toi = omega arith;
         one_fti = few (option_map fti_body i) (bodies ext_fti es) (fti_bodies n i);

@@ -1,23 +1,11 @@
 -- The LCT header.
 use Rattle.std.specs.Prelude.{ℕ, ◌+◌, ◌*◌, ◌/◌, ◌%◌, ◌^◌, List, take, drop, slice_range}
 use Rattle.flute_parts.specs.BigEndian.{big_endian}
+use Rattle.flute_wire.specs.declared.first_word.FirstWord.{FirstWord}
 
--- the fields of the first word that are read (RFC 5651, 5.1)
-pub record Fields : Type 0 where
-  pub version : ℕ
-  -- C: the congestion control information has one 32-bit word more than this
-  pub congestion_words : ℕ
-  -- S and O: the 32-bit words of the TSI and the TOI
-  pub tsi_words : ℕ
-  pub toi_words : ℕ
-  -- H: the TSI and the TOI have 16 bits more each
-  pub half_word : ℕ
-  -- HDR_LEN: the 32-bit words of the whole header
-  pub header_words : ℕ
-  pub codepoint : ℕ
-
--- each is the first word divided by the bits below it, and of that its own bits (RFC 5651, 5.1)
-abbrev pub fields : ℕ → Fields
+-- the fields of the first word: each is the word divided by the bits below it, and of that its own
+-- bits (RFC 5651, 5.1)
+abbrev pub fields : ℕ → FirstWord
 fields n = record {
   version = n / 2 ^ 28;
   congestion_words = n / 2 ^ 26 % 2 ^ 2;
@@ -29,34 +17,34 @@ fields n = record {
 }
 
 -- the lengths in bytes that the first word gives (RFC 5651, 5.1)
-abbrev pub cci_len : Fields → ℕ
+abbrev pub cci_len : FirstWord → ℕ
 cci_len w = 4 * (w.congestion_words + 1)
 
-abbrev pub tsi_len : Fields → ℕ
+abbrev pub tsi_len : FirstWord → ℕ
 tsi_len w = 4 * w.tsi_words + 2 * w.half_word
 
-abbrev pub toi_len : Fields → ℕ
+abbrev pub toi_len : FirstWord → ℕ
 toi_len w = 4 * w.toi_words + 2 * w.half_word
 
-abbrev pub header_len : Fields → ℕ
+abbrev pub header_len : FirstWord → ℕ
 header_len w = 4 * w.header_words
 
 -- the fields before the extensions, in words
-abbrev pub fixed_words : Fields → ℕ
+abbrev pub fixed_words : FirstWord → ℕ
 fixed_words w = 2 + w.congestion_words + w.tsi_words + w.toi_words + w.half_word
 
 -- the parts of a datagram, by place
-abbrev pub first_word : List ℕ → Fields
+abbrev pub first_word : List ℕ → FirstWord
 first_word d = fields (big_endian (take 4 d))
 
 -- where the TSI, the TOI and the extensions begin
-abbrev pub tsi_at : Fields → ℕ
+abbrev pub tsi_at : FirstWord → ℕ
 tsi_at w = 4 + cci_len w
 
-abbrev pub toi_at : Fields → ℕ
+abbrev pub toi_at : FirstWord → ℕ
 toi_at w = tsi_at w + tsi_len w
 
-abbrev pub extensions_at : Fields → ℕ
+abbrev pub extensions_at : FirstWord → ℕ
 extensions_at w = toi_at w + toi_len w
 
 -- the two numbers of the header, the bytes of its extensions, and those after it

@@ -8,7 +8,7 @@ use thiserror::Error;
 pub const MAX_LEN: usize = 65_535;
 
 /// Why bytes are not kept as a datagram. Their number is checked first. Shown by its name.
-#[derive(Clone, Copy, Debug, PartialEq, Eq, Error)]
+#[derive(Clone, Copy, Debug, Error)]
 pub enum DatagramFault {
     /// There are more than 65,535 bytes.
     #[error("TooLong")]
@@ -21,7 +21,7 @@ pub enum DatagramFault {
 /// A datagram: 0 to 65,535 bytes, whatever they contain. [`read`](crate::read) reads them.
 #[derive(Debug, Drop)]
 pub struct Datagram {
-    bytes: Vec<u8>,
+    pub(crate) bytes: Vec<u8>,
 }
 
 impl Model for Datagram {
@@ -71,14 +71,6 @@ impl Datagram {
             return Err(DatagramFault::TooLong);
         }
         Ok(Datagram { bytes })
-    }
-
-    /// These bytes, which are few enough.
-    pub(crate) fn of(bytes: Vec<u8>) -> Datagram
-        requires { length bytes.items ≤ 65535 }
-        ensures { result ≡ bytes.items }
-    {
-        Datagram { bytes }
     }
 
     /// The bytes, at most 65,535.

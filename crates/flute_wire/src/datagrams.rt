@@ -1,14 +1,13 @@
 //! A list of datagrams, in their order.
 
 use crate::datagram::Datagram;
-use std::alloc::{AllocError, Global};
 use std::marker::Model;
 use std::slice;
 
 /// A list of datagrams. [`carousel`](crate::carousel) makes it.
 #[derive(Debug, Drop)]
 pub struct Datagrams {
-    list: Vec<Datagram>,
+    pub(crate) list: Vec<Datagram>,
 }
 
 impl Model for Datagrams {
@@ -20,25 +19,10 @@ impl Model for Datagrams {
 }
 
 impl Datagrams {
-    ghost use Rattle.std.specs.Prelude.{◌≡◌, [], ◌∷◌, ◌++◌, length, ◌==◌, slice_get, IfOk, OnOk};
+    ghost use Rattle.std.specs.Prelude.{◌≡◌, length, ◌==◌, slice_get};
     ghost use Rattle.std.specs.Option.{option_copied};
     ghost use Rattle.std.specs.Slice.Iter.{iter_rest};
     ghost use Rattle.std.specs.Iterator.Adapters.{IterYieldsInOrder};
-
-    /// No datagram, with room for so many.
-    pub(crate) fn with_capacity(alloc: Global, capacity: usize) -> Result<Datagrams, AllocError>
-        ensures { IfOk result (λ datagrams. datagrams ≡ []) }
-    {
-        let list = Vec::with_capacity(alloc, capacity)?;
-        Ok(Datagrams { list })
-    }
-
-    /// Adds one at the end. Without memory for it, it is dropped, and nothing is added.
-    pub(crate) fn push(&mut self, datagram: Datagram) -> Result<(), AllocError>
-        ensures { OnOk result (self.new ≡ self.old ++ datagram ∷ []) }
-    {
-        self.list.push(datagram).map_err(|_| AllocError)
-    }
 
     /// How many there are.
     pub fn len(&self) -> usize

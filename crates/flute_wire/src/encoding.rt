@@ -1,14 +1,15 @@
 //! The bytes of a datagram that is written, part by part.
 
-ghost use Rattle.std.specs.Prelude.{◌≡◌, ◌<◌, ◌≤◌, ◌^◌, ◌++◌, length, Some, None, IfOk, OnOk};
+ghost use Rattle.std.specs.Prelude.{◌≡◌, ◌++◌, None, IfOk, OnOk};
 ghost use Rattle.std.specs.Option.{option_map};
-ghost use Rattle.byteorder.specs.Endian.{big_bytes};
 ghost use Rattle.flute_parts.specs.ObjectName.{IsObjectName, instance_of};
 ghost use Rattle.flute_wire.specs.Outgoing.{said};
-ghost use Rattle.flute_wire.specs.Writing.{spelling, word_bytes, fdt_bytes, fti_bytes};
-ghost use Rattle.flute_wire.specs.Writing.{symbol_bytes, words_to_write, write_fault};
-ghost use Rattle.flute_wire.specs.Encoding.{HasFittingId, HasFittingInformation, IsEncodable};
+ghost use Rattle.flute_wire.specs.Reading.{facts};
+ghost use Rattle.flute_wire.specs.Writing.{word_bytes, fdt_bytes, fti_bytes, symbol_bytes};
+ghost use Rattle.flute_wire.specs.Writing.{IsWritten, outgoing_facts, words_to_write, write_fault};
+ghost use Rattle.flute_wire.specs.Encoding.{HasFittingId, HasFittingInformation};
 
+use crate::datagram::Datagram;
 use crate::extensions::{EXT_FDT, EXT_FTI};
 use crate::writing::Outgoing;
 use byteorder::{BigEndian, ByteOrder};
@@ -28,19 +29,6 @@ const FTI_WORDS: u8 = 4;
 /// The bytes of the FEC Payload ID (RFC 5445, section 3.2.1).
 pub const PAYLOAD_ID_LEN: usize = 4;
 
-/// The header up to its extensions, with this many words in all: the congestion control information
-/// is 0.
-fn fixed_fields(words: u8, tsi: u32, toi: u32) -> [u8; 16]
-    ensures { result ≡ word_bytes words ++ (big_bytes 4 0 ++ (big_bytes 4 tsi ++ big_bytes 4 toi)) }
-{
-    let mut bytes = [0; 16];
-    bytes[..2].copy_from_slice(&FIRST_BYTES);
-    bytes[2] = words;
-    BigEndian::write_u32(&mut bytes[8..12], tsi);
-    BigEndian::write_u32(&mut bytes[12..], toi);
-    bytes
-}
-
 /// Appends EXT_FDT, if the object is an FDT Instance.
 fn put_fdt(out: &mut Vec<u8>, key: &Key) -> Result<(), AllocError>
     ensures bytes { OnOk result
@@ -55,39 +43,21 @@ fn put_fdt(out: &mut Vec<u8>, key: &Key) -> Result<(), AllocError>
     Ok(())
 }
 
-/// EXT_FTI. Two bytes of it are reserved, and 0.
-fn fti_of(info: &Info) -> [u8; 16]
-    ensures bytes { result ≡ fti_bytes (Some info.now) }
-    ensures fits { HasFittingInformation (Some info.now) }
-{
-    let mut bytes = [0; 16];
-    bytes[0] = EXT_FTI;
-    bytes[1] = FTI_WORDS;
-    BigEndian::write_u48(&mut bytes[2..8], info.length());
-    BigEndian::write_u16(&mut bytes[10..12], info.symbol());
-    BigEndian::write_u32(&mut bytes[12..], info.block());
-    bytes
-}
-
-/// Appends EXT_FTI, if there is transmission information.
+/// Appends EXT_FTI, if there is transmission information. Two bytes of it are reserved, and 0.
 fn put_fti(out: &mut Vec<u8>, info: Option<Info>) -> Result<(), AllocError>
     ensures bytes { OnOk result (out.new.items ≡ out.old.items ++ fti_bytes info) }
     ensures fits { OnOk result (HasFittingInformation info) }
 {
-    match info {
-        Some(info) => out.extend_from_slice(&fti_of(&info)),
-        None => Ok(()),
+    if let Some(info) = info {
+        let mut bytes = [0; 16];
+        bytes[0] = EXT_FTI;
+        bytes[1] = FTI_WORDS;
+        BigEndian::write_u48(&mut bytes[2..8], info.length());
+        BigEndian::write_u16(&mut bytes[10..12], info.symbol());
+        BigEndian::write_u32(&mut bytes[12..], info.block());
+        out.extend_from_slice(&bytes)?;
     }
-}
-
-/// The FEC Payload ID.
-fn payload_id(id: SymbolId) -> [u8; PAYLOAD_ID_LEN]
-    ensures { result ≡ big_bytes 2 id.sbn ++ big_bytes 2 id.esi }
-{
-    let mut bytes = [0; PAYLOAD_ID_LEN];
-    BigEndian::write_u16(&mut bytes[..2], id.sbn);
-    BigEndian::write_u16(&mut bytes[2..], id.esi);
-    bytes
+    Ok(())
 }
 
 /// Appends the FEC Payload ID and the bytes of the symbol, if there is one.
@@ -97,29 +67,37 @@ fn put_symbol(out: &mut Vec<u8>, symbol: Option<(SymbolId, &[u8])>) -> Result<()
     ensures fits { OnOk result (HasFittingId (option_map (λ s. (s.0, s.1.now)) symbol.entry)) }
 {
     if let Some((id, bytes)) = symbol {
-        out.extend_from_slice(&payload_id(id))?;
+        let mut payload_id = [0; PAYLOAD_ID_LEN];
+        BigEndian::write_u16(&mut payload_id[..2], id.sbn);
+        BigEndian::write_u16(&mut payload_id[2..], id.esi);
+        out.extend_from_slice(&payload_id)?;
         out.extend_from_slice(bytes)?;
     }
     Ok(())
 }
 
-/// The bytes of a datagram, with this many words in its header.
-pub fn bytes_of(alloc: Global, outgoing: &Outgoing<'_>, words: u8) -> Result<Vec<u8>, AllocError>
+/// The datagram of a packet that can be written, with this many words in its header.
+pub fn encoded(alloc: Global, outgoing: &Outgoing<'_>, words: u8) -> Result<Datagram, AllocError>
     requires words { words ≡ words_to_write (said outgoing.now) }
     requires sound { write_fault (said outgoing.now) ≡ None }
-    ensures bytes { IfOk result (λ bytes. bytes.items ≡ spelling (said outgoing.now)) }
-    ensures fits { OnOk result (IsEncodable (said outgoing.now)) }
+    ensures written { IfOk result (λ datagram. IsWritten datagram (said outgoing.now)) }
+    ensures facts { IfOk result (λ datagram. facts outgoing.now.key.session.sender datagram
+        ≡ outgoing_facts outgoing.now.key outgoing.now.info (said outgoing.now).symbol) }
 {
     let payload_len = match outgoing.symbol {
         Some((_, bytes)) => PAYLOAD_ID_LEN + bytes.len(),
         None => 0,
     };
-    let tsi = outgoing.key.session.tsi() as u32;
-    let toi = outgoing.key.object.toi() as u32;
-    let mut out = Vec::with_capacity(alloc, 4 * usize::from(words) + payload_len)?;
-    out.extend_from_slice(&fixed_fields(words, tsi, toi))?;
-    put_fdt(&mut out, &outgoing.key)?;
-    put_fti(&mut out, outgoing.info)?;
-    put_symbol(&mut out, outgoing.symbol)?;
-    Ok(out)
+    // The header up to its extensions: the congestion control information is 0.
+    let mut fixed = [0; 16];
+    fixed[..2].copy_from_slice(&FIRST_BYTES);
+    fixed[2] = words;
+    BigEndian::write_u32(&mut fixed[8..12], outgoing.key.session.tsi() as u32);
+    BigEndian::write_u32(&mut fixed[12..], outgoing.key.object.toi() as u32);
+    let mut bytes = Vec::with_capacity(alloc, 4 * usize::from(words) + payload_len)?;
+    bytes.extend_from_slice(&fixed)?;
+    put_fdt(&mut bytes, &outgoing.key)?;
+    put_fti(&mut bytes, outgoing.info)?;
+    put_symbol(&mut bytes, outgoing.symbol)?;
+    Ok(Datagram { bytes })
 }

@@ -44,10 +44,10 @@ fn checked_word(datagram: &[u8]) -> Result<FirstWord, Refusal>
         return Err(Refusal::TooShort);
     }
     let word = FirstWord::new(u32_at(datagram));
-    if word.version() != 1 {
+    if word.version != 1 {
         return Err(Refusal::LctVersion);
     }
-    if usize::from(word.header_words()) < word.fixed_words() {
+    if usize::from(word.header_words) < word.fixed_words() {
         return Err(Refusal::HeaderLength);
     }
     if datagram.len() < word.header_len() {
@@ -59,7 +59,7 @@ fn checked_word(datagram: &[u8]) -> Result<FirstWord, Refusal>
     if word.toi_len() == 0 {
         return Err(Refusal::NoToi);
     }
-    if word.codepoint() != 0 {
+    if word.codepoint != 0 {
         return Err(Refusal::Codepoint);
     }
     Ok(word)

@@ -34,8 +34,9 @@ pub fn computed_reading()
 {}
 
 /// An object is cut into the symbols of its partition: their bytes joined are the object, each
-/// fits, and no two bytes are sent as one symbol.
-pub fn an_object_is_cut_into_symbols()
+/// fits, and no two bytes are sent as one symbol. Its datagrams, if the key's sender sent them,
+/// contain its transmission information and each of these symbols, and nothing else.
+pub fn an_object_is_told_by_its_datagrams()
     ensures ids { (i : Information) (content : List ℕ)
         → map (λ s. s.0) (symbols_of i content) ≡ ids i }
     ensures joined { (i : Information) (content : List ℕ) → IsValid i
@@ -47,11 +48,6 @@ pub fn an_object_is_cut_into_symbols()
     ensures one { (i : Information) (content : List ℕ) (s t : SymbolId × List ℕ)
         → Contains (symbols_of i content) s
         → Contains (symbols_of i content) t → s.0 ≡ t.0 → s ≡ t }
-{}
-
-/// An object's datagrams, if the key's sender sent them, contain its transmission information and
-/// each of its symbols, and nothing else.
-pub fn an_object_is_told_by_its_datagrams()
     ensures facts { (key : Key) (i : Information) (content : List ℕ) (f : Fact) → IsValid i
         → Contains (facts_sent key i content) f
         ↔ ((f ≡ Info key i)

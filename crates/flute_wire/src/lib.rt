@@ -35,10 +35,7 @@ mod writing;
 
 pub use datagram::{Datagram, DatagramFault};
 pub use datagrams::Datagrams;
-pub use laws::{
-    an_object_is_cut_into_symbols, an_object_is_told_by_its_datagrams, computed_reading,
-    one_reading,
-};
+pub use laws::{an_object_is_told_by_its_datagrams, computed_reading, one_reading};
 pub use packet::Packet;
 pub use reading::read;
 pub use refusal::Refusal;

@@ -21,12 +21,13 @@ pub fn u32_at(bytes: &[u8]) -> u32
     BigEndian::read_u32(bytes)
 }
 
-/// The number that a field spells, in 16-bit units.
-fn number(field: &[u8]) -> u128
+/// The number that a field of at most 112 bits spells, in 16-bit units.
+pub fn number_of_112_bits(field: &[u8]) -> u128
     requires even { length field.now % 2 ≡ 0 }
     requires short { length field.now ≤ 14 }
     ensures value { result ≡ big_endian field.now }
-    ensures fits { result < 256 ^ length field.now }
+    ensures fits { result < 2 ^ 112 }
+    ensures bytes { result < 256 ^ length field.now }
 {
     let mut number = 0;
     let mut rest = field;
@@ -44,15 +45,5 @@ pub fn number_of_48_bits(field: &[u8]) -> u64
     ensures value { result ≡ big_endian field.now }
     ensures fits { result < 2 ^ 48 }
 {
-    number(field) as u64
-}
-
-/// The number that a field of at most 112 bits spells, in 16-bit units.
-pub fn number_of_112_bits(field: &[u8]) -> u128
-    requires even { length field.now % 2 ≡ 0 }
-    requires short { length field.now ≤ 14 }
-    ensures value { result ≡ big_endian field.now }
-    ensures fits { result < 2 ^ 112 }
-{
-    number(field)
+    number_of_112_bits(field) as u64
 }

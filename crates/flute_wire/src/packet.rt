@@ -7,11 +7,11 @@ use std::marker::Model;
 /// datagram: nothing is copied, and no call takes memory.
 #[derive(Debug, Drop)]
 pub struct Packet<'a> {
-    tsi: u64,
-    toi: u128,
-    instance: Option<u32>,
-    info: Option<Info>,
-    symbol: Option<(SymbolId, &'a [u8])>,
+    pub(crate) tsi: u64,
+    pub(crate) toi: u128,
+    pub(crate) instance: Option<u32>,
+    pub(crate) info: Option<Info>,
+    pub(crate) symbol: Option<(SymbolId, &'a [u8])>,
 }
 
 impl<'a> Model for Packet<'a> {
@@ -34,33 +34,7 @@ impl<'a> Model for Packet<'a> {
 impl<'a> Packet<'a> {
     ghost use Rattle.std.specs.Prelude.{◌≡◌};
     ghost use Rattle.std.specs.Option.{option_map};
-    ghost use Rattle.flute_wire.specs.Content.{HasKey};
     ghost use Rattle.flute_wire.specs.Facts.{key_of};
-
-    pub(crate) fn new(
-        tsi: u64,
-        toi: u128,
-        instance: Option<u32>,
-        info: Option<Info>,
-        symbol: Option<(SymbolId, &'a [u8])>,
-    ) -> Self
-        requires { HasKey tsi toi instance }
-        ensures { result ≡ record {
-          tsi = tsi;
-          toi = toi;
-          instance = instance;
-          info = info;
-          symbol = option_map (λ s. (s.0, s.1.now)) symbol.entry;
-        } }
-    {
-        Packet {
-            tsi,
-            toi,
-            instance,
-            info,
-            symbol,
-        }
-    }
 
     /// The Transport Session Identifier, below 2^48 (RFC 5651, section 5.1).
     pub fn tsi(&self) -> u64

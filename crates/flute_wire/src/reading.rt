@@ -148,7 +148,13 @@ fn packet_of(datagram: &[u8]) -> Result<Packet<'_>, Refusal>
     let instance = instance(header.toi, known.fdt)?;
     check_encoding(known.cenc)?;
     let symbol = symbol(header.tail)?;
-    Ok(Packet::new(header.tsi, header.toi, instance, info, symbol))
+    Ok(Packet {
+        tsi: header.tsi,
+        toi: header.toi,
+        instance,
+        info,
+        symbol,
+    })
 }
 
 /// Reads a datagram as a packet of FLUTE version 2: the LCT header with its extensions

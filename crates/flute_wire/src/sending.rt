@@ -12,14 +12,15 @@ ghost use Rattle.flute_wire.specs.Writing.{IsWritten, packet_at, words_to_write,
 ghost use Rattle.flute_wire.specs.declared.sending.CarouselFault.TheVariants as faults;
 
 use crate::datagrams::Datagrams;
-use crate::writing::{Outgoing, WriteFault, encoded, header_words};
+use crate::encoding::encoded;
+use crate::writing::{Outgoing, WriteFault, header_words};
 use flute_parts::{Info, Key, Partition, SymbolId};
 use std::alloc::{AllocError, Global};
 use thiserror::Error;
 
 /// Why an object is not sent, in the order of the checks: the first that applies is returned. Shown
 /// by its name, `Write` with the name of its fault after that.
-#[derive(Clone, Copy, Debug, PartialEq, Eq, Error)]
+#[derive(Clone, Copy, Debug, Error)]
 pub enum CarouselFault {
     /// The content does not have as many bytes as the transfer length says.
     #[error("Length")]
@@ -79,16 +80,16 @@ fn datagrams_of(
 {
     let partition = Partition::of(info);
     let count = partition.symbols().max(1);
-    let mut datagrams = Datagrams::with_capacity(alloc, count as usize)?;
+    let mut list = Vec::with_capacity(alloc, count as usize)?;
     for place in 0..count {
         let outgoing = Outgoing {
             key: *key,
             info: Some(*info),
             symbol: symbol_at(info, &partition, content, place),
         };
-        datagrams.push(encoded(alloc, &outgoing, words)?)?;
+        list.push(encoded(alloc, &outgoing, words)?)?;
     }
-    Ok(datagrams)
+    Ok(Datagrams { list })
 }
 
 /// Makes the datagrams that carry an object: one for each symbol of its partition, in that order

@@ -7,9 +7,9 @@ ghost use Rattle.flute_wire.specs.Writing.{IsWritten, outgoing_facts, words_to_w
 ghost use Rattle.flute_wire.specs.declared.writing.WriteFault.TheVariants as faults;
 
 use crate::datagram::{Datagram, MAX_LEN};
-use crate::encoding::{PAYLOAD_ID_LEN, bytes_of};
+use crate::encoding::{PAYLOAD_ID_LEN, encoded};
 use flute_parts::{Info, Key, SymbolId};
-use std::alloc::{AllocError, Global};
+use std::alloc::Global;
 use thiserror::Error;
 
 /// What a datagram is to contain: an object, its transmission information if that is to be sent,
@@ -75,18 +75,6 @@ pub fn header_words(outgoing: &Outgoing<'_>) -> Result<u8, WriteFault>
         }
     }
     Ok(words)
-}
-
-/// The datagram of a packet that can be written, with this many words in its header.
-pub fn encoded(alloc: Global, outgoing: &Outgoing<'_>, words: u8) -> Result<Datagram, AllocError>
-    requires words { words ≡ words_to_write (said outgoing.now) }
-    requires sound { write_fault (said outgoing.now) ≡ None }
-    ensures written { IfOk result (λ datagram. IsWritten datagram (said outgoing.now)) }
-    ensures facts { IfOk result (λ datagram. facts outgoing.now.key.session.sender datagram
-        ≡ outgoing_facts outgoing.now.key outgoing.now.info (said outgoing.now).symbol) }
-{
-    let bytes = bytes_of(alloc, outgoing, words)?;
-    Ok(Datagram::of(bytes))
 }
 
 /// Writes a packet of FLUTE version 2 as a datagram. [`read`](crate::read) returns the same TSI and

@@ -40,12 +40,6 @@ FailsWith text old new OutOfMemory = (length text % 2 ≡ 0) × Keeps old new
 FailsWith text old new CannotWrite = HasLines text (AppendsPart old new)
 FailsWith text old new _ = ⊥
 
--- why a text gave no bytes
-abbrev pub IsHexFault : List ℕ → CommandFault → Type 0
-IsHexFault text BadHex = (bytes : List ℕ) → ¬ IsHexOf text bytes
-IsHexFault text OutOfMemory = length text % 2 ≡ 0
-IsHexFault text _ = ⊥
-
 -- a failed write is the one failure of a device that it returns
 abbrev pub write_failures : {T : Type 0} → Result T CommandFault → ℕ
 write_failures (Err CannotWrite) = 1

@@ -1,12 +1,11 @@
 //! The command `carousel`: an object, as a file of datagrams.
-ghost use Rattle.std.specs.Prelude.{◌≡◌, ◌⊎◌, ◌+◌, ◌++◌, length, flat_map, Err, IfErr, IfOk};
-ghost use Rattle.std.specs.Prelude.{IfSome, OnOk, IsTrue};
+ghost use Rattle.std.specs.Prelude.{◌≡◌, ◌+◌, ◌++◌, flat_map, Err, IfErr, IfOk};
+ghost use Rattle.std.specs.Prelude.{OnOk};
 ghost use Rattle.flute_journal.specs.Records.{file_header, record_of};
 ghost use Rattle.flute_parts.specs.Devices.{AppendsPart};
 ghost use Rattle.flutejoin.specs.Carousel.{OfInput, SendsInput, SendFails};
 ghost use Rattle.flutejoin.specs.Extract.{SinkFails};
 ghost use Rattle.flutejoin.specs.Sending.{Ends, EndsReading, HasLeft, ReadFailures, TellsLeft};
-ghost use Rattle.flutejoin.specs.declared.command_fault.CommandFault.TheVariants.{OutOfMemory};
 
 pub(crate) mod sending;
 

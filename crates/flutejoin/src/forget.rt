@@ -1,9 +1,5 @@
 //! The command `forget`: entries that are taken out of a journal.
 ghost use Rattle.std.specs.Prelude.{◌≡◌, ◌+◌, IfOk, IfErr};
-ghost use Rattle.flute_streams.specs.ChosenStreams.{chosen_behaviour};
-ghost use Rattle.flute_streams.specs.OwnedStreams.{left_in, owned_behaviour, owned_limit};
-ghost use Rattle.flute_streams.specs.Selections.{leaves};
-ghost use Rattle.flute_streams.specs.Streams.{IsNew};
 ghost use Rattle.flutejoin.specs.Forget.{Forgets, ForgetsPart, ForgetFails};
 ghost use Rattle.flutejoin.specs.Packet.{write_failures};
 ghost use Rattle.flutejoin.specs.Show.{FailsToRead};
@@ -59,33 +55,9 @@ pub fn forget_to<R: Source, W: Sink>(
 {
     input.others = 0;
     input.stream.restart(MAX_ENTRIES);
-    write_rest(alloc, input, sink)
-}
-
-// Writes what a new stream gives of a journal.
-fn write_rest<R: Source, W: Sink>(
-    alloc: Global,
-    rest: &mut ForgetInput<R>,
-    sink: &mut W,
-) -> Result<ForgetCounts, CommandFault>
-    requires new { IsNew (chosen_behaviour (λ c. leaves c.0)
-        (owned_behaviour R.unread R.buffered R.failures)) rest.old }
-    requires most { (owned_behaviour R.unread R.buffered R.failures).most rest.old.stream
-        ≡ MAX_ENTRIES }
-    requires limit { owned_limit rest.old.stream ≡ MAX_ENTRIES }
-    requires others { rest.old.others ≡ 0 }
-    ensures forgot { IfOk result (λ counts. Forgets rest.old.choice.0 counts
-        (left_in R.unread R.buffered rest.old.stream) (W.written sink.old) (W.written sink.new)) }
-    ensures short { IfErr result (λ _. ForgetsPart rest.old.choice.0
-        (left_in R.unread R.buffered rest.old.stream) (W.written sink.old) (W.written sink.new)) }
-    ensures failed { IfErr result (ForgetFails (left_in R.unread R.buffered rest.old.stream)) }
-    ensures read_failures { FailsToRead (R.failures rest.old.stream.source)
-        (R.failures rest.new.stream.source) result }
-    ensures failures { W.failures sink.new ≡ W.failures sink.old + write_failures result }
-{
-    match write_stream(alloc, rest, sink) {
+    match write_stream(alloc, input, sink) {
         Ok(entries) => Ok(ForgetCounts {
-            forgotten: rest.others,
+            forgotten: input.others,
             entries,
         }),
         Err(StreamsFault::Input(fault)) => Err(load_fault(1, fault.fault)),

@@ -1,7 +1,7 @@
 //! The command `gaps`: how much is held of each object of a journal, listed as it is read.
-ghost use Rattle.std.specs.Prelude.{◌≡◌, ◌≢◌, ◌+◌, ◌⊎◌, ◌∷◌, ◌++◌, [], List, ℕ, Bool, Some};
+ghost use Rattle.std.specs.Prelude.{◌≡◌, ◌≢◌, ◌+◌, ◌⊎◌, ◌∷◌, ◌++◌, [], List, Bool, Some};
 ghost use Rattle.std.specs.Prelude.{IfErr, IfOk, Ok, OnOk, if◌then◌else◌, is_ok};
-ghost use Rattle.std.specs.Io.KnownBytes.{Appends, IsAtEnd, Keeps};
+ghost use Rattle.std.specs.Io.KnownBytes.{Appends, IsAtEnd};
 ghost use Rattle.flute_parts.specs.Devices.{AppendsPart};
 ghost use Rattle.flute_parts.specs.declared.fact.Fact.{Fact as Known};
 ghost use Rattle.flute_parts.specs.Facts.{IsRising};
@@ -122,10 +122,10 @@ fn put_aside<const SESSIONS: u32, const OBJECTS: u32, const SYMBOLS: u32, R: Sou
         if !tally.count(&fact.address()) {
             return Err(CommandFault::Full);
         }
-        at_aside(add_selected(&mut listing, selection, style, &fact, lines, gap_lines))?;
+        add_selected(&mut listing, selection, style, &fact, lines, gap_lines)?;
         spare = fact.into_vec(alloc);
     }
-    at_aside(listing.finish(style, lines, gap_lines))
+    Ok(listing.finish(style, lines, gap_lines)?)
 }
 
 // Takes the next fact, if it is selected.
@@ -151,17 +151,5 @@ fn add_selected<A: Aside>(
         listing.add(style, fact, lines, gap_lines)
     } else {
         Ok(())
-    }
-}
-
-// What was done, or that lines could not be put aside.
-fn at_aside<T: Drop>(done: Result<T, DeviceFault>) -> Result<T, CommandFault>
-    ensures same { is_ok result ≡ is_ok done }
-    ensures value { IfOk result (λ x. done ≡ Ok x) }
-    ensures fault { IfErr result (λ fault. fault ≡ CannotWrite) }
-{
-    match done {
-        Ok(value) => Ok(value),
-        Err(_) => Err(CommandFault::CannotWrite),
     }
 }

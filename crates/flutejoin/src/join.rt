@@ -1,6 +1,6 @@
 //! The command `join`: inputs, joined as streams.
 ghost use Rattle.std.specs.Prelude.{◌≡◌, true, false, ◌≤◌, ◌<◌, ◌+◌, ◌-◌, ◌^◌, List, ℕ, length};
-ghost use Rattle.std.specs.Prelude.{flat_map, min, sum_by, None, OnOk, IfOk, IfErr, IfSome, ◌⊎◌};
+ghost use Rattle.std.specs.Prelude.{min, sum_by, None, OnOk, IfOk, IfErr, IfSome, ◌⊎◌};
 ghost use Rattle.std.specs.List.{AllByRecursion};
 ghost use Rattle.flute_parts.specs.Devices.{times_failed};
 ghost use Rattle.flute_parts.specs.declared.fact.Fact.{Fact};
@@ -17,13 +17,13 @@ ghost use Rattle.flutejoin.specs.declared.command_fault.CommandFault.TheVariants
 ghost use Rattle.flutejoin.specs.Asides.{AreHeld, IsNewRun, Makes};
 ghost use Rattle.flutejoin.specs.JoinInputs.{AreInputs};
 ghost use Rattle.flutejoin.specs.InputStreams.{passed_over, NoneFailed, OneFailed};
-ghost use Rattle.flutejoin.specs.Joined.{Choice, choice_of, facts_by};
+ghost use Rattle.flutejoin.specs.Joined.{Choice, choice_of};
 ghost use Rattle.flutejoin.specs.Joining.{JoinsTo};
 ghost use Rattle.flutejoin.specs.JoinFaults.{JoinToFails, NamesOneOf, WantsAside};
 ghost use Rattle.flutejoin.specs.JoinParts.{AreInspected, IsReady, JoinsInspected};
 ghost use Rattle.flutejoin.specs.JoinParts.{joined_behaviour};
 ghost use Rattle.flutejoin.specs.JoinParts.{IsHeld, Ends, NeverStops};
-ghost use Rattle.flutejoin.specs.Limits.{IsCountable, IsOver, at_most};
+ghost use Rattle.flutejoin.specs.Limits.{IsCountable, at_most};
 ghost use Rattle.flutejoin.specs.Status.{of_stop};
 
 pub(crate) mod held_files;
@@ -119,7 +119,9 @@ pub fn join_to<
         alloc, asides, memory, sender, scope, inputs,
     )?;
     if !held.fits {
-        return Err(fault_or_full(alloc, inputs, &held.told.store));
+        // The fault of a journal comes before this.
+        join_inspected(alloc, inputs, &held.told.store, None, &mut Nothing)?;
+        return Err(CommandFault::Full);
     }
     let run = held.run(alloc, asides)?;
     let joined = join_inspected(alloc, inputs, &held.told.store, run, sink)?;
@@ -146,34 +148,6 @@ fn others_of<R>(of_files: u64, inputs: &[JoinInput<R>]) -> u64
         others = others.saturating_add(input.passed_over());
     }
     others
-}
-
-// Why inputs are not joined that were inspected, and whose datagram files alone are over the
-// limits: the first fault of a journal, or else that they are full.
-fn fault_or_full<const SESSIONS: u32, const OBJECTS: u32, const SYMBOLS: u32, R: Source + Drop>(
-    alloc: Global,
-    inputs: &mut [JoinInput<R>],
-    store: &Store<SESSIONS, OBJECTS, SYMBOLS>,
-) -> CommandFault
-    requires few { length inputs.old ≤ 64 }
-    requires countable { IsCountable SESSIONS OBJECTS SYMBOLS }
-    requires ready { AllByRecursion (IsReady R.unread R.buffered R.failures) inputs.old }
-    ensures failed { (choice : Choice) (contents datagrams : List (List ℕ))
-        → choice.most ≡ at_most SESSIONS OBJECTS SYMBOLS
-        → AreInspected R.unread R.buffered choice inputs.old contents datagrams
-        → IsOver choice.most (flat_map (facts_by choice) datagrams)
-        → JoinToFails choice contents result }
-    ensures names { NamesOneOf (length inputs.old) result }
-    ensures no_memory { result ≡ OutOfMemory → ⊥ }
-    ensures no_sink { result ≡ CannotWrite → ⊥ }
-    ensures no_aside { result ≡ CannotPutAside → ⊥ }
-    ensures read_failed { (number : ℕ) → result ≡ Input number Read
-        → OneFailed R.failures number inputs.old inputs.new }
-{
-    match join_inspected(alloc, inputs, store, None, &mut Nothing) {
-        Ok(_) => CommandFault::Full,
-        Err(fault) => fault,
-    }
 }
 
 // Joins the journals among inputs that were inspected, and what is held of the others: in a run, if

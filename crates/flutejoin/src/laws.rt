@@ -11,14 +11,7 @@ ghost use Rattle.flute_streams.specs.declared.choice.selection.Selection.{Select
 ghost use Rattle.flutejoin.specs.declared.forget.ForgetCounts.{ForgetCounts as Counts};
 ghost use Rattle.flutejoin.specs.declared.limits.TheConstants.{MAX_ENTRIES};
 
-use flute_journal::laws::a_file_has_one_reading;
-
-/// A journal of some facts is read as any facts with the same value at each address.
-/// So `extract_to` writes the same of the journal of any inputs with these facts.
-pub fn a_journal_is_read_as_what_was_joined()
-    ensures { (held joined others : List Known) (bs : List ℕ) → IsJournalOf MAX_ENTRIES bs held
-        → IsJournal bs joined → Same joined others → Same held others }
-{}
+use flute_journal::laws::bytes_are_a_file_or_stop;
 
 /// A journal of which entries were forgotten has the others as they were.
 ///
@@ -40,6 +33,8 @@ pub fn forgetting_leaves_the_rest()
 /// - `read`: what a join wrote is read as the facts of its inputs, their conflicts as conflicts.
 /// - `trees`: so it is with joins of what joins wrote, to any depth, each of its own sender and
 ///   objects, if the facts of all that was joined in the first place have the same values.
+/// - `facts`: a journal of some facts is read as any facts with the same value at each address. So
+///   `extract_to` writes the same of the journal of any inputs with these facts.
 pub fn joins_of_the_same_write_the_same()
     ensures bytes { (one two : Choice) (inputs others : List (List ℕ))
         (told further : List InputContent) (bs cs : List ℕ)
@@ -53,7 +48,10 @@ pub fn joins_of_the_same_write_the_same()
         → AreMade inputs → AreMade others
         → Same (leaf_facts one inputs) (leaf_facts two others) → Joined one (bytes_of inputs) bs
         → Joined two (bytes_of others) cs → bs ≡ cs }
+    ensures facts { (held joined others : List Known) (bs : List ℕ)
+        → IsJournalOf MAX_ENTRIES bs held → IsJournal bs joined → Same joined others
+        → Same held others }
 {
     // By this the proof knows that a datagram file contains one list of datagrams.
-    a_file_has_one_reading();
+    bytes_are_a_file_or_stop();
 }

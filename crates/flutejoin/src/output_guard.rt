@@ -9,7 +9,7 @@ use crate::command_fault::CommandFault;
 use flute_journal::{Kind, kind_of};
 
 /// Which files that are there a command overwrites with its output.
-#[derive(Clone, Copy, Debug, PartialEq, Eq)]
+#[derive(Clone, Copy, Debug)]
 pub enum Overwrites {
     /// Any file.
     Any,
@@ -73,21 +73,9 @@ impl Overwrites {
             Overwrites::OtherFiles => match kind_of(first) {
                 Some(Kind::Datagrams) => Err(CommandFault::OutputIsDatagrams),
                 Some(Kind::Journal) => Err(CommandFault::OutputIsJournal),
-                None => check_input(is_input),
+                None if is_input => Err(CommandFault::OutputIsInput),
+                None => Ok(()),
             },
         }
-    }
-}
-
-// An input is not overwritten.
-fn check_input(is_input: bool) -> Result<(), CommandFault>
-    ensures input { is_input ≡ true → result ≡ Err CommandFault.OutputIsInput }
-    ensures other { is_input ≡ false → is_ok result ≡ true }
-    ensures kept { IfErr result IsKeptOutput }
-{
-    if is_input {
-        Err(CommandFault::OutputIsInput)
-    } else {
-        Ok(())
     }
 }

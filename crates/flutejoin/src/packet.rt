@@ -1,17 +1,15 @@
 //! The command `packet`: the four lines of a datagram.
-ghost use Rattle.std.specs.Prelude.{◌≡◌, ◌+◌, if◌then◌else◌, is_ok, IfOk, IfErr, OnOk};
+ghost use Rattle.std.specs.Prelude.{◌≡◌, ◌+◌, IfErr, OnOk};
 ghost use Rattle.std.specs.Io.KnownBytes.{Appends};
-ghost use Rattle.flute_parts.specs.Devices.{Writes};
-ghost use Rattle.flutejoin.specs.Lines.{packet_lines};
 ghost use Rattle.flutejoin.specs.Pieces.{packet_head, payload};
-ghost use Rattle.flutejoin.specs.Packet.{IsHexOf, IsHexFault, HasLines, FailsWith, write_failures};
+ghost use Rattle.flutejoin.specs.Packet.{HasLines, FailsWith, write_failures};
 
 use crate::command_fault::CommandFault;
 use crate::lines::fact_lines::{push_info, push_object, push_symbol_head};
 use crate::lines::hex_digits::HexDigits;
 use crate::lines::report_lines::write_line;
 use crate::lines::text::Text;
-use flute_parts::{DeviceFault, Sender, Sink};
+use flute_parts::{Sender, Sink};
 use flute_wire::{Packet, read};
 use hex::FromHexError;
 use std::alloc::Global;
@@ -30,37 +28,20 @@ pub fn packet_to<W: Sink>(alloc: Global, text: &str, sink: &mut W) -> Result<(),
     ensures failed { IfErr result (FailsWith text.now (W.written sink.old) (W.written sink.new)) }
     ensures failures { W.failures sink.new ≡ W.failures sink.old + write_failures result }
 {
-    let datagram = datagram_of(alloc, text)?;
+    let datagram = match hex::decode(alloc, text) {
+        Ok(bytes) => bytes,
+        Err(FromHexError::OutOfMemory) => return Err(CommandFault::OutOfMemory),
+        Err(_) => return Err(CommandFault::BadHex),
+    };
     let packet = match read(&datagram) {
         Ok(packet) => packet,
         Err(refusal) => return Err(CommandFault::Refused(refusal)),
     };
-    match write_packet(sink, &packet) {
+    let head = head_of(&packet);
+    match write_line(sink, &HexDigits::new(), &head, payload(&packet)) {
         Ok(()) => Ok(()),
         Err(_) => Err(CommandFault::CannotWrite),
     }
-}
-
-// The bytes that the text has in hexadecimal.
-fn datagram_of(alloc: Global, text: &str) -> Result<Vec<u8>, CommandFault>
-    ensures bytes { IfOk result (λ v. IsHexOf text.now v.items) }
-    ensures fault { IfErr result (IsHexFault text.now) }
-{
-    match hex::decode(alloc, text) {
-        Ok(bytes) => Ok(bytes),
-        Err(FromHexError::OutOfMemory) => Err(CommandFault::OutOfMemory),
-        Err(_) => Err(CommandFault::BadHex),
-    }
-}
-
-fn write_packet<W: Sink>(sink: &mut W, packet: &Packet<'_>) -> Result<(), DeviceFault>
-    ensures lines { Writes (W.written sink.old) (W.written sink.new)
-        (packet_lines packet.now) result }
-    ensures failures { W.failures sink.new ≡ W.failures sink.old
-        + (if is_ok result then 0 else 1) }
-{
-    let head = head_of(packet);
-    write_line(sink, &HexDigits::new(), &head, payload(packet))
 }
 
 // All that is written before the symbol's bytes.

@@ -2,7 +2,6 @@
 ghost use Rattle.std.specs.Prelude.{◌≡◌, ◌+◌, ◌∷◌, [], length, if◌then◌else◌, is_ok};
 ghost use Rattle.std.specs.Prelude.{IfErr, IfOk, OnOk};
 ghost use Rattle.flute_parts.specs.Devices.{Writes};
-ghost use Rattle.flutejoin.specs.Lines.{fact_line};
 ghost use Rattle.flutejoin.specs.Pieces.{fact_head, fact_bytes};
 ghost use Rattle.flutejoin.specs.Selected.{selected};
 ghost use Rattle.flutejoin.specs.Show.{FailsToRead, ShowsAll, ShowFails, entry_lines};
@@ -75,17 +74,9 @@ fn write_selected<W: Sink>(
     if !selection.selects(&fact.as_ref()) {
         return Ok(0);
     }
-    write_fact(sink, digits, fact)?;
-    Ok(1)
-}
-
-fn write_fact<W: Sink>(sink: &mut W, digits: &HexDigits, fact: &Fact) -> Result<(), DeviceFault>
-    ensures line { Writes (W.written sink.old) (W.written sink.new) (fact_line fact.now) result }
-    ensures failures { W.failures sink.new ≡ W.failures sink.old
-        + (if is_ok result then 0 else 1) }
-{
     let head = head_of(fact);
-    write_line(sink, digits, &head, bytes_of(fact))
+    write_line(sink, digits, &head, bytes_of(fact))?;
+    Ok(1)
 }
 
 // All of the line before a symbol's bytes.

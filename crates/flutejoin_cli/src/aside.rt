@@ -82,7 +82,7 @@ impl<'a> FileAside<'a> {
     }
 
     // Counts the failure of a call that failed.
-    fn count<T>(&mut self, done: io::Result<T>) -> Result<T, DeviceFault>
+    fn count<T, E: Drop>(&mut self, done: Result<T, E>) -> Result<T, DeviceFault>
         ensures { self.new.failures.count
             ≡ self.old.failures.count + (if is_ok result then 0 else 1) }
     {
@@ -93,17 +93,6 @@ impl<'a> FileAside<'a> {
                 Err(DeviceFault)
             }
         }
-    }
-
-    // Holds more bytes, after those that are held went to the file if there is no room for both.
-    fn hold(&mut self, bytes: &[u8]) -> io::Result<()>
-        ensures { self.new.failures ≡ self.old.failures }
-    {
-        if self.held.len().saturating_add(bytes.len()) > HELD {
-            self.spill()?;
-        }
-        self.held.extend_from_slice(bytes)?;
-        Ok(())
     }
 
     // Writes the bytes that are held to the file, which is made first if there is none.
@@ -140,7 +129,12 @@ impl Sink for FileAside<'_> {
     ghost written = { λ _. None };
 
     fn write(&mut self, bytes: &[u8]) -> Result<usize, DeviceFault> {
-        let held = self.hold(bytes);
+        // Those that are held go to the file if there is no room for both.
+        if self.held.len().saturating_add(bytes.len()) > HELD {
+            let spilled = self.spill();
+            self.count(spilled)?;
+        }
+        let held = self.held.extend_from_slice(bytes);
         self.count(held)?;
         Ok(bytes.len())
     }
@@ -174,18 +168,13 @@ fn copy<W: Sink>(file: &mut File, count: u64, sink: &mut W) -> Result<bool, Devi
     let mut left = count;
     for _ in 0..=count / CHUNK as u64 {
         let part = left.min(CHUNK as u64) as usize;
-        if !reads(file, &mut buffer[..part]) {
+        if file.read_exact(&mut buffer[..part]).is_err() {
             return Ok(false);
         }
         sink.write_all(&buffer[..part])?;
         left -= part as u64;
     }
     Ok(true)
-}
-
-// Whether the file gives so many bytes.
-fn reads(file: &mut File, buffer: &mut [u8]) -> bool {
-    file.read_exact(buffer).is_ok()
 }
 
 // A new file whose path begins so, and whose name is taken away at once. Names that were left
@@ -207,8 +196,13 @@ fn unnamed(rt: &HostRuntime, prefix: &str) -> io::Result<File> {
                 return Ok(file);
             }
             Err(error) if error.kind() == ErrorKind::AlreadyExists => {
-                if is_left(rt, &path) {
-                    let _ = remove(rt, &path);
+                // An empty file was left by a command that was killed, or another is about to take
+                // its name away.
+                match fs::symlink_metadata(rt, &path) {
+                    Ok(found) if found.is_file() && found.len() == 0 => {
+                        let _ = remove(rt, &path);
+                    }
+                    _ => {}
                 }
             }
             Err(error) => return Err(error),
@@ -222,14 +216,5 @@ fn remove(rt: &HostRuntime, path: &str) -> io::Result<()> {
     match fs::remove_file(rt, path) {
         Err(error) if error.kind() != ErrorKind::NotFound => Err(error),
         _ => Ok(()),
-    }
-}
-
-// Whether a path is that of an empty file: a command that was killed left it, or another is about
-// to take its name away.
-fn is_left(rt: &HostRuntime, path: &str) -> bool {
-    match fs::symlink_metadata(rt, path) {
-        Ok(found) => found.is_file() && found.len() == 0,
-        Err(_) => false,
     }
 }

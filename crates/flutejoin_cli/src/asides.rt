@@ -74,12 +74,8 @@ fn temporary(rt: &HostRuntime) -> io::Result<String> {
     Ok(String::from_str(rt.alloc(), path.as_os_str())?)
 }
 
-/// What paths of files beside an output begin with. None if there is no memory.
-pub fn beside(rt: &HostRuntime, out: &str) -> Option<String> {
-    prefix(rt, out).ok()
-}
-
-fn prefix(rt: &HostRuntime, out: &str) -> Result<String, AllocError> {
+/// What paths of files beside an output begin with.
+pub fn beside(rt: &HostRuntime, out: &str) -> Result<String, AllocError> {
     let mut prefix = String::from_str(rt.alloc(), out)?;
     prefix.push_str(".aside.")?;
     Ok(prefix)

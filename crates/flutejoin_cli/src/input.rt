@@ -36,13 +36,9 @@ impl Read for Reader {
 
 /// An input, one of so many, which share the memory for reading. None if there is no memory for it.
 pub fn input_of(rt: &HostRuntime, reader: Reader, among: usize) -> Option<Input> {
-    match BufReader::with_capacity(rt.alloc(), buffer_of(among), reader) {
+    let capacity = (BUFFERS / among.max(1)).max(LEAST_BUFFER).min(BUFFER);
+    match BufReader::with_capacity(rt.alloc(), capacity, reader) {
         Ok(reader) => Some(BufferedSource::new(reader)),
         Err(_) => None,
     }
-}
-
-/// How many bytes are read at once of each of so many inputs.
-fn buffer_of(among: usize) -> usize {
-    (BUFFERS / among.max(1)).max(LEAST_BUFFER).min(BUFFER)
 }

@@ -12,9 +12,10 @@ mod input;
 mod streams;
 mod system;
 
-use crate::streams::{standard_error, standard_output};
+use crate::streams::standard_output;
 use crate::system::System;
 use flute_output::take_standard_streams;
+use flute_parts::StdSink;
 use flutejoin::CommandFault;
 use flutejoin_run::run;
 use std::env;
@@ -34,18 +35,25 @@ fn end(rt: &HostRuntime, done: Result<(), CommandFault>) -> ExitCode
 {
     match done {
         Ok(()) => ExitCode::SUCCESS,
-        Err(CommandFault::CommandLine(error)) => tell(rt, &error),
+        // A refusal goes to standard error, and help and the version to standard output.
+        Err(CommandFault::CommandLine(error)) => match error.print(rt) {
+            Err(_) if !error.use_stderr() => fail(rt, &CommandFault::CannotWrite),
+            _ => ExitCode::from(error.exit_code() as u8),
+        },
         Err(fault) => fail(rt, &fault),
     }
 }
 
 fn run_words(rt: &HostRuntime) -> Result<(), CommandFault> {
-    let words = words_of(rt).map_err(|error| match error.kind() {
-        ErrorKind::OutOfMemory => CommandFault::OutOfMemory,
-        _ => CommandFault::NotText,
-    })?;
+    let words = match words_of(rt) {
+        Ok(words) => words,
+        Err(error) if error.kind() == ErrorKind::OutOfMemory => {
+            return Err(CommandFault::OutOfMemory);
+        }
+        Err(_) => return Err(CommandFault::NotText),
+    };
     let mut output = standard_output(rt)?;
-    let mut errors = standard_error(rt);
+    let mut errors = StdSink::new(rt.stderr());
     run(
         &mut System::new(rt),
         rt.alloc(),
@@ -60,15 +68,6 @@ fn run_words(rt: &HostRuntime) -> Result<(), CommandFault> {
 fn words_of(rt: &HostRuntime) -> io::Result<Vec<String>> {
     let words = env::args(rt)?.skip(1).collect(rt.alloc())?;
     Ok(words)
-}
-
-/// Prints what the parser says: a refusal to standard error, and help and the
-/// version to standard output.
-fn tell(rt: &HostRuntime, error: &clap::Error) -> ExitCode {
-    match error.print(rt) {
-        Err(_) if !error.use_stderr() => fail(rt, &CommandFault::CannotWrite),
-        _ => ExitCode::from(error.exit_code() as u8),
-    }
 }
 
 /// Prints the fault on standard error, and returns its status.

@@ -1,10 +1,8 @@
-//! Standard output and standard error.
+//! Standard output.
 
-use flute_parts::StdSink;
 use flutejoin::CommandFault;
 use flutejoin_commands::StdReport;
 use std::io::{self, BufWriter, Printer};
-use std::rt::Stderr;
 
 /// How many bytes are written at once.
 const BUFFER: usize = 131_072;
@@ -12,18 +10,10 @@ const BUFFER: usize = 131_072;
 /// Standard output, whose bytes wait in memory until a flush.
 pub type Output<'a> = StdReport<BufWriter<Printer<'a, HostRuntime>>>;
 
-/// Standard error.
-pub type Errors = StdSink<Stderr>;
-
 /// Standard output. No later call asks for memory.
 pub fn standard_output(rt: &HostRuntime) -> Result<Output<'_>, CommandFault> {
     match BufWriter::with_capacity(rt.alloc(), BUFFER, io::writer(rt)) {
         Ok(writer) => Ok(StdReport::new(writer)),
         Err(_) => Err(CommandFault::OutOfMemory),
     }
-}
-
-/// Standard error.
-pub fn standard_error(rt: &HostRuntime) -> Errors {
-    StdSink::new(rt.stderr())
 }

@@ -32,6 +32,7 @@ pub struct System<'a> {
     before: Option<FileId>,
     /// Which files the inputs are that were opened, as far as the system reports it.
     files: Vec<FileId>,
+    /// How many bytes the last of them has, if it is a regular file that is not small.
     size: Option<u64>,
     /// What paths of files beside OUT begin with, if it is a file or nothing.
     beside: Option<String>,
@@ -74,8 +75,8 @@ impl Inputs for System<'_> {
         };
         self.size = None;
         if let Some(found) = found {
-            if path != STANDARD {
-                self.size = known_size(&found);
+            if path != STANDARD && found.is_file() && found.len() >= LEAST_SIZE {
+                self.size = Some(found.len());
             }
             if self.files.push(FileId::of(&found)).is_err() {
                 return Err(NotOpened::OutOfMemory);
@@ -96,8 +97,12 @@ impl<'a> World for System<'a> {
 
     fn look(&mut self, out: &str) {
         self.before = file_at(self.rt, out);
-        self.beside = if is_file_name(self.rt, out) {
-            beside(self.rt, out)
+        let is_file = match fs::metadata(self.rt, out) {
+            Ok(found) => found.is_file(),
+            Err(_) => out != STANDARD,
+        };
+        self.beside = if is_file {
+            beside(self.rt, out).ok()
         } else {
             None
         };
@@ -112,7 +117,7 @@ impl<'a> World for System<'a> {
     fn guard(&mut self, out: &str, overwrites: Overwrites) -> Result<(), CommandFault> {
         match Found::at(self.rt, out) {
             Some(found) if out != STANDARD => {
-                overwrites.check(found.first_bytes(), self.files.contains(&found.id()))?;
+                overwrites.check(found.first_bytes(), self.files.contains(&found.id))?;
                 Ok(())
             }
             _ => Ok(()),
@@ -162,22 +167,5 @@ fn reader_at(rt: &HostRuntime, path: &str) -> io::Result<(Reader, Option<Metadat
     match found {
         Some(found) if found.is_dir() => Err(ErrorKind::IsADirectory.into()),
         found => Ok((reader, found)),
-    }
-}
-
-/// Whether an output with this name is a file, or becomes one.
-fn is_file_name(rt: &HostRuntime, out: &str) -> bool {
-    match fs::metadata(rt, out) {
-        Ok(found) => found.is_file(),
-        Err(_) => out != STANDARD,
-    }
-}
-
-/// How many bytes a regular file has that is not small; of anything else it is not known.
-fn known_size(found: &Metadata) -> Option<u64> {
-    if found.is_file() && found.len() >= LEAST_SIZE {
-        Some(found.len())
-    } else {
-        None
     }
 }

@@ -1,5 +1,4 @@
 mod Closed
-pub mod Failing
 mod Checks
 pub mod LeftFiles
 pub mod ObjectBytes

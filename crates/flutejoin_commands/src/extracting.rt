@@ -1,9 +1,8 @@
 //! The command `extract`.
+ghost use Rattle.std.specs.Prelude.{true};
 ghost use Rattle.flutejoin.specs.Limits.{limits_of};
-ghost use Rattle.flutejoin_commands.specs.Commands.{CouldBeDone};
 ghost use Rattle.flutejoin_commands.specs.Works.{WritesObject, ExtractFails, bytes_line};
 
-use crate::nothing::{Nothing, fault_or};
 use crate::work::Work;
 use flute_parts::{Key, Sink, Source};
 use flutejoin::{
@@ -25,14 +24,15 @@ pub struct ExtractWork<R> {
 impl<R: Source + Drop> Work for ExtractWork<R> {
     type Answer = u64;
 
+    const IS_TRIED: bool = true;
+
+    ghost IS_TRIED = { true };
+
     ghost writes = { λ w. WritesObject (limits_of w.any_size) (R.unread w.source) w.key };
 
     ghost fails = { λ w. ExtractFails (limits_of w.any_size) (R.unread w.source) w.key };
 
     ghost tells = { λ _. bytes_line };
-
-    ghost clears = { λ w. CouldBeDone
-        (WritesObject (limits_of w.any_size) (R.unread w.source) w.key) };
 
     fn write<W: Sink>(&mut self, sink: &mut W) -> Result<u64, CommandFault> {
         let source = &mut self.source;
@@ -45,10 +45,6 @@ impl<R: Source + Drop> Work for ExtractWork<R> {
                 self.alloc, source, &self.key, sink,
             )
         }
-    }
-
-    fn without_output(&mut self, reason: CommandFault) -> CommandFault {
-        fault_or(self.write(&mut Nothing), reason)
     }
 
     fn lines(&self, bytes: &u64) -> Text {

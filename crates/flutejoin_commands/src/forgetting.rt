@@ -1,9 +1,8 @@
 //! The command `forget`.
+ghost use Rattle.std.specs.Prelude.{true};
 ghost use Rattle.flutejoin.specs.Forget.{ForgetFails};
-ghost use Rattle.flutejoin_commands.specs.Commands.{CouldBeDone};
 ghost use Rattle.flutejoin_commands.specs.Works.{ForgetsIn, forget_lines};
 
-use crate::nothing::{Nothing, fault_or};
 use crate::work::Work;
 use flute_parts::{Sink, Source};
 use flutejoin::{CommandFault, ForgetCounts, ForgetInput, Text, forget_to};
@@ -19,21 +18,18 @@ pub struct ForgetWork<R> {
 impl<R: Source + Drop> Work for ForgetWork<R> {
     type Answer = ForgetCounts;
 
+    const IS_TRIED: bool = true;
+
+    ghost IS_TRIED = { true };
+
     ghost writes = { λ w. ForgetsIn (R.unread w.input.stream.source) w.input.choice.0 };
 
     ghost fails = { λ w. ForgetFails (R.unread w.input.stream.source) };
 
     ghost tells = { λ _. forget_lines };
 
-    ghost clears = { λ w. CouldBeDone
-        (ForgetsIn (R.unread w.input.stream.source) w.input.choice.0) };
-
     fn write<W: Sink>(&mut self, sink: &mut W) -> Result<ForgetCounts, CommandFault> {
         forget_to(self.alloc, &mut self.input, sink)
-    }
-
-    fn without_output(&mut self, reason: CommandFault) -> CommandFault {
-        fault_or(self.write(&mut Nothing), reason)
     }
 
     fn lines(&self, counts: &ForgetCounts) -> Text {

@@ -6,10 +6,8 @@ ghost use Rattle.flutejoin.specs.Joined.{choice_of};
 ghost use Rattle.flutejoin.specs.Joining.{JoinsTo};
 ghost use Rattle.flutejoin.specs.Limits.{limits_of};
 ghost use Rattle.flutejoin.specs.declared.command_fault.CommandFault.TheVariants.{CannotWrite};
-ghost use Rattle.flutejoin_commands.specs.Commands.{CouldBeDone};
 ghost use Rattle.flutejoin_commands.specs.Works.{JoinsAll, JoinAllFails, join_lines};
 
-use crate::nothing::{Nothing, fault_or};
 use crate::work::Work;
 use flute_parts::{Sender, Sink, Source};
 use flute_streams::Scope;
@@ -81,6 +79,10 @@ impl<R: Source + Drop, A: Asides<Input = R>> JoinWork<R, A> {
 impl<R: Source + Drop, A: Asides<Input = R>> Work for JoinWork<R, A> {
     type Answer = JoinCounts;
 
+    const IS_TRIED: bool = true;
+
+    ghost IS_TRIED = { true };
+
     ghost writes = { λ w. JoinsAll R.unread (A.tells w.asides) (limits_of w.any_size) w.sender
         w.scope w.inputs.items };
 
@@ -89,19 +91,12 @@ impl<R: Source + Drop, A: Asides<Input = R>> Work for JoinWork<R, A> {
 
     ghost tells = { λ w. join_lines w.scope };
 
-    ghost clears = { λ w. CouldBeDone (JoinsAll R.unread (A.tells w.asides)
-        (limits_of w.any_size) w.sender w.scope w.inputs.items) };
-
     fn write<W: Sink>(&mut self, sink: &mut W) -> Result<JoinCounts, CommandFault> {
         let counts = self.join(sink)?;
         if counts.entries > MAX_ENTRIES {
             return Err(CommandFault::Full);
         }
         Ok(counts)
-    }
-
-    fn without_output(&mut self, reason: CommandFault) -> CommandFault {
-        fault_or(self.write(&mut Nothing), reason)
     }
 
     fn lines(&self, counts: &JoinCounts) -> Text {

@@ -4,6 +4,7 @@ ghost use Rattle.flutejoin_commands.specs.Closings.{ClosesWhole};
 ghost use Rattle.flutejoin_commands.specs.Outlets.{Held, FailsHeld};
 ghost use Rattle.flutejoin_commands.specs.Worlds.{Leaves, FailsToLeave, outside};
 
+use crate::no_output::without_output;
 use crate::outlet::Outlet;
 use crate::outlet_command::{write_held, write_through};
 use crate::output_command::write_into;
@@ -98,7 +99,7 @@ fn put<W: World, K: Work + Drop, O: Outlet, E: Sink>(
         }
         Ok(Place::Device(mut device)) => write_through(&mut device, work, output),
         Ok(Place::StandardOutput) => write_through(output, work, errors),
-        Err(fault) => Err(work.without_output(fault)),
+        Err(fault) => Err(without_output(&mut work, fault)),
     }
 }
 
@@ -129,6 +130,6 @@ fn put_held<W: World, K: Work + Drop, O: Outlet, E: Sink>(
         }
         Ok(Place::Device(mut device)) => write_held(alloc, &mut device, work, output),
         Ok(Place::StandardOutput) => write_held(alloc, output, work, errors),
-        Err(fault) => Err(work.without_output(fault)),
+        Err(fault) => Err(without_output(&mut work, fault)),
     }
 }

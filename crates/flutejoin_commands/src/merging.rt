@@ -1,5 +1,5 @@
 //! The command `merge`.
-ghost use Rattle.std.specs.Prelude.{⊤};
+ghost use Rattle.std.specs.Prelude.{false};
 ghost use Rattle.flutejoin.specs.Lines.{entries_line};
 ghost use Rattle.flutejoin_commands.specs.Works.{MergeReadFails, MergesRead};
 
@@ -19,13 +19,16 @@ pub struct MergeWork<A, B> {
 impl<A: Source + Drop, B: Source + Drop> Work for MergeWork<A, B> {
     type Answer = u64;
 
+    // Its journals are not read if there is no output.
+    const IS_TRIED: bool = false;
+
+    ghost IS_TRIED = { false };
+
     ghost writes = { λ w. MergesRead (A.unread w.first) (B.unread w.second) };
 
     ghost fails = { λ w. MergeReadFails (A.unread w.first) (B.unread w.second) };
 
     ghost tells = { λ _. entries_line };
-
-    ghost clears = { λ _. ⊤ };
 
     fn write<W: Sink>(&mut self, sink: &mut W) -> Result<u64, CommandFault> {
         let entries = merge_to(self.alloc, &mut self.first, &mut self.second, sink)?;
@@ -33,11 +36,6 @@ impl<A: Source + Drop, B: Source + Drop> Work for MergeWork<A, B> {
             return Err(CommandFault::Full);
         }
         Ok(entries)
-    }
-
-    // Its journals are not read then.
-    fn without_output(&mut self, reason: CommandFault) -> CommandFault {
-        reason
     }
 
     fn lines(&self, entries: &u64) -> Text {

@@ -1,9 +1,10 @@
 //! A command whose output takes its bytes itself.
-ghost use Rattle.std.specs.Prelude.{◌≡◌, ◌≢◌, OnOk, IfErr};
+ghost use Rattle.std.specs.Prelude.{◌≡◌, ◌≢◌, true, OnOk, IfErr};
 ghost use Rattle.flutejoin.specs.declared.command_fault.CommandFault.TheVariants.{CannotWrite};
 ghost use Rattle.flutejoin_commands.specs.Commands.{CouldBeDone};
 ghost use Rattle.flutejoin_commands.specs.Outlets.{PutsOut, FailsOut, Held, FailsHeld, outlets};
 
+use crate::no_output::without_output;
 use crate::outlet::Outlet;
 use crate::work::Work;
 use flute_parts::{MemorySink, Sink};
@@ -16,7 +17,7 @@ use std::alloc::Global;
 /// # Errors
 ///
 /// The fault of the work, which comes first; `CannotCreate` if the output could not be opened, as
-/// [`Work::without_output`] says; `CannotWrite` if it failed. Nothing is reported then, and the
+/// [`without_output`] says; `CannotWrite` if it failed. Nothing is reported then, and the
 /// output keeps what it took. Last, `CannotWrite` if the report failed.
 pub fn write_through<O: Outlet, K: Work + Drop, P: Sink>(
     output: &mut O,
@@ -30,14 +31,14 @@ pub fn write_through<O: Outlet, K: Work + Drop, P: Sink>(
         (P.written report.new) (P.failures report.new))) }
     ensures handed_on { OnOk result (O.handed_on output.new ≡ O.written output.new) }
     ensures failed { IfErr result (FailsOut (K.writes work) (K.fails work) (K.tells work)
-        (K.clears work) (CouldBeDone (K.writes work))
+        (K.IS_TRIED ≡ true → CouldBeDone (K.writes work)) (CouldBeDone (K.writes work))
         (outlets (O.written output.old) (O.failures output.old)
         (P.written report.old) (P.failures report.old))
         (outlets (O.written output.new) (O.failures output.new)
         (P.written report.new) (P.failures report.new))) }
 {
     if output.open().is_err() {
-        return Err(work.without_output(CommandFault::CannotCreate));
+        return Err(without_output(&mut work, CommandFault::CannotCreate));
     }
     let answer = work.write(output)?;
     if output.flush().is_err() {

@@ -1,10 +1,12 @@
 //! A command that writes an output.
-ghost use Rattle.std.specs.Prelude.{◌≡◌, option_map, OnOk, IfErr};
+ghost use Rattle.std.specs.Prelude.{◌≡◌, true, option_map, OnOk, IfErr};
 ghost use Rattle.flute_output.specs.Entries.{found_in, named_in};
 ghost use Rattle.flutejoin_commands.specs.Commands.{Succeeds, Fails, FailsWriting, IsWholeAlways};
-ghost use Rattle.flutejoin_commands.specs.Commands.{WasWholeAlways, devices, with_beside};
+ghost use Rattle.flutejoin_commands.specs.Commands.{CouldBeDone, WasWholeAlways};
+ghost use Rattle.flutejoin_commands.specs.Commands.{devices, with_beside};
 
 use crate::begun_output::{Begun, BegunOutput};
+use crate::no_output::without_output;
 use crate::work::Work;
 use flute_output::{FinishFault, Folder, Output};
 use flute_parts::Sink;
@@ -17,7 +19,7 @@ use std::marker::{Brand, PhantomData};
 /// # Errors
 ///
 /// The fault of the work, which comes first; `CannotCreate` if the output could not be made, as
-/// [`Work::without_output`] says; `CannotWrite` if only it could not be written or put in its
+/// [`without_output`] says; `CannotWrite` if only it could not be written or put in its
 /// place. OUT is then as it was, the file beside it is gone, unless the folder failed to remove it,
 /// and nothing is reported. `NotOnDisk` if OUT is the new file, but the disk did not confirm that
 /// it has this name: nothing is reported either. Last, `CannotWrite` if the report failed: OUT is
@@ -33,7 +35,7 @@ pub fn write_into<F: Folder + Drop, K: Work + Drop, P: Sink>(
         (devices (F.entries result.1) (F.failures result.1)
         (P.written report.new) (P.failures report.new))) }
     ensures failed { IfErr result.0 (Fails (K.writes work) (K.fails work) (K.tells work)
-        (K.clears work)
+        (K.IS_TRIED ≡ true → CouldBeDone (K.writes work))
         (devices (F.entries folder) (F.failures folder)
         (P.written report.old) (P.failures report.old))
         (devices (F.entries result.1) (F.failures result.1)
@@ -42,7 +44,10 @@ pub fn write_into<F: Folder + Drop, K: Work + Drop, P: Sink>(
 {
     match Output::create(folder) {
         Ok(output) => write_created::<F, K, P, Brand>(output, work, report),
-        Err(folder) => (Err(work.without_output(CommandFault::CannotCreate)), folder),
+        Err(folder) => (
+            Err(without_output(&mut work, CommandFault::CannotCreate)),
+            folder,
+        ),
     }
 }
 

@@ -1,8 +1,7 @@
 //! The command `carousel`.
-ghost use Rattle.flutejoin_commands.specs.Commands.{CouldBeDone};
+ghost use Rattle.std.specs.Prelude.{true};
 ghost use Rattle.flutejoin_commands.specs.Works.{SendReadFails, SendsRead, datagrams_line};
 
-use crate::nothing::{Nothing, fault_or};
 use crate::work::Work;
 use flute_parts::{Key, Sink, Source};
 use flutejoin::{CommandFault, MAX_ENTRIES, Text, send_to};
@@ -23,13 +22,15 @@ pub struct SendWork<R> {
 impl<R: Source + Drop> Work for SendWork<R> {
     type Answer = u64;
 
+    const IS_TRIED: bool = true;
+
+    ghost IS_TRIED = { true };
+
     ghost writes = { λ w. SendsRead (R.unread w.source) w.key w.symbol w.block };
 
     ghost fails = { λ w. SendReadFails (R.unread w.source) w.key w.symbol w.block };
 
     ghost tells = { λ _. datagrams_line };
-
-    ghost clears = { λ w. CouldBeDone (SendsRead (R.unread w.source) w.key w.symbol w.block) };
 
     fn write<W: Sink>(&mut self, sink: &mut W) -> Result<u64, CommandFault> {
         let datagrams = send_to(
@@ -45,10 +46,6 @@ impl<R: Source + Drop> Work for SendWork<R> {
             return Err(CommandFault::Full);
         }
         Ok(datagrams)
-    }
-
-    fn without_output(&mut self, reason: CommandFault) -> CommandFault {
-        fault_or(self.write(&mut Nothing), reason)
     }
 
     fn lines(&self, count: &u64) -> Text {

@@ -7,7 +7,7 @@ use std::io::Write;
 
 /// A report over a writer that buffers, as standard output. Contracts see none of its
 /// bytes.
-#[derive(Debug, Drop)]
+#[derive(Drop)]
 pub struct StdReport<W> {
     sink: StdSink<W>,
 }

@@ -1,5 +1,5 @@
 //! The work of a command that writes an output.
-ghost use Rattle.std.specs.Prelude.{◌≡◌, ◌⊎◌, ◌+◌, List, ℕ, Option, OnOk, IfOk, IfErr};
+ghost use Rattle.std.specs.Prelude.{◌≡◌, ◌+◌, Bool, List, ℕ, Option, OnOk, IfOk, IfErr};
 ghost use Rattle.flutejoin.specs.declared.command_fault.CommandFault.TheVariants.{CannotWrite};
 ghost use Rattle.flutejoin.specs.declared.command_fault.CommandFault.{CommandFault as Fault};
 
@@ -10,6 +10,11 @@ use flutejoin::{CommandFault, Text};
 pub trait Work {
     type Answer: Drop;
 
+    /// Whether it is tried if there is no output, since a fault of its inputs comes before that.
+    const IS_TRIED: bool;
+
+    ghost IS_TRIED: { Bool };
+
     // What it writes, from what its sink had taken to what it has, if it returns this.
     ghost writes: { Self → Self.Answer → Option (List ℕ) → Option (List ℕ) → Type 0 };
 
@@ -18,9 +23,6 @@ pub trait Work {
 
     // The lines that report an answer.
     ghost tells: { Self → Self.Answer → List ℕ };
-
-    // What is known of its inputs if the fault is that there is no output.
-    ghost clears: { Self → Type 0 };
 
     /// Does the work.
     ///
@@ -35,12 +37,6 @@ pub trait Work {
         ensures quiet { OnOk result (W.failures sink.new ≡ W.failures sink.old) }
         ensures cause { IfErr result (λ fault. fault ≡ CannotWrite
             → W.failures sink.new ≡ W.failures sink.old + 1) };
-
-    /// The fault if there is no output, for this reason: a fault of the work that comes
-    /// before that, or the reason.
-    fn without_output(&mut self, reason: CommandFault) -> CommandFault
-        ensures first { fails self.old result ⊎ ((result ≡ reason) × clears self.old) }
-        ensures nothing_failed { result ≡ CannotWrite → reason ≡ CannotWrite };
 
     /// The lines that report an answer.
     fn lines(&self, answer: &Self::Answer) -> Text

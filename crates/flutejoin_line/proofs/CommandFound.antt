@@ -3,7 +3,8 @@ use Rattle.std.proofs.Common.{◌≡◌, ℕ, Bool, true, false, not, ◌&&◌, 
 use Rattle.std.proofs.Common.{if◌then◌else◌, List, [], ◌∷◌, ◌++◌, Option, None}
 use Rattle.std.proofs.Common.{Some, IfSome, IsSomeAnd, is_some}
 use Rattle.std.proofs.Common.{bytes_eq, codes, find, fold, map, option_map, refl, subst, sym, ap}
-use Rattle.std.proofs.Common.{◌∙◌, true≢false}
+use Rattle.std.proofs.Common.{◌∙◌, true≢false, Result, Ok, Err, inr}
+use Rattle.std.specs.Prelude.{MatchResult}
 use Rattle.std.specs.List.{list_any}
 use Rattle.std.proofs.lemmas.Slice.Eq.{bytes_eq-Decides}
 use Rattle.clap.specs.Faults.{built_fault, defaults_fault, entered_fault, other_fault, settle_fault}
@@ -21,8 +22,11 @@ use Rattle.clap.specs.Walk.{subcommand, subcommand_met, subcommand_or_other, to_
 use Rattle.clap.specs.Walk.{finished, trailing, value, waits, walk, walk_from, walked}
 use Rattle.clap.specs.Walk.{walked_from, word_met}
 use Rattle.clap.specs.declared.error.kind.ErrorKind.TheVariants as kind
+use Rattle.flutejoin_line.specs.CommandLine.{IsFault, IsFaultIn, IsFaultOf, IsLine, IsLineIn, IsLineOf}
 use Rattle.flutejoin_line.specs.CommandLine.{is_command}
 use Rattle.flutejoin_line.specs.Parser.{command_in, program, refusals_of}
+use Rattle.flutejoin_line.specs.declared.line.Line.{Line}
+use Rattle.flutejoin.specs.declared.command_fault.CommandFault.{CommandFault}
 
 -- ---- no word is `help`
 
@@ -257,3 +261,24 @@ pub command_known : (words : List Text) → refusals_of words ≡ []
 unfolding refusals_of command_in program
 command_known words e =
     a_subcommand (built program) (argument_words program words) help_is_last refl e
+
+abbrev IsKnown : Option (Text × List Row) → Type 0
+IsKnown found = IsSomeAnd found (λ it. is_command it.0 ≡ true)
+
+-- what the words name is such a command
+pub none_named : (words : List Text) (found : Option (Text × List Row)) → refusals_of words ≡ []
+    → found ≡ command_in words → None ≡ option_map (λ it. it.1) found → ⊥
+none_named words None taken is none = subst IsKnown (sym is) (command_known words taken)
+none_named words (Some it) taken is none = absurd cc
+
+module _ (words : List Text) {name : Text} {rows : List Row} (taken : refusals_of words ≡ [])
+    (is : Some (name, rows) ≡ command_in words) where
+  pub name_known : is_command name ≡ true
+  name_known = subst IsKnown (sym is) (command_known words taken)
+
+  -- and its line is that of the words
+  pub line_named : (told : Result Line CommandFault)
+      → MatchResult told (IsLine name rows) (IsFault name rows)
+      → MatchResult told (IsLineIn words) (IsFaultIn words)
+  line_named (Ok line) h = (taken, subst (λ o. IsLineOf o line) is h)
+  line_named (Err fault) h = inr (taken, subst (λ o. IsFaultOf o fault) is h)

@@ -13,7 +13,8 @@ The sender's address, as 10.0.0.1, 2001:db8::1 or its 8 or 32 hexadecimal digits
 is ::, and not 0.0.0.0 (but any sender with `show`, `gaps`, \
 `forget` and `extract --all`)";
 
-const MEMORY_HELP: &str = "\
+/// What is told of `--memory`.
+pub const MEMORY_HELP: &str = "\
 Hold at most SIZE bytes of datagram files in memory, 256M by default: the rest is put aside in a \
 file without a name beside OUT, or in TMPDIR for `-o -`";
 
@@ -82,17 +83,6 @@ fn flag<'a>(alloc: Global, help: &'a str) -> Arg<'a>
         .help(help)
 }
 
-/// The flag of `extract` for all objects.
-pub fn all<'a>(alloc: Global) -> Arg<'a>
-    ensures { IsArgument (long_flag (codes "all")) result }
-{
-    long_flag(
-        alloc,
-        "all",
-        "Write each whole object to a file of OUT, a new folder; with --tsi up to 64 times",
-    )
-}
-
 /// The flag that lifts the limits of a store.
 pub fn any_size<'a>(alloc: Global) -> Arg<'a>
     ensures { IsArgument (long_flag (codes "any-size")) result }
@@ -104,13 +94,6 @@ pub fn any_size<'a>(alloc: Global) -> Arg<'a>
     )
 }
 
-/// How much of datagram files a join holds in memory.
-pub fn memory<'a>(alloc: Global) -> Arg<'a>
-    ensures { IsArgument (option (codes "memory")) result }
-{
-    value(alloc, "memory", "SIZE", MEMORY_HELP)
-}
-
 /// The flag for conflicts alone.
 pub fn conflicts<'a>(alloc: Global) -> Arg<'a>
     ensures { IsArgument (long_flag (codes "conflicts")) result }
@@ -120,53 +103,6 @@ pub fn conflicts<'a>(alloc: Global) -> Arg<'a>
         "conflicts",
         "Only symbols and information of which two values were told",
     )
-}
-
-/// The flag of `gaps` for objects with conflicts alone.
-pub fn conflicting_objects<'a>(alloc: Global) -> Arg<'a>
-    ensures { IsArgument (long_flag (codes "conflicts")) result }
-{
-    long_flag(
-        alloc,
-        "conflicts",
-        "Only objects with conflicting information or symbols, and no other gaps",
-    )
-}
-
-/// The flag of `gaps` for a line for each session.
-pub fn summary<'a>(alloc: Global) -> Arg<'a>
-    ensures { IsArgument (long_flag (codes "summary")) result }
-{
-    long_flag(
-        alloc,
-        "summary",
-        "A line for each session: how many of its objects are whole, and what the others lack",
-    )
-}
-
-/// The flag of `gaps` by which an object that is not whole is a fault.
-pub fn check<'a>(alloc: Global) -> Arg<'a>
-    ensures { IsArgument (long_flag (codes "check")) result }
-{
-    long_flag(
-        alloc,
-        "check",
-        "End with status 1 if an object that is listed is not whole",
-    )
-}
-
-/// The flag for files alone.
-pub fn no_fdt<'a>(alloc: Global) -> Arg<'a>
-    ensures { IsArgument (long_flag (codes "no-fdt")) result }
-{
-    long_flag(alloc, "no-fdt", "No FDT Instances, which have the TOI 0")
-}
-
-/// The flag for information alone.
-pub fn information<'a>(alloc: Global) -> Arg<'a>
-    ensures { IsArgument (long_flag (codes "info")) result }
-{
-    long_flag(alloc, "info", "Only the information of objects")
 }
 
 /// A symbol by its block and its number there.
@@ -181,8 +117,8 @@ pub fn symbol_id<'a>(alloc: Global) -> Arg<'a>
     )
 }
 
-// A flag that has no short name.
-fn long_flag<'a>(alloc: Global, name: &'a str, help: &'a str) -> Arg<'a>
+/// A flag that has no short name.
+pub fn long_flag<'a>(alloc: Global, name: &'a str, help: &'a str) -> Arg<'a>
     ensures { IsArgument (long_flag name.entry.now) result }
 {
     Arg::new(alloc, name)
@@ -244,17 +180,6 @@ pub fn instance<'a>(alloc: Global) -> Arg<'a>
     number(alloc, "fdt", "The FDT Instance ID, with --toi 0 alone")
 }
 
-/// The transfer length of an object.
-pub fn length<'a>(alloc: Global) -> Arg<'a>
-    ensures { IsArgument (option (codes "length")) result }
-{
-    number(
-        alloc,
-        "length",
-        "The transfer length: how many bytes the object has",
-    )
-}
-
 /// How long its symbols are.
 pub fn symbol<'a>(alloc: Global) -> Arg<'a>
     ensures { IsArgument (option (codes "symbol")) result }
@@ -287,13 +212,15 @@ pub fn source<'a>(alloc: Global) -> Arg<'a>
     value(alloc, "source", "ADDRESS", SOURCE_HELP)
 }
 
-fn number<'a>(alloc: Global, name: &'a str, help: &'a str) -> Arg<'a>
+/// An option whose value is a number.
+pub fn number<'a>(alloc: Global, name: &'a str, help: &'a str) -> Arg<'a>
     ensures { IsArgument (option name.entry.now) result }
 {
     value(alloc, name, "N", help)
 }
 
-fn value<'a>(alloc: Global, name: &'a str, value_name: &'a str, help: &'a str) -> Arg<'a>
+/// An option with one value, which the help names so.
+pub fn value<'a>(alloc: Global, name: &'a str, value_name: &'a str, help: &'a str) -> Arg<'a>
     ensures { IsArgument (option name.entry.now) result }
 {
     Arg::new(alloc, name)

@@ -55,27 +55,8 @@ fn extract_one<'a>(matches: &ArgMatches<'a>) -> Result<Line<'a>, CommandFault>
     ensures { let rows = found_rows matches.now in
         MatchResult result (IsLine (codes "extract") rows) (IsOneFault rows) }
 {
-    has_key(matches)?;
-    object_of(matches)
-}
-
-// Its session and TOI are given once.
-fn has_key(matches: &ArgMatches<'_>) -> Result<(), CommandFault>
-    ensures { let rows = found_rows matches.now in
-        MatchResult result (λ _. first_unfit extract_form rows ≡ None)
-        (IsFormFault extract_form (λ _. ⊥) rows) }
-{
     given(matches, "tsi", 1)?;
-    given(matches, "toi", 1)
-}
-
-fn object_of<'a>(matches: &ArgMatches<'a>) -> Result<Line<'a>, CommandFault>
-    requires all { IsFlag (codes "all") (found_rows matches.now) false }
-    requires form { first_unfit extract_form (found_rows matches.now) ≡ None }
-    ensures { let rows = found_rows matches.now in
-        MatchResult result (IsLine (codes "extract") rows)
-        (IsKeyFault (key_options rows) (HasSource rows) rows) }
-{
+    given(matches, "toi", 1)?;
     let numbers = KeyNumbers::of(matches)?;
     let sender = source(matches)?;
     let key = numbers.key(sender)?;

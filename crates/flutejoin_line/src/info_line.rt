@@ -64,29 +64,6 @@ fn info_one<'a>(matches: &ArgMatches<'a>) -> Result<Line<'a>, CommandFault>
         MatchResult result (IsLine (codes "info") rows) (IsNumbersFault rows) }
 {
     has_numbers(matches)?;
-    numbers_of(matches)
-}
-
-// Each number is given once.
-fn has_numbers(matches: &ArgMatches<'_>) -> Result<(), CommandFault>
-    ensures { let rows = found_rows matches.now in
-        MatchResult result (λ _. first_unfit info_form rows ≡ None)
-        (IsFormFault info_form (λ _. ⊥) rows) }
-{
-    given(matches, "tsi", 1)?;
-    given(matches, "toi", 1)?;
-    given(matches, "length", 1)?;
-    given(matches, "symbol", 1)?;
-    given(matches, "block", 1)
-}
-
-fn numbers_of<'a>(matches: &ArgMatches<'a>) -> Result<Line<'a>, CommandFault>
-    requires list { first_of (codes "list") (found_rows matches.now) ≡ None }
-    requires form { first_unfit info_form (found_rows matches.now) ≡ None }
-    ensures { let rows = found_rows matches.now in
-        MatchResult result (IsLine (codes "info") rows)
-        (IsKeyFault (info_options rows) (HasSource rows) rows) }
-{
     let numbers = KeyNumbers::of(matches)?;
     let length = number_below(matches, "length", 1 << 64)? as u64;
     let symbol = number_below(matches, "symbol", 1 << 16)? as u16;
@@ -103,4 +80,17 @@ fn numbers_of<'a>(matches: &ArgMatches<'a>) -> Result<Line<'a>, CommandFault>
         block,
         j: text(matches, "J"),
     })
+}
+
+// Each number is given once.
+fn has_numbers(matches: &ArgMatches<'_>) -> Result<(), CommandFault>
+    ensures { let rows = found_rows matches.now in
+        MatchResult result (λ _. first_unfit info_form rows ≡ None)
+        (IsFormFault info_form (λ _. ⊥) rows) }
+{
+    given(matches, "tsi", 1)?;
+    given(matches, "toi", 1)?;
+    given(matches, "length", 1)?;
+    given(matches, "symbol", 1)?;
+    given(matches, "block", 1)
 }

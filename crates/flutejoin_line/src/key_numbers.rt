@@ -9,7 +9,7 @@ use flute_parts::{Key, ObjectKey, Sender, SessionKey};
 use flutejoin::CommandFault;
 
 /// The numbers that name an object, each within its range.
-#[derive(Clone, Copy, Drop)]
+#[derive(Drop)]
 pub struct KeyNumbers {
     tsi: u64,
     toi: u128,

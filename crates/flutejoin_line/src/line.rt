@@ -139,32 +139,12 @@ pub enum Line<'a> {
 /// hexadecimal digits nor an address; `BadKey` if `--fdt` does not go with `--toi`; `TooManyInputs`
 /// if `join` has more than 64 inputs; `OutputIsInput` if `merge` is to write one of its inputs; and
 /// `OutOfMemory`.
-#[tactic(auto, using(crate::proofs::CommandFound::command_known))]
 pub fn line_of(alloc: Global, words: &[String]) -> Result<Line<'_>, CommandFault>
     ensures read { let texts = map string_bytes words.now in
         MatchResult result (IsLineIn texts) (IsFaultIn texts) }
 {
-    let matches = matches_in(alloc, words)?;
-    line_in(alloc, &matches)
-}
-
-// What the parser finds in the words.
-fn matches_in(alloc: Global, words: &[String]) -> Result<ArgMatches<'_>, CommandFault>
-    ensures { let texts = map string_bytes words.now in
-        MatchResult result (λ matches. (refusals_of texts ≡ [])
-        × (subcommand_rows_of matches ≡ command_in texts)) (IsRefusal texts) }
-{
     let command = command(alloc)?;
-    command.try_get_matches_from(words).map_err(parser_fault)
-}
-
-// The line that follows from what the parser found, which is one of its commands.
-fn line_in<'a>(alloc: Global, matches: &ArgMatches<'a>) -> Result<Line<'a>, CommandFault>
-    requires { IsSomeAnd (subcommand_rows_of matches.now)
-        (λ found. is_command found.0 ≡ true) }
-    ensures { let found = subcommand_rows_of matches.now in
-        MatchResult result (IsLineOf found) (IsFaultOf found) }
-{
+    let matches = command.try_get_matches_from(words).map_err(parser_fault)?;
     match matches.subcommand() {
         Some((name, matches)) => line_by_name(alloc, name, matches),
         None => unreachable!(),
@@ -186,7 +166,10 @@ fn line_by_name<'a>(
         "packet" => Ok(Line::Packet {
             hex: text(matches, "HEX"),
         }),
-        "show" => show_of(matches),
+        "show" => Ok(Line::Show {
+            selection: selection(matches)?,
+            j: text(matches, "J"),
+        }),
         "gaps" => gaps_of(matches),
         "extract" => extract_of(matches),
         "info" => info_of(matches),
@@ -196,15 +179,6 @@ fn line_by_name<'a>(
         "carousel" => carousel_of(matches),
         _ => unreachable!(),
     }
-}
-
-fn show_of<'a>(matches: &ArgMatches<'a>) -> Result<Line<'a>, CommandFault>
-    ensures { let rows = found_rows matches.now in
-        MatchResult result (IsLine (codes "show") rows) (IsSelectionFault rows) }
-{
-    let selection = selection(matches)?;
-    let j = text(matches, "J");
-    Ok(Line::Show { selection, j })
 }
 
 fn gaps_of<'a>(matches: &ArgMatches<'a>) -> Result<Line<'a>, CommandFault>
@@ -263,7 +237,7 @@ fn inputs_of<'a>(alloc: Global, inputs: &[&'a str]) -> Result<Vec<&'a str>, Comm
     if inputs.len() > MAX_INPUTS {
         return Err(CommandFault::TooManyInputs);
     }
-    inputs.to_vec(alloc).map_err(|_| CommandFault::OutOfMemory)
+    Ok(inputs.to_vec(alloc)?)
 }
 
 fn merge_of<'a>(matches: &ArgMatches<'a>) -> Result<Line<'a>, CommandFault>

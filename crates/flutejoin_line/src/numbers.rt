@@ -28,15 +28,7 @@ pub fn sessions(matches: &ArgMatches<'_>) -> Result<Sessions, CommandFault>
         (λ fault. IsBadNumber (codes "tsi") fault
         × (are_sessions (words (codes "tsi") rows) ≡ false)) }
 {
-    sessions_of(matches.get_strs("tsi").unwrap_or(&[]))
-}
-
-// The sessions with these numbers.
-fn sessions_of(texts: &[&str]) -> Result<Sessions, CommandFault>
-    ensures { let tsis = map (λ text. text.now) texts.now in
-        MatchResult result (λ sessions. AreNumbers (2 ^ 48) tsis (listed_tsis sessions))
-        (λ fault. IsBadNumber (codes "tsi") fault × (are_sessions tsis ≡ false)) }
-{
+    let texts = matches.get_strs("tsi").unwrap_or(&[]);
     let mut sessions = Sessions::all();
     for text in texts {
         let number = decimal_below(text, "tsi", 1 << 48)? as u64;

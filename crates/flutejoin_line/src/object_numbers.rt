@@ -8,7 +8,7 @@ use flute_parts::ObjectKey;
 use flutejoin::CommandFault;
 
 /// The numbers of `--toi` and `--fdt`, each within its range.
-#[derive(Clone, Copy, Drop)]
+#[derive(Drop)]
 pub struct ObjectNumbers {
     toi: Option<u128>,
     instance: Option<u32>,

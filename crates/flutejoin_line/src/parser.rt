@@ -5,12 +5,12 @@ ghost use Rattle.flutejoin_line.specs.Parser.{IsCommand, carousel_rules, extract
 ghost use Rattle.flutejoin_line.specs.Parser.{forget_rules};
 ghost use Rattle.flutejoin_line.specs.Parser.{gaps_rules, info_rules, show_rules};
 ghost use Rattle.flutejoin_line.specs.Parser.{join_rules, merge_rules, packet_rules};
-ghost use Rattle.flutejoin_line.specs.Parser.{no_commands, program, with_versions};
+ghost use Rattle.flutejoin_line.specs.Parser.{no_commands, program};
 
 use crate::arguments::{
-    all, any_size, block, check, conflicting_objects, conflicts, force, force_all, information,
-    input, inputs, instance, journal, length, list, memory, no_fdt, object, output, required,
-    session, sessions, source, summary, symbol, symbol_id,
+    MEMORY_HELP, any_size, block, conflicts, force, force_all, input, inputs, instance, journal,
+    list, long_flag, number, object, output, required, session, sessions, source, symbol,
+    symbol_id, value,
 };
 use clap::Command;
 use std::alloc::{AllocError, Global};
@@ -153,23 +153,16 @@ pub fn command<'a>(alloc: Global) -> Result<Command<'a>, AllocError>
 fn without_commands<'a>(alloc: Global) -> Result<Command<'a>, AllocError>
     ensures { IfOk result (λ command. app_of command ≡ no_commands) }
 {
-    let command = with_texts(alloc)
+    let command = Command::new(alloc, "flutejoin")
+        .version("0.1.0")
+        .long_version(VERSION)
+        .about("Reads FLUTE version 2 datagrams (RFC 6726), and journals of what was received")
+        .after_help(PROGRAM_HELP)
         .no_binary_name(true)
         .bin_name("flutejoin")?
         .subcommand_required(true)
         .arg_required_else_help(true);
     Ok(command)
-}
-
-// The program with its versions and its help.
-fn with_texts<'a>(alloc: Global) -> Command<'a>
-    ensures { app_of result ≡ with_versions }
-{
-    Command::new(alloc, "flutejoin")
-        .version("0.1.0")
-        .long_version(VERSION)
-        .about("Reads FLUTE version 2 datagrams (RFC 6726), and journals of what was received")
-        .after_help(PROGRAM_HELP)
 }
 
 // A command with these texts, and no argument as yet.
@@ -184,18 +177,17 @@ fn named<'a>(alloc: Global, name: &'a str, about: &'a str, after_help: &'a str) 
 fn packet_command<'a>(alloc: Global) -> Result<Command<'a>, AllocError>
     ensures { IfOk result (IsCommand (codes "packet") packet_rules) }
 {
-    let hex = input(
-        alloc,
-        "HEX",
-        "The datagram in hexadecimal digits, two for each byte",
-    );
     let command = named(
         alloc,
         "packet",
         "Prints what one datagram says: its session, object, information and symbol",
         PACKET_HELP,
     )
-    .arg(hex)?;
+    .arg(input(
+        alloc,
+        "HEX",
+        "The datagram in hexadecimal digits, two for each byte",
+    ))?;
     Ok(command)
 }
 
@@ -225,9 +217,21 @@ fn gaps_command<'a>(alloc: Global) -> Result<Command<'a>, AllocError>
 {
     let arguments = vec![in alloc;
         any_size(alloc),
-        check(alloc),
-        summary(alloc),
-        conflicting_objects(alloc),
+        long_flag(
+            alloc,
+            "check",
+            "End with status 1 if an object that is listed is not whole",
+        ),
+        long_flag(
+            alloc,
+            "summary",
+            "A line for each session: how many of its objects are whole, and what the others lack",
+        ),
+        long_flag(
+            alloc,
+            "conflicts",
+            "Only objects with conflicting information or symbols, and no other gaps",
+        ),
         source(alloc),
         sessions(alloc),
         object(alloc),
@@ -251,7 +255,11 @@ fn extract_command<'a>(alloc: Global) -> Result<Command<'a>, AllocError>
         output(alloc),
         force_all(alloc),
         any_size(alloc),
-        all(alloc),
+        long_flag(
+            alloc,
+            "all",
+            "Write each whole object to a file of OUT, a new folder; with --tsi up to 64 times",
+        ),
         source(alloc),
         sessions(alloc),
         object(alloc),
@@ -280,7 +288,11 @@ fn info_command<'a>(alloc: Global) -> Result<Command<'a>, AllocError>
         session(alloc),
         object(alloc),
         instance(alloc),
-        length(alloc),
+        number(
+            alloc,
+            "length",
+            "The transfer length: how many bytes the object has",
+        ),
         symbol(alloc),
         block(alloc),
         journal(alloc),
@@ -302,12 +314,12 @@ fn join_command<'a>(alloc: Global) -> Result<Command<'a>, AllocError>
         output(alloc),
         force(alloc),
         any_size(alloc),
-        memory(alloc),
+        value(alloc, "memory", "SIZE", MEMORY_HELP),
         source(alloc),
         sessions(alloc),
         object(alloc),
         instance(alloc),
-        no_fdt(alloc),
+        long_flag(alloc, "no-fdt", "No FDT Instances, which have the TOI 0"),
         inputs(alloc),
     ]?;
     let command = named(
@@ -351,7 +363,7 @@ fn forget_command<'a>(alloc: Global) -> Result<Command<'a>, AllocError>
         object(alloc),
         instance(alloc),
         symbol_id(alloc),
-        information(alloc),
+        long_flag(alloc, "info", "Only the information of objects"),
         journal(alloc),
     ]?;
     let command = named(

@@ -14,27 +14,22 @@ use flutejoin::{CommandFault, DEFAULT_MEMORY, MAX_MEMORY};
 ///
 /// `BadNumber` if it is not 1 to 39 decimal digits, with `K`, `M` or `G` after them or without, or
 /// not 1 to 2^62 bytes.
+#[tactic(auto, unfolding(crate::specs::Sizes::size_of))]
 pub fn memory(matches: &ArgMatches<'_>) -> Result<u64, CommandFault>
     ensures { let rows = found_rows matches.now in
         MatchResult result (λ memory. memory_in rows ≡ Some memory)
         (λ fault. IsBadNumber (codes "memory") fault × (memory_in rows ≡ None)) }
 {
     match word(matches, "memory") {
-        Some(text) => match size_in(text) {
-            Some(bytes) => Ok(bytes),
-            None => Err(CommandFault::BadNumber("memory")),
-        },
+        Some(text) => {
+            let (number, unit) = number_and_unit(text);
+            match bytes_of(decimal(number), unit) {
+                Some(bytes) => Ok(bytes),
+                None => Err(CommandFault::BadNumber("memory")),
+            }
+        }
         None => Ok(DEFAULT_MEMORY),
     }
-}
-
-// The bytes that a text spells, if it is a size.
-#[tactic(auto, unfolding(crate::specs::Sizes::size_of))]
-fn size_in(text: &str) -> Option<u64>
-    ensures { result ≡ size_of text.now }
-{
-    let (number, unit) = number_and_unit(text);
-    bytes_of(decimal(number), unit)
 }
 
 // The number in a size, and how many bytes it counts.

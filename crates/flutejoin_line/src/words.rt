@@ -35,17 +35,11 @@ pub fn given(
         (λ fault. IsBadOption option.now fault
         × ((times_of option.now rows == times) ≡ false)) }
 {
-    if times_given(matches, option) == times {
+    if matches.get_strs(option).unwrap_or(&[]).len() == times {
         Ok(())
     } else {
         Err(CommandFault::BadOption(option))
     }
-}
-
-fn times_given(matches: &ArgMatches<'_>, option: &str) -> usize
-    ensures { result ≡ times_of option.now (found_rows matches.now) }
-{
-    matches.get_strs(option).unwrap_or(&[]).len()
 }
 
 /// Whether the flag that has this name is set.

@@ -8,7 +8,7 @@ use flutejoin_replicas::MemoryAside;
 use std::alloc::Global;
 
 /// What is put aside is held in memory.
-#[derive(Debug, Drop)]
+#[derive(Drop)]
 pub struct MemoryAsides {
     alloc: Global,
     made: Failures,

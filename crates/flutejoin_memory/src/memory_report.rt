@@ -7,7 +7,7 @@ use std::alloc::Global;
 
 /// A report for tests. Its bytes wait in memory until a flush, and it fails for good after a given
 /// number of calls.
-#[derive(Debug, Drop)]
+#[derive(Drop)]
 pub struct MemoryReport {
     handed_on: Vec<u8>,
     waiting: Vec<u8>,

@@ -27,7 +27,7 @@ const STANDARD: &str = "-";
 ///
 /// If there was no memory for what became of an output, nothing is known of any name: what asks for
 /// one is refused, as there is no memory.
-#[derive(Debug, Drop)]
+#[derive(Drop)]
 pub struct MemoryWorld<'a> {
     alloc: Global,
     given: &'a [NamedBytes<'a>],

@@ -5,7 +5,7 @@ use flute_parts::{DeviceFault, Source};
 
 /// A source that gives the bytes of a vector, as many at a time as it is asked for. It never
 /// fails, and takes no more memory.
-#[derive(Debug, Drop)]
+#[derive(Drop)]
 pub struct OwnedSource {
     bytes: Vec<u8>,
     used: usize,

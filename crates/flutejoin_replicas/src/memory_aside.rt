@@ -6,7 +6,7 @@ use flutejoin::Aside;
 use std::alloc::Global;
 
 /// Bytes that are put aside in memory. It fails only if it finds no memory for more.
-#[derive(Debug, Drop)]
+#[derive(Drop)]
 pub struct MemoryAside {
     bytes: Vec<u8>,
     failures: Failures,

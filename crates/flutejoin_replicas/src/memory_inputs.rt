@@ -6,7 +6,7 @@ ghost use Rattle.flutejoin_replicas.specs.Memory.{Joins, in_memory, MemoryFails}
 
 use crate::blob::Blob;
 use crate::no_asides::NoAsides;
-use flute_journal::laws::{a_journal_has_one_content, a_journal_within_a_bound_is_one};
+use flute_journal::laws::a_journal_is_its_content;
 use flute_journal::{ReadFault, read_store};
 use flute_parts::{MemorySink, MemorySource, Sender, Sink};
 use flute_streams::Scope;
@@ -32,9 +32,8 @@ pub fn join_inputs(
     ensures joined { IfOk result (Joins (everything sender) inputs.now) }
     ensures failed { IfErr result (MemoryFails (everything sender) inputs.now) }
 {
-    // From these the proof knows that a journal that was written is read as its facts.
-    a_journal_has_one_content();
-    a_journal_within_a_bound_is_one();
+    // By this the proof knows that a journal that was written is read as its facts.
+    a_journal_is_its_content();
     let mut journal = MemorySink::new(alloc);
     let counts = join_blobs(alloc, sender, inputs, &mut journal)?;
     let mut written = MemorySource::new(journal.as_slice());

@@ -7,7 +7,7 @@ use flutejoin::{Asides, CommandFault};
 use std::marker::PhantomData;
 
 /// Nothing can be put aside: all is held in memory.
-#[derive(Debug, Drop)]
+#[derive(Drop)]
 pub struct NoAsides<R> {
     made: Failures,
     inputs: PhantomData<R>,

@@ -31,7 +31,7 @@ use std::marker::Model;
 use std::mem;
 
 /// A store, and the number of datagrams refused to it.
-#[derive(Debug, Drop)]
+#[derive(Drop)]
 struct Replica<const SESSIONS: u32, const OBJECTS: u32, const SYMBOLS: u32> {
     store: Store<SESSIONS, OBJECTS, SYMBOLS>,
     refused: u64,
@@ -78,7 +78,7 @@ fn one_more(count: u64) -> u64
 }
 
 /// A list of stores, numbered from 0, each with the number of datagrams refused to it.
-#[derive(Debug, Drop)]
+#[derive(Drop)]
 pub struct Replicas<const SESSIONS: u32, const OBJECTS: u32, const SYMBOLS: u32> {
     replicas: Vec<Replica<SESSIONS, OBJECTS, SYMBOLS>>,
 }

@@ -1,10 +1,9 @@
 -- Spelled bytes pass the checks of specs/Faults, part by part.
-use Rattle.flute_journal.proofs.Common.{SymbolIs}
 use Rattle.flute_journal.proofs.Common.{Address, AllByRecursion, Before, Bool, Check, Fact, File}
 use Rattle.flute_journal.proofs.Common.{HasRoom, Instance, IsBody, IsByte, IsFact, IsFactIn, IsId}
 use Rattle.flute_journal.proofs.Common.{IsKey, IsObjectName, IsWithin, Key, Kind, List}
 use Rattle.flute_journal.proofs.Common.{None, ObjectName, One, Option, Some, Symbol, SymbolId, Two}
-use Rattle.flute_journal.proofs.Common.{Version, [], ap, append_assoc, arith, big_endian}
+use Rattle.flute_journal.proofs.Common.{SymbolIs, Version, [], ap, append_assoc, arith, big_endian}
 use Rattle.flute_journal.proofs.Common.{body, body_fault, byte_of, bytes_checks, bytes_eq}
 use Rattle.flute_journal.proofs.Common.{bytes_fault, cut, cut_fault, drop, drop-drop, drop_at}
 use Rattle.flute_journal.proofs.Common.{end_checks, entry_in, eq-eqb, eqb, false, first_fault}

@@ -65,7 +65,13 @@ pub fn check_header(bytes: &[u8]) -> Result<Version, ReadFault>
     if rest.len() < 2 {
         return Err(ReadFault::Cut);
     }
-    Version::from_bytes(rest).ok_or(ReadFault::Version)
+    if rest == [0, 1].as_slice() {
+        Ok(Version::One)
+    } else if rest == [0, 2].as_slice() {
+        Ok(Version::Two)
+    } else {
+        Err(ReadFault::Version)
+    }
 }
 
 /// Looks at what follows the byte 255 of a journal of so many entries, and at one byte
@@ -105,15 +111,7 @@ pub fn parse(
     let Some(key) = key_in(version, field) else {
         return Err(ReadFault::Key);
     };
-    match kind {
-        Kind::Info => information_at(last, key, rest),
-        Kind::InfoConflict => information_conflict_at(last, key, rest),
-        Kind::Symbol => match symbol_at(last, &key, rest) {
-            Ok((id, length)) => Ok(EntryHead::Symbol { key, id, length }),
-            Err(fault) => Err(fault),
-        },
-        Kind::SymbolConflict => symbol_conflict_at(last, key, rest),
-    }
+    rest_at(kind, last, key, rest)
 }
 
 /// What follows the kind of the entry of a symbol, up to its bytes: its key, its id and how
@@ -139,6 +137,7 @@ pub fn symbol_in(
 /// What follows the kind of the entry of a symbol in version 2, up to its bytes, if it is of the
 /// same file as the entry before, at `last`: its id and how many bytes follow. None if it is of
 /// another object, or there is a fault.
+#[tactic(auto, using(crate::proofs::format_lemmas::SameFile::part_after))]
 #[inline(always)]
 pub fn next_symbol_in(last: &Address, bytes: &[u8]) -> Option<(SymbolId, u16)>
     requires { length bytes.now ≤ head_size Two kinds.Symbol }
@@ -147,23 +146,10 @@ pub fn next_symbol_in(last: &Address, bytes: &[u8]) -> Option<(SymbolId, u16)>
         × (head_bytes Two (Symbol last.now.key s.0 s.1) ≡ bytes.now)) }
 {
     let (field, rest) = bytes.split_at_checked(Version::Two.sender_size() + 21)?;
-    if names_file(field, &last.key) {
-        next_in(last, rest)
-    } else {
-        None
+    if !names_file(field, &last.key) {
+        return None;
     }
-}
-
-// The id and the number of the bytes of a symbol of the same object as the entry at `last`.
-#[tactic(auto, using(crate::proofs::format_lemmas::SameFile::part_after))]
-#[inline(always)]
-fn next_in(last: &Address, bytes: &[u8]) -> Option<(SymbolId, u16)>
-    requires key { IsKey last.now.key }
-    requires most { length bytes.now ≤ 6 }
-    ensures { IfSome result (λ s.
-        RestIs (Some last.now) kinds.Symbol last.now.key bytes.now (Symbol last.now.key s.0 s.1)) }
-{
-    let Ok((id, rest)) = id_at(bytes) else {
+    let Ok((id, rest)) = id_at(rest) else {
         return None;
     };
     let is_after = last.part < Part::Symbol(id);
@@ -256,47 +242,63 @@ fn named_in(sender: Sender, bytes: &[u8]) -> Option<Key>
 
 // Whether a part of the object is after the entry before. It is never inlined: if a reader is
 // inlined too, the key that it looks at would be kept in memory twice.
+#[tactic(auto, using(crate::proofs::format_lemmas::Decoded::same_object_after))]
 #[inline(never)]
 fn in_order(last: &Option<Address>, key: &Key, part: Part) -> Result<(), ReadFault>
     ensures { MatchResult result
         (λ _. IsTrue (is_after last.now (record { key = key.now; part = part })))
         (λ f. (f ≡ Order) × (is_after last.now (record { key = key.now; part = part }) ≡ false)) }
 {
-    if is_after(last, key, part) {
+    // Most entries are of the object of the one before.
+    let is_after = match last {
+        None => true,
+        Some(last) if last.key == *key => last.part < part,
+        Some(last) => last.cmp(&Address { key: *key, part }).is_lt(),
+    };
+    if is_after {
         Ok(())
     } else {
         Err(ReadFault::Order)
     }
 }
 
-// Most entries are of the object of the one before.
-#[tactic(auto, using(crate::proofs::format_lemmas::Decoded::same_object_after))]
-#[inline(always)]
-fn is_after(last: &Option<Address>, key: &Key, part: Part) -> bool
-    ensures { result ≡ is_after last.now (record { key = key.now; part = part }) }
-{
-    match last {
-        None => true,
-        Some(last) if last.key == *key => last.part < part,
-        Some(last) => last.cmp(&Address { key: *key, part }).is_lt(),
-    }
-}
-
-// What follows the key of an entry of information.
+// What follows the key of an entry, up to the bytes of a symbol.
 #[tactic(auto, using(crate::proofs::Cited::info_read, crate::proofs::Cited::octets))]
-fn information_at(last: &Option<Address>, key: Key, bytes: &[u8]) -> Result<EntryHead, ReadFault>
+fn rest_at(
+    kind: Kind,
+    last: &Option<Address>,
+    key: Key,
+    bytes: &[u8],
+) -> Result<EntryHead, ReadFault>
     requires key { IsKey key }
-    requires most { length bytes.now ≤ 12 }
-    ensures { Parses 12 (RestIs last.now kinds.Info key bytes.now)
-        (rest_fault last.now kinds.Info key) bytes.now result }
+    requires most { length bytes.now ≤ rest_size kind }
+    ensures { Parses (rest_size kind) (RestIs last.now kind key bytes.now)
+        (rest_fault last.now kind key) bytes.now result }
 {
-    in_order(last, &key, Part::Info)?;
-    if bytes.len() < 12 {
-        return Err(ReadFault::Cut);
-    }
-    match info_in(bytes) {
-        Ok(info) => Ok(EntryHead::Whole(Fact::Info { key, info })),
-        Err(fault) => Err(ReadFault::Information(fault)),
+    match kind {
+        Kind::Info => {
+            in_order(last, &key, Part::Info)?;
+            if bytes.len() < 12 {
+                return Err(ReadFault::Cut);
+            }
+            match info_in(bytes) {
+                Ok(info) => Ok(EntryHead::Whole(Fact::Info { key, info })),
+                Err(fault) => Err(ReadFault::Information(fault)),
+            }
+        }
+        Kind::InfoConflict => {
+            in_order(last, &key, Part::Info)?;
+            Ok(EntryHead::Whole(Fact::InfoConflict { key }))
+        }
+        Kind::Symbol => match symbol_at(last, &key, bytes) {
+            Ok((id, length)) => Ok(EntryHead::Symbol { key, id, length }),
+            Err(fault) => Err(fault),
+        },
+        Kind::SymbolConflict => {
+            let (id, _) = id_at(bytes)?;
+            in_order(last, &key, Part::Symbol(id))?;
+            Ok(EntryHead::Whole(Fact::SymbolConflict { key, id }))
+        }
     }
 }
 
@@ -313,21 +315,6 @@ fn info_in(bytes: &[u8]) -> Result<Info, InfoFault>
     Info::new(length, symbol, block)
 }
 
-// What follows the key of an entry of an information conflict.
-fn information_conflict_at(
-    last: &Option<Address>,
-    key: Key,
-    bytes: &[u8],
-) -> Result<EntryHead, ReadFault>
-    requires key { IsKey key }
-    requires most { length bytes.now ≤ 0 }
-    ensures { Parses 0 (RestIs last.now kinds.InfoConflict key bytes.now)
-        (rest_fault last.now kinds.InfoConflict key) bytes.now result }
-{
-    in_order(last, &key, Part::Info)?;
-    Ok(EntryHead::Whole(Fact::InfoConflict { key }))
-}
-
 // The id and the number of the bytes of a symbol, which follow the key of its entry.
 #[tactic(auto, using(crate::proofs::format_lemmas::Decoded::symbol_faults))]
 #[inline(always)]
@@ -342,22 +329,6 @@ fn symbol_at(last: &Option<Address>, key: &Key, bytes: &[u8]) -> Result<(SymbolI
     in_order(last, key, Part::Symbol(id))?;
     let length = length_at(rest)?;
     Ok((id, length))
-}
-
-// What follows the key of an entry of a symbol conflict.
-fn symbol_conflict_at(
-    last: &Option<Address>,
-    key: Key,
-    bytes: &[u8],
-) -> Result<EntryHead, ReadFault>
-    requires key { IsKey key }
-    requires most { length bytes.now ≤ 4 }
-    ensures { Parses 4 (RestIs last.now kinds.SymbolConflict key bytes.now)
-        (rest_fault last.now kinds.SymbolConflict key) bytes.now result }
-{
-    let (id, _) = id_at(bytes)?;
-    in_order(last, &key, Part::Symbol(id))?;
-    Ok(EntryHead::Whole(Fact::SymbolConflict { key, id }))
 }
 
 // The id at the front of the bytes, and the rest.

@@ -2,12 +2,10 @@
 ghost use Rattle.std.specs.Prelude.{◌≡◌, ℕ, ◌+◌, ◌/◌, ◌%◌, ◌<◌, ◌≤◌, ◌^◌, ◌++◌, [], length};
 ghost use Rattle.arrayvec.specs.ArrayVec.{array_vec_len};
 ghost use Rattle.flute_parts.specs.Addresses.{fact_of};
-ghost use Rattle.std.specs.List.{AllByRecursion};
 ghost use Rattle.flute_store.specs.Walk.{IsSized};
-ghost use Rattle.flute_journal.specs.Numbers.{in_bytes};
 ghost use Rattle.flute_journal.specs.Format.{key_bytes, id_bytes, info_bytes, entry, end};
 ghost use Rattle.flute_journal.specs.declared.format.version.Version.TheVariants.{Two};
-ghost use Rattle.flute_parts.specs.Ranges.{IsByte, IsKey, IsId, IsInfo, IsFact};
+ghost use Rattle.flute_parts.specs.Ranges.{IsKey, IsId, IsInfo, IsFact};
 ghost use Rattle.flute_journal.specs.Writing.{symbol_value};
 
 use super::END;
@@ -41,9 +39,10 @@ pub fn put_head(head: &mut HeadBytes, last: &mut [u8; 37], fact: &FactRef<'_>)
         }
         FactRef::Symbol { key, id, bytes } => {
             put(head, &[3]);
-            put_same_key(head, last, key);
+            set_key(last, key);
+            put(head, last.as_slice());
             put_id(head, *id);
-            put_length(head, bytes);
+            put(head, &length_field(bytes));
         }
         FactRef::SymbolConflict { key, id } => {
             put(head, &[4]);
@@ -103,18 +102,6 @@ fn put_key(head: &mut HeadBytes, key: &Key)
     put(head, &lower.to_be_bytes());
 }
 
-// The same, by way of the bytes of the key of a symbol before it, in whose place these are put.
-#[inline(always)]
-fn put_same_key(head: &mut HeadBytes, last: &mut [u8; 37], key: &Key)
-    requires { array_vec_len head.old ≤ 1 }
-    ensures items { head.new.items ≡ head.old.items ++ key_bytes Two key.now }
-    ensures len { array_vec_len head.new ≡ array_vec_len head.old + 37 }
-    ensures valid { IsKey key.now }
-{
-    set_key(last, key);
-    put(head, last.as_slice());
-}
-
 // Puts the bytes of a key in place of those of another, unless they are there. Most symbols are of
 // the object of the one before.
 #[tactic(auto, using(crate::proofs::format_lemmas::SameFile::key_size_two))]
@@ -168,15 +155,4 @@ fn put_info(head: &mut HeadBytes, info: &Info)
     put(head, &info.length().to_be_bytes()[2..]);
     put(head, &info.symbol().to_be_bytes());
     put(head, &info.block().to_be_bytes());
-}
-
-// Appends the number of the bytes of a symbol.
-fn put_length(head: &mut HeadBytes, bytes: &[u8])
-    requires room { array_vec_len head.old ≤ 42 }
-    requires short { length bytes.now < 2 ^ 16 }
-    ensures items { head.new.items ≡ head.old.items ++ in_bytes 2 (length bytes.now) }
-    ensures len { array_vec_len head.new ≡ array_vec_len head.old + 2 }
-    ensures octets { AllByRecursion IsByte bytes.now }
-{
-    put(head, &length_field(bytes));
 }

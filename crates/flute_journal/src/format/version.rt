@@ -13,21 +13,6 @@ pub enum Version {
 }
 
 impl Version {
-    /// The version that these two bytes of a header are. None if they are none.
-    pub fn from_bytes(bytes: &[u8]) -> Option<Version>
-        requires { length bytes.now ≡ 2 }
-        ensures { MatchOption result (is_version bytes.now ≡ false)
-            (λ version. bytes.now ≡ version_bytes version) }
-    {
-        if bytes == [0, 1].as_slice() {
-            Some(Version::One)
-        } else if bytes == [0, 2].as_slice() {
-            Some(Version::Two)
-        } else {
-            None
-        }
-    }
-
     /// How many bytes of an entry name its sender.
     pub fn sender_size(self) -> usize
         ensures size { result ≡ sender_size self }

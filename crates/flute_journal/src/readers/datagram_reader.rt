@@ -19,7 +19,7 @@ ghost use Rattle.flute_journal.specs.declared.readers.reader_state.ReaderState.T
 use crate::fault::ReadFault;
 use crate::format::check_opening;
 use crate::format::number::length_in;
-use crate::readers::input::{read_exact, read_up_to};
+use crate::readers::input::{read_exact, read_up_to, shortage};
 use crate::readers::lent::take_record;
 use crate::readers::reader_state::ReaderState;
 use flute_parts::Source;
@@ -30,7 +30,7 @@ use std::alloc::Global;
 pub const FILE_HEADER: [u8; 6] = *b"FLDG\x00\x01";
 
 /// A datagram file that is read record by record. It never reads past what it has given.
-#[derive(Debug, Drop)]
+#[derive(Drop)]
 pub struct DatagramReader<'a, R> {
     source: &'a mut R,
     max_records: u64,
@@ -205,28 +205,13 @@ fn read_fields<R: Source>(
         return Err(ReadFault::TooMany);
     }
     if read.bytes.len() < 2 {
-        return Err(read.shortage());
+        return Err(shortage(read.failed));
     }
-    let datagram = read_datagram(alloc, source, length_in(read.bytes))?;
-    Ok(Some(datagram))
-}
-
-// Reads so many bytes of a datagram.
-fn read_datagram<R: Source>(
-    alloc: Global,
-    source: &mut R,
-    length: u16,
-) -> Result<Datagram, ReadFault>
-    ensures reads { Reads (λ bytes. bytes) (λ bytes. (length_of bytes ≡ length) × AllByRecursion
-        IsByte bytes) (cut_fault length) (R.unread source.old) (R.unread source.new) result }
-    ensures advances { Advances (R.unread source.old) (R.unread source.new) length }
-    ensures faults { IfErr result IsFileFault }
-    ensures failures { Fails (R.failures source.old) (R.failures source.new) result }
-{
+    let length = length_in(read.bytes);
     let Ok(datagram) = Datagram::from_vec(read_exact(alloc, source, length)?) else {
         unreachable!();
     };
-    Ok(datagram)
+    Ok(Some(datagram))
 }
 
 // The state of a reader that gave this after so many records.

@@ -16,12 +16,12 @@ ghost use Rattle.flute_journal.specs.declared.fault.ReadFault.TheVariants.{OutOf
 
 use crate::fault::ReadFault;
 use crate::format::{END, EntryHead, Kind, LONGEST, Version, check_end, check_header, parse};
-use crate::readers::input::{read_exact, read_up_to};
+use crate::readers::input::{read_exact, read_up_to, shortage};
 use flute_parts::{Address, Bytes, Fact, Source};
 use std::alloc::Global;
 
 /// What is before the next entry of a journal.
-#[derive(Clone, Copy, Debug)]
+#[derive(Drop)]
 pub struct Before {
     /// The version of the journal.
     pub version: Version,
@@ -63,7 +63,7 @@ pub fn read_entry<R: Source>(
     let mut buffer = [0; 1];
     let read = read_up_to(source, &mut buffer);
     let Some(&byte) = read.bytes.first() else {
-        return Err(read.shortage());
+        return Err(shortage(read.failed));
     };
     if byte == END {
         read_end(source, before.count)?;
@@ -109,7 +109,9 @@ fn read_body<R: Source>(
     match read_head(source, version, kind, last)? {
         EntryHead::Whole(fact) => Ok(fact),
         EntryHead::Symbol { key, id, length } => {
-            let bytes = read_bytes(alloc, source, length)?;
+            let Ok(bytes) = Bytes::from_vec(read_exact(alloc, source, length)?) else {
+                unreachable!();
+            };
             Ok(Fact::Symbol { key, id, bytes })
         }
     }
@@ -132,18 +134,4 @@ fn read_head<R: Source>(
     let mut buffer = [0; LONGEST];
     let read = read_up_to(source, &mut buffer[..kind.head_size(version)]);
     read.or_failed(parse(version, kind, &last, read.bytes))
-}
-
-// Reads so many bytes of a symbol.
-fn read_bytes<R: Source>(alloc: Global, source: &mut R, length: u16) -> Result<Bytes, ReadFault>
-    requires { 0 < length }
-    ensures reads { Reads (λ bytes. bytes) (λ bytes. (length_of bytes ≡ length) × AllByRecursion
-        IsByte bytes) (cut_fault length) (R.unread source.old) (R.unread source.new) result }
-    ensures advances { Advances (R.unread source.old) (R.unread source.new) length }
-    ensures failures { Fails (R.failures source.old) (R.failures source.new) result }
-{
-    let Ok(bytes) = Bytes::from_vec(read_exact(alloc, source, length)?) else {
-        unreachable!();
-    };
-    Ok(bytes)
 }

@@ -15,7 +15,7 @@ use std::mem;
 const HEAD_LEN: usize = 44;
 
 /// The entry of a journal that is held until the next is read.
-#[derive(Debug, Drop)]
+#[derive(Drop)]
 pub enum HeldEntry {
     /// None is held.
     Nothing,
@@ -29,7 +29,7 @@ pub enum HeldEntry {
 }
 
 /// What an entry that is held says of its address.
-#[derive(Debug, Drop)]
+#[derive(Drop)]
 pub enum HeldValue {
     /// The transmission information.
     Info(Info),
@@ -86,20 +86,12 @@ impl HeldEntry {
     pub fn spelled<'a>(&self, buffer: &'a [u8]) -> &'a [u8]
         ensures { result.now ≡ spelled_in buffer.now self.now }
     {
-        front(buffer, self.size())
-    }
-
-    // How many bytes of the source it has.
-    #[inline(always)]
-    fn size(&self) -> usize
-        ensures { result ≡ size_of self.now }
-    {
         match self {
             HeldEntry::Entry {
                 value: HeldValue::InBuffer(size),
                 ..
-            } => *size,
-            _ => 0,
+            } => front(buffer, *size),
+            _ => &[],
         }
     }
 

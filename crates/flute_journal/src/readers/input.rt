@@ -16,7 +16,7 @@ use std::alloc::Global;
 
 /// What was read of a source up to some number of bytes: so many, or fewer at the end of the input
 /// or if the source failed.
-#[derive(Clone, Copy)]
+#[derive(Drop)]
 pub struct ReadUpTo<'b> {
     /// The bytes.
     pub bytes: &'b [u8],
@@ -25,17 +25,10 @@ pub struct ReadUpTo<'b> {
 }
 
 impl ReadUpTo<'_> {
-    /// The fault if these bytes are too few.
-    pub fn shortage(self) -> ReadFault
-        ensures { result ≡ shortage self.entry.failed }
-    {
-        shortage(self.failed)
-    }
-
     /// What was found in the bytes; but if the source failed after them, a fault that they have
     /// other than `Cut`, and else `Read`.
-    pub fn or_failed<T: Drop>(self, found: Result<T, ReadFault>) -> Result<T, ReadFault>
-        ensures { result ≡ or_failed self.entry.failed found }
+    pub fn or_failed<T: Drop>(&self, found: Result<T, ReadFault>) -> Result<T, ReadFault>
+        ensures { result ≡ or_failed self.now.failed found }
     {
         if !self.failed {
             return found;
@@ -47,8 +40,8 @@ impl ReadUpTo<'_> {
     }
 }
 
-// The fault if bytes are too few.
-fn shortage(failed: bool) -> ReadFault
+/// The fault if bytes are too few, and whether the source failed after them.
+pub fn shortage(failed: bool) -> ReadFault
     ensures { result ≡ shortage failed }
 {
     if failed {

@@ -21,7 +21,7 @@ use flute_parts::{Fact, Part, Source};
 use std::alloc::Global;
 
 /// A journal that is read entry by entry. It never reads past what it has given.
-#[derive(Debug, Drop)]
+#[derive(Drop)]
 pub struct JournalReader<'a, R> {
     source: &'a mut R,
     max_entries: u64,

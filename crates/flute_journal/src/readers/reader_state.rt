@@ -3,7 +3,7 @@
 use crate::fault::ReadFault;
 
 /// What a reader of a header and items reads next. After whole items it keeps their place.
-#[derive(Clone, Copy, Debug)]
+#[derive(Drop)]
 pub enum ReaderState<P> {
     /// The header.
     Header,

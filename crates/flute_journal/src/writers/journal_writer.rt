@@ -11,7 +11,7 @@ use crate::format::{HEADER, HeadBytes, end_of, put_head, symbol_value};
 use flute_parts::{FactRef, Sink};
 
 /// Writes a journal into a sink, until that fails. What is written after a failure is dropped.
-#[derive(Debug, Drop)]
+#[derive(Drop)]
 pub struct JournalWriter<'a, W> {
     pub sink: &'a mut W,
     /// Whether the sink has failed.

@@ -24,7 +24,7 @@ use Rattle.flute_streams.proofs.merge_lemmas.LowestFacts.{lowest_turns, up_to_it
 use Rattle.flute_streams.proofs.merge_lemmas.RankFacts.{comes-apart, comes-first, comes-same}
 use Rattle.flute_streams.specs.Lowest.{AreSpelled, ComesTo, IsNotBefore, Joins, Stands, StandsOn}
 use Rattle.flute_streams.specs.Lowest.{conflict_of, first_at, held_at, held_in, place_at}
-use Rattle.flute_streams.specs.Lowest.{value_at, value_of}
+use Rattle.flute_streams.specs.Lowest.{value_at}
 use Rattle.flute_streams.specs.declared.merge.lowest.LowestValue.{LowestValue}
 
 -- what is read of the stream with that number

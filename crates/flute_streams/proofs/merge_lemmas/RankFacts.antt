@@ -11,7 +11,7 @@ use Rattle.flute_streams.proofs.Common.{alone-at, alone-elsewhere, conflict_at, 
 use Rattle.flute_streams.proofs.Common.{fact_at-append, fact_at-nil, fact_same, joined}
 use Rattle.flute_streams.proofs.Common.{joined-apart, joined-none, joined-same, same_fact}
 use Rattle.flute_streams.proofs.Common.{address_itself, option_list, address_of, same_Some}
-use Rattle.flute_streams.proofs.Common.{IfSome, IsNotBefore, Lowest, address_same, cases_Bool}
+use Rattle.flute_streams.proofs.Common.{IfSome, IsNotBefore, Lowest}
 use Rattle.flute_journal.proofs.Public.{all_append}
 use Rattle.flute_streams.proofs.merge_lemmas.LowestFacts.{conflict-place, up_to_itself, up_to_less}
 use Rattle.std.specs.{Ordering.{nat_cmp, ordering_then}, Cmp.{nat_cmp_is}}

@@ -1,4 +1,4 @@
--- JournalStream: reading on in a journal advances the stream (specs/JournalStreams).
+-- Reading on in a journal advances its stream (specs/JournalStreams).
 use Rattle.flute_streams.proofs.Common.{journal_framing, Behaviour, Bool, Consumes-kept, Continues}
 use Rattle.flute_streams.proofs.Common.{Ended, Items, Err, Fact, Failed, FailsIf, FailsSince, Gives}
 use Rattle.flute_streams.proofs.Common.{GivesEnd, GoesOn, HasFault, Header, IfSome}
@@ -18,8 +18,7 @@ use Rattle.flute_journal.proofs.Public.{one_given, all_split, fact_sized, spelli
 use Rattle.flute_journal.proofs.Public.{BeginsWithJournal}
 use Rattle.flute_journal.specs.HeldEntries.{HoldsNext}
 use Rattle.flute_journal.specs.declared.fault.LoadFault.TheVariants as load
-use Rattle.flute_streams.specs.JournalStreams.{reading_of}
-use Rattle.flute_streams.specs.declared.streams.journal_stream.JournalStream.{JournalStream}
+use Rattle.flute_streams.specs.JournalStreams.{JournalState, reading_of}
 
 -- what was read, once the next entry or the end was
 abbrev Read : ℕ → Option (List ℕ) → Option (List ℕ) → ReaderState Before → List Fact → Option Fact
@@ -257,18 +256,18 @@ never false x y o h = h
 
 module _ {R : Type 0} (unread : R → Option (List ℕ)) (buffered : R → List ℕ) (failures : R → ℕ)
   where
-    abbrev b : Behaviour (JournalStream R)
+    abbrev b : Behaviour (JournalState R)
     b = journal_behaviour unread buffered failures
 
     -- the failures of one source add up
-    since : (s t u : JournalStream R) (fault : Option LoadFault)
+    since : (s t u : JournalState R) (fault : Option LoadFault)
         → FailsSince unread buffered failures s t None
         → FailsSince unread buffered failures t u fault
         → FailsSince unread buffered failures s u fault
     since s t u fault h k = grind (arith)
 
     -- the reader of a stream that has given these facts since it was new was called again
-    abbrev Called : JournalStream R → JournalStream R → JournalStream R → List Fact
+    abbrev Called : JournalState R → JournalState R → JournalState R → List Fact
         → Result (Option Fact) ReadFault → Type 0
     Called start s t F result =
         IsCalled (limit_of start.reader) (limit_of s.reader) (unread_of unread buffered start)
@@ -276,14 +275,14 @@ module _ {R : Type 0} (unread : R → Option (List ℕ)) (buffered : R → List 
         (state_of t.reader) F (b.held s) result
 
     -- the reader of a stream was called, which still reads the same source
-    pub record HoldsOn (s t : JournalStream R) (result : Result (Unit {0}) ReadFault) : Type 0 where
+    pub record HoldsOn (s t : JournalState R) (result : Result (Unit {0}) ReadFault) : Type 0 where
       pub same_source : (source_of t.reader).ghost_name ≡ (source_of s.reader).ghost_name
       pub same_limit : limit_of t.reader ≡ limit_of s.reader
       pub holds :
           HoldsNext unread buffered failures (limit_of s.reader) (reading_of s) (reading_of t)
           result
 
-    none_failed : {s t : JournalStream R} → HoldsOn s t (Ok tt)
+    none_failed : {s t : JournalState R} → HoldsOn s t (Ok tt)
         → FailsSince unread buffered failures s t None
     none_failed {s = s} {t = t} h =
         record {
@@ -293,7 +292,7 @@ module _ {R : Type 0} (unread : R → Option (List ℕ)) (buffered : R → List 
               (failures (source_of t.reader).now) (b.held t) h.holds.failed;
         }
 
-    one_failed : {s t : JournalStream R} (f : ReadFault) → HoldsOn s t (Err f)
+    one_failed : {s t : JournalState R} (f : ReadFault) → HoldsOn s t (Err f)
         → IsTrue (is_open (state_of s.reader))
         → FailsSince unread buffered failures s t (Some (load.Read f))
     one_failed {s = s} {t = t} f h o =
@@ -306,7 +305,7 @@ module _ {R : Type 0} (unread : R → Option (List ℕ)) (buffered : R → List 
         }
 
     -- the stream is advanced, or stops, as the trait's clauses say (specs/Streams)
-    pub stream_goes_on : {s t : JournalStream R} → HoldsOn s t (Ok tt) → GoesOn b s t
+    pub stream_goes_on : {s t : JournalState R} → HoldsOn s t (Ok tt) → GoesOn b s t
     stream_goes_on {s = s} {t = t} h = record {
       gave = λ start F p.
           let call : Called start s t F (Ok (b.held t)) =
@@ -337,7 +336,7 @@ module _ {R : Type 0} (unread : R → Option (List ℕ)) (buffered : R → List 
           );
     }
 
-    pub stream_stops : {s t : JournalStream R} (f : ReadFault) → HoldsOn s t (Err f)
+    pub stream_stops : {s t : JournalState R} (f : ReadFault) → HoldsOn s t (Err f)
         → StopsAt b s t (load.Read f)
     stream_stops {s = s} {t = t} f h = λ start F p.
         let call : Called start s t F (Err f) =

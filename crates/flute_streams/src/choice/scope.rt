@@ -1,14 +1,14 @@
 //! The objects that are taken.
 ghost use Rattle.std.specs.Prelude.{◌≡◌, true};
 ghost use Rattle.flute_parts.specs.declared.key.Key.{Key as Name};
-ghost use Rattle.flute_streams.specs.Scopes.{is_all, of_scope, takes_key, takes_kind, takes_object};
+ghost use Rattle.flute_streams.specs.Scopes.{is_all, of_scope, takes_key};
 
 use crate::choice::Choice;
 use crate::choice::sessions::Sessions;
 use flute_parts::{FactRef, Key, ObjectKey};
 
 /// Which objects are taken. Each field narrows the others.
-#[derive(Clone, Copy, Debug, PartialEq, Eq)]
+#[derive(Clone, Copy, Debug)]
 pub struct Scope {
     /// Those of these sessions.
     pub sessions: Sessions,
@@ -43,27 +43,13 @@ impl Scope {
     pub fn takes(&self, key: &Key) -> bool
         ensures { result ≡ takes_key self.now key.now }
     {
-        self.sessions.takes(key.session.tsi())
-            && self.has_object(&key.object)
-            && self.has_kind(&key.object)
-    }
-
-    #[inline(always)]
-    fn has_object(&self, object: &ObjectKey) -> bool
-        ensures { result ≡ takes_object self.now.object object.now }
-    {
-        match self.object {
-            Some(one) => one == *object,
+        let is_meant = match self.object {
+            Some(one) => one == key.object,
             None => true,
-        }
-    }
-
-    // Whether objects that are FDT Instances, or files, as this one may be taken.
-    #[inline(always)]
-    fn has_kind(&self, object: &ObjectKey) -> bool
-        ensures { result ≡ takes_kind self.now.files object.now }
-    {
-        !self.files || object.instance().is_none()
+        };
+        self.sessions.takes(key.session.tsi())
+            && is_meant
+            && (!self.files || key.object.instance().is_none())
     }
 }
 

@@ -2,15 +2,15 @@
 ghost use Rattle.std.specs.Prelude.{◌≡◌, true};
 ghost use Rattle.flute_parts.specs.Addresses.{fact_of};
 ghost use Rattle.flute_parts.specs.declared.fact.Fact.{Fact};
-ghost use Rattle.flute_streams.specs.Selections.{is_everything, selects, selects_key, selects_kind};
-ghost use Rattle.flute_streams.specs.Selections.{selects_info, selects_symbol};
+ghost use Rattle.flute_streams.specs.Selections.{is_everything, selects, selects_kind};
+ghost use Rattle.flute_streams.specs.Selections.{selects_symbol};
 
 use crate::choice::Choice;
 use crate::choice::scope::Scope;
-use flute_parts::{FactRef, Key, Part, Sender, SymbolId};
+use flute_parts::{Address, FactRef, Part, Sender, SymbolId};
 
 /// Which facts are selected. Each field narrows the others.
-#[derive(Clone, Copy, Debug, PartialEq, Eq)]
+#[derive(Clone, Copy, Debug)]
 pub struct Selection {
     /// Those of this sender, or of any.
     pub sender: Option<Sender>,
@@ -54,26 +54,19 @@ impl Selection {
     pub fn selects(&self, fact: &FactRef<'_>) -> bool
         ensures { result ≡ selects self.now (fact_of fact.now) }
     {
-        let address = fact.address();
-        self.has_key(&address.key)
-            && self.has_symbol(&address.part)
-            && self.has_info(&address.part)
-            && self.has_kind(fact)
-    }
-
-    // Whether facts of the object may be selected.
-    #[inline(always)]
-    fn has_key(&self, key: &Key) -> bool
-        ensures { result ≡ selects_key self.now key.now }
-    {
+        let Address { key, part } = fact.address();
         let is_sender = match self.sender {
             Some(sender) => key.session.sender() == sender,
             None => true,
         };
-        is_sender && self.scope.takes(key)
+        is_sender
+            && self.scope.takes(&key)
+            && self.has_symbol(&part)
+            && (!self.info || matches!(part, Part::Info))
+            && self.has_kind(fact)
     }
 
-    // Whether facts of this part may be.
+    // Whether facts of this part may be selected.
     #[inline(always)]
     fn has_symbol(&self, part: &Part) -> bool
         ensures { result ≡ selects_symbol self.now.symbol part.now }
@@ -85,13 +78,7 @@ impl Selection {
         }
     }
 
-    #[inline(always)]
-    fn has_info(&self, part: &Part) -> bool
-        ensures { result ≡ selects_info self.now.info part.now }
-    {
-        !self.info || matches!(part, Part::Info)
-    }
-
+    // Whether facts of this kind may be.
     #[inline(always)]
     fn has_kind(&self, fact: &FactRef<'_>) -> bool
         ensures { result ≡ selects_kind self.now.conflicts (fact_of fact.now) }

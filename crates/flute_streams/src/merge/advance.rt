@@ -33,14 +33,14 @@ pub fn advance_at<G: Streams>(
     place: Option<&Address>,
     first: usize,
 ) -> Result<Advanced, InputFault>
-    requires first { address_of (held_at G.Stream.behaviour (G.streams streams.old) first)
+    requires first { address_of (held_at G.behaviour (G.streams streams.old) first)
         ≡ option_copied place }
-    ensures go_on { IfOk result (λ _. GoOnAt G.Stream.behaviour (option_copied place.entry)
+    ensures go_on { IfOk result (λ _. GoOnAt G.behaviour (option_copied place.entry)
         (G.streams streams.old) (G.streams streams.new)) }
     ensures last { IfOk result (λ moved.
         0 < moved.count → moved.last < length (G.streams streams.new)) }
     ensures stops { IfErr result
-        (StopsIn G.Stream.behaviour (option_copied place.entry) (G.streams streams.old)
+        (StopsIn G.behaviour (option_copied place.entry) (G.streams streams.old)
         (G.streams streams.new)) }
     ensures names { G.names streams.new ≡ G.names streams.old }
 {
@@ -57,31 +57,25 @@ pub fn advance_at<G: Streams>(
     Ok(moved)
 }
 
-// Whether the stream with this number is at this address, as the one with the number `first` is.
+// Whether the stream with this number is at this address, or holds nothing if there is none, as is
+// known of the one with the number `first`.
 #[inline(always)]
 fn stands_at<G: Streams>(streams: &G, number: usize, place: Option<&Address>, first: usize) -> bool
     requires number { number < length (G.streams streams.now) }
     requires first { number ≡ first
-        → address_of (held_at G.Stream.behaviour (G.streams streams.now) number)
+        → address_of (held_at G.behaviour (G.streams streams.now) number)
         ≡ option_copied place }
     ensures at { result ≡ true
-        → address_of (held_at G.Stream.behaviour (G.streams streams.now) number)
+        → address_of (held_at G.behaviour (G.streams streams.now) number)
         ≡ option_copied place.entry }
     ensures elsewhere { result ≡ false
-        → address_of (held_at G.Stream.behaviour (G.streams streams.now) number)
+        → address_of (held_at G.behaviour (G.streams streams.now) number)
         ≢ option_copied place.entry }
 {
-    number == first || is_at(streams.address(number), place)
-}
-
-// Whether a stream that is here is at this address, or holds nothing if there is none.
-#[inline(always)]
-fn is_at(here: Option<&Address>, place: Option<&Address>) -> bool
-    ensures at { result ≡ true → option_copied here.entry ≡ option_copied place.entry }
-    ensures elsewhere { result ≡ false
-        → option_copied here.entry ≢ option_copied place.entry }
-{
-    match (here, place) {
+    if number == first {
+        return true;
+    }
+    match (streams.address(number), place) {
         (Some(here), Some(place)) => here == place,
         (None, None) => true,
         _ => false,

@@ -20,8 +20,7 @@ use crate::merge::lowest::write_lowest;
 use crate::merge::ranks::Ranks;
 use crate::merge::stopped::first_fault;
 use crate::merge::streams_fault::{InputFault, StreamsFault};
-use crate::streams::stream::Stream;
-use crate::streams::{Slice, Streams};
+use crate::streams::Streams;
 use flute_journal::JournalWriter;
 use flute_parts::{Address, Sink, Tally};
 use std::alloc::Global;
@@ -60,23 +59,23 @@ pub fn merge_all<const SESSIONS: u32, const OBJECTS: u32, const SYMBOLS: u32, G:
     streams: &mut G,
     sink: &mut W,
 ) -> Result<MergedJournal, StreamsFault>
-    requires new { AreNew G.Stream.behaviour (G.streams streams.old) }
-    requires few { most_of G.Stream.behaviour (G.streams streams.old) < 2 ^ 64 }
-    ensures merged { IfOk result (λ joined. MergedAll G.Stream.behaviour
+    requires new { AreNew G.behaviour (G.streams streams.old) }
+    requires few { most_of G.behaviour (G.streams streams.old) < 2 ^ 64 }
+    ensures merged { IfOk result (λ joined. MergedAll G.behaviour
         (G.streams streams.old) SESSIONS OBJECTS SYMBOLS joined
         (W.written sink.old) (W.written sink.new)) }
     ensures done { IfOk result (λ joined. joined.cut ≡ false) }
-    ensures short { IfErr result (λ _. AppendsPartOf G.Stream.behaviour (G.streams streams.old)
+    ensures short { IfErr result (λ _. AppendsPartOf G.behaviour (G.streams streams.old)
         (W.written sink.old) (W.written sink.new)) }
-    ensures reads_ahead { IfErr result (ReadsAhead G.Stream.behaviour
+    ensures reads_ahead { IfErr result (ReadsAhead G.behaviour
         (G.streams streams.old) (G.streams streams.new)
         (W.written sink.old) (W.written sink.new)) }
-    ensures fault { IfErr result (NamesInput G.Stream.behaviour (G.streams streams.old)) }
+    ensures fault { IfErr result (NamesInput G.behaviour (G.streams streams.old)) }
     ensures can_go_on { IfErr result
-        (CanGoOn G.Stream.behaviour (G.streams streams.old) (G.streams streams.new)) }
-    ensures failures { FailAs G.Stream.behaviour result (G.streams streams.old)
+        (CanGoOn G.behaviour (G.streams streams.old) (G.streams streams.new)) }
+    ensures failures { FailAs G.behaviour result (G.streams streams.old)
         (G.streams streams.new) }
-    ensures ended { IfOk result (λ joined. EndsMerged G.Stream.behaviour
+    ensures ended { IfOk result (λ joined. EndsMerged G.behaviour
         (G.streams streams.old) (G.streams streams.new) SESSIONS OBJECTS SYMBOLS joined
         (W.written sink.old) (W.written sink.new)) }
     ensures sink_failures { W.failures sink.new ≡ W.failures sink.old + streams_sink_failed result }
@@ -103,21 +102,21 @@ pub fn join_streams<
     G: Streams,
     W: Sink,
 >(alloc: Global, streams: &mut G, sink: &mut W) -> Result<MergedJournal, InputFault>
-    requires new { AreNew G.Stream.behaviour (G.streams streams.old) }
-    requires few { most_of G.Stream.behaviour (G.streams streams.old) < 2 ^ 64 }
-    ensures merged { IfOk result (λ joined. MergedAll G.Stream.behaviour
+    requires new { AreNew G.behaviour (G.streams streams.old) }
+    requires few { most_of G.behaviour (G.streams streams.old) < 2 ^ 64 }
+    ensures merged { IfOk result (λ joined. MergedAll G.behaviour
         (G.streams streams.old) SESSIONS OBJECTS SYMBOLS joined
         (W.written sink.old) (W.written sink.new)) }
     ensures cut { IfOk result (λ joined. joined.cut ≡ true
         → AppendsNoJournal (W.written sink.old) (W.written sink.new)) }
-    ensures short { IfErr result (λ _. AppendsPartOf G.Stream.behaviour (G.streams streams.old)
+    ensures short { IfErr result (λ _. AppendsPartOf G.behaviour (G.streams streams.old)
         (W.written sink.old) (W.written sink.new)) }
     ensures first { IfErr result
-        (FirstFault G.Stream.behaviour (G.streams streams.old) (G.streams streams.new)) }
+        (FirstFault G.behaviour (G.streams streams.old) (G.streams streams.new)) }
     ensures failures { IfOk result
-        (λ _. NoneFails G.Stream.behaviour (G.streams streams.old) (G.streams streams.new)) }
+        (λ _. NoneFails G.behaviour (G.streams streams.old) (G.streams streams.new)) }
     ensures over { IfOk result (λ joined. joined.within ≡ false → joined.cut ≡ true) }
-    ensures ended { IfOk result (λ joined. EndsMerged G.Stream.behaviour
+    ensures ended { IfOk result (λ joined. EndsMerged G.behaviour
         (G.streams streams.old) (G.streams streams.new) SESSIONS OBJECTS SYMBOLS joined
         (W.written sink.old) (W.written sink.new)) }
     ensures sink_failures { IfOk result (λ joined. joined.within ≡ true
@@ -142,10 +141,10 @@ fn merge_into<const SESSIONS: u32, const OBJECTS: u32, const SYMBOLS: u32, G: St
     writer: &mut JournalWriter<'_, W>,
     patient: bool,
 ) -> Result<MergedJournal, StreamsFault>
-    requires new { AreNew G.Stream.behaviour (G.streams streams.old) }
-    requires few { most_of G.Stream.behaviour (G.streams streams.old) < 2 ^ 64 }
+    requires new { AreNew G.behaviour (G.streams streams.old) }
+    requires few { most_of G.behaviour (G.streams streams.old) < 2 ^ 64 }
     requires good { writer.old.failed ≡ false }
-    ensures merged { IfOk result (λ joined. MergedAll G.Stream.behaviour
+    ensures merged { IfOk result (λ joined. MergedAll G.behaviour
         (G.streams streams.old) SESSIONS OBJECTS SYMBOLS joined
         (W.written writer.old.sink.now) (W.written writer.new.sink.now)) }
     ensures told { IfOk result
@@ -156,21 +155,21 @@ fn merge_into<const SESSIONS: u32, const OBJECTS: u32, const SYMBOLS: u32, G: St
         (λ joined. patient ≡ true → joined.within ≡ false → joined.cut ≡ true) }
     ensures cut { IfOk result (λ joined. joined.cut ≡ true → AppendsNoJournal
         (W.written writer.old.sink.now) (W.written writer.new.sink.now)) }
-    ensures ended { IfOk result (λ joined. EndsMerged G.Stream.behaviour
+    ensures ended { IfOk result (λ joined. EndsMerged G.behaviour
         (G.streams streams.old) (G.streams streams.new) SESSIONS OBJECTS SYMBOLS joined
         (W.written writer.old.sink.now) (W.written writer.new.sink.now)) }
-    ensures short { IfErr result (λ _. AppendsPartOf G.Stream.behaviour (G.streams streams.old)
+    ensures short { IfErr result (λ _. AppendsPartOf G.behaviour (G.streams streams.old)
         (W.written writer.old.sink.now) (W.written writer.new.sink.now)) }
-    ensures reads_ahead { patient ≡ false → IfErr result (ReadsAhead G.Stream.behaviour
+    ensures reads_ahead { patient ≡ false → IfErr result (ReadsAhead G.behaviour
         (G.streams streams.old) (G.streams streams.new)
         (W.written writer.old.sink.now) (W.written writer.new.sink.now)) }
     ensures eager { patient ≡ false
         → times_failed writer.new.failed ≡ streams_sink_failed result }
     ensures patience { IfErr result (λ fault. patient ≡ true → fault ≢ Write) }
-    ensures fault { IfErr result (NamesInput G.Stream.behaviour (G.streams streams.old)) }
+    ensures fault { IfErr result (NamesInput G.behaviour (G.streams streams.old)) }
     ensures can_go_on { IfErr result
-        (CanGoOn G.Stream.behaviour (G.streams streams.old) (G.streams streams.new)) }
-    ensures failures { FailAs G.Stream.behaviour result (G.streams streams.old)
+        (CanGoOn G.behaviour (G.streams streams.old) (G.streams streams.new)) }
+    ensures failures { FailAs G.behaviour result (G.streams streams.old)
         (G.streams streams.new) }
     ensures sink_failures { W.failures writer.new.sink.now
         ≡ W.failures writer.old.sink.now + times_failed writer.new.failed }
@@ -231,34 +230,6 @@ fn stops<W>(writer: &JournalWriter<'_, W>, patient: bool) -> bool
     ensures goes_on { result ≡ false → patient ≡ false → writer.now.failed ≡ false }
 {
     writer.failed && !patient
-}
-
-/// Merges the streams of a slice, as `merge_all` does.
-///
-/// # Errors
-///
-/// Those of `merge_all`, and what it says of them.
-pub fn merge_slice<const SESSIONS: u32, const OBJECTS: u32, const SYMBOLS: u32, S: Stream, W: Sink>(
-    alloc: Global,
-    streams: &mut [S],
-    sink: &mut W,
-) -> Result<MergedJournal, StreamsFault>
-    requires new { AreNew S.behaviour streams.old }
-    requires few { most_of S.behaviour streams.old < 2 ^ 64 }
-    ensures merged { IfOk result (λ joined. MergedAll S.behaviour streams.old SESSIONS OBJECTS
-        SYMBOLS joined (W.written sink.old) (W.written sink.new)) }
-    ensures done { IfOk result (λ joined. joined.cut ≡ false) }
-    ensures short { IfErr result (λ _. AppendsPartOf S.behaviour streams.old
-        (W.written sink.old) (W.written sink.new)) }
-    ensures reads_ahead { IfErr result
-        (ReadsAhead S.behaviour streams.old streams.new (W.written sink.old) (W.written sink.new)) }
-    ensures fault { IfErr result (NamesInput S.behaviour streams.old) }
-    ensures can_go_on { IfErr result (CanGoOn S.behaviour streams.old streams.new) }
-    ensures failures { FailAs S.behaviour result streams.old streams.new }
-    ensures sink_failures { W.failures sink.new ≡ W.failures sink.old + streams_sink_failed result }
-{
-    let mut all = Slice::new(&mut *streams);
-    merge_all::<SESSIONS, OBJECTS, SYMBOLS, _, _>(alloc, &mut all, sink)
 }
 
 // Counts one address more, unless a limit was passed before, and returns whether none is passed.

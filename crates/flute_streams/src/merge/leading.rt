@@ -3,12 +3,10 @@
 //! have ranks.
 ghost use Rattle.std.specs.Prelude.{◌≡◌, ◌<◌, true, false, Some, length, IfSome, OnOk, IfErr};
 ghost use Rattle.std.specs.Prelude.{option_copied};
-ghost use Rattle.std.specs.Ordering.{is_lt};
-ghost use Rattle.flute_parts.specs.Order.{address_cmp};
 ghost use Rattle.flute_streams.specs.Streams.{heads};
 ghost use Rattle.flute_streams.specs.Lowest.{AreSpelled, IsLowest, Stands, StandsOn, first_at};
 ghost use Rattle.flute_streams.specs.Lowest.{value_of};
-ghost use Rattle.flute_streams.specs.Leads.{Leads, IsBelowNext, StandsAt, lower_of, lower_next};
+ghost use Rattle.flute_streams.specs.Leads.{Leads, IsBelowNext, lower_next};
 ghost use Rattle.flute_streams.specs.Ranks.{IsLed, IsRanking};
 ghost use Rattle.flute_streams.specs.Advances.{GoOnAt, StopsIn};
 
@@ -46,11 +44,11 @@ impl Lead {
     /// The value at the lowest address at which streams hold facts. None if none is held.
     #[inline(always)]
     pub fn lowest<G: Streams>(&self, ranks: &Ranks, streams: &G) -> Option<LowestValue>
-        requires led { IsLed G.Stream.behaviour (G.streams streams.now) self.now ranks.now }
-        requires spelled { AreSpelled G.Stream.behaviour (G.streams streams.now) }
-        ensures lowest { IsLowest (heads G.Stream.behaviour (G.streams streams.now))
-            (value_of G.Stream.behaviour (G.streams streams.now) result) }
-        ensures stands { IfSome result (Stands G.Stream.behaviour (G.streams streams.now)) }
+        requires led { IsLed G.behaviour (G.streams streams.now) self.now ranks.now }
+        requires spelled { AreSpelled G.behaviour (G.streams streams.now) }
+        ensures lowest { IsLowest (heads G.behaviour (G.streams streams.now))
+            (value_of G.behaviour (G.streams streams.now) result) }
+        ensures stands { IfSome result (Stands G.behaviour (G.streams streams.now)) }
         ensures leading { self.now.known ≡ true
             → IfSome result (λ l. l.number ≡ self.now.number) }
     {
@@ -84,20 +82,25 @@ impl Lead {
         place: &Address,
         first: usize,
     ) -> Result<(), InputFault>
-        requires led { IsLed G.Stream.behaviour (G.streams streams.old) self.old ranks.old }
+        requires led { IsLed G.behaviour (G.streams streams.old) self.old ranks.old }
         requires leading { self.old.known ≡ true → first ≡ self.old.number }
-        requires first { StandsOn G.Stream.behaviour place.now (G.streams streams.old)
+        requires first { StandsOn G.behaviour place.now (G.streams streams.old)
             (first_at first) }
-        ensures go_on { OnOk result (GoOnAt G.Stream.behaviour (Some place.now)
+        ensures go_on { OnOk result (GoOnAt G.behaviour (Some place.now)
             (G.streams streams.old) (G.streams streams.new)) }
         ensures led { OnOk result
-            (IsLed G.Stream.behaviour (G.streams streams.new) self.new ranks.new) }
-        ensures stops { IfErr result (StopsIn G.Stream.behaviour (Some place.now)
+            (IsLed G.behaviour (G.streams streams.new) self.new ranks.new) }
+        ensures stops { IfErr result (StopsIn G.behaviour (Some place.now)
             (G.streams streams.old) (G.streams streams.new)) }
         ensures names { G.names streams.new ≡ G.names streams.old }
     {
         if self.known {
-            return self.follow(alloc, streams);
+            let number = self.number;
+            if let Err(fault) = streams.advance(number, alloc) {
+                return Err(InputFault { number, fault });
+            }
+            self.known = is_below(streams.address(number), &self.next);
+            return Ok(());
         }
         if streams.count() >= MANY {
             return self.advance_many::<G, W>(ranks, alloc, streams, place, first);
@@ -125,14 +128,14 @@ impl Lead {
         first: usize,
     ) -> Result<(), InputFault>
         requires unknown { self.old.known ≡ false }
-        requires first { StandsOn G.Stream.behaviour place.now (G.streams streams.old)
+        requires first { StandsOn G.behaviour place.now (G.streams streams.old)
             (first_at first) }
-        requires ranking { IsRanking G.Stream.behaviour (G.streams streams.old) ranks.old }
-        ensures go_on { OnOk result (GoOnAt G.Stream.behaviour (Some place.now)
+        requires ranking { IsRanking G.behaviour (G.streams streams.old) ranks.old }
+        ensures go_on { OnOk result (GoOnAt G.behaviour (Some place.now)
             (G.streams streams.old) (G.streams streams.new)) }
         ensures led { OnOk result
-            (IsLed G.Stream.behaviour (G.streams streams.new) self.new ranks.new) }
-        ensures stops { IfErr result (StopsIn G.Stream.behaviour (Some place.now)
+            (IsLed G.behaviour (G.streams streams.new) self.new ranks.new) }
+        ensures stops { IfErr result (StopsIn G.behaviour (Some place.now)
             (G.streams streams.old) (G.streams streams.new)) }
         ensures names { G.names streams.new ≡ G.names streams.old }
     {
@@ -153,36 +156,13 @@ impl Lead {
         Ok(())
     }
 
-    // Advances the stream that leads, and looks whether it still does.
-    #[inline(always)]
-    fn follow<G: Streams>(&mut self, alloc: Global, streams: &mut G) -> Result<(), InputFault>
-        requires { Leads G.Stream.behaviour (G.streams streams.old) self.old.number self.old.next }
-        ensures go_on { OnOk result ((a : Address)
-            → StandsAt G.Stream.behaviour (Some a) (G.streams streams.old) self.old.number
-            → GoOnAt G.Stream.behaviour (Some a) (G.streams streams.old) (G.streams streams.new)) }
-        ensures leads { OnOk result (self.new.known ≡ true
-            → Leads G.Stream.behaviour (G.streams streams.new) self.new.number self.new.next) }
-        ensures stops { IfErr result (λ fault. (a : Address)
-            → StandsAt G.Stream.behaviour (Some a) (G.streams streams.old) self.old.number
-            → StopsIn G.Stream.behaviour (Some a) (G.streams streams.old)
-            (G.streams streams.new) fault) }
-        ensures names { G.names streams.new ≡ G.names streams.old }
-    {
-        let number = self.number;
-        if let Err(fault) = streams.advance(number, alloc) {
-            return Err(InputFault { number, fault });
-        }
-        self.known = is_below(streams.address(number), &self.next);
-        Ok(())
-    }
-
     // Looks whether the stream with this number leads.
     #[tactic(auto, using(crate::proofs::merge_lemmas::LeadFacts::firsts))]
     #[inline(always)]
     fn look<G: Streams>(&mut self, streams: &G, number: usize)
         requires { number < length (G.streams streams.now) }
         ensures { self.new.known ≡ true
-            → Leads G.Stream.behaviour (G.streams streams.now) self.new.number self.new.next }
+            → Leads G.behaviour (G.streams streams.now) self.new.number self.new.next }
     {
         let place = streams.address(number);
         self.number = number;
@@ -206,17 +186,10 @@ fn is_below(here: Option<&Address>, next: &Option<Address>) -> bool
     ensures { result ≡ true → IsBelowNext (option_copied here.entry) next.now }
 {
     match (here, next) {
-        (Some(here), Some(next)) => is_before(here, next),
+        (Some(here), Some(next)) => here.cmp(next).is_lt(),
         (Some(_), None) => true,
         _ => false,
     }
-}
-
-#[inline(always)]
-fn is_before(first: &Address, second: &Address) -> bool
-    ensures { result ≡ is_lt (address_cmp first.now second.now) }
-{
-    first.cmp(second).is_lt()
 }
 
 // The lower of two addresses, of which there may be one only, or none.
@@ -224,18 +197,11 @@ fn is_before(first: &Address, second: &Address) -> bool
 fn lower_next(next: &Option<Address>, here: Option<&Address>) -> Option<Address>
     ensures { result ≡ lower_next next.now (option_copied here.entry) }
 {
-    match here {
-        Some(here) => Some(lower_of(next, *here)),
-        None => *next,
-    }
-}
-
-#[inline(always)]
-fn lower_of(first: &Option<Address>, second: Address) -> Address
-    ensures { result ≡ lower_of first.now second }
-{
-    match first {
-        Some(first) if is_before(first, &second) => *first,
-        _ => second,
+    let Some(here) = here else {
+        return *next;
+    };
+    match next {
+        Some(next) if next.cmp(here).is_lt() => Some(*next),
+        _ => Some(*here),
     }
 }

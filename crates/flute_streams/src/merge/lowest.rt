@@ -48,12 +48,12 @@ impl LowestValue {
     #[inline(always)]
     pub fn joined<G: Streams>(self, streams: &G, spelled: &[u8], number: usize) -> LowestValue
         requires own { (s : G.Stream) → slice_get (G.streams streams.now) self.number ≡ Some s
-            → spelled.now ≡ G.Stream.behaviour.spelled s }
-        requires spelled { AreSpelled G.Stream.behaviour (G.streams streams.now) }
-        requires stands { Stands G.Stream.behaviour (G.streams streams.now) self }
-        requires here { place_at G.Stream.behaviour (G.streams streams.now) (first_at number)
-            ≡ place_at G.Stream.behaviour (G.streams streams.now) self }
-        ensures { Joins G.Stream.behaviour (G.streams streams.now) self number result }
+            → spelled.now ≡ G.behaviour.spelled s }
+        requires spelled { AreSpelled G.behaviour (G.streams streams.now) }
+        requires stands { Stands G.behaviour (G.streams streams.now) self }
+        requires here { place_at G.behaviour (G.streams streams.now) (first_at number)
+            ≡ place_at G.behaviour (G.streams streams.now) self }
+        ensures { Joins G.behaviour (G.streams streams.now) self number result }
     {
         if self.conflict || hold_same(streams, spelled, self.number, number) {
             return self;
@@ -69,10 +69,10 @@ impl LowestValue {
 #[tactic(auto, using(std::proofs::Common::take_all))]
 #[inline(always)]
 pub fn lowest_held<G: Streams>(streams: &G) -> Option<LowestValue>
-    requires { AreSpelled G.Stream.behaviour (G.streams streams.now) }
-    ensures lowest { IsLowest (heads G.Stream.behaviour (G.streams streams.now))
-        (value_of G.Stream.behaviour (G.streams streams.now) result) }
-    ensures stands { IfSome result (Stands G.Stream.behaviour (G.streams streams.now)) }
+    requires { AreSpelled G.behaviour (G.streams streams.now) }
+    ensures lowest { IsLowest (heads G.behaviour (G.streams streams.now))
+        (value_of G.behaviour (G.streams streams.now) result) }
+    ensures stands { IfSome result (Stands G.behaviour (G.streams streams.now)) }
 {
     let mut lowest = None;
     for number in 0..streams.count() {
@@ -86,15 +86,15 @@ pub fn lowest_held<G: Streams>(streams: &G) -> Option<LowestValue>
 // The lowest value, with one stream more, which holds a fact.
 #[inline(always)]
 fn with_more<G: Streams>(streams: &G, lowest: Option<LowestValue>, number: usize) -> LowestValue
-    requires spelled { AreSpelled G.Stream.behaviour (G.streams streams.now) }
-    requires stands { IfSome lowest (Stands G.Stream.behaviour (G.streams streams.now)) }
-    requires here { Stands G.Stream.behaviour (G.streams streams.now) (first_at number) }
+    requires spelled { AreSpelled G.behaviour (G.streams streams.now) }
+    requires stands { IfSome lowest (Stands G.behaviour (G.streams streams.now)) }
+    requires here { Stands G.behaviour (G.streams streams.now) (first_at number) }
     ensures lowest { (facts : List Fact)
-        → IsLowest facts (value_of G.Stream.behaviour (G.streams streams.now) lowest)
+        → IsLowest facts (value_of G.behaviour (G.streams streams.now) lowest)
         → IsLowest (facts ++ option_list
-        (held_at G.Stream.behaviour (G.streams streams.now) number))
-        (value_at G.Stream.behaviour (G.streams streams.now) result) }
-    ensures stands { Stands G.Stream.behaviour (G.streams streams.now) result }
+        (held_at G.behaviour (G.streams streams.now) number))
+        (value_at G.behaviour (G.streams streams.now) result) }
+    ensures stands { Stands G.behaviour (G.streams streams.now) result }
 {
     let Some(lowest) = lowest else {
         return LowestValue::first(number);
@@ -106,24 +106,16 @@ fn with_more<G: Streams>(streams: &G, lowest: Option<LowestValue>, number: usize
     }
 }
 
-// The order of two addresses that are there.
+// The order of two addresses that are there. Most are of one object.
+#[tactic(auto, using(crate::proofs::Cited::same_object_cmp))]
 #[inline(always)]
 fn order_of(first: Option<&Address>, second: Option<&Address>) -> Ordering
     ensures { (a p : Address) → option_copied first.entry ≡ Some a
         → option_copied second.entry ≡ Some p → result ≡ address_cmp a p }
 {
-    match (first, second) {
-        (Some(first), Some(second)) => cmp(first, second),
-        _ => Ordering::Equal,
-    }
-}
-
-// The order of two addresses. Most are of one object.
-#[tactic(auto, using(crate::proofs::Cited::same_object_cmp))]
-#[inline(always)]
-fn cmp(first: &Address, second: &Address) -> Ordering
-    ensures { result ≡ address_cmp first.now second.now }
-{
+    let (Some(first), Some(second)) = (first, second) else {
+        return Ordering::Equal;
+    };
     if first.key == second.key {
         first.part.cmp(&second.part)
     } else {
@@ -136,14 +128,14 @@ fn cmp(first: &Address, second: &Address) -> Ordering
 #[inline(always)]
 fn hold_same<G: Streams>(streams: &G, one: &[u8], first: usize, second: usize) -> bool
     requires own { (s : G.Stream) → slice_get (G.streams streams.now) first ≡ Some s
-        → one.now ≡ G.Stream.behaviour.spelled s }
-    requires spelled { AreSpelled G.Stream.behaviour (G.streams streams.now) }
+        → one.now ≡ G.behaviour.spelled s }
+    requires spelled { AreSpelled G.behaviour (G.streams streams.now) }
     requires first { first < length (G.streams streams.now) }
     requires second { second < length (G.streams streams.now) }
-    requires place { address_of (held_at G.Stream.behaviour (G.streams streams.now) first)
-        ≡ address_of (held_at G.Stream.behaviour (G.streams streams.now) second) }
-    ensures { (g f : Fact) → held_at G.Stream.behaviour (G.streams streams.now) first ≡ Some g
-        → held_at G.Stream.behaviour (G.streams streams.now) second ≡ Some f
+    requires place { address_of (held_at G.behaviour (G.streams streams.now) first)
+        ≡ address_of (held_at G.behaviour (G.streams streams.now) second) }
+    ensures { (g f : Fact) → held_at G.behaviour (G.streams streams.now) first ≡ Some g
+        → held_at G.behaviour (G.streams streams.now) second ≡ Some f
         → result ≡ same_fact g f }
 {
     let other = streams.spelled(second);
@@ -159,10 +151,10 @@ fn hold_same<G: Streams>(streams: &G, one: &[u8], first: usize, second: usize) -
 fn hold_same_facts<G: Streams>(streams: &G, first: usize, second: usize) -> bool
     requires first { first < length (G.streams streams.now) }
     requires second { second < length (G.streams streams.now) }
-    requires place { address_of (held_at G.Stream.behaviour (G.streams streams.now) first)
-        ≡ address_of (held_at G.Stream.behaviour (G.streams streams.now) second) }
-    ensures { (g f : Fact) → held_at G.Stream.behaviour (G.streams streams.now) first ≡ Some g
-        → held_at G.Stream.behaviour (G.streams streams.now) second ≡ Some f
+    requires place { address_of (held_at G.behaviour (G.streams streams.now) first)
+        ≡ address_of (held_at G.behaviour (G.streams streams.now) second) }
+    ensures { (g f : Fact) → held_at G.behaviour (G.streams streams.now) first ≡ Some g
+        → held_at G.behaviour (G.streams streams.now) second ≡ Some f
         → result ≡ same_fact g f }
 {
     match (streams.head(first), streams.head(second)) {
@@ -196,13 +188,13 @@ pub fn write_lowest<G: Streams, W: Sink>(
     lowest: &LowestValue,
     writer: &mut JournalWriter<'_, W>,
 )
-    requires spelled { AreSpelled G.Stream.behaviour (G.streams streams.now) }
-    requires stands { Stands G.Stream.behaviour (G.streams streams.now) lowest.now }
-    requires sized { IfSome (value_at G.Stream.behaviour (G.streams streams.now) lowest.now)
+    requires spelled { AreSpelled G.behaviour (G.streams streams.now) }
+    requires stands { Stands G.behaviour (G.streams streams.now) lowest.now }
+    requires sized { IfSome (value_at G.behaviour (G.streams streams.now) lowest.now)
         IsSized }
-    ensures valid { IfSome (value_at G.Stream.behaviour (G.streams streams.now) lowest.now)
+    ensures valid { IfSome (value_at G.behaviour (G.streams streams.now) lowest.now)
         IsFact }
-    ensures puts { IfSome (value_at G.Stream.behaviour (G.streams streams.now) lowest.now)
+    ensures puts { IfSome (value_at G.behaviour (G.streams streams.now) lowest.now)
         (λ f. Puts W.written W.failures (entry f) writer.old writer.new) }
 {
     if !lowest.conflict {
@@ -222,12 +214,12 @@ fn write_value<G: Streams, W: Sink>(
     lowest: &LowestValue,
     writer: &mut JournalWriter<'_, W>,
 )
-    requires stands { Stands G.Stream.behaviour (G.streams streams.now) lowest.now }
-    requires sized { IfSome (value_at G.Stream.behaviour (G.streams streams.now) lowest.now)
+    requires stands { Stands G.behaviour (G.streams streams.now) lowest.now }
+    requires sized { IfSome (value_at G.behaviour (G.streams streams.now) lowest.now)
         IsSized }
-    ensures valid { IfSome (value_at G.Stream.behaviour (G.streams streams.now) lowest.now)
+    ensures valid { IfSome (value_at G.behaviour (G.streams streams.now) lowest.now)
         IsFact }
-    ensures puts { IfSome (value_at G.Stream.behaviour (G.streams streams.now) lowest.now)
+    ensures puts { IfSome (value_at G.behaviour (G.streams streams.now) lowest.now)
         (λ f. Puts W.written W.failures (entry f) writer.old writer.new) }
 {
     let Some(fact) = streams.head(lowest.number) else {

@@ -117,13 +117,14 @@ impl Ranks {
     #[inline(never)]
     pub fn rank<G: Streams>(&mut self, streams: &G, key: Key)
         requires { length (G.streams streams.now) ≤ 128 }
-        ensures { IsRanking G.Stream.behaviour (G.streams streams.now) self.new }
+        ensures { IsRanking G.behaviour (G.streams streams.now) self.new }
     {
         self.key = None;
         for number in 0..streams.count() {
-            if !set_rank(&mut self.ranks, number, &key, streams.address(number)) {
+            let Some(rank) = rank_of(&key, streams.address(number)) else {
                 return;
-            }
+            };
+            self.ranks[number] = rank;
         }
         self.lows = lows_of(&self.ranks);
         self.key = Some(key);
@@ -133,17 +134,18 @@ impl Ranks {
     /// object, or the streams have no ranks.
     #[inline(never)]
     pub fn lowest_held<G: Streams>(&self, streams: &G) -> Option<LowestValue>
-        requires ranking { IsRanking G.Stream.behaviour (G.streams streams.now) self.now }
-        requires spelled { AreSpelled G.Stream.behaviour (G.streams streams.now) }
+        requires ranking { IsRanking G.behaviour (G.streams streams.now) self.now }
+        requires spelled { AreSpelled G.behaviour (G.streams streams.now) }
         ensures lowest { IfSome result (λ l. IsLowest
-            (heads G.Stream.behaviour (G.streams streams.now))
-            (value_at G.Stream.behaviour (G.streams streams.now) l)) }
-        ensures stands { IfSome result (Stands G.Stream.behaviour (G.streams streams.now)) }
+            (heads G.behaviour (G.streams streams.now))
+            (value_at G.behaviour (G.streams streams.now) l)) }
+        ensures stands { IfSome result (Stands G.behaviour (G.streams streams.now)) }
     {
         self.key?;
         let all = streams.count();
         let rank = lowest_of(&self.lows, all);
-        if !is_of_part(rank) {
+        // no part has a rank above this
+        if rank > 1 << 32 {
             return None;
         }
         let first = self.next_at(0, all, rank)?;
@@ -168,15 +170,15 @@ impl Ranks {
         streams: &mut G,
         place: &Address,
     ) -> Result<Advanced, InputFault>
-        requires ranking { IsRanking G.Stream.behaviour (G.streams streams.old) self.old }
+        requires ranking { IsRanking G.behaviour (G.streams streams.old) self.old }
         requires object { self.old.key ≡ Some place.now.key }
-        ensures go_on { OnOk result (GoOnAt G.Stream.behaviour (Some place.now)
+        ensures go_on { OnOk result (GoOnAt G.behaviour (Some place.now)
             (G.streams streams.old) (G.streams streams.new)) }
-        ensures ranking { OnOk result (IsRanking G.Stream.behaviour (G.streams streams.new)
+        ensures ranking { OnOk result (IsRanking G.behaviour (G.streams streams.new)
             self.new) }
         ensures last { IfOk result (λ moved.
             0 < moved.count → moved.last < length (G.streams streams.new)) }
-        ensures stops { IfErr result (StopsIn G.Stream.behaviour (Some place.now)
+        ensures stops { IfErr result (StopsIn G.behaviour (Some place.now)
             (G.streams streams.old) (G.streams streams.new)) }
         ensures names { G.names streams.new ≡ G.names streams.old }
     {
@@ -248,7 +250,11 @@ impl Ranks {
         if number / BLOCK != block {
             self.lows[block] = lowest_in(&self.ranks, block);
         }
-        set_rank(&mut self.ranks, number, key, place)
+        let Some(rank) = rank_of(key, place) else {
+            return false;
+        };
+        self.ranks[number] = rank;
+        true
     }
 }
 
@@ -289,26 +295,8 @@ fn lowest_of(lows: &[u64; BLOCKS], all: usize) -> u64
     lowest
 }
 
-// Gives a stream that is here a rank among the parts of an object. False if this is a part of an
+// The rank of a stream that is here, among the parts of an object. None if this is a part of an
 // object before that.
-#[inline(always)]
-fn set_rank(ranks: &mut [u64; MOST], number: usize, key: &Key, place: Option<&Address>) -> bool
-    requires { number < 128 }
-    ensures set { result ≡ true
-        → StandsFrom key.now (slice_index ranks.new number) (option_copied place.entry) }
-    ensures others { (k : ℕ) → k ≢ number
-        → slice_index ranks.new k ≡ slice_index ranks.old k }
-{
-    match rank_of(key, place) {
-        Some(rank) => {
-            ranks[number] = rank;
-            true
-        }
-        None => false,
-    }
-}
-
-// The rank of a stream that is here. None if this is a part of an object before that one.
 #[inline(always)]
 fn rank_of(key: &Key, place: Option<&Address>) -> Option<u64>
     ensures { IfSome result (λ rank. StandsFrom key.now rank (option_copied place.entry)) }
@@ -335,12 +323,4 @@ fn number_of(part: Part) -> u64
         Part::Info => 0,
         Part::Symbol(id) => 1 + u64::from(id.sbn) * 65_536 + u64::from(id.esi),
     }
-}
-
-// Whether a part has this rank.
-#[inline(always)]
-fn is_of_part(rank: u64) -> bool
-    ensures { result ≡ true → rank ≤ 4294967296 }
-{
-    rank <= 1 << 32
 }

@@ -15,12 +15,12 @@ use std::alloc::Global;
 pub fn first_fault<G: Streams>(alloc: Global, streams: &mut G, stopped: InputFault) -> InputFault
     requires { stopped.number < length (G.streams streams.old) }
     ensures stopped { (start : List G.Stream)
-        → GaveBefore G.Stream.behaviour stopped.number start (G.streams streams.old)
-        → HasStopped G.Stream.behaviour start (G.streams streams.old) stopped
-        → HasStopped G.Stream.behaviour start (G.streams streams.new) result }
+        → GaveBefore G.behaviour stopped.number start (G.streams streams.old)
+        → HasStopped G.behaviour start (G.streams streams.old) stopped
+        → HasStopped G.behaviour start (G.streams streams.new) result }
     ensures first { (start : List G.Stream)
-        → GaveBefore G.Stream.behaviour stopped.number start (G.streams streams.old)
-        → TellBefore G.Stream.behaviour result.number start }
+        → GaveBefore G.behaviour stopped.number start (G.streams streams.old)
+        → TellBefore G.behaviour result.number start }
     ensures names { G.names streams.new ≡ G.names streams.old }
 {
     for number in 0..stopped.number {
@@ -40,12 +40,12 @@ fn finish<G: Streams>(alloc: Global, streams: &mut G, number: usize) -> Result<(
         → slice_get (G.streams streams.new) k ≡ slice_get (G.streams streams.old) k }
     ensures told { OnOk result ((start s : G.Stream) (F : List Fact)
         → slice_get (G.streams streams.old) number ≡ Some s
-        → Gave G.Stream.behaviour start s F
-        → (told : List Fact) × G.Stream.behaviour.tells start told) }
+        → Gave G.behaviour start s F
+        → (told : List Fact) × G.behaviour.tells start told) }
     ensures stops { IfErr result (λ fault. (start s : G.Stream) (F : List Fact)
         → slice_get (G.streams streams.old) number ≡ Some s
-        → Gave G.Stream.behaviour start s F
-        → IsStopOf G.Stream.behaviour start number (G.streams streams.new) fault) }
+        → Gave G.behaviour start s F
+        → IsStopOf G.behaviour start number (G.streams streams.new) fault) }
     ensures names { G.names streams.new ≡ G.names streams.old }
 {
     while streams.head(number).is_some() {

@@ -14,7 +14,7 @@ pub struct InputFault {
 }
 
 /// Why streams could not be merged.
-#[derive(Clone, Copy, Debug, PartialEq, Eq, Error)]
+#[derive(Clone, Copy, Debug, Error)]
 pub enum StreamsFault {
     /// One of them stopped.
     #[error("{0}")]
@@ -22,15 +22,4 @@ pub enum StreamsFault {
     /// The sink failed.
     #[error("Write")]
     Write,
-}
-
-impl From<InputFault> for StreamsFault {
-    ghost use Rattle.std.specs.Prelude.{◌≡◌};
-    ghost use Rattle.flute_streams.specs.declared.merge.streams_fault.StreamsFault.TheVariants.{Input};
-
-    ghost from_gives = { λ why fault. fault ≡ Input why };
-
-    fn from(why: InputFault) -> StreamsFault {
-        StreamsFault::Input(why)
-    }
 }

@@ -10,7 +10,7 @@ ghost use Rattle.flute_streams.specs.JournalStreams.{lent_behaviour, SameLoans};
 ghost use Rattle.flute_streams.specs.StreamMerges.{MergedAll, AppendsPartOf, ReadsAhead};
 ghost use Rattle.flute_streams.specs.StreamMerges.{NamesInput, CanGoOn, FailAs};
 ghost use Rattle.flute_streams.specs.StreamMerges.{streams_sink_failed};
-ghost use Rattle.flute_streams.specs.Pairs.{fault_at, IsOfReading, IsFaultOfTwo};
+ghost use Rattle.flute_streams.specs.Pairs.{IsOfReading, IsFaultOfTwo};
 ghost use Rattle.flute_journal.specs.declared.readers.reader_state.ReaderState.TheVariants as ReaderState;
 ghost use Rattle.flute_streams.specs.declared.streams.either.Either.TheVariants.{First as Left};
 ghost use Rattle.flute_streams.specs.declared.streams.either.Either.TheVariants.{Second as Right};
@@ -18,7 +18,7 @@ ghost use Rattle.flute_streams.specs.declared.streams.either.Either.TheVariants.
 use crate::merge::all_streams::{MergedJournal, merge_all};
 use crate::merge::streams_fault::{InputFault, StreamsFault};
 use crate::streams::chained::Chained;
-use crate::streams::journal_stream::LentStream;
+use crate::streams::lent_stream::LentStream;
 use crate::streams::stream::Stream;
 use flute_journal::{HeldEntry, JournalReader, LoadFault, ReadFault};
 use flute_parts::{Sink, Source};
@@ -154,8 +154,8 @@ fn merge_new<A: Source, B: Source, W: Sink>(
 {
     // `within` is not used, so the limits are 0, and nothing is counted
     let result = merge_two::<0, 0, 0, _, _, _>(alloc, first, second, sink);
-    first.let_go(alloc);
-    second.let_go(alloc);
+    first.reader.let_go(alloc, first.held);
+    second.reader.let_go(alloc, second.held);
     match result {
         Ok(joined) => Ok(joined.entries),
         Err(fault) => Err(fault_of_two(fault)),
@@ -216,19 +216,14 @@ fn fault_of_two(fault: StreamsFault) -> MergeFault
                 number,
                 fault: LoadFault::Read(fault),
             },
-        ) => fault_at(number, fault),
+        ) => {
+            if number == 0 {
+                MergeFault::First(fault)
+            } else {
+                MergeFault::Second(fault)
+            }
+        }
         StreamsFault::Input(_) => unreachable!(),
         StreamsFault::Write => MergeFault::Write,
-    }
-}
-
-// The fault of the input with this number.
-fn fault_at(number: usize, fault: ReadFault) -> MergeFault
-    ensures { result ≡ fault_at number fault }
-{
-    if number == 0 {
-        MergeFault::First(fault)
-    } else {
-        MergeFault::Second(fault)
     }
 }

@@ -1,5 +1,4 @@
 //! A stream, and then others.
-ghost use Rattle.std.specs.Prelude.{◌≡◌};
 
 use crate::streams::Streams;
 use crate::streams::either::Either;
@@ -13,7 +12,7 @@ const MOST: usize = 65_535;
 
 /// A stream, and then others. Of these the first 65,535 are taken: the prover does not know that
 /// the number of any streams and one fit a `usize`.
-#[derive(Debug, Drop)]
+#[derive(Drop)]
 pub struct Chained<'a, A, G> {
     /// It has the number 0.
     pub first: &'a mut A,
@@ -21,21 +20,14 @@ pub struct Chained<'a, A, G> {
     pub others: G,
 }
 
-impl<'a, A, G> Chained<'a, A, G> {
-    pub fn new(first: &'a mut A, others: G) -> Chained<'a, A, G>
-        ensures same_first { result.first.ghost_name ≡ first.entry.ghost_name }
-        ensures first { result.first.now ≡ first.old }
-        ensures others { result.others ≡ others }
-    {
-        Chained { first, others }
-    }
-}
-
 impl<'a, A: Stream, G: Streams> Streams for Chained<'a, A, G> {
     ghost use Rattle.std.specs.Prelude.{[], ◌∷◌};
     ghost use Rattle.flute_streams.specs.Chains.{chained, taken};
+    ghost use Rattle.flute_streams.specs.Eithers.{either_behaviour};
 
     type Stream = Either<A, G::Stream>;
+
+    ghost behaviour = { either_behaviour A.behaviour G.behaviour };
 
     ghost streams = { λ s. chained s.first.now (taken (G.streams s.others)) };
 

@@ -10,7 +10,7 @@ use flute_parts::{Address, FactRef};
 use std::alloc::Global;
 
 /// A stream whose facts that are not taken are passed over, and counted.
-#[derive(Debug, Drop)]
+#[derive(Drop)]
 pub struct Chosen<S, C> {
     pub stream: S,
     /// What is taken.

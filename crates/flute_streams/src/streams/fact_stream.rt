@@ -11,7 +11,7 @@ use flute_parts::{Address, Fact, FactRef};
 use std::alloc::Global;
 
 /// The stream of one fact.
-#[derive(Debug, Drop)]
+#[derive(Drop)]
 pub struct FactStream {
     pub next: Option<Fact>,
     pub held: HeldEntry,

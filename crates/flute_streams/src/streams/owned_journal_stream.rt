@@ -12,7 +12,7 @@ use flute_parts::{Address, FactRef, Source};
 use std::alloc::Global;
 
 /// A journal that is read as a stream, with its source. One entry of it is held.
-#[derive(Debug, Drop)]
+#[derive(Drop)]
 pub struct OwnedJournalStream<R> {
     pub source: R,
     max_entries: u64,

@@ -2,8 +2,8 @@
 
 use super::*;
 use flute_parts::{Fact, MemorySink, MemorySource, SymbolId};
-use test_vectors::bytes;
-use test_vectors::journals::WHOLE;
+use test_vectors::journals::{OTHERS, WHOLE};
+use test_vectors::{bytes, written};
 
 #[test]
 fn journals_are_merged(rt: HostRuntime) -> Result<(), Fail> {
@@ -16,12 +16,28 @@ fn journals_are_merged(rt: HostRuntime) -> Result<(), Fail> {
     Ok(())
 }
 
+/// Two of version 1, and between them one of version 2.
+#[test]
+fn three_journals_are_merged(rt: HostRuntime) -> Result<(), Fail> {
+    let others = bytes(rt.alloc(), OTHERS)?;
+    let whole = bytes(rt.alloc(), written::WHOLE)?;
+    let mut journals = [
+        OwnedJournalStream::new(MemorySource::new(&others), MANY),
+        OwnedJournalStream::new(MemorySource::new(&whole), MANY),
+        OwnedJournalStream::new(MemorySource::new(&others), MANY),
+    ];
+    let mut sink = MemorySink::new(rt.alloc());
+    let mut all = &mut journals[..];
+    merge_all::<4, 4, 4, _, _>(rt.alloc(), &mut all, &mut sink)?;
+    assert!(rt; sink.as_slice() == bytes(rt.alloc(), written::JOINED)?.as_slice());
+    Ok(())
+}
+
 #[test]
 fn a_journal_and_a_store_are_merged(rt: HostRuntime) -> Result<(), Fail> {
     let whole = bytes(rt.alloc(), WHOLE)?;
     let store: Small = Store::new(rt.alloc());
-    let mut source = MemorySource::new(&whole);
-    let mut journal = JournalStream::new(&mut source, MANY);
+    let mut journal = OwnedJournalStream::new(MemorySource::new(&whole), MANY);
     let mut walk = WalkStream::new(store.walk());
     let mut sink = MemorySink::new(rt.alloc());
     let joined = merge_two::<1, 1, 2, _, _, _>(rt.alloc(), &mut journal, &mut walk, &mut sink)?;
@@ -33,20 +49,19 @@ fn a_journal_and_a_store_are_merged(rt: HostRuntime) -> Result<(), Fail> {
 #[test]
 fn whole_and_chosen_journals_are_merged(rt: HostRuntime) -> Result<(), Fail> {
     let whole = bytes(rt.alloc(), WHOLE)?;
-    let mut first = MemorySource::new(&whole);
-    let mut second = MemorySource::new(&whole);
     let mut sessions = Sessions::all();
     assert!(rt; sessions.add(7));
     assert!(rt; sessions.takes(7));
     assert!(rt; !sessions.is_all());
-    let mut all = JournalStream::new(&mut first, MANY);
+    let mut all = OwnedJournalStream::new(MemorySource::new(&whole), MANY);
     let mut scope = Scope::all();
     assert!(rt; scope.is_all());
     scope.sessions = sessions;
     scope.files = true;
     let key = file().ok_or("a key")?;
     assert!(rt; scope.takes(&key) && !scope.is_all() && !scope.takes_all());
-    let mut chosen = Chosen::new(JournalStream::new(&mut second, MANY), scope);
+    let journal = OwnedJournalStream::new(MemorySource::new(&whole), MANY);
+    let mut chosen = Chosen::new(journal, scope);
     let mut sink = MemorySink::new(rt.alloc());
     let joined = merge_two::<4, 4, 4, _, _, _>(rt.alloc(), &mut all, &mut chosen, &mut sink)?;
     assert!(rt; joined.entries == 3);
@@ -90,7 +105,10 @@ fn a_fact_and_a_journal_are_chained(rt: HostRuntime) -> Result<(), Fail> {
     let whole = bytes(rt.alloc(), WHOLE)?;
     let mut journals = [OwnedJournalStream::new(MemorySource::new(&whole), MANY)];
     let mut fact = FactStream::new(Fact::InfoConflict { key });
-    let all = Chained::new(&mut fact, &mut journals[..]);
+    let all = Chained {
+        first: &mut fact,
+        others: &mut journals[..],
+    };
     assert!(rt; all.count() == 2);
     Ok(())
 }
@@ -104,7 +122,7 @@ fn two_facts_are_joined(rt: HostRuntime) -> Result<(), Fail> {
     assert!(rt; first.address().is_none());
     let second = FactStream::new(Fact::InfoConflict { key: second });
     let mut streams = [first, second];
-    let mut all = Slice::new(&mut streams);
+    let mut all = &mut streams[..];
     let mut sink = MemorySink::new(rt.alloc());
     let joined = join_streams::<4, 4, 4, _, _>(rt.alloc(), &mut all, &mut sink)?;
     assert!(rt; joined.entries == 1);

@@ -1,12 +1,7 @@
 //! A limit of one symbol.
 use super::key;
-use flute_parts::{Address, Failures, Part, SymbolId, Tally};
+use flute_parts::{Address, Part, SymbolId, Tally};
 use std::test::Fail;
-
-// The default of a type, through its bound.
-fn made<T: Default>() -> T {
-    T::default()
-}
 
 // The address of this symbol.
 fn address(esi: u16) -> Option<Address> {
@@ -20,10 +15,4 @@ fn one_symbol_is_counted(rt: HostRuntime) -> Result<(), Fail> {
     assert!(rt; tally.count(&address(0).ok_or("no such address")?));
     assert!(rt; !tally.count(&address(1).ok_or("no such address")?));
     Ok(())
-}
-
-#[test]
-fn nothing_is_counted_by_default() {
-    let _ = made::<Tally<1, 1, 1>>();
-    let _ = made::<Failures>();
 }

@@ -33,16 +33,6 @@ use Rattle.flutejoin.specs.declared.extract.picked.Picked.{Picked}
 use Rattle.flutejoin.proofs.SelectedFacts.{rising_picked}
 use Rattle.flutejoin.proofs.Shown.{whole}
 
-pub if_ok : {T E : Type 0} {P Q : T → Type 0} (r : Result T E) → ((x : T) → P x → Q x) → IfOk r P →
-    IfOk r Q
-if_ok (Ok x) f h = f x h
-if_ok (Err e) f h = h
-
-pub if_err : {T E : Type 0} {P Q : E → Type 0} (r : Result T E) → ((x : E) → P x → Q x) → IfErr r P
-    → IfErr r Q
-if_err (Ok x) f h = h
-if_err (Err e) f h = f e h
-
 -- ---- the facts that are picked
 
 module _ (picked : Picked) (F : List Fact) (f : Fact) where

@@ -47,16 +47,6 @@ keeps_stay p = kept_stay p.open_file p
 pub leaves_stay : (p : Places) → FolderStays p (leaves p)
 leaves_stay p = record { out = refl; past = refl; named = refl }
 
--- nothing was done yet
-pub fills_nothing : (p : Option Places) → IfSome p IsReady → LeadsTo (Fills [] None) p p
-fills_nothing None h = tt
-fills_nothing (Some p) h = record {
-  beside = sym (append-nil (files_beside p));
-  there = h.there;
-  open_is = h.closed;
-  stays = record { out = refl; past = refl; named = refl };
-}
-
 -- a call that does so makes of a folder of which A holds one of which B holds
 abbrev pub Brings : (Places → Places) → (Places → Places → Type 0)
     → (Places → Places → Type 0) → Type 0

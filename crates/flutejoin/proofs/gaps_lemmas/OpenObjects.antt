@@ -169,11 +169,6 @@ pub on_ok : {T E A B : Type 0} (r : Result T E) → (A → B) → OnOk r A → O
 on_ok (Ok x) f h = f h
 on_ok (Err x) f h = h
 
-pub on_both : {T E A B C : Type 0} (r : Result T E) → (A → B → C) → OnOk r A → OnOk r B
-    → OnOk r C
-on_both (Ok x) f a b = f a b
-on_both (Err x) f a b = tt
-
 pub passes_none : (style : Style) (mine : List Fact) (n : SymbolId × Option (Bor (List ℕ)))
     (key : Key) (gap_lines : List ℕ) → StateIs style key mine gap_lines NoInformation
     → StateIs style key (mine ++ next_fact key n ∷ []) gap_lines NoInformation

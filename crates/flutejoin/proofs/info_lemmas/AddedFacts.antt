@@ -10,7 +10,7 @@ use Rattle.flute_parts.proofs.Public.{Same-sym, Same-trans}
 use Rattle.flute_journal.specs.Journal.{IsJournalWithin}
 use Rattle.flute_journal.specs.JournalFraming.{journal_framing}
 use Rattle.flute_journal.specs.JournalWriters.{PutsJournal, WritesJournal}
-use Rattle.flute_journal.specs.Readers.{source_of, limit_of}
+use Rattle.flute_journal.specs.Readers.{limit_of}
 use Rattle.flute_streams.specs.Streams.{Behaviour}
 use Rattle.flute_streams.specs.Eithers.{either_behaviour}
 use Rattle.flute_streams.specs.FirstFaults.{FirstFault, IsStopOf}
@@ -22,7 +22,7 @@ use Rattle.flute_streams.specs.declared.streams.either.Either.TheVariants.{First
 use Rattle.flute_journal.specs.declared.fault.LoadFault.{LoadFault}
 use Rattle.flute_journal.specs.declared.fault.LoadFault.TheVariants as load
 use Rattle.flute_journal.specs.declared.fault.ReadFault.TheVariants as read
-use Rattle.flute_streams.specs.declared.streams.journal_stream.LentStream.{LentStream}
+use Rattle.flute_streams.specs.declared.streams.lent_stream.LentStream.{LentStream}
 use Rattle.flute_streams.specs.declared.merge.all_streams.MergedJournal.{MergedJournal}
 use Rattle.flute_streams.specs.declared.merge.streams_fault.InputFault.{InputFault}
 use Rattle.flutejoin.specs.declared.command_fault.CommandFault.{CommandFault}
@@ -194,21 +194,21 @@ module _ {R : Type 0} (unread : R → Option (List ℕ)) (buffered : R → List 
 -- how often the source failed that a fault of reading is of
 pub load_failures : (number old new : ℕ) (fault : LoadFault) → FailsBy old new (Some fault)
     → FailsToRead {T = ℕ} old new (Err (of_load number fault))
-load_failures number old new (load.Read read.Read) h = h
-load_failures number old new (load.Read read.Magic) h = h
-load_failures number old new (load.Read read.Version) h = h
-load_failures number old new (load.Read read.Kind) h = h
-load_failures number old new (load.Read read.Key) h = h
-load_failures number old new (load.Read (read.Information why)) h = h
-load_failures number old new (load.Read read.EmptySymbol) h = h
-load_failures number old new (load.Read read.Order) h = h
-load_failures number old new (load.Read read.Count) h = h
-load_failures number old new (load.Read read.Cut) h = h
-load_failures number old new (load.Read read.TooMany) h = h
-load_failures number old new (load.Read read.Trailing) h = h
-load_failures number old new (load.Read read.OutOfMemory) h = h
-load_failures number old new load.Full h = h
-load_failures number old new load.OutOfMemory h = h
+load_failures number old now (load.Read read.Read) h = h
+load_failures number old now (load.Read read.Magic) h = h
+load_failures number old now (load.Read read.Version) h = h
+load_failures number old now (load.Read read.Kind) h = h
+load_failures number old now (load.Read read.Key) h = h
+load_failures number old now (load.Read (read.Information why)) h = h
+load_failures number old now (load.Read read.EmptySymbol) h = h
+load_failures number old now (load.Read read.Order) h = h
+load_failures number old now (load.Read read.Count) h = h
+load_failures number old now (load.Read read.Cut) h = h
+load_failures number old now (load.Read read.TooMany) h = h
+load_failures number old now (load.Read read.Trailing) h = h
+load_failures number old now (load.Read read.OutOfMemory) h = h
+load_failures number old now load.Full h = h
+load_failures number old now load.OutOfMemory h = h
 
 -- No fault of a journal is reported with the number 2.
 pub never_second : (most : Limits) (r : Result ℕ CommandFault) (input : Option (List ℕ))

@@ -1,6 +1,6 @@
 -- The pieces of a line of information, one after the other (specs/InformationLines).
 use Rattle.std.proofs.Common.{◌≡◌, ℕ, ◌==◌, ◌<◌, ◌^◌, if◌then◌else◌, Bool, true, false, List, []}
-use Rattle.std.proofs.Common.{◌++◌, get_or, codes, decimal, Option, Some, None, MatchOption}
+use Rattle.std.proofs.Common.{◌++◌, get_or, codes, decimal}
 use Rattle.std.proofs.Common.{append_assoc, refl, sym, ap, ◌∙◌, arith}
 use Rattle.std.specs.Char.{is_ascii_digit}
 use Rattle.std.specs.Int.{bytes_high_first}
@@ -8,7 +8,6 @@ use Rattle.std.proofs.lemmas.Bool.{true≢false}
 use Rattle.std.proofs.lemmas.List.{append-nil, append_cancel_left, get_or_append_left}
 use Rattle.hex.specs.Hex.{encode_lower}
 use Rattle.flute_parts.specs.Information.{Information, information}
-use Rattle.flute_parts.specs.Session.{Session, session}
 use Rattle.flute_parts.specs.declared.object_key.ObjectName.{ObjectName}
 use Rattle.flute_parts.specs.declared.object_key.ObjectName.TheVariants.{Instance, File}
 use Rattle.flute_parts.specs.declared.key.Key.{Key}
@@ -99,26 +98,6 @@ same_numbers info n x y z =
     ap (λ k. information k n.symbol n.block) x
     ∙ ap (λ k. information info.transfer_length k n.block) y
     ∙ ap (λ k. information info.transfer_length info.symbol_length k) z
-
--- the numbers that were read are those of the information
-pub numbers_found : (r : Option InfoNumbers) (info : Information) {l s b : ℕ}
-    → l ≡ info.transfer_length → s ≡ info.symbol_length → b ≡ info.max_block_length
-    → MatchOption r ⊥ (λ n. (n.length ≡ l) × (n.symbol ≡ s) × (n.block ≡ b))
-    → MatchOption r ⊥ (λ n. numbers_of n ≡ info)
-numbers_found None info x y z h = h
-numbers_found (Some n) info x y z h =
-    same_numbers info n (h.0 ∙ x) (h.1 ∙ y) (h.2 ∙ z)
-
-pub same_session : (v : Session) (sender tsi : ℕ) → sender ≡ v.sender → tsi ≡ v.tsi → session
-    sender tsi ≡ v
-same_session v sender tsi x y = ap (λ k. session k tsi) x ∙ ap (λ k. session v.sender k) y
-
-abbrev pub key_of : Session → ObjectName → Key
-key_of s o = record { session = s; object = o }
-
-pub same_key : (key : Key) (s : Session) (o : ObjectName) → s ≡ key.session → o ≡ key.object →
-    key_of s o ≡ key
-same_key key s o x y = ap (λ k. key_of k o) x ∙ ap (λ k. key_of key.session k) y
 
 pub by_name : (P : ObjectName → Type 0) → ((i : ℕ) → P (Instance i)) → ((t : ℕ) → P (File t)) →
     (name : ObjectName) → P name

@@ -1,10 +1,9 @@
 //! An object that is sent symbol after symbol, as its content is read.
-ghost use Rattle.std.specs.Prelude.{◌≡◌, ◌+◌, ◌*◌, ◌<◌, ◌≤◌, ◌^◌, length, take, drop, min, max};
-ghost use Rattle.std.specs.Prelude.{slice_get, Some, None, OnOk, IfOk, IfErr, if◌then◌else◌, is_ok};
+ghost use Rattle.std.specs.Prelude.{◌≡◌, ◌+◌, ◌*◌, ◌<◌, ◌^◌, length, take, drop, min, max};
+ghost use Rattle.std.specs.Prelude.{Some, OnOk, IfErr, if◌then◌else◌, is_ok};
 ghost use Rattle.std.specs.Io.KnownBytes.{Consumes};
 ghost use Rattle.std.specs.Option.{option_map};
 ghost use Rattle.flute_parts.specs.Devices.{Writes, times_failed};
-ghost use Rattle.flute_parts.specs.Partition.{ids};
 ghost use Rattle.flute_wire.specs.Carousel.{packets_of};
 ghost use Rattle.flute_wire.specs.Outgoing.{said};
 ghost use Rattle.flute_journal.specs.Records.{IsDatagram, record_of};

@@ -8,7 +8,7 @@ ghost use Rattle.flute_output.specs.NewFolders.{Places, LeadsTo, FolderStays, Is
 ghost use Rattle.flutejoin.specs.declared.command_fault.CommandFault.TheVariants.{CannotWrite};
 ghost use Rattle.flutejoin.specs.ExtractAll.{ExtractsAll, ExtractAllFails, CanPick, picked_facts};
 ghost use Rattle.flutejoin.specs.Limits.{at_most};
-ghost use Rattle.flutejoin.specs.ObjectFiles.{Takes, TakesAll, KnowsSome};
+ghost use Rattle.flutejoin.specs.ObjectFiles.{Takes};
 ghost use Rattle.flutejoin.specs.Packet.{write_failures};
 ghost use Rattle.flutejoin.specs.Show.{FailsToRead};
 
@@ -69,7 +69,10 @@ pub fn extract_all_to<
         take_picked(&mut files, picked, &fact, folder, lines)?;
         spare = fact.into_vec(alloc);
     }
-    finish(files, folder, lines)
+    match files.finish(folder, lines) {
+        Ok(count) => Ok(count),
+        Err(_) => Err(CommandFault::CannotWrite),
+    }
 }
 
 // Takes the next fact, if it is of an object that is picked.
@@ -100,29 +103,6 @@ fn take_picked<D: NewFolder, W: Sink>(
     }
     match files.add(fact, folder, lines) {
         Ok(()) => Ok(()),
-        Err(_) => Err(CommandFault::CannotWrite),
-    }
-}
-
-// Ends the last object, and returns how many files were written.
-fn finish<D: NewFolder, W: Sink>(
-    files: ObjectFiles,
-    folder: &mut D,
-    lines: &mut W,
-) -> Result<u64, CommandFault>
-    requires known { KnowsSome files }
-    requires few { files.written < 2 ^ 32 }
-    ensures finished { (F : List Known) (p0 : Option Places) (w0 : Option (List ℕ))
-        → IsRising F → Takes F files p0 (D.places folder.old) w0 (W.written lines.old)
-        → IfOk result (λ count. TakesAll F count p0 (D.places folder.new)
-        w0 (W.written lines.new)) }
-    ensures fault { IfErr result (λ fault. fault ≡ CannotWrite) }
-    ensures stays { LeadsTo FolderStays (D.places folder.old) (D.places folder.new) }
-    ensures failures { D.failures folder.new + W.failures lines.new
-        ≡ D.failures folder.old + W.failures lines.old + write_failures result }
-{
-    match files.finish(folder, lines) {
-        Ok(count) => Ok(count),
         Err(_) => Err(CommandFault::CannotWrite),
     }
 }

@@ -1,11 +1,10 @@
 //! An object that is written to a file as its facts come.
 ghost use Rattle.std.specs.Prelude.{◌≡◌, ◌+◌, ◌-◌, ◌∷◌, ◌++◌, [], List};
-ghost use Rattle.std.specs.Prelude.{None, OnOk, IfOk, take, length, Option, if◌then◌else◌};
+ghost use Rattle.std.specs.Prelude.{None, OnOk, IfOk, Option, if◌then◌else◌};
 ghost use Rattle.std.specs.Prelude.{is_ok};
-ghost use Rattle.flute_output.specs.NewFolders.{NamedFile, Places, LeadsTo, Makes, Fills};
-ghost use Rattle.flute_output.specs.NewFolders.{FolderStays, puts};
+ghost use Rattle.flute_output.specs.NewFolders.{NamedFile, Places, LeadsTo};
+ghost use Rattle.flute_output.specs.NewFolders.{FolderStays};
 ghost use Rattle.flute_parts.specs.declared.fact.Fact.{Fact as Known};
-ghost use Rattle.flute_parts.specs.declared.fact.Fact.TheVariants.{Info as InfoFact};
 ghost use Rattle.flute_parts.specs.declared.key.Key.{Key as Name};
 ghost use Rattle.flute_parts.specs.Facts.{IsRising};
 ghost use Rattle.flute_store.specs.Scan.{Scanned, next_fact, CanFollow, CanCome};
@@ -13,9 +12,9 @@ ghost use Rattle.flute_store.specs.Scans.{Scans};
 ghost use Rattle.flutejoin.specs.Listing.{Passes};
 ghost use Rattle.flutejoin.specs.ObjectFiles.{PassedAs, ScansInto, CanPass, HasPassed, Ends};
 
-use crate::extract::file_names::file_name;
+use crate::extract::up_to;
 use flute_output::NewFolder;
-use flute_parts::{DeviceFault, Info, Key, SymbolId};
+use flute_parts::{DeviceFault, SymbolId};
 use flute_store::{ObjectScan, Status, Turn};
 
 /// What is known of an object's information, which comes before its symbols.
@@ -49,32 +48,6 @@ pub enum Passed {
 }
 
 impl FileScan {
-    /// An object of which no symbol came: its file is opened.
-    ///
-    /// # Errors
-    ///
-    /// `DeviceFault` if the folder failed.
-    pub fn begin<D: NewFolder>(
-        key: Key,
-        info: &Info,
-        folder: &mut D,
-    ) -> Result<FileScan, DeviceFault>
-        ensures begun { (files : List NamedFile) (p0 : Option Places)
-            → LeadsTo (Fills files None) p0 (D.places folder.old)
-            → IfOk result (λ scan. ScansInto key (InfoFact key info.now ∷ []) scan files p0
-            (D.places folder.new)) }
-        ensures stays { LeadsTo FolderStays (D.places folder.old) (D.places folder.new) }
-        ensures failures { D.failures folder.new
-            ≡ D.failures folder.old + (if is_ok result then 0 else 1) }
-    {
-        folder.begin(file_name(&key).as_slice())?;
-        Ok(FileScan {
-            scan: ObjectScan::new(key, info),
-            left: info.length(),
-            whole: true,
-        })
-    }
-
     /// Takes the next symbol, with its one value, or None if it has two.
     #[inline(always)]
     pub fn pass<D: NewFolder>(
@@ -98,7 +71,11 @@ impl FileScan {
             return Ok(());
         }
         match (passed, value) {
-            (Passed::Fitting, Some(bytes)) => put_first(bytes, &mut self.left, folder),
+            (Passed::Fitting, Some(bytes)) => {
+                let first = up_to(bytes, self.left);
+                self.left -= first.len() as u64;
+                folder.put(first)
+            }
             (Passed::Broken, _) => {
                 self.whole = false;
                 folder.leave()
@@ -162,31 +139,4 @@ fn pass_gaps(scan: &mut ObjectScan, next: Option<(SymbolId, Option<&[u8]>)>)
         → (t : Scanned) × Passes s next.entry t × Scans scan.new t }
 {
     while let Turn::Gap(_gap) = scan.next(next) {}
-}
-
-// Puts the first `left` of the bytes, or all of them if there are no more.
-#[inline(always)]
-fn put_first<D: NewFolder>(bytes: &[u8], left: &mut u64, folder: &mut D) -> Result<(), DeviceFault>
-    ensures put { OnOk result (Makes (puts (take left.old bytes.now))
-        (D.places folder.old) (D.places folder.new)) }
-    ensures left { left.new ≡ left.old - length bytes.now }
-    ensures stays { LeadsTo FolderStays (D.places folder.old) (D.places folder.new) }
-    ensures failures { D.failures folder.new
-        ≡ D.failures folder.old + (if is_ok result then 0 else 1) }
-{
-    let first = up_to(bytes, *left);
-    *left -= first.len() as u64;
-    folder.put(first)
-}
-
-// The first `len` of the bytes, or all of them if there are no more.
-#[inline(always)]
-fn up_to(bytes: &[u8], len: u64) -> &[u8]
-    ensures { result.now ≡ take len bytes.now }
-{
-    if len < bytes.len() as u64 {
-        &bytes[..len as usize]
-    } else {
-        bytes
-    }
 }

@@ -15,12 +15,13 @@ ghost use Rattle.flutejoin.specs.ObjectFiles.{Takes, TakesAll, Knows, KnowsSome,
 ghost use Rattle.flutejoin.specs.ObjectFiles.{CanPassAt, HasPassedAt, StandsInto, FileStateIs};
 ghost use Rattle.flutejoin.specs.ObjectFiles.{Ends};
 
+use crate::extract::file_names::file_name;
 use crate::extract::file_scan::{FileScan, FileState};
 use crate::gaps::held_lines::status_text;
 use crate::lines::report_lines::write_words;
 use flute_output::NewFolder;
 use flute_parts::{DeviceFault, Fact, Info, Key, Sink, SymbolId};
-use flute_store::Status;
+use flute_store::{ObjectScan, Status};
 
 /// The files of objects that are whole, and the line of each object. Their facts come one by one in
 /// the order of their addresses, and none of them is kept.
@@ -139,21 +140,16 @@ impl ObjectFiles {
             ≡ D.failures folder.old + W.failures lines.old + (if is_ok result then 0 else 1) }
     {
         self.close(folder, lines)?;
-        match FileScan::begin(*key, info, folder) {
-            Ok(scan) => {
-                self.set_last(*key, FileState::OneInformation(scan));
-                Ok(())
-            }
-            Err(fault) => Err(fault),
-        }
-    }
-
-    fn set_last(&mut self, key: Key, state: FileState)
-        ensures { self.new ≡ record self.old {
-          last = Some (record { key = key; state = state });
-        } }
-    {
-        self.last = Some(ObjectFile { key, state });
+        folder.begin(file_name(key).as_slice())?;
+        self.last = Some(ObjectFile {
+            key: *key,
+            state: FileState::OneInformation(FileScan {
+                scan: ObjectScan::new(*key, info),
+                left: info.length(),
+                whole: true,
+            }),
+        });
+        Ok(())
     }
 
     // Begins the next object, of which one fact came.
@@ -179,7 +175,7 @@ impl ObjectFiles {
             ≡ D.failures folder.old + W.failures lines.old + (if is_ok result then 0 else 1) }
     {
         self.close(folder, lines)?;
-        self.set_last(key, state);
+        self.last = Some(ObjectFile { key, state });
         Ok(())
     }
 

@@ -1,5 +1,5 @@
 //! An object that is written as what is known of it passes, in the order of a journal.
-ghost use Rattle.std.specs.Prelude.{◌≡◌, ◌+◌, ◌-◌, ℕ, Bool, false, List, []};
+ghost use Rattle.std.specs.Prelude.{◌≡◌, ◌+◌, ◌-◌, ℕ, false, List, []};
 ghost use Rattle.std.specs.Prelude.{◌∷◌, ◌++◌, length, take, Option, IfErr};
 ghost use Rattle.flute_parts.specs.Addresses.{address};
 ghost use Rattle.flute_parts.specs.Facts.{IsRising};
@@ -10,10 +10,11 @@ ghost use Rattle.flute_journal.specs.JournalWriters.{PutsBytes};
 ghost use Rattle.flute_parts.specs.Devices.{times_failed};
 ghost use Rattle.flute_store.specs.Scan.{next_fact};
 ghost use Rattle.flutejoin.specs.Extract.{Extracts};
-ghost use Rattle.flutejoin.specs.ObjectWriters.{WritesNothing, Stands, Scanning, ScansOn, EndsScan};
+ghost use Rattle.flutejoin.specs.ObjectWriters.{WritesNothing, Stands, Scanning, ScansOn};
 ghost use Rattle.flutejoin.specs.ObjectWriters.{TellsUntouched, FailedBy};
 
 use crate::command_fault::CommandFault;
+use crate::extract::up_to;
 use flute_parts::{Fact, Info, Key, Sink, SymbolId};
 use flute_store::{ObjectScan, Turn};
 
@@ -79,28 +80,12 @@ impl ObjectWriter {
             ≡ W.failures sink.old + times_failed self.new.failed }
     {
         if fact.address().key == self.key {
-            self.pass_own(fact, sink);
-        }
-    }
-
-    // Takes the next fact, which is of the object.
-    #[inline(always)]
-    fn pass_own<W: Sink>(&mut self, fact: &Fact, sink: &mut W)
-        requires { (address fact.now).key ≡ self.old.key }
-        ensures passed { (P : List Known) (start : Option (List ℕ))
-            → IsRising (P ++ fact.now ∷ []) → Stands P self.old start (W.written sink.old)
-            → Stands (P ++ fact.now ∷ []) self.new start (W.written sink.new) }
-        ensures key { self.new.key ≡ self.old.key }
-        ensures untouched { WritesNothing self.new.found
-            → WritesNothing self.old.found × (sink.new ≡ sink.old) }
-        ensures failures { W.failures sink.new + times_failed self.old.failed
-            ≡ W.failures sink.old + times_failed self.new.failed }
-    {
-        match fact {
-            Fact::Info { info, .. } => self.information(info),
-            Fact::InfoConflict { .. } => self.conflict(),
-            Fact::Symbol { id, bytes, .. } => self.symbol(*id, Some(bytes.as_slice()), sink),
-            Fact::SymbolConflict { id, .. } => self.symbol(*id, None, sink),
+            match fact {
+                Fact::Info { info, .. } => self.information(info),
+                Fact::InfoConflict { .. } => self.conflict(),
+                Fact::Symbol { id, bytes, .. } => self.symbol(*id, Some(bytes.as_slice()), sink),
+                Fact::SymbolConflict { id, .. } => self.symbol(*id, None, sink),
+            }
         }
     }
 
@@ -116,7 +101,11 @@ impl ObjectWriter {
         ensures failed { self.new.failed ≡ self.old.failed }
     {
         if let Found::Nothing = self.found {
-            self.found = Found::Whole(WholeSoFar::new(self.key, info));
+            self.found = Found::Whole(WholeSoFar {
+                scan: ObjectScan::new(self.key, info),
+                size: info.length(),
+                left: info.length(),
+            });
         }
     }
 
@@ -177,10 +166,13 @@ impl ObjectWriter {
             Found::Symbols => return Err(CommandFault::NoInformation),
             Found::Conflict => return Err(CommandFault::ConflictingInformation),
             Found::NotWhole(first) => *first,
-            Found::Whole(object) => match object.end() {
-                Some(first) => first,
-                None if self.failed => return Err(CommandFault::CannotWrite),
-                None => return Ok(object.size),
+            Found::Whole(object) => match object.scan.next(None) {
+                Turn::Gap(gap) => SymbolId {
+                    sbn: gap.sbn,
+                    esi: gap.first,
+                },
+                _ if self.failed => return Err(CommandFault::CannotWrite),
+                _ => return Ok(object.size),
             },
         };
         Err(CommandFault::NotWhole {
@@ -191,18 +183,6 @@ impl ObjectWriter {
 }
 
 impl WholeSoFar {
-    // An object of which no symbol passed.
-    fn new(key: Key, info: &Info) -> WholeSoFar
-        ensures { (P : List Known) (start : Option (List ℕ))
-            → Scanning (P ++ InfoFact key info.now ∷ []) key false start start result }
-    {
-        WholeSoFar {
-            scan: ObjectScan::new(key, info),
-            size: info.length(),
-            left: info.length(),
-        }
-    }
-
     // Takes the next symbol, and writes it if it is the next of the partition. The first symbol
     // that is not held as one fitting value, if that is known now.
     #[inline(always)]
@@ -236,23 +216,6 @@ impl WholeSoFar {
             Turn::Wanted | Turn::End => Some(id),
         }
     }
-
-    // The first symbol that is not held as one fitting value, if no symbol is left.
-    fn end(&mut self) -> Option<SymbolId>
-        ensures ended { (P : List Known) (key : Name) (failed : Bool)
-            (start now : Option (List ℕ)) → IsRising P
-            → Scanning P key failed start now self.old
-            → EndsScan P key failed start now self.old result }
-        ensures size { self.new.size ≡ self.old.size }
-    {
-        match self.scan.next(None) {
-            Turn::Gap(gap) => Some(SymbolId {
-                sbn: gap.sbn,
-                esi: gap.first,
-            }),
-            _ => None,
-        }
-    }
 }
 
 // Writes the first `left` of the bytes, or all of them if there are no more, unless the sink has
@@ -269,17 +232,5 @@ fn write_first<W: Sink>(bytes: &[u8], left: &mut u64, failed: &mut bool, sink: &
     *left -= first.len() as u64;
     if !*failed {
         *failed = sink.write_all(first).is_err();
-    }
-}
-
-// The first `len` of the bytes, or all of them if there are no more.
-#[inline(always)]
-fn up_to(bytes: &[u8], len: u64) -> &[u8]
-    ensures { result.now ≡ take len bytes.now }
-{
-    if len < bytes.len() as u64 {
-        &bytes[..len as usize]
-    } else {
-        bytes
     }
 }

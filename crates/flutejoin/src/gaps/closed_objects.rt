@@ -1,12 +1,12 @@
 //! What is remembered of the objects of which all facts came.
-ghost use Rattle.std.specs.Prelude.{◌≡◌, ◌+◌, ◌∷◌, ◌++◌, [], List, ℕ, Bool, OnOk, true, false};
+ghost use Rattle.std.specs.Prelude.{◌≡◌, ◌+◌, ◌∷◌, ◌++◌, [], List, ℕ, Bool, OnOk};
 ghost use Rattle.std.specs.Prelude.{None};
 ghost use Rattle.std.specs.Prelude.{if◌then◌else◌, is_ok};
 ghost use Rattle.std.specs.List.{flat_map};
 ghost use Rattle.std.specs.Io.KnownBytes.{Appends};
 ghost use Rattle.flutejoin.specs.Listing.{AreClosed, AreFew, ArePut, AreSummed, AreSummedUp};
-ghost use Rattle.flutejoin.specs.Listing.{BeginsSession, CanClose, Knows, last_line};
-ghost use Rattle.flutejoin.specs.Styles.{HasNoStray, is_told, shown_gap};
+ghost use Rattle.flutejoin.specs.Listing.{CanClose, Knows, last_line};
+ghost use Rattle.flutejoin.specs.Styles.{HasNoStray, shown_gap};
 ghost use Rattle.flutejoin.specs.Told.{Told};
 
 use crate::aside::Aside;
@@ -27,17 +27,6 @@ pub struct ClosedObjects {
 }
 
 impl ClosedObjects {
-    /// No object.
-    pub fn none() -> ClosedObjects
-        ensures whole { result.all_whole ≡ true }
-        ensures sums { result.sums ≡ None }
-    {
-        ClosedObjects {
-            all_whole: true,
-            sums: None,
-        }
-    }
-
     /// Takes the next object. If it is listed, its line is put aside, or, if it is the first of its
     /// session and a session has a line, that of the session before.
     ///
@@ -62,32 +51,9 @@ impl ClosedObjects {
         ensures failures { A.failures lines.new
             ≡ A.failures lines.old + (if is_ok result then 0 else 1) }
     {
-        if style.tells(status) {
-            self.tell(style, key, status, lines)
-        } else {
-            Ok(())
+        if !style.tells(status) {
+            return Ok(());
         }
-    }
-
-    // Takes the next object, which is listed.
-    fn tell<A: Aside>(
-        &mut self,
-        style: Style,
-        key: &Key,
-        status: Status,
-        lines: &mut A,
-    ) -> Result<(), DeviceFault>
-        requires { CanClose self.old.sums }
-        ensures told { (known : Bool) (objects : List Told) (bytes : List ℕ) (t : Told)
-            → t.key ≡ key.now → t.status ≡ status → is_told style status ≡ true
-            → AreClosed style objects bytes self.old → Knows known (A.written lines.old) bytes
-            → OnOk result (ArePut known style (objects ++ t ∷ [])
-            (flat_map (shown_gap style) t.gaps) (A.written lines.new) self.new) }
-        ensures few { (n : ℕ) → AreFew n self.old.sums
-            → OnOk result (AreFew (n + 1) self.new.sums) }
-        ensures failures { A.failures lines.new
-            ≡ A.failures lines.old + (if is_ok result then 0 else 1) }
-    {
         self.all_whole &= is_whole(status);
         if style.summary {
             sum_up(&mut self.sums, key.session, status, lines)
@@ -118,28 +84,14 @@ fn sum_up<A: Aside>(
             last.add(status);
             Ok(())
         }
-        _ => begin_session(sums, session, status, lines),
+        _ => {
+            end_session(sums, lines)?;
+            let mut next = SessionSums::new(session);
+            next.add(status);
+            *sums = Some(next);
+            Ok(())
+        }
     }
-}
-
-// Puts aside the line of the last session, and begins the sums of the next.
-fn begin_session<A: Aside>(
-    sums: &mut Option<SessionSums>,
-    session: SessionKey,
-    status: Status,
-    lines: &mut A,
-) -> Result<(), DeviceFault>
-    ensures begun { OnOk result (BeginsSession session status sums.new) }
-    ensures line { OnOk result
-        (Appends (A.written lines.old) (A.written lines.new) (last_line sums.old)) }
-    ensures failures { A.failures lines.new
-        ≡ A.failures lines.old + (if is_ok result then 0 else 1) }
-{
-    end_session(sums, lines)?;
-    let mut next = SessionSums::new(session);
-    next.add(status);
-    *sums = Some(next);
-    Ok(())
 }
 
 /// Puts aside the line of the last session, if there is one.

@@ -1,6 +1,6 @@
 //! The lines of objects, made as their facts come in the order of their addresses.
 ghost use Rattle.std.specs.Prelude.{◌≡◌, ◌+◌, ◌∷◌, ◌++◌, [], List, ℕ, Bool, None, IfOk, OnOk};
-ghost use Rattle.std.specs.Prelude.{if◌then◌else◌, is_ok, flat_map, length, ◌≤◌, true};
+ghost use Rattle.std.specs.Prelude.{if◌then◌else◌, is_ok, flat_map, true};
 ghost use Rattle.flute_parts.specs.declared.fact.Fact.{Fact};
 ghost use Rattle.flute_parts.specs.Addresses.{address};
 ghost use Rattle.flute_parts.specs.Facts.{IsRising};
@@ -56,7 +56,10 @@ impl Listing {
     {
         Listing {
             open: None,
-            closed: ClosedObjects::none(),
+            closed: ClosedObjects {
+                all_whole: true,
+                sums: None,
+            },
         }
     }
 

@@ -1,14 +1,13 @@
 //! A line that contains the information of an object, as `show` prints it.
-ghost use Rattle.std.specs.Prelude.{◌≡◌, ◌↔◌, ℕ, ◌<◌, ◌≤◌, ◌^◌, true, false, List, ◌++◌};
+ghost use Rattle.std.specs.Prelude.{◌≡◌, ℕ, ◌<◌, ◌≤◌, ◌^◌, true, false, List, ◌++◌};
 ghost use Rattle.std.specs.Prelude.{length, slice_index, codes, decimal, IfSome, MatchOption};
-ghost use Rattle.std.specs.Prelude.{SomeIff};
 ghost use Rattle.std.specs.Char.{is_ascii_digit};
 ghost use Rattle.std.specs.Int.{bytes_high_first};
 ghost use Rattle.hex.specs.Hex.{encode_lower};
 ghost use Rattle.flute_parts.specs.Information.{Information};
 ghost use Rattle.flute_parts.specs.ObjectName.{IsObjectName};
 ghost use Rattle.flute_parts.specs.Ranges.{IsKey};
-ghost use Rattle.flute_parts.specs.Session.{Session, IsTsi, IsSession, session};
+ghost use Rattle.flute_parts.specs.Session.{Session, IsSession, session};
 ghost use Rattle.flute_parts.specs.declared.fact.Fact.TheVariants.{Info as InfoFact};
 ghost use Rattle.flute_parts.specs.declared.key.Key.{Key as KeyValue};
 ghost use Rattle.flute_parts.specs.declared.object_key.ObjectName.{ObjectName as NameValue};
@@ -23,7 +22,7 @@ use flute_parts::{Key, ObjectKey, ObjectName, Sender, SessionKey};
 
 /// The numbers of an object's information, valid or not: its length in bytes, the length of a
 /// symbol and that of the longest block.
-#[derive(Clone, Copy, Drop)]
+#[derive(Drop)]
 pub(crate) struct InfoNumbers {
     pub(crate) length: u64,
     pub(crate) symbol: u16,
@@ -166,57 +165,21 @@ fn object(text: &[u8]) -> Option<(ObjectName, &[u8])>
     }
 }
 
-// The session of a sender with this number.
-fn session_of(sender: u128, tsi: u128) -> Option<SessionKey>
-    ensures { SomeIff result (IsTsi tsi) (session sender tsi) }
-{
-    if tsi < 1 << 48 {
-        SessionKey::new(Sender::new(sender), tsi as u64)
-    } else {
-        None
-    }
-}
-
-// The object with this name.
-fn object_of(name: ObjectName) -> Option<ObjectKey>
-    ensures { SomeIff result (IsObjectName name) name }
-{
-    match name {
-        ObjectName::Instance(instance) => ObjectKey::fdt(instance),
-        ObjectName::File(toi) => ObjectKey::file(toi),
-    }
-}
-
 // The key of this session and object.
 fn key_of(sender: u128, tsi: u128, name: ObjectName) -> Option<Key>
     ensures finds { (key : KeyValue) → IsSession key.session → IsObjectName key.object
         → sender ≡ key.session.sender → tsi ≡ key.session.tsi → name ≡ key.object
         → MatchOption result ⊥ (λ k. k ≡ key) }
 {
-    let Some(session) = session_of(sender, tsi) else {
+    if tsi >= 1 << 48 {
         return None;
+    }
+    let session = SessionKey::new(Sender::new(sender), tsi as u64)?;
+    let object = match name {
+        ObjectName::Instance(instance) => ObjectKey::fdt(instance)?,
+        ObjectName::File(toi) => ObjectKey::file(toi)?,
     };
-    match object_of(name) {
-        Some(object) => Some(Key { session, object }),
-        None => None,
-    }
-}
-
-// These numbers, if each is within its range.
-fn numbers_in(length: u128, symbol: u128, block: u128) -> Option<InfoNumbers>
-    ensures finds { length < 2 ^ 64 → symbol < 2 ^ 16 → block < 2 ^ 32
-        → MatchOption result ⊥ (λ numbers. (numbers.length ≡ length)
-        × (numbers.symbol ≡ symbol) × (numbers.block ≡ block)) }
-{
-    if length < 1 << 64 && symbol < 1 << 16 && block < 1 << 32 {
-        Some(InfoNumbers {
-            length: length as u64,
-            symbol: symbol as u16,
-            block: block as u32,
-        })
-    } else {
-        None
-    }
+    Some(Key { session, object })
 }
 
 // The numbers of the information that a text is, whatever follows them.
@@ -233,7 +196,15 @@ fn information_in(text: &[u8]) -> Option<InfoNumbers>
     let Some((block, _)) = number_after(rest, " block ") else {
         return None;
     };
-    numbers_in(length, symbol, block)
+    if length < 1 << 64 && symbol < 1 << 16 && block < 1 << 32 {
+        Some(InfoNumbers {
+            length: length as u64,
+            symbol: symbol as u16,
+            block: block as u32,
+        })
+    } else {
+        None
+    }
 }
 
 // The object and the numbers of a line of information, and maybe of another line.
@@ -263,18 +234,6 @@ fn loose_information(line: &[u8]) -> Option<(Key, InfoNumbers)>
     }
 }
 
-// Whether a line, without its line feed, is the one that shows information of these numbers.
-fn is_line_of(line: &[u8], key: &Key, numbers: &InfoNumbers) -> bool
-    ensures { result ≡ true
-        ↔ (line.now ≡ fact_words (InfoFact key.now (numbers_of numbers.now))) }
-{
-    let mut text = Text::new();
-    push_key(&mut text, key);
-    text.push(" ");
-    push_numbers(&mut text, numbers.length, numbers.symbol, numbers.block);
-    text.as_slice() == line
-}
-
 /// The object and the numbers of its information in a line, without its line feed: exactly
 /// if it is the line that `show` prints for them. It takes no memory.
 pub(crate) fn read_information(line: &[u8]) -> Option<(Key, InfoNumbers)>
@@ -287,7 +246,11 @@ pub(crate) fn read_information(line: &[u8]) -> Option<(Key, InfoNumbers)>
     let Some((key, numbers)) = loose_information(line) else {
         return None;
     };
-    if is_line_of(line, &key, &numbers) {
+    let mut text = Text::new();
+    push_key(&mut text, &key);
+    text.push(" ");
+    push_numbers(&mut text, numbers.length, numbers.symbol, numbers.block);
+    if text.as_slice() == line {
         Some((key, numbers))
     } else {
         None

@@ -3,7 +3,6 @@ ghost use Rattle.std.specs.Prelude.{◌≡◌, ◌≢◌, ◌↔◌, true, ◌�
 ghost use Rattle.std.specs.Prelude.{◌+◌, ◌^◌, List, ℕ, [], ◌∷◌, ◌++◌, length};
 ghost use Rattle.std.specs.Prelude.{take};
 ghost use Rattle.std.specs.Prelude.{OnOk, IfOk, IfErr, IfSome, MatchOption, ◌⊎◌};
-ghost use Rattle.std.specs.Io.KnownBytes.{Consumes, IsAtEnd};
 ghost use Rattle.flute_parts.specs.Facts.{Same};
 ghost use Rattle.flute_parts.specs.Information.{Information};
 ghost use Rattle.flute_parts.specs.declared.fact.Fact.{Fact as FactValue};
@@ -120,24 +119,6 @@ impl<const SESSIONS: u32, const OBJECTS: u32, const SYMBOLS: u32> InformationLis
         }
     }
 
-    // Takes the next byte of the list.
-    fn take_byte(&mut self, alloc: Global, byte: u8) -> Result<(), CommandFault>
-        requires number { self.old.number + 1 < 2 ^ 64 }
-        ensures number { OnOk result (self.new.number ≤ self.old.number + 1) }
-        ensures taken { OnOk result ((bytes : List ℕ) → HoldsList self.old bytes
-            → HoldsList self.new (bytes ++ byte ∷ [])) }
-        ensures failed { IfErr result (λ fault. (bytes more : List ℕ)
-            → HoldsList self.old bytes
-            → ListFails (at_most SESSIONS OBJECTS SYMBOLS) (bytes ++ byte ∷ more) fault) }
-    {
-        if byte == b'\n' {
-            self.end_line(alloc)
-        } else {
-            self.push(byte);
-            Ok(())
-        }
-    }
-
     // Takes the next bytes of the list.
     fn take(&mut self, alloc: Global, piece: &[u8]) -> Result<(), CommandFault>
         requires number { self.old.number + length piece.now < 2 ^ 64 }
@@ -149,7 +130,11 @@ impl<const SESSIONS: u32, const OBJECTS: u32, const SYMBOLS: u32> InformationLis
             → ListFails (at_most SESSIONS OBJECTS SYMBOLS) (bytes ++ (piece.now ++ more)) fault) }
     {
         for byte in piece {
-            self.take_byte(alloc, *byte)?;
+            if *byte == b'\n' {
+                self.end_line(alloc)?;
+            } else {
+                self.push(*byte);
+            }
         }
         Ok(())
     }
@@ -207,22 +192,6 @@ fn fact_of_line(number: u64, kept: &[u8], long: bool) -> Result<Option<Fact>, Co
     }
 }
 
-// Puts the next bytes of a list at the front of `piece`, and returns how many: none at the end.
-fn read_piece<R: Source>(source: &mut R, piece: &mut [u8]) -> Result<usize, CommandFault>
-    ensures bound { IfOk result (λ n. n ≤ length piece.new) }
-    ensures bytes { IfOk result (λ n.
-        Consumes (R.unread source.old) (R.unread source.new) (take n piece.new)) }
-    ensures end { IfOk result (λ n. n ≡ 0 → 0 < length piece.new
-        → IsAtEnd (R.unread source.new)) }
-    ensures failed { IfErr result (λ fault. fault ≡ Input 2 Read) }
-    ensures failures { FailsToRead (R.failures source.old) (R.failures source.new) result }
-{
-    match source.read(piece) {
-        Ok(count) => Ok(count),
-        Err(_) => Err(CommandFault::Input(2, ReadFault::Read)),
-    }
-}
-
 /// The facts of a list of information, in a new store: lines as `show` prints them for information,
 /// each ended by a line feed, in any order. Lines that are empty or begin with `#` contain nothing.
 /// It holds at most 512 bytes of a line.
@@ -249,7 +218,9 @@ pub(crate) fn read_list<const SESSIONS: u32, const OBJECTS: u32, const SYMBOLS: 
     let mut piece = [0; PIECE];
     let mut taken: u64 = 0;
     loop {
-        let count = read_piece(source, &mut piece)?;
+        let Ok(count) = source.read(&mut piece) else {
+            return Err(CommandFault::Input(2, ReadFault::Read));
+        };
         if count == 0 {
             return list.finish();
         }

@@ -1,15 +1,14 @@
 //! The inputs of a join, inspected before they are joined.
-ghost use Rattle.std.specs.Prelude.{◌≡◌, true, ◌≤◌, ◌<◌, ◌^◌, List, ℕ, ◌++◌, length};
+ghost use Rattle.std.specs.Prelude.{◌≡◌, true, ◌≤◌, ◌<◌, ◌^◌, List, ℕ, length};
 ghost use Rattle.std.specs.Prelude.{OnOk, IfOk, IfErr};
 ghost use Rattle.std.specs.List.{AllByRecursion};
 ghost use Rattle.flute_journal.specs.declared.fault.ReadFault.TheVariants.{Read};
-ghost use Rattle.flute_streams.specs.Streams.{IsNew};
 ghost use Rattle.flutejoin.specs.declared.command_fault.CommandFault.TheVariants.{Input};
 ghost use Rattle.flutejoin.specs.declared.command_fault.CommandFault.TheVariants.{CannotWrite};
 ghost use Rattle.flutejoin.specs.declared.limits.TheConstants.{MAX_ENTRIES};
-ghost use Rattle.flutejoin.specs.JoinInputs.{IsInput, AreInputs, left};
-ghost use Rattle.flutejoin.specs.InputStreams.{journal_behaviour, failures_of, NoneFailed};
-ghost use Rattle.flutejoin.specs.InputStreams.{OneFailed, left_of_journal};
+ghost use Rattle.flutejoin.specs.JoinInputs.{IsInput, AreInputs};
+ghost use Rattle.flutejoin.specs.InputStreams.{failures_of, NoneFailed};
+ghost use Rattle.flutejoin.specs.InputStreams.{OneFailed};
 ghost use Rattle.flutejoin.specs.Joined.{choice_of};
 ghost use Rattle.flutejoin.specs.Asides.{Makes};
 ghost use Rattle.flutejoin.specs.JoinParts.{HoldsMore, IsSound, CountsUpTo};
@@ -22,7 +21,7 @@ ghost use Rattle.flutejoin.specs.Show.{FailsToRead};
 use crate::aside::Asides;
 use crate::command_fault::CommandFault;
 use crate::join::held_files::HeldFiles;
-use crate::join::join_input::{JoinInput, JournalInput};
+use crate::join::join_input::JoinInput;
 use crate::limits::MAX_ENTRIES;
 use flute_parts::{Sender, Source};
 use flute_streams::Scope;
@@ -128,27 +127,12 @@ fn inspect<
 {
     match input {
         JoinInput::Journal(journal) => {
-            restart(scope, journal);
+            journal.choice = *scope;
+            journal.others = 0;
+            journal.stream.restart(MAX_ENTRIES);
             Ok(())
         }
         JoinInput::Datagrams(source) => { held.read(alloc, asides, number, sender, scope, source) }
         JoinInput::Unknown => Err(CommandFault::UnknownKind(number)),
     }
-}
-
-// A journal of which nothing was read or passed over, and these objects are taken.
-fn restart<R: Source>(scope: &Scope, journal: &mut JournalInput<R>)
-    ensures source { journal.new.stream.source ≡ journal.old.stream.source }
-    ensures left { left_of_journal R.unread R.buffered journal.new
-        ≡ left R.unread journal.old.stream.source }
-    ensures scope { journal.new.choice ≡ scope.now }
-    ensures others { journal.new.others ≡ 0 }
-    ensures new { IsNew (journal_behaviour R.unread R.buffered R.failures) journal.new }
-    ensures most { (journal_behaviour R.unread R.buffered R.failures).most journal.new
-        ≡ MAX_ENTRIES }
-    ensures limit { journal.new.stream.max_entries ≡ MAX_ENTRIES }
-{
-    journal.choice = *scope;
-    journal.others = 0;
-    journal.stream.restart(MAX_ENTRIES);
 }

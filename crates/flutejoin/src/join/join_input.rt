@@ -15,7 +15,7 @@ use std::alloc::Global;
 pub type JournalInput<R> = Chosen<OwnedJournalStream<PeekedSource<R>>, Scope>;
 
 /// An input of a join, of the kind that its first four bytes say.
-#[derive(Debug, Drop)]
+#[derive(Drop)]
 pub enum JoinInput<R> {
     /// A journal.
     Journal(JournalInput<R>),

@@ -12,7 +12,7 @@ use flute_wire::one_reading;
 use std::alloc::Global;
 
 /// What inputs contain together, within these limits.
-#[derive(Debug, Drop)]
+#[derive(Drop)]
 pub struct Joined<const SESSIONS: u32, const OBJECTS: u32, const SYMBOLS: u32> {
     /// The facts of all of them.
     pub store: Store<SESSIONS, OBJECTS, SYMBOLS>,

@@ -8,7 +8,7 @@ use flute_parts::{DeviceFault, Source};
 
 /// A source that gives the first bytes of an input, which were read ahead, and then those that
 /// are left of it. It takes no memory.
-#[derive(Debug, Drop)]
+#[derive(Drop)]
 pub struct PeekedSource<R> {
     /// The first bytes: four, or as many as the input has.
     first: [u8; 4],
@@ -26,14 +26,6 @@ impl<R> PeekedSource<R> {
         ensures few { length result.now ≤ 4 }
     {
         &self.first[..self.count.min(4)]
-    }
-
-    // Whether all of the first bytes were given.
-    #[inline(always)]
-    fn is_past(&self) -> bool
-        ensures { result ≡ nat_le self.now.count self.now.given }
-    {
-        self.count <= self.given
     }
 
     // Those of them that were not given.
@@ -95,7 +87,7 @@ impl<R: Source> Source for PeekedSource<R> {
 
     #[inline(always)]
     fn buffer(&self) -> &[u8] {
-        if self.is_past() {
+        if self.count <= self.given {
             self.source.buffer()
         } else {
             &[]
@@ -104,7 +96,7 @@ impl<R: Source> Source for PeekedSource<R> {
 
     #[inline(always)]
     fn consume(&mut self, count: usize) {
-        if self.is_past() {
+        if self.count <= self.given {
             self.source.consume(count);
         }
     }

@@ -13,7 +13,7 @@ use crate::command_fault::CommandFault;
 use flute_journal::write_store;
 use flute_parts::Source;
 use flute_store::Store;
-use flute_streams::{OwnedJournalStream, merge_slice};
+use flute_streams::{OwnedJournalStream, merge_all};
 use std::alloc::Global;
 
 /// How many runs there may be. Before there are more, they are merged into one.
@@ -91,32 +91,12 @@ pub(crate) fn merge_beyond<R: Source + Drop, A: Asides<Input = R>>(
     if runs.len() <= most {
         return Ok(());
     }
-    merge_runs(alloc, asides, runs)
-}
-
-// Merges runs into one.
-fn merge_runs<R: Source + Drop, A: Asides<Input = R>>(
-    alloc: Global,
-    asides: &mut A,
-    runs: &mut Vec<OwnedJournalStream<R>>,
-) -> Result<(), CommandFault>
-    requires few { length runs.old.items ≤ 64 }
-    requires new { AllByRecursion (IsNewRun R.unread R.buffered R.failures) runs.old.items }
-    ensures one { OnOk result (length runs.new.items ≡ 1) }
-    ensures new { OnOk result (AllByRecursion (IsNewRun R.unread R.buffered R.failures)
-        runs.new.items) }
-    ensures held { A.tells asides.old ≡ true → (facts : List Fact)
-        → AreRunsOf R.unread R.buffered runs.old.items facts
-        → OnOk result (HoldTogether R.unread R.buffered runs.new.items facts) }
-    ensures failed { IfErr result (λ fault. fault ≡ CannotPutAside) }
-    ensures same_tells { A.tells asides.new ≡ A.tells asides.old }
-    ensures made { A.made asides.old < A.made asides.new }
-{
     let Ok(mut aside) = asides.aside() else {
         return Err(CommandFault::CannotPutAside);
     };
+    let mut all = &mut runs[..];
     // `within` is not used, so the limits are 0, and nothing is counted
-    match merge_slice::<0, 0, 0, _, _>(alloc, runs, &mut aside) {
+    match merge_all::<0, 0, 0, _, _>(alloc, &mut all, &mut aside) {
         Ok(merged) => {
             runs.clear();
             add_run(asides, aside, merged.entries, runs)

@@ -1,8 +1,6 @@
 //! What `gaps` prints of the objects of a journal.
 ghost use Rattle.std.specs.Prelude.{◌≡◌};
-ghost use Rattle.flute_store.specs.Objects.{same_reason};
-ghost use Rattle.flute_store.specs.declared.gap.Reason.TheVariants.{Conflicting};
-ghost use Rattle.flutejoin.specs.Styles.{has_conflict, is_shown, is_told, is_whole};
+ghost use Rattle.flutejoin.specs.Styles.{is_shown, is_told, is_whole};
 
 use flute_store::{Reason, Status};
 
@@ -23,14 +21,24 @@ impl Style {
     pub(crate) fn tells(self, status: Status) -> bool
         ensures { result ≡ is_told self status }
     {
-        !self.conflicts || has_conflict(status)
+        if !self.conflicts {
+            return true;
+        }
+        match status {
+            Status::ConflictingInformation => true,
+            Status::Partial { conflicting, .. } => conflicting > 0,
+            Status::NoInformation | Status::Whole { .. } => false,
+        }
     }
 
     /// Whether the gaps of this reason have lines.
     pub(crate) fn shows(self, reason: Reason) -> bool
         ensures { result ≡ is_shown self reason }
     {
-        !self.summary && (!self.conflicts || is_conflicting(reason))
+        match reason {
+            Reason::Conflicting => !self.summary,
+            Reason::Missing | Reason::Misfit => !self.summary && !self.conflicts,
+        }
     }
 }
 
@@ -41,25 +49,5 @@ pub fn is_whole(status: Status) -> bool
     match status {
         Status::Whole { .. } => true,
         Status::NoInformation | Status::ConflictingInformation | Status::Partial { .. } => false,
-    }
-}
-
-// Whether its information has two values, or some of its symbols have.
-fn has_conflict(status: Status) -> bool
-    ensures { result ≡ has_conflict status }
-{
-    match status {
-        Status::ConflictingInformation => true,
-        Status::Partial { conflicting, .. } => conflicting > 0,
-        Status::NoInformation | Status::Whole { .. } => false,
-    }
-}
-
-fn is_conflicting(reason: Reason) -> bool
-    ensures { result ≡ same_reason Conflicting reason }
-{
-    match reason {
-        Reason::Conflicting => true,
-        Reason::Missing | Reason::Misfit => false,
     }
 }

@@ -1,6 +1,14 @@
+use Rattle.flute_wire.proofs.Cut.{cut-ids, cut-joined, cut-fit, cut-one}
 use Rattle.flute_wire.proofs.Pieces.{facts_are_sent}
 use Rattle.flute_wire.proofs.DatagramFacts.{told-iff}
 use Rattle.flute_wire.proofs.laws.an_object_is_told_by_its_datagrams.Goals as goal
 
 pub returns : goal.returns
-returns c = record { facts = told-iff; datagrams = facts_are_sent }
+returns c = record {
+  ids = cut-ids;
+  joined = cut-joined;
+  fit = cut-fit;
+  one = cut-one;
+  facts = told-iff;
+  datagrams = facts_are_sent;
+}

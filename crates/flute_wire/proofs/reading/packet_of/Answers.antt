@@ -1,10 +1,8 @@
 -- packet_of: the packet that the datagram spells, or its first refusal.
-use Rattle.std.proofs.Common.{sym, ap, subst, ◌∙◌, ◌≡◌, cond, eqb, ℕ, List, [], None}
+use Rattle.std.proofs.Common.{subst, ◌∙◌, ◌≡◌, ℕ, List, []}
 use Rattle.std.proofs.Common.{◌⊎◌, ◌≤◌, length}
-use Rattle.std.specs.Option.{option_copied, option_map}
+use Rattle.std.specs.Option.{option_copied}
 use Rattle.std.proofs.lemmas.Result.{err_from_is_err_and}
-use Rattle.flute_wire.specs.Content.{Content}
-use Rattle.flute_wire.specs.Extensions.{fdt_instance}
 use Rattle.flute_wire.proofs.FirstRefusal.{found_in, passes_area, refuses_fti, passes_fti}
 use Rattle.flute_wire.proofs.FirstRefusal.{refuses_fdt, passes_fdt, refuses_cenc, passes_cenc}
 use Rattle.flute_wire.proofs.FirstRefusal.{refuses_tail}
@@ -115,15 +113,5 @@ returns-clause-spelled c =
     (subst (λ (t : List ℕ). (t ≡ []) ⊎ (4 ≤ length t)) c.in_ok-header.ensures.tail
     c.in_ok-symbol.ensures.taken) in
     spells_content (option_copied c.in_ok-known.known.fti) (option_copied c.in_ok-known.known.fdt)
-    c.new.result s
-    c.in_ok-header.ensures.tail (
-      ap (λ (x : Content). x.tsi) c.new.ensures ∙ c.in_ok-header.ensures.tsi,
-      ap (λ (x : Content). x.toi) c.new.ensures ∙ c.in_ok-header.ensures.toi,
-    )
-    (ap (λ (x : Content). x.instance) c.new.ensures ∙ c.in_ok-instance.ensures.value
-    ∙ ap (λ (n : ℕ). cond (eqb n 0)
-    (option_map fdt_instance (option_copied c.in_ok-known.known.fdt)) None)
-    (sym (ap (λ (x : Content). x.toi) c.new.ensures))) (
-      ap (λ (x : Content). x.info) c.new.ensures ∙ c.in_ok-info.ensures.value,
-      ap (λ (x : Content). x.symbol) c.new.ensures ∙ c.in_ok-symbol.ensures.value,
-    )
+    _ s c.in_ok-header.ensures.tail (c.in_ok-header.ensures.tsi, c.in_ok-header.ensures.toi)
+    c.in_ok-instance.ensures.value (c.in_ok-info.ensures.value, c.in_ok-symbol.ensures.value)

@@ -41,8 +41,8 @@ loop-place-preserved c =
     IsWritten c.in_ok-encoded.field-0 (packet_at key (Some i) s)) c.symbol_at.ensures
     c.in_ok-encoded.ensures.written in
     subst (λ (ds : List (List ℕ)). AllZip IsWritten ds
-    (take (place + 1) (packets_of key i content))) (sym c.in_ok-push.ensures)
-    (one_more key content place c.loop-place.datagrams c.requires.valid
+    (take (place + 1) (packets_of key i content))) (sym c.in_ok-push.ensures.items)
+    (one_more key content place c.loop-place.list.items c.requires.valid
     (omega (arith, count, c.loop-place-test.true)) c.loop-place.invariant written)
 
 pub returns : goal.returns
@@ -62,11 +62,11 @@ returns c =
       c.loop-place-test.false,
       length-packets_of key i content c.requires.valid,
     )) in
-    let written : AllZip IsWritten c.loop-place.datagrams (packets_of key i content) =
-    subst (λ (cs : List Content). AllZip IsWritten c.loop-place.datagrams cs) all
+    let written : AllZip IsWritten c.loop-place.list.items (packets_of key i content) =
+    subst (λ (cs : List Content). AllZip IsWritten c.loop-place.list.items cs) all
     c.loop-place.invariant in
     record {
       written = written;
       facts =
-          facts_are_sent key i content c.loop-place.datagrams written;
+          facts_are_sent key i content c.loop-place.list.items written;
     }

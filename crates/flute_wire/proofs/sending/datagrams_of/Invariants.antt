@@ -7,4 +7,4 @@ use Rattle.flute_wire.proofs.sending.datagrams_of.Given as goal
 
 abbrev pub invariant-loop-place : goal.invariant-loop-place
 invariant-loop-place l =
-    AllZip IsWritten l.datagrams (take l.place (packets_of l.key l.info l.content))
+    AllZip IsWritten l.list.items (take l.place (packets_of l.key l.info l.content))

@@ -1,18 +1,12 @@
 -- put_aside: its loop over the journal's facts, the lines at the end, and each fault.
-use Rattle.std.proofs.Common.{◌≡◌, ◌∙◌, List, ℕ, Option, Ok, Err, Bool, Some, true, is_ok}
-use Rattle.std.proofs.Common.{if◌then◌else◌}
+use Rattle.std.proofs.Common.{◌≡◌, ◌∙◌, List, ℕ, Option, Ok, Err, true}
 use Rattle.std.proofs.Common.{ap, sym, subst, rules, refl, arith}
 use Rattle.std.proofs.lemmas.Result.{err_from_is_err_and}
-use Rattle.flutejoin.specs.Gaps.{ListsJournal, ReadsWithin}
+use Rattle.flutejoin.specs.Gaps.{ReadsWithin}
 use Rattle.flutejoin.specs.Load.{LoadFails}
-use Rattle.flutejoin.specs.Packet.{write_failures}
 use Rattle.flutejoin.specs.Selected.{selected}
-use Rattle.flutejoin.specs.Styles.{are_whole, printed}
-use Rattle.flutejoin.specs.Told.{Told}
 use Rattle.flutejoin.specs.declared.command_fault.CommandFault.TheVariants.{Input}
 use Rattle.flutejoin.specs.Limits.{at_most}
-use Rattle.flutejoin.proofs.gaps_lemmas.MovedAside.{counted, if_ok, was_value, was_done, on_any}
-use Rattle.flutejoin.proofs.gaps_lemmas.MovedAside.{fails_aside}
 use Rattle.flutejoin.proofs.Mapped.{read_failed, read_done}
 use Rattle.flutejoin.proofs.Shown.{entry_given, end_given, fault_given, no_read_failure}
 use Rattle.flutejoin.proofs.gaps_lemmas.GapsRead.{entry_rises, can_add, within_read, whole_read}
@@ -69,8 +63,8 @@ add_selected-requires g c =
     let gave = entry_given from to v w c.next_with.ensures.gives h.limit r in
     can_add h.read gave
 
-pub returns-in_err-at_aside-clause-failed : goal.returns-in_err-at_aside-clause-failed
-returns-in_err-at_aside-clause-failed g c =
+pub returns-in_err-add_selected-clause-failed : goal.returns-in_err-add_selected-clause-failed
+returns-in_err-add_selected-clause-failed g c =
     let u = g.R.Source.unread c.args.source.now in
     let v = g.R.Source.unread c.loop-fact.reader.source.now in
     let w = g.R.Source.unread c.next_with.new.self.source.now in
@@ -78,8 +72,8 @@ returns-in_err-at_aside-clause-failed g c =
     let to = c.next_with.new.self.state in
     let h = c.loop-fact.invariant in
     let f = c.in-Some.fact in
-    let e = err_from_is_err_and c.from_residual-in_err-at_aside.result
-    c.from_residual-in_err-at_aside.ensures.1 in
+    let e = err_from_is_err_and c.from_residual-in_err-add_selected.result
+    c.from_residual-in_err-add_selected.ensures.1 in
     let r = read_done c.next_with.result c.at_input.result 1 c.in_ok-fact.field-0
     c.at_input.ensures c.in_ok-fact.was ∙ ap Ok c.in-Some.is in
     let gave = entry_given from to v w c.next_with.ensures.gives h.limit r in
@@ -91,17 +85,14 @@ returns-in_err-at_aside-clause-failed g c =
     (g.R.Source.unread x) = λ x same. subst (λ (y : g.row.R.Denot). ReadsWithin
     (at_most g.row.SESSIONS g.row.OBJECTS g.row.SYMBOLS) u
     (g.R.Source.unread y)) same here in
-    rw (e.1 ∙ ap Err (e.2 ∙ c.in_err-at_aside.ensures.fault)) (at _ (search rules))
+    rw (e.1 ∙ ap Err e.2) (at _ (search rules))
 
-pub returns-in_err-at_aside-clause-failures : goal.returns-in_err-at_aside-clause-failures
-returns-in_err-at_aside-clause-failures g c =
-    let e = err_from_is_err_and c.from_residual-in_err-at_aside.result
-    c.from_residual-in_err-at_aside.ensures.1 in
-    let one : ◌≡◌ {A = ℕ} (if is_ok c.add_selected.result then 0 else 1) 1 =
-    counted c.at_aside.result c.add_selected.result c.at_aside.ensures.same c.at_aside.ensures.fault
-    ∙ ap write_failures (c.in_err-at_aside.was ∙ ap Err c.in_err-at_aside.ensures.fault) in
-    rw (e.1 ∙ ap Err (e.2 ∙ c.in_err-at_aside.ensures.fault))
-    (omega (arith, c.add_selected.ensures.failures, one, c.loop-fact.invariant.failures))
+pub returns-in_err-add_selected-clause-failures : goal.returns-in_err-add_selected-clause-failures
+returns-in_err-add_selected-clause-failures g c =
+    let e = err_from_is_err_and c.from_residual-in_err-add_selected.result
+    c.from_residual-in_err-add_selected.ensures.1 in
+    rw (e.1 ∙ ap Err e.2)
+    (omega (arith, c.in_err-add_selected.ensures.failures, c.loop-fact.invariant.failures))
 
 pub loop-fact-preserved : goal.loop-fact-preserved
 loop-fact-preserved g c =
@@ -115,21 +106,16 @@ loop-fact-preserved g c =
     c.at_input.ensures c.in_ok-fact.was ∙ ap Ok c.in-Some.is in
     let gave = entry_given from to v w c.next_with.ensures.gives h.limit r in
     let rises = entry_rises h.read gave in
-    let done : is_ok c.add_selected.result ≡ true = sym c.at_aside.ensures.same ∙ ap is_ok
-    c.in_ok-at_aside.was in
-    let none : ◌≡◌ {A = ℕ} (if is_ok c.add_selected.result then 0 else 1) 0 = ap
-    (λ (b : Bool). if b then 0 else 1) done in
     record {
       read =
           one_more_read h.read gave
           (c.count.ensures.within h.read.entries f (sym c.address.ensures) rises h.read.counts
           c.if-not-count.false)
-          (λ known l. was_done c.add_selected.result done
-          (c.add_selected.ensures.added known h.read.entries rises l));
+          (λ known l. c.in_ok-add_selected.ensures.added known h.read.entries rises l);
       limit = c.next_with.ensures.limit ∙ h.limit;
       source = c.next_with.ensures.source ∙ h.source;
       reads = no_read_failure c.next_with.result _ r c.next_with.ensures.failures h.reads;
-      failures = omega (arith, c.add_selected.ensures.failures, none, h.failures);
+      failures = omega (arith, c.in_ok-add_selected.ensures.failures, h.failures);
     }
 
 pub finish-requires : goal.finish-requires
@@ -142,7 +128,6 @@ finish-requires g c =
 
 pub returns-clause-listed : goal.returns-clause-listed
 returns-clause-listed g c = λ none no_gaps.
-    let style = c.args.style in
     let v = g.R.Source.unread c.loop-fact.reader.source.now in
     let w = g.R.Source.unread c.next_with.new.self.source.now in
     let from = c.loop-fact.reader.state in
@@ -152,17 +137,9 @@ returns-clause-listed g c = λ none no_gaps.
     c.at_input.ensures c.in_ok-fact.was ∙ ap Ok c.in_default.is in
     let gave = end_given c.loop-fact.reader.max_entries from to v w
     c.next_with.ensures.gives r in
-    let aside = g.A.Sink.written c.finish.new.lines in
-    let P : Bool → List Told → Type 0 = λ all_whole objects.
-    (aside ≡ Some (printed style objects)) × (all_whole ≡ are_whole style objects) in
-    was_value (λ x. ListsJournal (at_most g.row.SESSIONS g.row.OBJECTS g.row.SYMBOLS)
-    c.args.selection.now (g.R.Source.unread c.args.source.now) (P x))
-    c.at_aside-2.result c.finish.result c.at_aside-2.ensures.value
-    (if_ok c.finish.result
-    (λ x l. all_read h.read gave l.objects l.told (l.lines_known refl, l.whole_is))
-    (c.finish.ensures.finished true (selected c.args.selection.now h.read.entries)
-    (read_rises h.read)
-    (h.read.lists true (λ is. (none, no_gaps)))))
+    let l = c.in_ok-finish.ensures.finished true (selected c.args.selection.now h.read.entries)
+    (read_rises h.read) (h.read.lists true (λ is. (none, no_gaps))) in
+    all_read h.read gave l.objects l.told (l.lines_known refl, l.whole_is)
 
 pub returns-clause-whole : goal.returns-clause-whole
 returns-clause-whole g c =
@@ -182,16 +159,18 @@ returns-clause-whole g c =
     (g.R.Source.unread x) = λ x same. subst (λ (y : g.row.R.Denot). ReadsWithin
     (at_most g.row.SESSIONS g.row.OBJECTS g.row.SYMBOLS) u
     (g.R.Source.unread y)) same here in
-    on_any c.at_aside-2.result (at _ (search rules))
+    at _ (search rules)
 
-pub returns-clause-failed : goal.returns-clause-failed
-returns-clause-failed g c =
+pub returns-in_err-finish-clause-failed : goal.returns-in_err-finish-clause-failed
+returns-in_err-finish-clause-failed g c =
     let u = g.R.Source.unread c.args.source.now in
     let v = g.R.Source.unread c.loop-fact.reader.source.now in
     let w = g.R.Source.unread c.next_with.new.self.source.now in
     let from = c.loop-fact.reader.state in
     let to = c.next_with.new.self.state in
     let h = c.loop-fact.invariant in
+    let e = err_from_is_err_and c.from_residual-in_err-finish.result
+    c.from_residual-in_err-finish.ensures.1 in
     let r = read_done c.next_with.result c.at_input.result 1 c.in_ok-fact.field-0
     c.at_input.ensures c.in_ok-fact.was ∙ ap Ok c.in_default.is in
     let gave = end_given c.loop-fact.reader.max_entries from to v w
@@ -202,14 +181,11 @@ returns-clause-failed g c =
     (g.R.Source.unread x) = λ x same. subst (λ (y : g.row.R.Denot). ReadsWithin
     (at_most g.row.SESSIONS g.row.OBJECTS g.row.SYMBOLS) u
     (g.R.Source.unread y)) same here in
-    fails_aside u _ c.at_aside-2.result c.at_aside-2.ensures.fault (at _ (search rules))
+    rw (e.1 ∙ ap Err e.2) (at _ (search rules))
 
-pub returns-clause-failures : goal.returns-clause-failures
-returns-clause-failures g c =
-    omega (
-      arith,
-      c.finish.ensures.failures,
-      counted c.at_aside-2.result c.finish.result
-          c.at_aside-2.ensures.same c.at_aside-2.ensures.fault,
-      c.loop-fact.invariant.failures,
-    )
+pub returns-in_err-finish-clause-failures : goal.returns-in_err-finish-clause-failures
+returns-in_err-finish-clause-failures g c =
+    let e = err_from_is_err_and c.from_residual-in_err-finish.result
+    c.from_residual-in_err-finish.ensures.1 in
+    rw (e.1 ∙ ap Err e.2)
+    (omega (arith, c.in_err-finish.ensures.failures, c.loop-fact.invariant.failures))

@@ -9,7 +9,7 @@ use Rattle.flutejoin.proofs.join_lemmas.Held.{all_held, all_over}
 use Rattle.flutejoin.proofs.join_lemmas.Inspections.{finds_wants}
 use Rattle.flutejoin.proofs.join_lemmas.JoinStops.{nothing_appended, not_inspected, one_failed_more}
 use Rattle.flutejoin.proofs.join_lemmas.JoinStops.{none_failed_more, full_together, not_written}
-use Rattle.flutejoin.proofs.join_lemmas.JoinStops.{joins_to}
+use Rattle.flutejoin.proofs.join_lemmas.JoinStops.{full_of_files, joins_to}
 use Rattle.flutejoin.proofs.join.join_to.Goals as goal
 
 not_true : (b : Bool) → not b ≡ true → b ≡ false
@@ -39,18 +39,39 @@ returns-in_err-held-clause-failed g c = λ told contents inputs.
     (not_inspected contents c.in_err-held.field-0.0
     (c.in_err-held.ensures.failed told contents inputs))
 
+pub returns-in_err-join_inspected-clause-failed : goal.returns-in_err-join_inspected-clause-failed
+returns-in_err-join_inspected-clause-failed g c = λ told contents inputs.
+    let e =
+    err_from_is_err_and c.from_residual-in_err-join_inspected.result
+    c.from_residual-in_err-join_inspected.ensures.1 in
+    let found = c.in_ok-held.ensures.inspected told contents inputs in
+    rw (e.1, e.2) (c.in_err-join_inspected.ensures.failed _ contents found.0 found.1 tt)
+
+pub returns-in_err-join_inspected-clause-short : goal.returns-in_err-join_inspected-clause-short
+returns-in_err-join_inspected-clause-short g c =
+    let e =
+    err_from_is_err_and c.from_residual-in_err-join_inspected.result
+    c.from_residual-in_err-join_inspected.ensures.1 in
+    rw e.1 (nothing_appended (g.W.Sink.written c.args.sink.now))
+
+pub returns-in_err-join_inspected-clause-read_failed :
+    goal.returns-in_err-join_inspected-clause-read_failed
+returns-in_err-join_inspected-clause-read_failed g c =
+    let e =
+    err_from_is_err_and c.from_residual-in_err-join_inspected.result
+    c.from_residual-in_err-join_inspected.ensures.1 in
+    rw (e.1, e.2) (λ number is.
+    one_failed_more g.R.Source.failures number c.args.inputs.now c.inspect_all.new.inputs
+    c.join_inspected.new.inputs c.in_ok-held.ensures.none_failed
+    (c.in_err-join_inspected.ensures.read_failed number is))
+
 pub returns-then-not-held-clause-failed : goal.returns-then-not-held-clause-failed
 returns-then-not-held-clause-failed g c = λ told contents inputs.
     let found = c.in_ok-held.ensures.inspected told contents inputs in
-    let over =
-    all_over found.2 c.if-not-held.true in
-    c.fault_or_full.ensures.failed _ contents found.0 refl found.1 over
-
-pub returns-then-not-held-clause-read_failed : goal.returns-then-not-held-clause-read_failed
-returns-then-not-held-clause-read_failed g c = λ number is.
-    one_failed_more g.R.Source.failures number c.args.inputs.now c.inspect_all.new.inputs
-    c.fault_or_full.new.inputs c.in_ok-held.ensures.none_failed
-    (c.fault_or_full.ensures.read_failed number is)
+    full_of_files
+    (c.in_ok-join_inspected.ensures.joined _ contents found.0 c.in_ok-held.held.told.store refl
+    found.1 refl)
+    (all_over found.2 c.if-not-held.true)
 
 pub returns-in_err-run-clause-failed : goal.returns-in_err-run-clause-failed
 returns-in_err-run-clause-failed g c = λ told contents inputs.
@@ -84,7 +105,7 @@ returns-in_err-joined-clause-read_failed g c =
     c.from_residual-in_err-joined.ensures.1 in
     rw (e.1, e.2) (λ number is.
     one_failed_more g.R.Source.failures number c.args.inputs.now c.inspect_all.new.inputs
-    c.join_inspected.new.inputs c.in_ok-held.ensures.none_failed
+    c.join_inspected-2.new.inputs c.in_ok-held.ensures.none_failed
     (c.in_err-joined.ensures.read_failed number is))
 
 pub returns-then-not-joined-clause-failed : goal.returns-then-not-joined-clause-failed
@@ -130,7 +151,7 @@ returns-clause-joined g c = λ told contents inputs.
 pub returns-clause-none_failed : goal.returns-clause-none_failed
 returns-clause-none_failed g c =
     none_failed_more g.R.Source.failures c.args.inputs.now c.inspect_all.new.inputs
-    c.join_inspected.new.inputs c.in_ok-held.ensures.none_failed
+    c.join_inspected-2.new.inputs c.in_ok-held.ensures.none_failed
     c.in_ok-joined.ensures.none_failed
 
 pub returns-in_err-held-clause-short : goal.returns-in_err-held-clause-short
@@ -173,7 +194,7 @@ returns-clause-made g c =
 
 pub returns-then-joined-clause-write_failed : goal.returns-then-joined-clause-write_failed
 returns-then-joined-clause-write_failed g c = λ e.
-    subst (λ b. g.W.Sink.failures c.join_inspected.new.sink
+    subst (λ b. g.W.Sink.failures c.join_inspected-2.new.sink
     ≡ g.W.Sink.failures c.args.sink.now + times_failed b) c.if-joined.true
     (c.in_ok-joined.ensures.sink_failures
     (not_false c.in_ok-joined.joined.within c.if-not-joined.false))
@@ -181,8 +202,15 @@ returns-then-joined-clause-write_failed g c = λ e.
 pub returns-clause-sink_failures : goal.returns-clause-sink_failures
 returns-clause-sink_failures g c =
     let same =
-    subst (λ b. g.W.Sink.failures c.join_inspected.new.sink
+    subst (λ b. g.W.Sink.failures c.join_inspected-2.new.sink
     ≡ g.W.Sink.failures c.args.sink.now + times_failed b) c.if-joined.false
     (c.in_ok-joined.ensures.sink_failures
     (not_false c.in_ok-joined.joined.within c.if-not-joined.false)) in
     omega (arith, same)
+
+pub returns-in_err-run-clause-short : goal.returns-in_err-run-clause-short
+returns-in_err-run-clause-short g c =
+    let e =
+    err_from_is_err_and c.from_residual-in_err-run.result
+    c.from_residual-in_err-run.ensures.1 in
+    rw e.1 (nothing_appended (g.W.Sink.written c.args.sink.now))

@@ -19,8 +19,8 @@ returns-in-Ok-clause-joined c =
     λ w. JoinsTo (everything c.args.sender) c.args.inputs.now counts w (Some bytes) in
     let U : Option (List ℕ) → Type 0 =
     λ u. IfSome u (λ bs. IsJournalOf counts.entries bs c.in-Ok.store) in
-    joins_of few c.a_journal_has_one_content.ensures
-    c.a_journal_within_a_bound_is_one.ensures
+    joins_of few c.a_journal_is_its_content.ensures.content
+    c.a_journal_is_its_content.ensures.bounded
     (subst Q c.new-journal.ensures.bytes
     (subst P c.as_slice.ensures c.in_ok-counts.ensures.joined))
     (subst U c.new-written.ensures.bytes c.in-Ok.ensures.journal)

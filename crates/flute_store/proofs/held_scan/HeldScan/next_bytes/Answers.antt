@@ -1,16 +1,15 @@
 -- HeldScan::next_bytes: its loop over turns, and what each turn gives.
 use Rattle.std.proofs.Common.{Some, sym, ◌∙◌, subst}
-use Rattle.flute_store.proofs.Common.{GivesFirst, Turns}
+use Rattle.flute_store.proofs.Common.{Turns}
 use Rattle.flute_store.proofs.BytesSteps.{no-bytes, pass-keeps, begin-keeps, keeps-on, gives-first}
 use Rattle.flute_store.specs.declared.turn.Turn.TheVariants as Turn
 use Rattle.flute_store.proofs.held_scan.HeldScan.next_bytes.Goals as goal
 
 pub returns-in-Some-Fitting : goal.returns-in-Some-Fitting
 returns-in-Some-Fitting c =
-    subst (λ bytes. GivesFirst c.args.self.now bytes c.turn.new.self) (sym c.bytes_in.ensures)
-    (gives-first c.args.self.now c.loop-held.self c.turn.new.self _ _ c.loop-held.invariant
-    c.in-Some.ensures.1 (subst (λ t. Turns c.loop-held.self (Some t) c.turn.new.self)
-    c.in-Some-Fitting.field-0-is c.in-Some-Fitting.ensures))
+    gives-first c.args.self.now c.loop-held.self c.turn.new.self _ _ c.value.result
+    c.loop-held.invariant c.in-Some.ensures.1 (subst (λ t. Turns c.loop-held.self (Some t)
+    c.turn.new.self) c.in-Some-Fitting.field-0-is c.in-Some-Fitting.ensures) c.value.ensures
 
 pub loop-held-preserved-in-Some-Passed : goal.loop-held-preserved-in-Some-Passed
 loop-held-preserved-in-Some-Passed c =

@@ -1,4 +1,5 @@
-use Rattle.std.proofs.Common.{arith}
+use Rattle.std.proofs.Common.{arith, take, ap, ◌∙◌}
+use Rattle.std.proofs.lemmas.List.{take_min}
 use Rattle.std.proofs.lemmas.Result.{err_from_is_err_and}
 use Rattle.flute_store.proofs.BytesSteps.{writing-more, writing-fails}
 use Rattle.flute_store.proofs.held_scan.HeldScan.write.Goals as goal
@@ -8,7 +9,7 @@ returns-in_err-write_all-clause-bytes g c =
     let e = err_from_is_err_and c.from_residual.result c.from_residual.ensures.1 in
     rw e.1 (writing-fails _ c.loop-bytes.invariant.2 (record {
       left_is = c.in-Some.ensures.first;
-      bytes_are = c.up_to-bytes.ensures;
+      bytes_are = ap (λ n. take n c.in-Some.bytes.now) c.min.ensures ∙ take_min _ _;
     }) c.in_err-write_all.ensures.bytes)
 
 pub loop-bytes-preserved : goal.loop-bytes-preserved
@@ -18,7 +19,7 @@ loop-bytes-preserved g c =
       c.in-Some.ensures.whole,
       writing-more c.loop-bytes.invariant.2 (record {
         left_is = c.in-Some.ensures.first;
-        bytes_are = c.up_to-bytes.ensures;
+        bytes_are = ap (λ n. take n c.in-Some.bytes.now) c.min.ensures ∙ take_min _ _;
       }) c.in_ok-write_all.ensures.bytes,
       omega (arith, b),
     )

@@ -7,6 +7,15 @@ use Rattle.flute_store.proofs.StoreJoin.{content-below_join}
 use Rattle.flute_store.proofs.Common.{on_ok_weaker, IfErr-at_err, Same, content}
 use Rattle.flute_store.proofs.store.Store.absorb.Goals as goal
 
+pub invariant_of-self : goal.invariant_of-self
+invariant_of-self g c =
+    let joined = c.join_from.ensures in
+    record {
+      ordered = joined.ordered;
+      within = joined.within_limit;
+      each = joined.each c.self.invariant.each c.other.invariant.each;
+    }
+
 pub returns-clause-ok : goal.returns-clause-ok
 returns-clause-ok g c =
     let join =
@@ -14,21 +23,21 @@ returns-clause-ok g c =
     (ordered-store _ _ _ c.other.invariant) in
     let both = content c.self.inside.sessions ++ content c.other.inside.sessions in
     rw (← c.self.view_is, ← c.other.view_is)
-    (on_ok_weaker c.join_sessions.result (λ p. subst (λ m. Same (content m) both) (sym p) join)
-    c.join_sessions.ensures.ok)
+    (on_ok_weaker c.join_from.result (λ p. subst (λ m. Same (content m) both) (sym p) join)
+    c.join_from.ensures.ok)
 
 pub returns-clause-above : goal.returns-clause-above
 returns-clause-above g c =
-    let new = ordered-store _ _ _ c.join_sessions.ensures.store in
+    let new = ordered-store _ _ _ (invariant_of-self g c) in
     rw (← c.self.view_is)
-    (content-below _ _ (ordered-store _ _ _ c.self.invariant) new c.join_sessions.ensures.above)
+    (content-below _ _ (ordered-store _ _ _ c.self.invariant) new c.join_from.ensures.above_old)
 
 pub returns-clause-below : goal.returns-clause-below
 returns-clause-below g c =
-    let new = ordered-store _ _ _ c.join_sessions.ensures.store in
+    let new = ordered-store _ _ _ (invariant_of-self g c) in
     rw (← c.self.view_is, ← c.other.view_is)
     (content-below_join _ _ _ new (ordered-store _ _ _ c.self.invariant)
-    (ordered-store _ _ _ c.other.invariant) c.join_sessions.ensures.below)
+    (ordered-store _ _ _ c.other.invariant) c.join_from.ensures.below_join)
 
 pub returns-clause-full : goal.returns-clause-full
 returns-clause-full g c =
@@ -36,11 +45,11 @@ returns-clause-full g c =
     let q = solid-store _ _ _ c.other.invariant in
     rw (← c.self.view_is, ← c.other.view_is)
     (λ e. beyond-joined _ _ _ _ p q
-    (over-beyond _ _ _ _ p q (IfErr-at_err _ e c.join_sessions.ensures.full refl)))
+    (over-beyond _ _ _ _ p q (IfErr-at_err _ e c.join_from.ensures.full refl)))
 
 pub returns-clause-memory : goal.returns-clause-memory
 returns-clause-memory g c =
     let p = solid-store _ _ _ c.self.invariant in
     let q = solid-store _ _ _ c.other.invariant in
     rw (← c.self.view_is, ← c.other.view_is)
-    (λ e. needs-new p q (IfErr-at_err _ e c.join_sessions.ensures.memory refl))
+    (λ e. needs-new p q (IfErr-at_err _ e c.join_from.ensures.memory refl))

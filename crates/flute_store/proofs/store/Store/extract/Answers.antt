@@ -1,7 +1,9 @@
 -- Store::extract: nothing is written if a gap is left, else the object, or a prefix of it.
-use Rattle.std.proofs.Common.{refl}
+use Rattle.std.proofs.Common.{refl, ap, ◌∙◌}
+use Rattle.flute_store.proofs.Common.{all_left}
 use Rattle.flute_store.proofs.ToldObjects.{ToldGaps}
-use Rattle.flute_store.proofs.BytesSteps.{none-wanted, not-whole, writes-whole, writes-part}
+use Rattle.flute_store.proofs.BytesSteps
+use BytesSteps.{left-start, none-wanted, not-whole, writes-whole, writes-part}
 use Rattle.flute_store.proofs.store.Store.extract.Goals as goal
 
 pub returns-in-Some-next-clause-bytes : goal.returns-in-Some-next-clause-bytes
@@ -16,9 +18,10 @@ returns-in-Some-next-clause-bytes g c = (
   refl,
 )
 
-pub write_object-requires-clause-whole : goal.write_object-requires-clause-whole
-write_object-requires-clause-whole g c =
-    none-wanted c.in-One.info c.new-gaps.ensures.gaps c.in_default-next.ensures.steps.0
+pub write-requires-clause-whole : goal.write-requires-clause-whole
+write-requires-clause-whole g c =
+    ap all_left c.new-walk.ensures.start ∙ left-start c.in-One.info c.iter-2.result
+    ∙ none-wanted c.in-One.info c.new-gaps.ensures.gaps c.in_default-next.ensures.steps.0
     c.iter.ensures.rest c.iter-2.ensures.rest
 
 pub returns-in-Ok-clause-bytes : goal.returns-in-Ok-clause-bytes
@@ -31,7 +34,8 @@ returns-in-Ok-clause-bytes g c =
       gaps_are = c.new-gaps.ensures.gaps;
     } in
     writes-whole told c.iter-2.result c.in_default-next.ensures.steps.0 c.iter-2.ensures.rest
-    c.in-Ok.ensures.bytes c.length.ensures.value c.length.ensures.valid
+    c.new-walk.ensures.start c.length-length.ensures.value c.in-Ok.ensures.bytes
+    c.length-length.ensures.valid
 
 pub returns-in-Err-clause-bytes : goal.returns-in-Err-clause-bytes
 returns-in-Err-clause-bytes g c =
@@ -43,4 +47,4 @@ returns-in-Err-clause-bytes g c =
       gaps_are = c.new-gaps.ensures.gaps;
     } in
     writes-part told c.iter-2.result c.in_default-next.ensures.steps.0 c.iter-2.ensures.rest
-    c.in-Err.ensures.bytes
+    c.new-walk.ensures.start c.length-length.ensures.value c.in-Err.ensures.bytes

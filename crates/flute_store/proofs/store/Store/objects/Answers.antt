@@ -3,11 +3,11 @@ use Rattle.flute_store.proofs.store.Store.objects.Goals as goal
 
 pub returns-clause-rising : goal.returns-clause-rising
 returns-clause-rising g c =
-    rw (c.new.ensures, c.iter-sessions.ensures.rest)
+    rw c.iter-sessions.ensures.rest
     (keys_rise c.self.inside.sessions
     (ordered-store g.row.SESSIONS g.row.OBJECTS c.self.inside.sessions c.self.invariant))
 
 pub returns-clause-held : goal.returns-clause-held
 returns-clause-held g c =
-    rw (c.new.ensures, c.iter-sessions.ensures.rest, ← c.self.view_is)
+    rw (c.iter-sessions.ensures.rest, ← c.self.view_is)
     (keys_held g.row.SESSIONS g.row.OBJECTS c.self.inside.sessions c.self.invariant)

@@ -1,13 +1,45 @@
+-- Store::status: its loop adds up the symbols of the gaps, by reason.
 use Rattle.std.proofs.Common.{sym, subst}
 use Rattle.flute_store.specs.Status.{TellsStatus}
-use Rattle.flute_store.proofs.{Runs.{runs-are}, HowMany.{few-wanted, store-status}}
+use Rattle.flute_store.proofs.{Common.{flat_map, listed}, Runs.{runs-are}}
+use Rattle.flute_store.proofs.HowMany
+use HowMany.{counts-all, counts-few, counts-more, counts-none, few-wanted, first-gap, store-status}
 use Rattle.flute_store.proofs.store.Store.status.Goals as goal
 
-pub count-wanted-requires-clause-runs : goal.count-wanted-requires-clause-runs
-count-wanted-requires-clause-runs g c = rw c.new.ensures.gaps (runs-are _)
+pub loop-gap-init : goal.loop-gap-init
+loop-gap-init g c =
+    (rw c.new-gaps.ensures.gaps (runs-are _), counts-none _ _ c.none-wanted.ensures)
 
-pub count-wanted-requires-clause-few : goal.count-wanted-requires-clause-few
-count-wanted-requires-clause-few g c = few-wanted _ _ _ c.new.ensures.gaps c.new.ensures.few
+pub add-requires-clause-order : goal.add-requires-clause-order
+add-requires-clause-order g c =
+    (first-gap _ _ _ _ _ c.in-Some-next.ensures.steps c.loop-gap.invariant.0
+    c.loop-gap.invariant.1).order
+
+pub add-requires-clause-missing : goal.add-requires-clause-missing
+add-requires-clause-missing g c =
+    (counts-few _ _ _ c.loop-gap.invariant.1
+    (few-wanted _ _ _ c.new-gaps.ensures.gaps c.new-gaps.ensures.few)).0
+
+pub add-requires-clause-conflicting : goal.add-requires-clause-conflicting
+add-requires-clause-conflicting g c =
+    (counts-few _ _ _ c.loop-gap.invariant.1
+    (few-wanted _ _ _ c.new-gaps.ensures.gaps c.new-gaps.ensures.few)).1
+
+pub add-requires-clause-misfit : goal.add-requires-clause-misfit
+add-requires-clause-misfit g c =
+    (counts-few _ _ _ c.loop-gap.invariant.1
+    (few-wanted _ _ _ c.new-gaps.ensures.gaps c.new-gaps.ensures.few)).2
+
+pub loop-gap-preserved : goal.loop-gap-preserved
+loop-gap-preserved g c =
+    let f =
+    first-gap _ _ _ _ _ c.in-Some-next.ensures.steps c.loop-gap.invariant.0
+    c.loop-gap.invariant.1 in (
+      f.runs_are,
+      counts-more c.in-Some-next.gap c.loop-gap.wanted c.add.new.self
+          (flat_map listed c.new-gaps.result.gaps) (flat_map listed c.next.new.self.gaps) f.counted
+          c.add.ensures,
+    )
 
 pub returns : goal.returns
 returns g c =
@@ -16,6 +48,8 @@ returns g c =
       told = c.in-Some.ensures;
       info_is = c.in-One.is;
       held_is = c.iter.ensures.rest;
-      gaps_are = c.new.ensures.gaps;
+      gaps_are = c.new-gaps.ensures.gaps;
     })
-    c.count-wanted.result c.count-wanted.ensures _ c.length.ensures.value)
+    c.loop-gap.wanted
+    (counts-all _ _ (rw c.in_default-next.ensures.steps.0 at c.loop-gap.invariant.1)) _
+    c.length.ensures.value)

@@ -11,7 +11,7 @@ use Rattle.flute_streams.proofs.merge.advance.advance_at.Goals as goal
 
 pub stands_at-requires-clause-first : goal.stands_at-requires-clause-first
 stands_at-requires-clause-first g c = λ e.
-    let b = g.G.Stream.Stream.behaviour in
+    let b = g.G.Streams.behaviour in
     let i = c.loop-number.invariant in
     let within : c.loop-number.number < length (g.G.Streams.streams c.loop-number.streams) =
     omega (arith, i.all, c.loop-number-test.true) in
@@ -21,7 +21,7 @@ stands_at-requires-clause-first g c = λ e.
 
 pub loop-number-preserved : goal.loop-number-preserved
 loop-number-preserved g c =
-    let b = g.G.Stream.Stream.behaviour in
+    let b = g.G.Streams.behaviour in
     let place = option_copied c.args.place in
     let old = g.G.Streams.streams c.args.streams.now in
     let now = g.G.Streams.streams c.loop-number.streams in

@@ -5,7 +5,7 @@ use Rattle.flute_streams.proofs.merge.advance.advance_at.Given as goal
 
 abbrev pub invariant-loop-number : goal.invariant-loop-number
 invariant-loop-number g l = record {
-  went : WentSoFar g.G.Stream.Stream.behaviour (option_copied l.place) l.number
+  went : WentSoFar g.G.Streams.behaviour (option_copied l.place) l.number
       (g.G.Streams.streams l.fn.streams) (g.G.Streams.streams l.streams);
   all : length (g.G.Streams.streams l.streams) ≡ l.number-end;
   names : g.G.Streams.names l.streams ≡ g.G.Streams.names l.fn.streams;

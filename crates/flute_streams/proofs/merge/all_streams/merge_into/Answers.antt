@@ -19,24 +19,24 @@ use Rattle.flute_streams.proofs.merge.all_streams.merge_into.Goals as goal
 pub advance_at-requires : goal.advance_at-requires
 advance_at-requires g c = record {
   first =
-      none-new g.G.Stream.Stream.behaviour (g.G.Streams.streams c.args.streams.now)
+      none-new g.G.Streams.behaviour (g.G.Streams.streams c.args.streams.now)
       c.requires.new;
 }
 
 pub address-requires : goal.address-requires
 address-requires g c =
-    stands-within g.G.Stream.Stream.behaviour (g.G.Streams.streams c.loop-lowest.streams)
+    stands-within g.G.Streams.behaviour (g.G.Streams.streams c.loop-lowest.streams)
     c.in-Some.lowest c.in-Some.ensures.stands
 
 -- an input stopped before the header was written
 first_stop : (g : Over) (c : goal.In-Err g)
-    → Stopping g.G.Stream.Stream.behaviour c.args.patient (g.G.Streams.streams c.args.streams.now)
+    → Stopping g.G.Streams.behaviour c.args.patient (g.G.Streams.streams c.args.streams.now)
     (g.G.Streams.streams c.advance_at.new.streams) (g.W.Sink.written c.args.writer.now.sink.now)
     (g.W.Sink.written c.args.writer.now.sink.now) (Input c.in-Err.fault)
-    × OneFails g.G.Stream.Stream.behaviour c.in-Err.fault.number c.in-Err.fault.fault
+    × OneFails g.G.Streams.behaviour c.in-Err.fault.number c.in-Err.fault.fault
     (g.G.Streams.streams c.args.streams.now) (g.G.Streams.streams c.advance_at.new.streams)
 first_stop g c =
-    stop_first g.G.Stream.Stream.behaviour c.args.patient (g.G.Streams.streams c.args.streams.now)
+    stop_first g.G.Streams.behaviour c.args.patient (g.G.Streams.streams c.args.streams.now)
     (g.G.Streams.streams c.advance_at.new.streams)
     (g.W.Sink.written c.args.writer.now.sink.now) c.in-Err.fault c.requires.new
     c.in-Err.ensures.stops
@@ -58,13 +58,13 @@ returns-in-Err-clause-failures g c = (first_stop g c).1
 
 -- the header could not be written
 header_stop : (g : Over) (c : goal.Then-stops g)
-    → Stopping g.G.Stream.Stream.behaviour c.args.patient (g.G.Streams.streams c.args.streams.now)
+    → Stopping g.G.Streams.behaviour c.args.patient (g.G.Streams.streams c.args.streams.now)
     (g.G.Streams.streams c.advance_at.new.streams) (g.W.Sink.written c.args.writer.now.sink.now)
     (g.W.Sink.written c.header.new.self.sink.now) Write
-    × NoneFails g.G.Stream.Stream.behaviour (g.G.Streams.streams c.args.streams.now)
+    × NoneFails g.G.Streams.behaviour (g.G.Streams.streams c.args.streams.now)
     (g.G.Streams.streams c.advance_at.new.streams)
 header_stop g c =
-    stop_header g.G.Stream.Stream.behaviour c.args.patient (g.G.Streams.streams c.args.streams.now)
+    stop_header g.G.Streams.behaviour c.args.patient (g.G.Streams.streams c.args.streams.now)
     (g.G.Streams.streams c.advance_at.new.streams) c.requires.new c.in_default.ensures.go_on
     (puts-part c.args.writer.now.failed c.header.new.self.failed _ _ header c.requires.good
     (c.stops.ensures.stops c.if-stops.true).0 c.header.ensures.puts)
@@ -80,31 +80,31 @@ returns-then-stops-clause-failures g c = (header_stop g c).1
 
 pub lowest-requires-clause-spelled : goal.lowest-requires-clause-spelled
 lowest-requires-clause-spelled g c =
-    spelled_now g.G.Stream.Stream.behaviour c.loop-lowest.invariant.state
+    spelled_now g.G.Streams.behaviour c.loop-lowest.invariant.state
 
 pub write_lowest-requires-clause-spelled : goal.write_lowest-requires-clause-spelled
 write_lowest-requires-clause-spelled g c =
-    spelled_now g.G.Stream.Stream.behaviour c.loop-lowest.invariant.state
+    spelled_now g.G.Streams.behaviour c.loop-lowest.invariant.state
 
 pub write_lowest-requires-clause-sized : goal.write_lowest-requires-clause-sized
 write_lowest-requires-clause-sized g c =
-    let v = at_lowest g.G.Stream.Stream.behaviour (g.G.Streams.streams c.loop-lowest.streams)
+    let v = at_lowest g.G.Streams.behaviour (g.G.Streams.streams c.loop-lowest.streams)
     c.in-Some.ensures.stands c.in-Some.ensures.lowest in
     subst (λ o. IfSome o IsSized) (sym v.value.is)
-    (sized-lowest g.G.Stream.Stream.behaviour c.loop-lowest.invariant.state v.lowest)
+    (sized-lowest g.G.Streams.behaviour c.loop-lowest.invariant.state v.lowest)
 
 -- an entry could not be written
 entry_stop : (g : Over) (c : goal.Then-stops-2 g)
-    → Stopping g.G.Stream.Stream.behaviour c.args.patient (g.G.Streams.streams c.args.streams.now)
+    → Stopping g.G.Streams.behaviour c.args.patient (g.G.Streams.streams c.args.streams.now)
     (g.G.Streams.streams c.loop-lowest.streams) (g.W.Sink.written c.args.writer.now.sink.now)
     (g.W.Sink.written c.write_lowest.new.writer.sink.now) Write
 entry_stop g c =
-    let v = written_at g.G.Stream.Stream.behaviour (g.G.Streams.streams c.loop-lowest.streams)
+    let v = written_at g.G.Streams.behaviour (g.G.Streams.streams c.loop-lowest.streams)
     c.in-Some.ensures.stands c.in-Some.ensures.lowest c.write_lowest.ensures.valid
     c.write_lowest.ensures.puts in
     let stops = c.stops-in-Some.ensures.stops c.if-stops-2.true in
     let good = c.loop-lowest.invariant.eager stops.1 in
-    stop_entry g.G.Stream.Stream.behaviour c.loop-lowest.invariant.state v.lowest
+    stop_entry g.G.Streams.behaviour c.loop-lowest.invariant.state v.lowest
     v.valid c.args.patient good
     (puts-part c.loop-lowest.writer.failed c.write_lowest.new.writer.failed _ _
     (entry v.value.fact) good stops.0 v.puts.puts)
@@ -117,27 +117,27 @@ returns-then-stops-2-clause-reads_ahead g c = (entry_stop g c).reads_ahead
 
 pub returns-then-stops-2-clause-failures : goal.returns-then-stops-2-clause-failures
 returns-then-stops-2-clause-failures g c =
-    no_failure g.G.Stream.Stream.behaviour c.loop-lowest.invariant.state
+    no_failure g.G.Streams.behaviour c.loop-lowest.invariant.state
 
 -- an input stopped after an entry was written
 input_stop : (g : Over) (c : goal.In-Err-advance g)
-    → Stopping g.G.Stream.Stream.behaviour c.args.patient (g.G.Streams.streams c.args.streams.now)
+    → Stopping g.G.Streams.behaviour c.args.patient (g.G.Streams.streams c.args.streams.now)
     (g.G.Streams.streams c.advance.new.streams) (g.W.Sink.written c.args.writer.now.sink.now)
     (g.W.Sink.written c.write_lowest.new.writer.sink.now) (Input c.in-Err-advance.fault)
-    × OneFails g.G.Stream.Stream.behaviour c.in-Err-advance.fault.number
+    × OneFails g.G.Streams.behaviour c.in-Err-advance.fault.number
     c.in-Err-advance.fault.fault (g.G.Streams.streams c.args.streams.now)
     (g.G.Streams.streams c.advance.new.streams)
 input_stop g c =
-    let v = written_at g.G.Stream.Stream.behaviour (g.G.Streams.streams c.loop-lowest.streams)
+    let v = written_at g.G.Streams.behaviour (g.G.Streams.streams c.loop-lowest.streams)
     c.in-Some.ensures.stands c.in-Some.ensures.lowest c.write_lowest.ensures.valid
     c.write_lowest.ensures.puts in
-    let at = placed g.G.Stream.Stream.behaviour (g.G.Streams.streams c.loop-lowest.streams) v.value
+    let at = placed g.G.Streams.behaviour (g.G.Streams.streams c.loop-lowest.streams) v.value
     c.in-Some.ensures.stands c.address.ensures (ap option_copied c.in-Some-address.is) in
-    stop_input g.G.Stream.Stream.behaviour c.loop-lowest.invariant.state v.lowest
+    stop_input g.G.Streams.behaviour c.loop-lowest.invariant.state v.lowest
     v.valid c.args.patient c.write_lowest.new.writer.failed
     (g.G.Streams.streams c.advance.new.streams) _ c.in-Err-advance.fault v.puts.puts
     (c.stops-in-Some.ensures.goes_on c.if-stops-2.false)
-    (subst (λ a. StopsIn g.G.Stream.Stream.behaviour (Some a)
+    (subst (λ a. StopsIn g.G.Streams.behaviour (Some a)
     (g.G.Streams.streams c.loop-lowest.streams)
     (g.G.Streams.streams c.advance.new.streams) c.in-Err-advance.fault) (sym at)
     c.in-Err-advance.ensures.stops)
@@ -159,38 +159,38 @@ returns-in-Err-advance-clause-failures g c = (input_stop g c).1
 
 pub overflow_add-entries : goal.overflow_add-entries
 overflow_add-entries g c =
-    let v = written_at g.G.Stream.Stream.behaviour (g.G.Streams.streams c.loop-lowest.streams)
+    let v = written_at g.G.Streams.behaviour (g.G.Streams.streams c.loop-lowest.streams)
     c.in-Some.ensures.stands c.in-Some.ensures.lowest c.write_lowest.ensures.valid
     c.write_lowest.ensures.puts in
-    let at = placed g.G.Stream.Stream.behaviour (g.G.Streams.streams c.loop-lowest.streams) v.value
+    let at = placed g.G.Streams.behaviour (g.G.Streams.streams c.loop-lowest.streams) v.value
     c.in-Some.ensures.stands c.address.ensures (ap option_copied c.in-Some-address.is) in
-    let next = state_turn g.G.Stream.Stream.behaviour c.loop-lowest.invariant.state
+    let next = state_turn g.G.Streams.behaviour c.loop-lowest.invariant.state
     v.lowest v.valid
     c.write_lowest.new.writer.failed (IsCounted g.row.SESSIONS g.row.OBJECTS g.row.SYMBOLS
     c.count_place-within.new.tally c.count_place-within.result)
     (g.G.Streams.streams c.advance.new.streams) _
     (λ F r k. c.count_place-within.ensures F v.value.fact
     at r k) v.puts.puts
-    (subst (λ a. GoOnAt g.G.Stream.Stream.behaviour (Some a)
+    (subst (λ a. GoOnAt g.G.Streams.behaviour (Some a)
     (g.G.Streams.streams c.loop-lowest.streams) (g.G.Streams.streams c.advance.new.streams))
     (sym at) c.in_default-advance.ensures.go_on) in
-    omega (arith, few-joined g.G.Stream.Stream.behaviour next, c.requires.few)
+    omega (arith, few-joined g.G.Streams.behaviour next, c.requires.few)
 
 pub loop-lowest-preserved : goal.loop-lowest-preserved
 loop-lowest-preserved g c =
-    let v = written_at g.G.Stream.Stream.behaviour (g.G.Streams.streams c.loop-lowest.streams)
+    let v = written_at g.G.Streams.behaviour (g.G.Streams.streams c.loop-lowest.streams)
     c.in-Some.ensures.stands c.in-Some.ensures.lowest c.write_lowest.ensures.valid
     c.write_lowest.ensures.puts in
-    let at = placed g.G.Stream.Stream.behaviour (g.G.Streams.streams c.loop-lowest.streams) v.value
+    let at = placed g.G.Streams.behaviour (g.G.Streams.streams c.loop-lowest.streams) v.value
     c.in-Some.ensures.stands c.address.ensures (ap option_copied c.in-Some-address.is) in
     let i = c.loop-lowest.invariant in
     record {
-      state = state_turn g.G.Stream.Stream.behaviour i.state v.lowest v.valid
+      state = state_turn g.G.Streams.behaviour i.state v.lowest v.valid
           c.write_lowest.new.writer.failed (IsCounted g.row.SESSIONS g.row.OBJECTS g.row.SYMBOLS
           c.count_place-within.new.tally c.count_place-within.result)
           (g.G.Streams.streams c.advance.new.streams) _
           (λ F r k. c.count_place-within.ensures F v.value.fact at r k) v.puts.puts
-          (subst (λ a. GoOnAt g.G.Stream.Stream.behaviour (Some a)
+          (subst (λ a. GoOnAt g.G.Streams.behaviour (Some a)
           (g.G.Streams.streams c.loop-lowest.streams) (g.G.Streams.streams c.advance.new.streams))
           (sym at) c.in_default-advance.ensures.go_on);
       sink_failures = omega (arith, i.sink_failures, v.puts.fails);
@@ -202,25 +202,25 @@ loop-lowest-preserved g c =
 
 pub loop-lowest-smaller : goal.loop-lowest-smaller
 loop-lowest-smaller g c =
-    let v = at_lowest g.G.Stream.Stream.behaviour (g.G.Streams.streams c.loop-lowest.streams)
+    let v = at_lowest g.G.Streams.behaviour (g.G.Streams.streams c.loop-lowest.streams)
     c.in-Some.ensures.stands c.in-Some.ensures.lowest in
-    let at = placed g.G.Stream.Stream.behaviour (g.G.Streams.streams c.loop-lowest.streams) v.value
+    let at = placed g.G.Streams.behaviour (g.G.Streams.streams c.loop-lowest.streams) v.value
     c.in-Some.ensures.stands c.address.ensures (ap option_copied c.in-Some-address.is) in
-    turn-falls g.G.Stream.Stream.behaviour c.loop-lowest.invariant.state
+    turn-falls g.G.Streams.behaviour c.loop-lowest.invariant.state
     v.lowest (g.G.Streams.streams c.advance.new.streams)
-    (subst (λ a. GoOnAt g.G.Stream.Stream.behaviour (Some a)
+    (subst (λ a. GoOnAt g.G.Streams.behaviour (Some a)
     (g.G.Streams.streams c.loop-lowest.streams) (g.G.Streams.streams c.advance.new.streams))
     (sym at) c.in_default-advance.ensures.go_on)
 
 -- the end could not be written
 end_stop : (g : Over) (c : goal.Then-stops-3 g)
-    → Stopping g.G.Stream.Stream.behaviour c.args.patient (g.G.Streams.streams c.args.streams.now)
+    → Stopping g.G.Streams.behaviour c.args.patient (g.G.Streams.streams c.args.streams.now)
     (g.G.Streams.streams c.loop-lowest.streams) (g.W.Sink.written c.args.writer.now.sink.now)
     (g.W.Sink.written c.end.new.self.sink.now) Write
 end_stop g c =
     let stops = c.stops-2.ensures.stops c.if-stops-3.true in
     let good = c.loop-lowest.invariant.eager stops.1 in
-    stop_end g.G.Stream.Stream.behaviour c.loop-lowest.invariant.state
+    stop_end g.G.Streams.behaviour c.loop-lowest.invariant.state
     c.in_default-lowest.ensures.lowest c.args.patient good
     (puts-part c.loop-lowest.writer.failed c.end.new.self.failed _ _
     (end c.loop-lowest.entries) good stops.0 c.end.ensures.puts)
@@ -233,11 +233,11 @@ returns-then-stops-3-clause-reads_ahead g c = (end_stop g c).reads_ahead
 
 pub returns-then-stops-3-clause-failures : goal.returns-then-stops-3-clause-failures
 returns-then-stops-3-clause-failures g c =
-    no_failure g.G.Stream.Stream.behaviour c.loop-lowest.invariant.state
+    no_failure g.G.Streams.behaviour c.loop-lowest.invariant.state
 
 pub returns-clause-ended : goal.returns-clause-ended
 returns-clause-ended g c =
-    finished g.G.Stream.Stream.behaviour c.loop-lowest.tally c.loop-lowest.within
+    finished g.G.Streams.behaviour c.loop-lowest.tally c.loop-lowest.within
     c.end.new.self.failed c.loop-lowest.invariant.state _ c.requires.few
     c.in_default-lowest.ensures.lowest
     c.end.ensures.puts
@@ -246,7 +246,7 @@ pub returns-clause-merged : goal.returns-clause-merged
 returns-clause-merged g c = (returns-clause-ended g c).merged
 
 pub returns-clause-failures : goal.returns-clause-failures
-returns-clause-failures g c = no_failure g.G.Stream.Stream.behaviour c.loop-lowest.invariant.state
+returns-clause-failures g c = no_failure g.G.Streams.behaviour c.loop-lowest.invariant.state
 
 pub returns-clause-cut : goal.returns-clause-cut
 returns-clause-cut g c = λ e.
@@ -259,7 +259,7 @@ some_end n e = cc
 
 pub returns-then-not-within-clause-ended : goal.returns-then-not-within-clause-ended
 returns-then-not-within-clause-ended g c =
-    finished g.G.Stream.Stream.behaviour c.loop-lowest.tally c.loop-lowest.within true
+    finished g.G.Streams.behaviour c.loop-lowest.tally c.loop-lowest.within true
     c.loop-lowest.invariant.state _ c.requires.few c.in_default-lowest.ensures.lowest
     (left_out c.loop-lowest.writer.failed _ (end c.loop-lowest.entries)
     (some_end c.loop-lowest.entries))
@@ -269,7 +269,7 @@ returns-then-not-within-clause-merged g c = (returns-then-not-within-clause-ende
 
 pub returns-then-not-within-clause-failures : goal.returns-then-not-within-clause-failures
 returns-then-not-within-clause-failures g c =
-    no_failure g.G.Stream.Stream.behaviour c.loop-lowest.invariant.state
+    no_failure g.G.Streams.behaviour c.loop-lowest.invariant.state
 
 pub returns-then-not-within-clause-cut : goal.returns-then-not-within-clause-cut
 returns-then-not-within-clause-cut g c = λ e.

@@ -5,7 +5,7 @@ use Rattle.flute_streams.proofs.merge.lowest.hold_same.Goals as goal
 
 pub returns-else-is_empty-2 : goal.returns-else-is_empty-2
 returns-else-is_empty-2 g c = λ g' f e d.
-    let b = g.G.Stream.Stream.behaviour in
+    let b = g.G.Streams.behaviour in
     let xs = g.G.Streams.streams c.args.streams.now in
     let one = spelled-at b xs c.args.first c.requires.spelled c.requires.first
     c.requires.own in

@@ -11,7 +11,7 @@ lent {fact = fact} {f = f} is h e =
 
 pub returns-in-Some-Some : goal.returns-in-Some-Some
 returns-in-Some-Some g c = λ g' f e d.
-    let b = g.G.Stream.Stream.behaviour in
+    let b = g.G.Streams.behaviour in
     let xs = g.G.Streams.streams c.args.streams.now in
     let one = lent c.in-Some-Some.is-0
     (read-at b xs c.args.first (λ o. o) c.requires.first c.head.ensures) e in

@@ -18,13 +18,13 @@ with_more-requires-clause-here g c =
     let within : c.loop-number.number < length xs =
     omega (arith, c.loop-number-test.true, c.count-number-end.ensures) in (
       c.in-Some.field-0.now,
-      sym (read-at g.G.Stream.Stream.behaviour xs c.loop-number.number address_of within
+      sym (read-at g.G.Streams.behaviour xs c.loop-number.number address_of within
           c.address.ensures) ∙ ap option_copied c.in-Some.is,
     )
 
 pub loop-number-preserved : goal.loop-number-preserved
 loop-number-preserved g c =
-    let b = g.G.Stream.Stream.behaviour in
+    let b = g.G.Streams.behaviour in
     let xs = g.G.Streams.streams c.args.streams.now in
     let k = c.loop-number.number in
     let before = heads b (take k xs) in

@@ -8,7 +8,7 @@ use Rattle.flute_streams.proofs.merge.lowest.with_more.Goals as goal
 
 pub returns-in_default-clause-lowest : goal.returns-in_default-clause-lowest
 returns-in_default-clause-lowest g c = λ facts h.
-    let b = g.G.Stream.Stream.behaviour in
+    let b = g.G.Streams.behaviour in
     let xs = g.G.Streams.streams c.args.streams.now in
     let f = place-some (held_at b xs c.args.number) c.requires.here.0 c.requires.here.1 in
     rw c.first.ensures
@@ -17,7 +17,7 @@ returns-in_default-clause-lowest g c = λ facts h.
 
 pub joined-requires-clause-here : goal.joined-requires-clause-here
 joined-requires-clause-here g c =
-    let b = g.G.Stream.Stream.behaviour in
+    let b = g.G.Streams.behaviour in
     let xs = g.G.Streams.streams c.args.streams.now in
     let l = c.in-Some.lowest in
     let v = compared b xs l
@@ -30,7 +30,7 @@ joined-requires-clause-here g c =
 
 pub returns-in-Less-clause-lowest : goal.returns-in-Less-clause-lowest
 returns-in-Less-clause-lowest g c = λ facts h.
-    let b = g.G.Stream.Stream.behaviour in
+    let b = g.G.Streams.behaviour in
     let xs = g.G.Streams.streams c.args.streams.now in
     let l = c.in-Some.lowest in
     let v = compared b xs l
@@ -42,7 +42,7 @@ returns-in-Less-clause-lowest g c = λ facts h.
 
 pub returns-in-Greater-clause-lowest : goal.returns-in-Greater-clause-lowest
 returns-in-Greater-clause-lowest g c = λ facts h.
-    let b = g.G.Stream.Stream.behaviour in
+    let b = g.G.Streams.behaviour in
     let xs = g.G.Streams.streams c.args.streams.now in
     let l = c.in-Some.lowest in
     let v = compared b xs l
@@ -53,7 +53,7 @@ returns-in-Greater-clause-lowest g c = λ facts h.
 
 pub returns-in-Equal-clause-lowest : goal.returns-in-Equal-clause-lowest
 returns-in-Equal-clause-lowest g c = λ facts h.
-    let b = g.G.Stream.Stream.behaviour in
+    let b = g.G.Streams.behaviour in
     let xs = g.G.Streams.streams c.args.streams.now in
     let l = c.in-Some.lowest in
     let v = compared b xs l
@@ -65,7 +65,7 @@ returns-in-Equal-clause-lowest g c = λ facts h.
 
 pub returns-in-Equal-clause-stands : goal.returns-in-Equal-clause-stands
 returns-in-Equal-clause-stands g c =
-    let b = g.G.Stream.Stream.behaviour in
+    let b = g.G.Streams.behaviour in
     let xs = g.G.Streams.streams c.args.streams.now in
     let stands = subst (λ o. IfSome o (Stands b xs)) c.in-Some.is c.requires.stands in (
       stands.0,

@@ -5,18 +5,18 @@ use Rattle.flute_streams.proofs.merge.stopped.finish.Goals as goal
 
 pub loop-alloc-preserved : goal.loop-alloc-preserved
 loop-alloc-preserved g c = record {
-  on = read-more g.G.Stream.Stream.behaviour c.loop-alloc.invariant.on
+  on = read-more g.G.Streams.behaviour c.loop-alloc.invariant.on
       c.in_ok-advance.ensures.advances;
   names = c.advance.ensures.names ∙ c.loop-alloc.invariant.names;
 }
 
 pub loop-alloc-smaller : goal.loop-alloc-smaller
 loop-alloc-smaller g c =
-    read-falls g.G.Stream.Stream.behaviour c.args.number _ _ (fact_in c.head.result) c.head.ensures
+    read-falls g.G.Streams.behaviour c.args.number _ _ (fact_in c.head.result) c.head.ensures
     (some_held c.head.result c.is_some.result c.is_some.ensures c.loop-alloc-test.true)
     c.in_ok-advance.ensures.advances
 
 pub returns-clause-told : goal.returns-clause-told
 returns-clause-told g c =
-    read-told g.G.Stream.Stream.behaviour c.loop-alloc.invariant.on c.head.ensures
+    read-told g.G.Streams.behaviour c.loop-alloc.invariant.on c.head.ensures
     (none_held c.head.result c.is_some.result c.is_some.ensures c.loop-alloc-test.false)

@@ -3,15 +3,13 @@ use Rattle.std.proofs.Common.{◌≡◌, ◌∙◌, List, ℕ, Option, Ok, Err, 
 use Rattle.std.proofs.lemmas.Result.{err_from_is_err_and}
 use Rattle.flutejoin.specs.Gaps.{ReadsWithin}
 use Rattle.flutejoin.specs.Load.{LoadFails}
-use Rattle.std.specs.Prelude.{IfOk, IfErr}
-use Rattle.flutejoin.specs.ExtractAll.{ExtractsAll, ExtractAllFails, picked_facts}
-use Rattle.flutejoin.specs.declared.command_fault.CommandFault.{CommandFault}
+use Rattle.flutejoin.specs.ExtractAll.{ExtractsAll, picked_facts}
 use Rattle.flutejoin.specs.declared.command_fault.CommandFault.TheVariants.{Input}
 use Rattle.flutejoin.specs.Limits.{at_most}
 use Rattle.flutejoin.proofs.extract_lemmas.FolderSteps.{stays_on}
 use Rattle.flutejoin.proofs.Mapped.{read_failed, read_done}
 use Rattle.flutejoin.proofs.Shown.{entry_given, end_given, fault_given, no_read_failure}
-use Rattle.flutejoin.proofs.extract_lemmas.FilesRead.{if_ok, if_err, entry_rises, within_read}
+use Rattle.flutejoin.proofs.extract_lemmas.FilesRead.{entry_rises, within_read}
 use Rattle.flutejoin.proofs.extract_lemmas.FilesRead.{whole_read}
 use Rattle.flutejoin.proofs.extract_lemmas.FilesRead.{more_read, full_read, fault_read, all_read}
 use Rattle.flutejoin.proofs.extract_lemmas.FilesRead.{read_rises}
@@ -125,8 +123,8 @@ pub finish-requires-clause-known : goal.finish-requires-clause-known
 finish-requires-clause-known g c =
     known_some c.loop-fact.invariant.read
 
-pub returns-clause-extracted : goal.returns-clause-extracted
-returns-clause-extracted g c =
+pub returns-in-Ok-clause-extracted : goal.returns-in-Ok-clause-extracted
+returns-in-Ok-clause-extracted g c =
     let u = g.R.Source.unread c.args.source.now in
     let v = g.R.Source.unread c.loop-fact.reader.source.now in
     let w = g.R.Source.unread c.next_with.new.self.source.now in
@@ -138,22 +136,22 @@ returns-clause-extracted g c =
     c.at_input.ensures c.in_ok-fact.was ∙ ap Ok c.in_default.is in
     let gave = end_given c.loop-fact.reader.max_entries from to v w
     c.next_with.ensures.gives r in
-    let all = c.finish.ensures.finished (picked_facts picked h.read.entries)
+    let all = c.in-Ok.ensures.finished (picked_facts picked h.read.entries)
     (g.D.NewFolder.places c.args.folder.now) (g.W.Sink.written c.args.lines.now)
     (read_rises h.read)
     h.read.takes in
     let P : Option (List ℕ) → Type 0 = λ left.
-    IfOk c.finish.result (ExtractsAll (at_most g.row.SESSIONS g.row.OBJECTS g.row.SYMBOLS) u left
+    ExtractsAll (at_most g.row.SESSIONS g.row.OBJECTS g.row.SYMBOLS) u left
     picked (g.D.NewFolder.places c.args.folder.now)
     (g.D.NewFolder.places c.finish.new.folder) (g.W.Sink.written c.args.lines.now)
-    (g.W.Sink.written c.finish.new.lines)) in
-    let here : P w = if_ok c.finish.result (λ count t. all_read h.read gave t) all in
+    (g.W.Sink.written c.finish.new.lines) c.in-Ok.count in
+    let here : P w = all_read h.read gave all in
     let at : (x : g.row.R.Denot) → c.next_with.new.self.source.now ≡ x → P (g.R.Source.unread x) =
     λ x same. subst (λ (y : g.row.R.Denot). P (g.R.Source.unread y)) same here in
     at _ (search rules)
 
-pub returns-clause-failed : goal.returns-clause-failed
-returns-clause-failed g c =
+pub returns-in-Err-clause-failed : goal.returns-in-Err-clause-failed
+returns-in-Err-clause-failed g c =
     let u = g.R.Source.unread c.args.source.now in
     let v = g.R.Source.unread c.loop-fact.reader.source.now in
     let w = g.R.Source.unread c.next_with.new.self.source.now in
@@ -165,11 +163,9 @@ returns-clause-failed g c =
     let gave = end_given c.loop-fact.reader.max_entries from to v w
     c.next_with.ensures.gives r in
     let within = whole_read h.read gave in
-    let P : Option (List ℕ) → Type 0 = λ left. IfErr c.finish.result (ExtractAllFails (at_most
-    g.row.SESSIONS g.row.OBJECTS g.row.SYMBOLS) u left) in
-    let here : P w = if_err c.finish.result (λ f e. subst
-    (λ (x : CommandFault). ExtractAllFails (at_most g.row.SESSIONS g.row.OBJECTS g.row.SYMBOLS) u w
-    x) (sym e) within) c.finish.ensures.fault in
+    let P : Option (List ℕ) → Type 0 = λ left. ReadsWithin (at_most
+    g.row.SESSIONS g.row.OBJECTS g.row.SYMBOLS) u left in
+    let here : P w = within in
     let at : (x : g.row.R.Denot) → c.next_with.new.self.source.now ≡ x → P (g.R.Source.unread x) =
     λ x same. subst (λ (y : g.row.R.Denot). P (g.R.Source.unread y)) same here in
     at _ (search rules)

@@ -1,13 +1,11 @@
 -- sum_up: an object is added to the sums of its session, which may be a new one.
-use Rattle.std.proofs.Common.{◌≡◌, Option, sym, ◌∙◌, subst}
-use Rattle.std.specs.Prelude.{OnOk}
+use Rattle.std.proofs.Common.{◌≡◌, Option, Some, sym, ◌∙◌, subst}
 use Rattle.flute_parts.specs.Session.{Session}
 use Rattle.flute_store.specs.declared.status.Status.{Status}
 use Rattle.flutejoin.specs.Listing.{AreSummed, BeginsSession}
 use Rattle.flutejoin.specs.Sums.{AddsObject}
 use Rattle.flutejoin.specs.declared.gaps.session_sums.SessionSums.{SessionSums}
 use Rattle.flutejoin.proofs.gaps_lemmas.Keys.{equal_sessions, other_sessions}
-use Rattle.flutejoin.proofs.gaps_lemmas.OpenObjects.{on_both}
 use Rattle.flutejoin.proofs.gaps_lemmas.Sessions.{IsOfOthers, begun_known, more_known}
 use Rattle.flutejoin.proofs.gaps.closed_objects.sum_up.Goals as goal
 use Rattle.flutejoin.proofs.gaps.closed_objects.sum_up.Goals.{in_default-via-in-Some+else-eq}
@@ -22,8 +20,9 @@ returns-in-Some-clause-summed g c = λ known objects bytes t e is h k.
     let a = subst (λ (s : Status). AddsObject s old c.add.new.self) (sym is) c.add.ensures.added in
     more_known t q same a k
 
-pub returns-in_default-clause-summed : goal.returns-in_default-clause-summed
-returns-in_default-clause-summed g c = λ known objects bytes t e is h k.
+pub returns-in_ok-end_session-in_default-clause-summed :
+    goal.returns-in_ok-end_session-in_default-clause-summed
+returns-in_ok-end_session-in_default-clause-summed g c = λ known objects bytes t e is h k.
     let old = c.in_default.sums in
     let P : Option SessionSums → Type 0 = λ o. AreSummed objects bytes o
     × IsOfOthers t.key.session o in
@@ -42,9 +41,10 @@ returns-in_default-clause-summed g c = λ known objects bytes t e is h k.
                 (sym w.in_default.is) tt,
           )
     ] in
-    let r = c.begin_session.result in
-    let begun = subst (λ (s : Session). OnOk r (BeginsSession s t.status c.begin_session.new.sums))
-    (sym e) (subst (λ (s : Status). OnOk r
-    (BeginsSession c.args.session s c.begin_session.new.sums)) (sym is)
-    c.begin_session.ensures.begun) in
-    on_both r (λ b a. begun_known objects t old here k b a) begun c.begin_session.ensures.line
+    let begun = subst (λ (s : Session). BeginsSession s t.status (Some c.add-in_default.new.self))
+    (sym e) (subst (λ (s : Status).
+    BeginsSession c.args.session s (Some c.add-in_default.new.self)) (sym is) (
+      c.add-in_default.ensures.within 0 c.new-next.ensures.within,
+      (c.new-next.result, c.new-next.ensures.none, c.add-in_default.ensures.added),
+    )) in
+    begun_known objects t old here k begun c.in_ok-end_session-in_default.ensures.line

@@ -14,99 +14,96 @@ use Rattle.flutejoin.proofs.info.information_list.read_list.Goals as goal
 
 pub returns-then-count-eq0-clause-told : goal.returns-then-count-eq0-clause-told
 returns-then-count-eq0-clause-told g c =
-    let so = c.loop-list.invariant.so_far in
-    ends_told _ (g.R.Source.unread c.read_piece.new.source) c.finish.result
-    (read_end _ _ _ so.0 (take c.in_ok-count.count c.read_piece.new.piece) so.1
-    c.in_ok-count.ensures.bytes
-    (ap (λ n. take n c.read_piece.new.piece) c.if-count-eq0.true))
-    (c.in_ok-count.ensures.end c.if-count-eq0.true
-    (omega (arith, c.read_piece.auto.piece, c.loop-list.invariant.room))) so.2
+    let so = c.loop-count.invariant.so_far in
+    ends_told _ (g.R.Source.unread c.read.new.self) c.finish.result
+    (read_end _ _ _ so.0 (take c.in-Ok.count c.read.new.buffer) so.1
+    c.in-Ok.ensures.bytes.0
+    (ap (λ n. take n c.read.new.buffer) c.if-count-eq0.true))
+    (c.in-Ok.ensures.bytes.1 c.if-count-eq0.true
+    (omega (arith, c.read.auto.buffer, c.loop-count.invariant.room))) so.2
     c.finish.ensures.told
 
 pub returns-then-count-eq0-clause-failed : goal.returns-then-count-eq0-clause-failed
 returns-then-count-eq0-clause-failed g c =
-    let so = c.loop-list.invariant.so_far in
+    let so = c.loop-count.invariant.so_far in
     ends_failed (at_most g.row.SESSIONS g.row.OBJECTS g.row.SYMBOLS) _ (g.R.Source.unread
-    c.read_piece.new.source) c.finish.result
-    (read_end _ _ _ so.0 (take c.in_ok-count.count c.read_piece.new.piece) so.1
-    c.in_ok-count.ensures.bytes
-    (ap (λ n. take n c.read_piece.new.piece) c.if-count-eq0.true))
-    (c.in_ok-count.ensures.end c.if-count-eq0.true
-    (omega (arith, c.read_piece.auto.piece, c.loop-list.invariant.room))) so.2
+    c.read.new.self) c.finish.result
+    (read_end _ _ _ so.0 (take c.in-Ok.count c.read.new.buffer) so.1
+    c.in-Ok.ensures.bytes.0
+    (ap (λ n. take n c.read.new.buffer) c.if-count-eq0.true))
+    (c.in-Ok.ensures.bytes.1 c.if-count-eq0.true
+    (omega (arith, c.read.auto.buffer, c.loop-count.invariant.room))) so.2
     c.finish.ensures.failed
 
 pub returns-then-count-eq0-clause-failures : goal.returns-then-count-eq0-clause-failures
 returns-then-count-eq0-clause-failures g c =
-    let so = c.loop-list.invariant.so_far in
+    let so = c.loop-count.invariant.so_far in
     ends_quiet (at_most g.row.SESSIONS g.row.OBJECTS g.row.SYMBOLS) c.finish.result
-    (c.in_ok-count.ensures.failures ∙ c.loop-list.invariant.failures) so.2
+    (omega (arith, c.in-Ok.ensures.failures, c.loop-count.invariant.failures)) so.2
     c.finish.ensures.failed
 
 pub returns-then-count-taken-clause-failed : goal.returns-then-count-taken-clause-failed
 returns-then-count-taken-clause-failed g c =
-    let so = c.loop-list.invariant.so_far in
-    let part = take c.in_ok-count.count c.read_piece.new.piece in
-    let fault = ListLine c.loop-list.list.number in
+    let so = c.loop-count.invariant.so_far in
+    let part = take c.in-Ok.count c.read.new.buffer in
+    let fault = ListLine c.loop-count.list.number in
     let long =
-    length-take-le c.in_ok-count.count c.read_piece.new.piece c.in_ok-count.ensures.bound in
-    inr (within _ _ (g.R.Source.unread c.read_piece.new.source) so.0 part
+    length-take-le c.in-Ok.count c.read.new.buffer c.in-Ok.ensures.bound in
+    inr (within _ _ (g.R.Source.unread c.read.new.self) so.0 part
     (λ all. ListFails (at_most g.row.SESSIONS g.row.OBJECTS g.row.SYMBOLS) all fault)
-    (so.1, c.in_ok-count.ensures.bytes)
-    (λ more. too_many so.0 part more c.loop-list.list.number
-    (omega (arith, long, so.3, c.if-count-taken.true, c.loop-list.invariant.few))))
+    (so.1, c.in-Ok.ensures.bytes.0)
+    (λ more. too_many so.0 part more c.loop-count.list.number
+    (omega (arith, long, so.3, c.if-count-taken.true, c.loop-count.invariant.few))))
 
 pub returns-in_err-take-clause-failed : goal.returns-in_err-take-clause-failed
 returns-in_err-take-clause-failed g c =
-    let so = c.loop-list.invariant.so_far in
-    let e =
-    err_from_is_err_and c.from_residual-in_err-take.result c.from_residual-in_err-take.ensures.1 in
+    let so = c.loop-count.invariant.so_far in
+    let e = err_from_is_err_and c.from_residual.result c.from_residual.ensures.1 in
     rw (e.1, e.2)
-    (inr (within _ _ (g.R.Source.unread c.read_piece.new.source) so.0
-    (take c.in_ok-count.count c.read_piece.new.piece)
+    (inr (within _ _ (g.R.Source.unread c.read.new.self) so.0
+    (take c.in-Ok.count c.read.new.buffer)
     (λ all. ListFails (at_most g.row.SESSIONS g.row.OBJECTS g.row.SYMBOLS) all
-    c.in_err-take.field-0.0) (so.1, c.in_ok-count.ensures.bytes)
+    c.in_err-take.field-0.0) (so.1, c.in-Ok.ensures.bytes.0)
     (λ more. c.in_err-take.ensures.failed so.0 more so.2)))
 
 pub returns-in_err-take-clause-failures : goal.returns-in_err-take-clause-failures
 returns-in_err-take-clause-failures g c =
-    let so = c.loop-list.invariant.so_far in
-    let e =
-    err_from_is_err_and c.from_residual-in_err-take.result c.from_residual-in_err-take.ensures.1 in
+    let so = c.loop-count.invariant.so_far in
+    let e = err_from_is_err_and c.from_residual.result c.from_residual.ensures.1 in
     rw (e.1, e.2)
-    (quiet_fails _ _ (so.0 ++ (take c.in_ok-count.count c.read_piece.new.piece ++ []))
+    (quiet_fails _ _ (so.0 ++ (take c.in-Ok.count c.read.new.buffer ++ []))
     c.in_err-take.field-0.0 (c.in_err-take.ensures.failed so.0 [] so.2)
-    (c.in_ok-count.ensures.failures ∙ c.loop-list.invariant.failures))
+    (omega (arith, c.in-Ok.ensures.failures, c.loop-count.invariant.failures)))
 
-pub loop-list-preserved : goal.loop-list-preserved
-loop-list-preserved g c =
-    let so = c.loop-list.invariant.so_far in
-    let part = take c.in_ok-count.count c.read_piece.new.piece in
+pub loop-count-preserved : goal.loop-count-preserved
+loop-count-preserved g c =
+    let so = c.loop-count.invariant.so_far in
+    let part = take c.in-Ok.count c.read.new.buffer in
     let long =
-    length-take-le c.in_ok-count.count c.read_piece.new.piece c.in_ok-count.ensures.bound in
+    length-take-le c.in-Ok.count c.read.new.buffer c.in-Ok.ensures.bound in
     record {
       so_far = (
         so.0 ++ part,
-        Consumes-trans _ _ _ so.0 part so.1 c.in_ok-count.ensures.bytes,
+        Consumes-trans _ _ _ so.0 part so.1 c.in-Ok.ensures.bytes.0,
         c.in_ok-take.ensures.taken so.0 so.2,
         omega (arith, length-append so.0 part, long, so.3),
       );
-      number = omega (arith, c.in_ok-take.ensures.number, c.loop-list.invariant.number, long);
-      few = omega (arith, c.if-count-taken.false, c.loop-list.invariant.few);
-      room = c.read_piece.auto.piece ∙ c.loop-list.invariant.room;
-      failures = c.in_ok-count.ensures.failures ∙ c.loop-list.invariant.failures;
+      number = omega (arith, c.in_ok-take.ensures.number, c.loop-count.invariant.number, long);
+      few = omega (arith, c.if-count-taken.false, c.loop-count.invariant.few);
+      room = c.read.auto.buffer ∙ c.loop-count.invariant.room;
+      failures = omega (arith, c.in-Ok.ensures.failures, c.loop-count.invariant.failures);
     }
 
 pub returns-then-count-eq0-clause-names : goal.returns-then-count-eq0-clause-names
 returns-then-count-eq0-clause-names g c =
-    let so = c.loop-list.invariant.so_far in
+    let so = c.loop-count.invariant.so_far in
     ends_names (at_most g.row.SESSIONS g.row.OBJECTS g.row.SYMBOLS)
-    c.finish.result c.loop-list.list so.0 so.2 c.finish.ensures.failed
+    c.finish.result c.loop-count.list so.0 so.2 c.finish.ensures.failed
 
 pub returns-in_err-take-clause-names : goal.returns-in_err-take-clause-names
 returns-in_err-take-clause-names g c =
-    let so = c.loop-list.invariant.so_far in
-    let e =
-    err_from_is_err_and c.from_residual-in_err-take.result c.from_residual-in_err-take.ensures.1 in
+    let so = c.loop-count.invariant.so_far in
+    let e = err_from_is_err_and c.from_residual.result c.from_residual.ensures.1 in
     rw (e.1, e.2)
-    (names_fails (so.0 ++ (take c.in_ok-count.count c.read_piece.new.piece ++ []))
+    (names_fails (so.0 ++ (take c.in-Ok.count c.read.new.buffer ++ []))
     c.in_err-take.field-0.0 (c.in_err-take.ensures.failed so.0 [] so.2))

@@ -4,8 +4,8 @@ use Rattle.std.specs.Io.KnownBytes.{Consumes}
 use Rattle.flutejoin.specs.InformationLines.{HoldsList}
 use Rattle.flutejoin.proofs.info.information_list.read_list.Given as goal
 
-abbrev pub invariant-loop-list : goal.invariant-loop-list
-invariant-loop-list g l = record {
+abbrev pub invariant-loop-count : goal.invariant-loop-count
+invariant-loop-count g l = record {
   so_far : (bytes : List ℕ)
       × Consumes (g.R.Source.unread l.fn.source) (g.R.Source.unread l.source) bytes
       × HoldsList l.list bytes × (length bytes ≡ l.taken);
@@ -15,5 +15,5 @@ invariant-loop-list g l = record {
   failures : g.R.Source.failures l.source ≡ g.R.Source.failures l.fn.source;
 }
 
-abbrev pub decreases-loop-list : goal.decreases-loop-list
-decreases-loop-list g l = 18446744073709551615 - l.taken
+abbrev pub decreases-loop-count : goal.decreases-loop-count
+decreases-loop-count g l = 18446744073709551615 - l.taken

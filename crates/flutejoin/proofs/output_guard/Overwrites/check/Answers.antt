@@ -15,6 +15,12 @@ pub returns-in-None-kind_of-clause-journal : goal.returns-in-None-kind_of-clause
 returns-in-None-kind_of-clause-journal c =
     λ _ begins. absurd (c.in-None-kind_of.ensures Journal begins)
 
+pub returns-in-None-2-clause-datagrams : goal.returns-in-None-2-clause-datagrams
+returns-in-None-2-clause-datagrams c = λ _ begins. absurd (c.in-None-2.ensures Datagrams begins)
+
+pub returns-in-None-2-clause-journal : goal.returns-in-None-2-clause-journal
+returns-in-None-2-clause-journal c = λ _ begins. absurd (c.in-None-2.ensures Journal begins)
+
 pub returns-in-None-clause-spared : goal.returns-in-None-clause-spared
 returns-in-None-clause-spared c =
     subst (λ o. IsOverwritten o c.args.first.now) (sym c.in-Journals.is)

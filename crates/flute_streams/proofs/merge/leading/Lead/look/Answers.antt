@@ -5,7 +5,7 @@ use Rattle.flute_streams.proofs.merge.leading.Lead.look.Goals as goal
 
 pub returns : goal.returns
 returns g c = λ below.
-    let b = g.G.Stream.Stream.behaviour in
+    let b = g.G.Streams.behaviour in
     let streams = g.G.Streams.streams c.args.streams.now in
     let h = c.loop-other.invariant in
     let all : length streams ≤ c.loop-other.other = omega (arith, h.all, c.loop-other-test.false) in

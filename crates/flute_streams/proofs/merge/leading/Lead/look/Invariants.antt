@@ -5,7 +5,7 @@ use Rattle.flute_streams.proofs.merge.leading.Lead.look.Given as goal
 
 abbrev pub invariant-loop-other : goal.invariant-loop-other
 invariant-loop-other g l = record {
-  firsts : FirstsFrom g.G.Stream.Stream.behaviour l.fn.number l.other
+  firsts : FirstsFrom g.G.Streams.behaviour l.fn.number l.other
       (g.G.Streams.streams l.fn.streams) l.self.next;
   number : l.self.number ≡ l.fn.number;
   known : l.self.known ≡ false;

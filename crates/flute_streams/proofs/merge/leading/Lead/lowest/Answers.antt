@@ -6,7 +6,7 @@ use Rattle.flute_streams.proofs.merge.leading.Lead.lowest.Goals as goal
 
 pub returns-in-Some-clause-lowest : goal.returns-in-Some-clause-lowest
 returns-in-Some-clause-lowest g c =
-    let b = g.G.Stream.Stream.behaviour in
+    let b = g.G.Streams.behaviour in
     let xs = g.G.Streams.streams c.args.streams.now in
     let l = c.requires.led.leads c.if-self.true in
     rw c.first.ensures
@@ -15,7 +15,7 @@ returns-in-Some-clause-lowest g c =
 
 pub returns-in-Some-clause-stands : goal.returns-in-Some-clause-stands
 returns-in-Some-clause-stands g c =
-    let b = g.G.Stream.Stream.behaviour in
+    let b = g.G.Streams.behaviour in
     let xs = g.G.Streams.streams c.args.streams.now in
     let l = c.requires.led.leads c.if-self.true in
     let k = c.args.self.now.number in

@@ -6,7 +6,7 @@ use Rattle.flute_streams.proofs.merge.lowest.LowestValue.joined.Goals as goal
 
 pub returns-then-self : goal.returns-then-self
 returns-then-self g c =
-    let b = g.G.Stream.Stream.behaviour in
+    let b = g.G.Streams.behaviour in
     let xs = g.G.Streams.streams c.args.streams.now in
     elim c.then-self.branch [
       | then-self-via-then-self w ↦

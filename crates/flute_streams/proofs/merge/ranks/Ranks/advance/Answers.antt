@@ -18,7 +18,7 @@ use Rattle.flute_streams.proofs.merge.ranks.Ranks.advance.Goals as goal
 
 pub returns-in-Err-clause-stops : goal.returns-in-Err-clause-stops
 returns-in-Err-clause-stops g c =
-    let b = g.G.Stream.Stream.behaviour in
+    let b = g.G.Streams.behaviour in
     let old = g.G.Streams.streams c.args.streams.now in
     let now = g.G.Streams.streams c.loop-number.streams in
     let i = c.loop-number.invariant in
@@ -42,7 +42,7 @@ returns-in-Err-clause-stops g c =
 
 pub loop-number-preserved : goal.loop-number-preserved
 loop-number-preserved g c =
-    let b = g.G.Stream.Stream.behaviour in
+    let b = g.G.Streams.behaviour in
     let old = g.G.Streams.streams c.args.streams.now in
     let now = g.G.Streams.streams c.loop-number.streams in
     let i = c.loop-number.invariant in
@@ -151,7 +151,7 @@ returns-then-not-known-clause-go_on g c =
     let i = c.loop-number.invariant in
     let at = same_place c.args.place.now c.args.place.now.key c.number_of-rank.result refl
     c.number_of-rank.ensures.part in
-    went_all g.G.Stream.Stream.behaviour c.args.place.now.key c.args.place.now at
+    went_all g.G.Streams.behaviour c.args.place.now.key c.args.place.now at
     (c.in_default.ensures.none refl) i.ranked i.next i.all i.went
 
 pub returns-else-not-known-clause-go_on : goal.returns-else-not-known-clause-go_on
@@ -159,5 +159,5 @@ returns-else-not-known-clause-go_on g c =
     let i = c.loop-number.invariant in
     let at = same_place c.args.place.now c.args.place.now.key c.number_of-rank.result refl
     c.number_of-rank.ensures.part in
-    went_all g.G.Stream.Stream.behaviour c.args.place.now.key c.args.place.now at
+    went_all g.G.Streams.behaviour c.args.place.now.key c.args.place.now at
     (c.in_default.ensures.none refl) i.ranked i.next i.all i.went

@@ -7,11 +7,11 @@ use Rattle.flute_streams.proofs.merge.ranks.Ranks.advance.Given as goal
 
 abbrev pub invariant-loop-number : goal.invariant-loop-number
 invariant-loop-number g l = record {
-  went : WentSoFar g.G.Stream.Stream.behaviour (Some l.fn.place) l.next
+  went : WentSoFar g.G.Streams.behaviour (Some l.fn.place) l.next
       (g.G.Streams.streams l.fn.streams) (g.G.Streams.streams l.streams);
   all : length (g.G.Streams.streams l.streams) ≡ l.all;
   names : g.G.Streams.names l.streams ≡ g.G.Streams.names l.fn.streams;
-  ranked : AreRankedFrom g.G.Stream.Stream.behaviour l.fn.place.key l.next l.known
+  ranked : AreRankedFrom g.G.Streams.behaviour l.fn.place.key l.next l.known
       (g.G.Streams.streams l.streams) l.self.ranks;
   low : AreLowBut l.block l.next l.self.lows l.self.ranks;
   block : l.block < 16;

@@ -12,7 +12,7 @@ use Rattle.flute_streams.proofs.merge.ranks.Ranks.lowest_held.Goals as goal
 
 pub loop-number-init : goal.loop-number-init
 loop-number-init g c =
-    let b = g.G.Stream.Stream.behaviour in
+    let b = g.G.Streams.behaviour in
     let streams = g.G.Streams.streams c.args.streams.now in
     let k = c.in_ok-first.first in
     let found = c.in_ok-first.ensures.next in
@@ -22,7 +22,7 @@ loop-number-init g c =
     → StandsOn b (place_at_rank key rank) streams (first_at k) =
     λ key is. stands-ranked b key k within
     (ranked_of b streams c.args.self.now key is c.requires.ranking) found.2
-    (c.lowest_of-rank.ensures k found.1) (c.if-not-is_of_part.ensures refl) in
+    (c.lowest_of-rank.ensures k found.1) (omega arith) in
     rw c.first-lowest.ensures (record {
       comes = λ key is.
           let place = place_at_rank key rank in
@@ -40,19 +40,19 @@ loop-number-init g c =
 
 pub joined-lowest-requires-clause-here : goal.joined-lowest-requires-clause-here
 joined-lowest-requires-clause-here g c =
-    let b = g.G.Stream.Stream.behaviour in
+    let b = g.G.Streams.behaviour in
     let streams = g.G.Streams.streams c.args.streams.now in
     let k = c.in-Some.number in
     let found = c.in-Some.ensures.next in
     let key = c.in_ok-self.field-0 in
     let ranked = ranked_of b streams c.args.self.now key c.in_ok-self.was c.requires.ranking in
     stands-ranked b key k (omega (arith, found.1, c.count-all.ensures)) ranked found.2
-    (c.lowest_of-rank.ensures k found.1) (c.if-not-is_of_part.ensures refl)
+    (c.lowest_of-rank.ensures k found.1) (omega arith)
     ∙ sym (c.loop-number.invariant.stands key c.in_ok-self.was)
 
 pub loop-number-preserved : goal.loop-number-preserved
 loop-number-preserved g c =
-    let b = g.G.Stream.Stream.behaviour in
+    let b = g.G.Streams.behaviour in
     let streams = g.G.Streams.streams c.args.streams.now in
     let i = c.loop-number.invariant in
     let l = c.loop-number.lowest in
@@ -64,7 +64,7 @@ loop-number-preserved g c =
     → StandsOn b (place_at_rank key rank) streams (first_at k) =
     λ key is. stands-ranked b key k within
     (ranked_of b streams c.args.self.now key is c.requires.ranking) found.2
-    (c.lowest_of-rank.ensures k found.1) (c.if-not-is_of_part.ensures refl) in
+    (c.lowest_of-rank.ensures k found.1) (omega arith) in
     record {
       comes = λ key is.
           let place = place_at_rank key rank in
@@ -83,7 +83,7 @@ loop-number-preserved g c =
 
 pub returns-clause-lowest : goal.returns-clause-lowest
 returns-clause-lowest g c =
-    let b = g.G.Stream.Stream.behaviour in
+    let b = g.G.Streams.behaviour in
     let streams = g.G.Streams.streams c.args.streams.now in
     let i = c.loop-number.invariant in
     let l = c.loop-number.lowest in

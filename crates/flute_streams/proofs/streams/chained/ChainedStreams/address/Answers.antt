@@ -5,12 +5,12 @@ use Rattle.flute_streams.proofs.streams.chained.ChainedStreams.address.Goals as 
 
 pub address-requires-else-number-eq0 : goal.address-requires-else-number-eq0
 address-requires-else-number-eq0 g c =
-    far g.A.Stream.behaviour g.G.Stream.Stream.behaviour c.args.self.now.first.now
+    far g.A.Stream.behaviour g.G.Streams.behaviour c.args.self.now.first.now
     (g.G.Streams.streams c.args.self.now.others) c.args.number c.requires c.if-number-eq0.false
 
 pub returns-else-number-eq0 : goal.returns-else-number-eq0
 returns-else-number-eq0 g c =
-    other_is g.A.Stream.behaviour g.G.Stream.Stream.behaviour c.args.self.now.first.now
+    other_is g.A.Stream.behaviour g.G.Streams.behaviour c.args.self.now.first.now
     (g.G.Streams.streams c.args.self.now.others) c.args.number c.requires c.if-number-eq0.false
-    (λ s. address_of (held_either g.A.Stream.behaviour g.G.Stream.Stream.behaviour s)) _
+    (λ s. address_of (held_either g.A.Stream.behaviour g.G.Streams.behaviour s)) _
     c.address-else-number-eq0.ensures

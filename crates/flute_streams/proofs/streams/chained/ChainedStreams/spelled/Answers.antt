@@ -4,12 +4,12 @@ use Rattle.flute_streams.proofs.streams.chained.ChainedStreams.spelled.Goals as 
 
 pub spelled-requires-else-number-eq0 : goal.spelled-requires-else-number-eq0
 spelled-requires-else-number-eq0 g c =
-    far g.A.Stream.behaviour g.G.Stream.Stream.behaviour c.args.self.now.first.now
+    far g.A.Stream.behaviour g.G.Streams.behaviour c.args.self.now.first.now
     (g.G.Streams.streams c.args.self.now.others) c.args.number c.requires c.if-number-eq0.false
 
 pub returns-else-number-eq0 : goal.returns-else-number-eq0
 returns-else-number-eq0 g c =
-    other_is g.A.Stream.behaviour g.G.Stream.Stream.behaviour c.args.self.now.first.now
+    other_is g.A.Stream.behaviour g.G.Streams.behaviour c.args.self.now.first.now
     (g.G.Streams.streams c.args.self.now.others) c.args.number c.requires c.if-number-eq0.false
-    (spelled_either g.A.Stream.behaviour g.G.Stream.Stream.behaviour) _
+    (spelled_either g.A.Stream.behaviour g.G.Streams.behaviour) _
     c.spelled-else-number-eq0.ensures

@@ -1,8 +1,11 @@
 -- FileScan::pass: the scan and the file after each kind of next symbol.
-use Rattle.std.proofs.Common.{ℕ, List, Bor, Option, Some, None, false, ◌++◌, take, refl, ap}
+use Rattle.std.proofs.Common.{ℕ, List, Bor, Option, Some, None, false, ◌++◌, take, refl, ap, arith}
+use Rattle.std.proofs.Common.{◌≡◌, ◌-◌, length}
+use Rattle.std.proofs.lemmas.List.{length-take}
+use Rattle.std.specs.Prelude.{OnOk}
 use Rattle.std.proofs.Common.{◌∙◌, subst}
 use Rattle.std.specs.Prelude.{option_map}
-use Rattle.flute_output.specs.NewFolders.{NamedFile, LeadsTo, Fills}
+use Rattle.flute_output.specs.NewFolders.{NamedFile, LeadsTo, Fills, Makes, puts}
 use Rattle.flute_parts.specs.declared.symbol_id.SymbolId.{SymbolId}
 use Rattle.flute_store.specs.Scan.{value_of}
 use Rattle.flutejoin.specs.ObjectFiles.{PassedAs}
@@ -15,6 +18,9 @@ use Rattle.flutejoin.proofs.extract_lemmas.FileScans.{beside_on, nothing_more}
 use Rattle.flutejoin.proofs.extract_lemmas.FolderSteps.{fills_puts, fills_leaves}
 use Rattle.flutejoin.proofs.gaps_lemmas.OpenObjects.{on_ok}
 use Rattle.flutejoin.proofs.extract.file_scan.FileScan.pass.Goals as goal
+
+left_of : (left : ℕ) (bytes : List ℕ) → left - length (take left bytes) ≡ left - length bytes
+left_of left bytes = simp length-take (omega arith)
 
 pub returns-then-not-self-clause-passed : goal.returns-then-not-self-clause-passed
 returns-then-not-self-clause-passed g c = λ mine key files p0 r q.
@@ -48,7 +54,7 @@ returns-in-Fitting-Some-clause-passed g c = λ mine key files p0 r q.
     (told_rising h.scanned key mine n h.of_key h.facts_are r) h.free in
     let new : FileScan = record {
       scan = c.pass_next-passed.new.scan;
-      left = c.put_first.new.left;
+      left = self.left - length c.up_to-first.result.now;
       whole = self.whole;
     } in
     let how = subst (λ (x : Passed). PassedAs h.scanned (Some n) x t.0) c.in-Fitting-Some.is-0 t.3
@@ -57,18 +63,24 @@ returns-in-Fitting-Some-clause-passed g c = λ mine key files p0 r q.
     h.scanned.bytes) c.in-Fitting-Some.is-1 in
     let came : HasMore h.scanned t.0 bytes =
     record { key = t.1.0; info = how.0; bytes = value } in
-    let f = fits_on h new came c.if-not-self.false c.if-not-self.false c.put_first.ensures.left in
+    let cut = c.up_to-first.ensures in
+    let left : new.left ≡ self.left - length bytes =
+    ap (λ (l : List ℕ). self.left - length l) cut ∙ left_of self.left bytes in
+    let f = fits_on h new came c.if-not-self.false c.if-not-self.false left in
     let now = record f.0 { bytes = f.0.bytes ++ take self.left bytes } in
     let before = subst (λ (x : Option NamedFile). LeadsTo (Fills files x) p0
     (g.D.NewFolder.places c.args.folder.now)) f.1 q.2 in
-    on_ok c.put_first.result
+    let here = subst (λ (l : List ℕ). OnOk c.put.result (Makes (puts l)
+    (g.D.NewFolder.places c.args.folder.now) (g.D.NewFolder.places c.put.new.self))) cut
+    c.put.ensures.put in
+    on_ok c.put.result
     (λ put. (
       Some now,
       scanned_on n h new t.1 t.2 (Some now) f.2,
       fills_puts
           (take self.left bytes) files f.0 p0 _ _ before put,
     ))
-    c.put_first.ensures.put
+    here
 
 pub returns-in-Broken-default-clause-passed : goal.returns-in-Broken-default-clause-passed
 returns-in-Broken-default-clause-passed g c = λ mine key files p0 r q.

@@ -1,10 +1,11 @@
 -- InformationList::take: a byte more.
-use Rattle.std.proofs.Common.{◌++◌, take, sym, subst, append-nil, arith}
+use Rattle.std.proofs.Common.{[], ◌∷◌, ◌++◌, take, sym, subst, append-nil, arith}
 use Rattle.std.proofs.lemmas.Result.{err_from_is_err_and}
-use Rattle.flutejoin.specs.InformationLines.{HoldsList}
+use Rattle.flutejoin.specs.InformationLines.{HoldsList, ListFails}
 use Rattle.flutejoin.specs.Limits.{at_most}
 use Rattle.flutejoin.proofs.info_lemmas.ListLines.{piece_more, piece_fails}
 use Rattle.flutejoin.proofs.info.information_list.InformationList.take.Goals as goal
+use Rattle.flutejoin.proofs.info.information_list.InformationList.take.Goals.{then-byte-eq10+in_ok-end_line, else-byte-eq10}
 
 pub loop-byte-init : goal.loop-byte-init
 loop-byte-init g c = record {
@@ -13,21 +14,39 @@ loop-byte-init g c = record {
 }
 
 pub loop-byte-preserved : goal.loop-byte-preserved
-loop-byte-preserved g c = record {
-  number = omega (arith, c.in_ok-take_byte.ensures.number, c.loop-byte.invariant.number);
-  holds = λ bytes h.
-      piece_more c.take_byte.new.self bytes c.args.piece.now c.loop-byte.byte-index (omega arith)
-      (c.in_ok-take_byte.ensures.taken (bytes ++ take c.loop-byte.byte-index c.args.piece.now)
-      (c.loop-byte.invariant.holds bytes h));
-}
+loop-byte-preserved g c =
+    let piece = c.args.piece.now in
+    let k = c.loop-byte.byte-index in
+    let so = c.loop-byte.invariant in
+    record {
+      number = elim c.if-byte-eq10.branch [
+        | then-byte-eq10+in_ok-end_line w ↦
+            rw w.self-is (omega (arith, w.in_ok-end_line.ensures.number, so.number))
+        | else-byte-eq10 w ↦ rw w.self-is (omega (arith, w.push.ensures.number, so.number))
+      ];
+      holds = λ bytes h. elim c.if-byte-eq10.branch [
+        | then-byte-eq10+in_ok-end_line w ↦
+            let new = w.end_line.new.self in
+            rw w.self-is (piece_more new bytes piece k (omega arith)
+            (subst (λ b. HoldsList new ((bytes ++ take k piece) ++ b ∷ []))
+            (sym w.if-byte-eq10.true)
+            (w.in_ok-end_line.ensures.taken (bytes ++ take k piece) (so.holds bytes h))))
+        | else-byte-eq10 w ↦
+            rw w.self-is (piece_more w.push.new.self bytes piece k (omega arith)
+            (w.push.ensures.taken (bytes ++ take k piece) (so.holds bytes h)))
+      ];
+    }
 
-pub returns-in_err-take_byte-clause-failed : goal.returns-in_err-take_byte-clause-failed
-returns-in_err-take_byte-clause-failed g c =
+pub returns-in_err-end_line-clause-failed : goal.returns-in_err-end_line-clause-failed
+returns-in_err-end_line-clause-failed g c =
+    let most = at_most g.row.SESSIONS g.row.OBJECTS g.row.SYMBOLS in
+    let piece = c.args.piece.now in
+    let k = c.loop-byte.byte-index in
+    let fault = c.in_err-end_line.field-0.0 in
     let e = err_from_is_err_and c.from_residual.result c.from_residual.ensures.1 in
     rw (e.1, e.2)
-    (λ bytes more h. piece_fails (at_most g.row.SESSIONS g.row.OBJECTS g.row.SYMBOLS)
-    bytes c.args.piece.now more c.loop-byte.byte-index
-    c.in_err-take_byte.field-0.0 (omega arith)
-    (λ further. c.in_err-take_byte.ensures.failed
-    (bytes ++ take c.loop-byte.byte-index c.args.piece.now) further
-    (c.loop-byte.invariant.holds bytes h)))
+    (λ bytes more h. piece_fails most bytes piece more k fault (omega arith)
+    (λ further. subst (λ b. ListFails most ((bytes ++ take k piece) ++ b ∷ further) fault)
+    (sym c.if-byte-eq10.true)
+    (c.in_err-end_line.ensures.failed (bytes ++ take k piece) further
+    (c.loop-byte.invariant.holds bytes h))))

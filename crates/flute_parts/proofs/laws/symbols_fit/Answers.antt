@@ -1,5 +1,0 @@
-use Rattle.flute_parts.proofs.Fits.{fits-means}
-use Rattle.flute_parts.proofs.laws.symbols_fit.Goals as goal
-
-pub returns : goal.returns
-returns c = fits-means

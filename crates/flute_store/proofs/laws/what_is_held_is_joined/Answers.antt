@@ -1,0 +1,33 @@
+use Rattle.std.proofs.Common.{[], ◌++◌, ◌≢◌, List, None, ◌∙◌, refl}
+use Rattle.flute_parts.specs.Facts.{Same, Below}
+use Rattle.flute_parts.proofs.Public.{Below-append, Below-from_Same, Below-itself, Below-trans}
+use Rattle.flute_parts.proofs.Public.{Same-from_Below, Same-twice}
+use Rattle.flute_store.proofs.Common
+use Common.{InfoPart, Fact, Info, InfoConflict, Symbol, SymbolConflict, address, fact_at, HasCell}
+use Rattle.flute_store.proofs.laws.what_is_held_is_joined.Goals as goal
+
+joined_again : (old other left : List Fact) → Below old left → Below left (old ++ other)
+    → Same (left ++ other) (old ++ other)
+joined_again old other left above below =
+    let both = old ++ other in
+    let nothing : Below [] old = record { each = λ a. refl } in
+    let second : Below other both = Below-append [] old other other nothing (Below-itself other) in
+    let twice = Below-from_Same (both ++ both) both (Same-twice both) in
+    Same-from_Below (left ++ other) both
+    (Below-trans (left ++ other) (both ++ both) both
+    (Below-append left both other both below second) twice)
+    (Below-append old left other other above (Below-itself other))
+
+has_cell : (held : List Fact) (f : Fact) → fact_at held (address f) ≢ None → HasCell held f
+has_cell held (Info key info) h = (InfoPart, h)
+has_cell held (InfoConflict key) h = (InfoPart, h)
+has_cell held (Symbol key id bytes) h = h
+has_cell held (SymbolConflict key id) h = h
+
+pub returns : goal.returns
+returns c = record {
+  again = λ old other left new above below same.
+      let again = joined_again old other left above below in
+      record { each = λ a. same.each a ∙ again.each a };
+  cells = has_cell;
+}

@@ -1,7 +1,0 @@
-use Rattle.std.proofs.Common.{refl}
-use Rattle.flutejoin_line.proofs.CommandWords.{times_read}
-use Rattle.flutejoin_line.proofs.words.times_given.Goals as goal
-
-pub returns : goal.returns
-returns c = times_read c.args.matches.now _ c.get_strs.result _ c.unwrap_or.result
-    c.get_strs.ensures c.unwrap_or.ensures refl
