@@ -23,7 +23,9 @@ build() {
     shift
     step=$((step + 1))
     echo "flutejoin: $crate ($step of 12)" >&2
-    if ! (cd "crates/$crate" && rt "$@") >> bin/build.log 2>&1; then
+    (cd "crates/$crate" && exec rt "$@") >> bin/build.log 2>&1 &
+    running=$!
+    if ! wait "$running"; then
         tail -n 20 bin/build.log >&2
         echo "flutejoin: the build failed; bin/build.log has all of it" >&2
         exit 1
@@ -39,15 +41,16 @@ build_beside() {
 }
 
 step=0
+running=
 beside=
 : > bin/build.log
 : > bin/beside.log
-trap 'kill $beside 2> /dev/null || true; rm -rf bin/beside' EXIT
+trap 'kill $running $beside 2> /dev/null || true; rm -rf bin/beside' EXIT
 trap 'exit 130' INT
 trap 'exit 143' TERM
 rm -rf bin/beside
 mkdir bin/beside
-tar -c --exclude=out crates.txt HANDLES crates | tar -x -C bin/beside
+tar -cf - --exclude=out crates.txt HANDLES crates | tar -xf - -C bin/beside
 for library in $libraries; do
     build "$library" lib
     case $library in

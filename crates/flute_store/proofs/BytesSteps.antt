@@ -137,11 +137,11 @@ keeps-on u v w k l =
     }
 
 -- a fitting symbol has one value, which is given
-pub gives-first : (u v w : HeldScan) (e : Entry) (es : List Entry) (value : Option (Bor (List ℕ)))
+pub gives-first : (u v w : HeldScan) {e : Entry} {es : List Entry} (value : Option (Bor (List ℕ)))
     → KeepsBytes u v → v.held ≡ e ∷ es → Turns v (Some Turn.Fitting) w
     → MatchOption value (e.1 ≡ Conflict) (λ bytes. (e.1 ≡ One bytes.now) × HasSymbolSize bytes.now)
     → GivesBytes u value w
-gives-first u v w e es None k h s m =
+gives-first u v w {e} {es} None k h s m =
     let t = told (walk_in v) Fitting s.turns.1 in
     let f : t.first ≡ e = let held = sym t.held ∙ h in cc in
     let at = here (walk_in v) in
@@ -149,7 +149,7 @@ gives-first u v w e es None k h s m =
     ∙ ap (λ c. want_cell v.walk.partition at (Some c)) m in
     let none = sym why ∙ t.why_is in
     absurd cc
-gives-first u v w e es (Some bytes) k h s m =
+gives-first u v w {e} {es} (Some bytes) k h s m =
     let t = told (walk_in v) Fitting s.turns.1 in
     let f : t.first ≡ e = let held = sym t.held ∙ h in cc in
     record {

@@ -7,7 +7,7 @@ use Rattle.flute_store.proofs.held_scan.HeldScan.next_bytes.Goals as goal
 
 pub returns-in-Some-Fitting : goal.returns-in-Some-Fitting
 returns-in-Some-Fitting c =
-    gives-first c.args.self.now c.loop-held.self c.turn.new.self _ _ c.value.result
+    gives-first c.args.self.now c.loop-held.self c.turn.new.self c.value.result
     c.loop-held.invariant c.in-Some.ensures.1 (subst (λ t. Turns c.loop-held.self (Some t)
     c.turn.new.self) c.in-Some-Fitting.field-0-is c.in-Some-Fitting.ensures) c.value.ensures
 
