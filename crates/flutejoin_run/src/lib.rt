@@ -5,7 +5,7 @@
 //!
 //! ```
 //! let mut output = standard_output(rt)?;
-//! let mut errors = standard_error(rt);
+//! let mut errors = StdSink::new(rt.stderr());
 //! run(
 //!     &mut System::new(rt),
 //!     rt.alloc(),
