@@ -29,8 +29,8 @@ ghost use Rattle.flute_journal.specs.declared.readers.reader_state.ReaderState.T
 /// - `written`: every fact is spelled in the version that is written.
 /// - `old`: and in version 1 exactly if its sender is 0.
 pub fn entries_are_facts()
-    ensures one_reading { (v : Version) (f g : Fact) (x y : List ℕ) → IsFactIn v f → IsFactIn v g
-        → entry_in v f ++ x ≡ entry_in v g ++ y → (f ≡ g) × (x ≡ y) }
+    ensures one_reading { (v : Version) (f g : Fact) (x y : List ℕ) → IsFactIn v f
+        → IsFactIn v g → entry_in v f ++ x ≡ entry_in v g ++ y → (f ≡ g) × (x ≡ y) }
     ensures written { (f : Fact) → IsFact f → IsFactIn Two f }
     ensures old { (f : Fact) → IsFact f
         → IsFactIn One f ↔ ((address f).key.session.sender ≡ 0) }
@@ -59,8 +59,8 @@ pub fn a_journal_is_its_content()
         → IsJournalOf limit bs F → IsJournal bs F }
     ensures begun { (bs : List ℕ) (F es : List Fact) (limit : ℕ) → IsJournal bs F
         → BeginsWith limit bs es → Below es F }
-    ensures spelling { (v : Version) (es fs : List Fact) → IsRising es → IsRising fs → Same es fs
-        → spelling_in v es ≡ spelling_in v fs }
+    ensures spelling { (v : Version) (es fs : List Fact) → IsRising es → IsRising fs
+        → Same es fs → spelling_in v es ≡ spelling_in v fs }
 {}
 
 /// Bytes are a journal within the bound, or stop at a fault.
@@ -74,7 +74,8 @@ pub fn bytes_are_a_journal_or_stop()
         → ((es : List Fact) × IsJournalWithin limit bs es)
         ⊎ ((es : List Fact) × ((f : Fault) × Stops journal_framing bs limit es f)) }
     ensures never_both { (bs : List ℕ) (limit : ℕ) (es fs : List Fact) (f : Fault)
-        → limit < 2 ^ 64 → IsJournalWithin limit bs es → Stops journal_framing bs limit fs f → ⊥ }
+        → limit < 2 ^ 64 → IsJournalWithin limit bs es → Stops journal_framing bs limit fs f
+        → ⊥ }
     ensures once { (bs : List ℕ) (limit : ℕ) (es fs : List Fact) (f g : Fault)
         → Stops journal_framing bs limit es f → Stops journal_framing bs limit fs g
         → (es ≡ fs) × (f ≡ g) }
@@ -100,11 +101,11 @@ pub fn bytes_are_a_file_or_stop()
     ensures once { (bs : List ℕ) (limit : ℕ) (ds es : List (List ℕ)) (f g : Fault)
         → Stops file_framing bs limit ds f → Stops file_framing bs limit es g
         → (ds ≡ es) × (f ≡ g) }
-    ensures bound { (bs : List ℕ) (limit : ℕ) (ds es : List (List ℕ)) (f : Fault) → IsFileOf bs ds
-        → Stops file_framing bs limit es f
+    ensures bound { (bs : List ℕ) (limit : ℕ) (ds es : List (List ℕ)) (f : Fault)
+        → IsFileOf bs ds → Stops file_framing bs limit es f
         → (f ≡ faults.TooMany) × (limit < length ds) }
-    ensures one_reading { (bs : List ℕ) (ds es : List (List ℕ)) → IsFileOf bs ds → IsFileOf bs es
-        → ds ≡ es }
+    ensures one_reading { (bs : List ℕ) (ds es : List (List ℕ)) → IsFileOf bs ds
+        → IsFileOf bs es → ds ≡ es }
 {}
 
 /// What a datagram file contains is known from what its reader gives record by record: after

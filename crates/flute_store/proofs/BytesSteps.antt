@@ -139,7 +139,8 @@ keeps-on u v w k l =
 -- a fitting symbol has one value, which is given
 pub gives-first : (u v w : HeldScan) {e : Entry} {es : List Entry} (value : Option (Bor (List ℕ)))
     → KeepsBytes u v → v.held ≡ e ∷ es → Turns v (Some Turn.Fitting) w
-    → MatchOption value (e.1 ≡ Conflict) (λ bytes. (e.1 ≡ One bytes.now) × HasSymbolSize bytes.now)
+    → MatchOption value (e.1 ≡ Conflict)
+    (λ bytes. (e.1 ≡ One bytes.now) × HasSymbolSize bytes.now)
     → GivesBytes u value w
 gives-first u v w {e} {es} None k h s m =
     let t = told (walk_in v) Fitting s.turns.1 in
@@ -285,8 +286,8 @@ module _ {n : ℕ} {F : List Fact} {key : Key} {x : Object n} {info : Informatio
       ∙ sym (object-told F key x info t.told)
 
   -- what is written by it: the whole object, or a prefix of it
-  module _ {W : Type 0} {written : W → Option (List ℕ)} {old new : W} {walk : Walk} {length : ℕ}
-      (again : List Entry) (f : gs ≡ []) (a : again ≡ x.symbols)
+  module _ {W : Type 0} {written : W → Option (List ℕ)} {old new : W} {walk : Walk}
+      {length : ℕ} (again : List Entry) (f : gs ≡ []) (a : again ≡ x.symbols)
       (start : walk ≡ at_start info again) (l : length ≡ info.transfer_length) where
     pub writes-whole : Appends (written old) (written new) (take length (bytes_left walk))
         → IsValid info → WritesWhole written F key old new length

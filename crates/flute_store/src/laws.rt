@@ -14,8 +14,8 @@ ghost use Rattle.flute_store.specs.Sent.{DatagramsGiveTheObject};
 /// - `again`: what a refused `absorb` leaves, joined again with success, gives the join.
 /// - `cells`: at a held address a fact needs no new session, object or symbol.
 pub fn what_is_held_is_joined()
-    ensures again { (old other left new : List Known) → Below old left → Below left (old ++ other)
-        → Same new (left ++ other)
+    ensures again { (old other left new : List Known) → Below old left
+        → Below left (old ++ other) → Same new (left ++ other)
         → Same new (old ++ other) }
     ensures cells { (held : List Known) (fact : Known)
         → fact_at held (address fact) ≢ None → HasCell held fact }

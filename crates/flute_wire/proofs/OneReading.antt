@@ -130,7 +130,8 @@ none_by d p h t b x HeaderLength a = let l = b.fixed in omega arith
 none_by d p h t b x HeaderCut a = let l = b.header in omega arith
 none_by d p h t b x NoTsi a = let l = h.tsi ∙ ap tsi_len b.word in let m = t.tsi in omega arith
 none_by d p h t b x NoToi a = let l = h.toi ∙ ap toi_len b.word in let m = t.toi in omega arith
-none_by d p h t b x Codepoint a = a (ap (λ (w : FirstWord). w.codepoint) (sym b.word) ∙ t.codepoint)
+none_by d p h t b x Codepoint a =
+    a (ap (λ (w : FirstWord). w.codepoint) (sym b.word) ∙ t.codepoint)
 none_by d p h t b x ExtensionLength a = a p.extensions x
 none_by d p h t b x Repeated a =
     elim (carried d p.extensions x (λ es. (1 < length (bodies ext_fti es))

@@ -266,8 +266,9 @@ abbrev IsKnown : Option (Text × List Row) → Type 0
 IsKnown found = IsSomeAnd found (λ it. is_command it.0 ≡ true)
 
 -- what the words name is such a command
-pub none_named : (words : List Text) (found : Option (Text × List Row)) → refusals_of words ≡ []
-    → found ≡ command_in words → None ≡ option_map (λ it. it.1) found → ⊥
+pub none_named : (words : List Text) (found : Option (Text × List Row))
+    → refusals_of words ≡ [] → found ≡ command_in words
+    → None ≡ option_map (λ it. it.1) found → ⊥
 none_named words None taken is none = subst IsKnown (sym is) (command_known words taken)
 none_named words (Some it) taken is none = absurd cc
 

@@ -11,8 +11,8 @@ returns-in_err-number c =
     c.get_strs.ensures c.unwrap_or-texts.ensures refl in
     handed_on c.from_residual.result c.in_err-number.field-0.0 _ _ c.from_residual.ensures.1 (
       c.in_err-number.ensures.0,
-      rw (← are) (wrong_session c.unwrap_or-texts.result.now c.loop-text.text-index _ (omega arith)
-          c.in_err-number.ensures.1),
+      rw (← are) (wrong_session c.unwrap_or-texts.result.now c.loop-text.text-index _
+          (omega arith) c.in_err-number.ensures.1),
     )
 
 pub returns-then-not-add : goal.returns-then-not-add

@@ -18,7 +18,7 @@ returns-else-eq-clause-finds c = λ key info named fields is.
       c.push_key.ensures.text,
       c.new-text.ensures,
     ) refl in
-    let same = text ∙ ap (λ k. fact_words (Info k n)) a.0 ∙ ap (λ i. fact_words (Info key i)) a.1
-    ∙ sym is in
+    let same = text ∙ ap (λ k. fact_words (Info k n)) a.0
+    ∙ ap (λ i. fact_words (Info key i)) a.1 ∙ sym is in
     let yes = (slice_eq-Decides Decides-eqb _ _ _ c.eq.ensures).1 same in
     true≢false (sym yes ∙ c.if-eq.false)

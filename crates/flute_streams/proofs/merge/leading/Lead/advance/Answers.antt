@@ -1,20 +1,25 @@
 -- Lead::advance: the stream that leads is advanced alone, and may lead on.
-use Rattle.flute_streams.proofs.Common.{StandsAt, Some, address_of, ap, arith, slice_get_within}
-use Rattle.flute_streams.proofs.Common.{subst, sym, IfSome, ◌∙◌}
+use Rattle.flute_streams.proofs.Common.{Address, Behaviour, IfSome, List, Some, StandsAt, address_of}
+use Rattle.flute_streams.proofs.Common.{ap, arith, slice_get_within, subst, sym, ℕ, ◌∙◌, ◌≡◌}
 use Rattle.flute_streams.proofs.merge_lemmas.GoingOn.{same_length}
 use Rattle.flute_streams.proofs.merge_lemmas.LeadFacts.{lead-goes, lead-stops, still-leads}
 use Rattle.flute_streams.specs.Lowest.{held_at, held_in}
 use Rattle.flute_streams.specs.Ranks.{AreRanked}
 use Rattle.flute_streams.proofs.merge.leading.Lead.advance.Goals as goal
 
+-- the stream with the number of the first one at the address is there
+stands_there : {S : Type 0} (b : Behaviour S) (xs : List S) {place : Address} {first number : ℕ}
+    → first ≡ number → address_of (held_at b xs first) ≡ Some place
+    → StandsAt b (Some place) xs number
+stands_there b xs is here = λ s was.
+    ap (λ o. address_of (held_in b o)) (sym was)
+    ∙ ap (λ n. address_of (held_at b xs n)) (sym is) ∙ here
+
 pub returns-in-Err-clause-stops : goal.returns-in-Err-clause-stops
 returns-in-Err-clause-stops g c =
     let b = g.G.Streams.behaviour in
     let xs = g.G.Streams.streams c.args.streams.now in
-    let at : StandsAt b (Some c.args.place.now) xs c.args.self.now.number =
-    λ s is. ap (λ o. address_of (held_in b o)) (sym is)
-    ∙ ap (λ n. address_of (held_at b xs n)) (sym (c.requires.leading c.if-self.true))
-    ∙ c.requires.first in
+    let at = stands_there b xs (c.requires.leading c.if-self.true) c.requires.first in
     lead-stops b c.args.place.now (c.requires.led.leads c.if-self.true) at
     c.in-Err.ensures.advances
 
@@ -31,10 +36,7 @@ pub returns-then-self-clause-go_on : goal.returns-then-self-clause-go_on
 returns-then-self-clause-go_on g c =
     let b = g.G.Streams.behaviour in
     let xs = g.G.Streams.streams c.args.streams.now in
-    let at : StandsAt b (Some c.args.place.now) xs c.args.self.now.number =
-    λ s is. ap (λ o. address_of (held_in b o)) (sym is)
-    ∙ ap (λ n. address_of (held_at b xs n)) (sym (c.requires.leading c.if-self.true))
-    ∙ c.requires.first in
+    let at = stands_there b xs (c.requires.leading c.if-self.true) c.requires.first in
     lead-goes b c.args.place.now (c.requires.led.leads c.if-self.true) at
     c.in_default.ensures.advances
 

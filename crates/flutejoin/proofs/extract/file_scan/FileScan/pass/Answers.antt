@@ -19,7 +19,8 @@ use Rattle.flutejoin.proofs.extract_lemmas.FolderSteps.{fills_puts, fills_leaves
 use Rattle.flutejoin.proofs.gaps_lemmas.OpenObjects.{on_ok}
 use Rattle.flutejoin.proofs.extract.file_scan.FileScan.pass.Goals as goal
 
-left_of : (left : ℕ) (bytes : List ℕ) → left - length (take left bytes) ≡ left - length bytes
+left_of : (left : ℕ) (bytes : List ℕ)
+    → left - length (take left bytes) ≡ left - length bytes
 left_of left bytes = simp length-take (omega arith)
 
 pub returns-then-not-self-clause-passed : goal.returns-then-not-self-clause-passed

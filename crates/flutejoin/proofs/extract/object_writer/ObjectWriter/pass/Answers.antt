@@ -4,6 +4,7 @@ use Rattle.flute_parts.specs.Addresses.{address}
 use Rattle.flute_parts.specs.Facts.{IsRising}
 use Rattle.flute_parts.specs.declared.address.Address.{Address}
 use Rattle.flute_parts.specs.declared.fact.Fact.{Fact}
+use Rattle.flute_parts.specs.declared.key.Key.{Key}
 use Rattle.flute_parts.specs.declared.fact.Fact.TheVariants.{Info, InfoConflict, Symbol}
 use Rattle.flute_parts.specs.declared.fact.Fact.TheVariants.{SymbolConflict}
 use Rattle.flutejoin.specs.ObjectWriters.{Stands}
@@ -12,12 +13,16 @@ use Rattle.flutejoin.proofs.extract_lemmas.ObjectWriters.{other-passes}
 use Rattle.flutejoin.proofs.gaps_lemmas.Keys.{equal_keys}
 use Rattle.flutejoin.proofs.extract.object_writer.ObjectWriter.pass.Goals as goal
 
+-- the fact is of the object
+own : (fact : Fact) {here : Address} {key : Key} → here ≡ address fact → here.key ≡ key
+    → (address fact).key ≡ key
+own fact is same = ap (λ (a : Address). a.key) (sym is) ∙ same
+
 pub returns-in-Info-clause-passed : goal.returns-in-Info-clause-passed
 returns-in-Info-clause-passed g c = λ P start.
     let w = g.W.Sink.written c.args.sink.now in
-    let same : (address c.args.fact.now).key ≡ c.args.self.now.key =
-    ap (λ (a : Address). a.key) (sym c.address.ensures)
-    ∙ equal_keys c.address.result.key c.args.self.now.key c.if-eq.ensures in
+    let same = own c.args.fact.now c.address.ensures
+    (equal_keys c.address.result.key c.args.self.now.key c.if-eq.ensures) in
     let is = c.in-Info.is ∙ ap (λ k. Info k c.in-Info.info)
     (ap (λ f. (address f).key) (sym c.in-Info.is) ∙ same) in
     let Q : Fact → Type 0 =
@@ -28,9 +33,8 @@ returns-in-Info-clause-passed g c = λ P start.
 pub returns-in-InfoConflict-clause-passed : goal.returns-in-InfoConflict-clause-passed
 returns-in-InfoConflict-clause-passed g c = λ P start.
     let w = g.W.Sink.written c.args.sink.now in
-    let same : (address c.args.fact.now).key ≡ c.args.self.now.key =
-    ap (λ (a : Address). a.key) (sym c.address.ensures)
-    ∙ equal_keys c.address.result.key c.args.self.now.key c.if-eq.ensures in
+    let same = own c.args.fact.now c.address.ensures
+    (equal_keys c.address.result.key c.args.self.now.key c.if-eq.ensures) in
     let is = c.in-InfoConflict.is ∙ ap InfoConflict
     (ap (λ f. (address f).key) (sym c.in-InfoConflict.is) ∙ same) in
     let Q : Fact → Type 0 =
@@ -41,9 +45,8 @@ returns-in-InfoConflict-clause-passed g c = λ P start.
 pub returns-in-Symbol-clause-passed : goal.returns-in-Symbol-clause-passed
 returns-in-Symbol-clause-passed g c = λ P start.
     let w = g.W.Sink.written c.args.sink.now in
-    let same : (address c.args.fact.now).key ≡ c.args.self.now.key =
-    ap (λ (a : Address). a.key) (sym c.address.ensures)
-    ∙ equal_keys c.address.result.key c.args.self.now.key c.if-eq.ensures in
+    let same = own c.args.fact.now c.address.ensures
+    (equal_keys c.address.result.key c.args.self.now.key c.if-eq.ensures) in
     let w' = g.W.Sink.written c.symbol.new.sink in
     let is = c.in-Symbol.is ∙ ap (λ k. Symbol k c.in-Symbol.id c.in-Symbol.bytes)
     (ap (λ f. (address f).key) (sym c.in-Symbol.is) ∙ same) in
@@ -56,9 +59,8 @@ returns-in-Symbol-clause-passed g c = λ P start.
 pub returns-in-SymbolConflict-clause-passed : goal.returns-in-SymbolConflict-clause-passed
 returns-in-SymbolConflict-clause-passed g c = λ P start.
     let w = g.W.Sink.written c.args.sink.now in
-    let same : (address c.args.fact.now).key ≡ c.args.self.now.key =
-    ap (λ (a : Address). a.key) (sym c.address.ensures)
-    ∙ equal_keys c.address.result.key c.args.self.now.key c.if-eq.ensures in
+    let same = own c.args.fact.now c.address.ensures
+    (equal_keys c.address.result.key c.args.self.now.key c.if-eq.ensures) in
     let w' = g.W.Sink.written c.symbol-in-SymbolConflict.new.sink in
     let is = c.in-SymbolConflict.is ∙ ap (λ k. SymbolConflict k c.in-SymbolConflict.id)
     (ap (λ f. (address f).key) (sym c.in-SymbolConflict.is) ∙ same) in
