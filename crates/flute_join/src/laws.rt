@@ -32,16 +32,13 @@ pub fn joining_is_a_join<T: Join>()
         → T.joined left other ≡ T.joined old other }
 {}
 
-/// Joining cells is commutative, associative and idempotent.
-pub fn joining_cells_is_a_join<T: Value>()
-    ensures { IsJoin (cell_join T.eq) }
-{}
-
-/// Joining maps is commutative, associative and idempotent, of maps of maps too. The join of two
-/// maps has, at each key, the values of the two, joined; and its keys ascend. Joining a map of one
-/// entry into another joins the values at a held key, and inserts the entry at a new one.
-pub fn joining_maps_is_a_join<K: Place, V: Join>()
-    ensures join { IsJoin (map_join K.cmp V.joined) }
+/// Joining cells, and joining maps, is commutative, associative and idempotent, of maps of maps
+/// too. The join of two maps has, at each key, the values of the two, joined; and its keys ascend.
+/// Joining a map of one entry into another joins the values at a held key, and inserts the entry at
+/// a new one.
+pub fn cells_and_maps_are_joined<T: Value, K: Place, V: Join>()
+    ensures cells { IsJoin (cell_join T.eq) }
+    ensures maps { IsJoin (map_join K.cmp V.joined) }
     ensures values { (m n : List (K × V)) (key : K) → IsOrdered K.cmp m → IsOrdered K.cmp n
         → value_at K.cmp (map_join K.cmp V.joined m n) key
         ≡ join_values V.joined (value_at K.cmp m key) (value_at K.cmp n key) }

@@ -1,8 +1,7 @@
 //! A map whose values are joined at shared keys.
 ghost use Rattle.std.specs.Prelude.{◌≡◌, ◌<◌, ◌≤◌, None};
-ghost use Rattle.std.specs.Prelude.{[], ◌∷◌, length, is_some, ◌==◌, List, IsNone, IsSome, IfErr};
+ghost use Rattle.std.specs.Prelude.{[], ◌∷◌, length, is_some, List, IsNone, IsSome, IfErr};
 ghost use Rattle.std.specs.Prelude.{OnOk, OnErr, IsOk, ◌↔◌};
-ghost use Rattle.std.specs.Bool.{OnTrue, OnFalse};
 ghost use Rattle.std.specs.Option.{option_copied, option_copied_mut, ForSome};
 ghost use Rattle.std.specs.BTreeMap.{insert_entry};
 ghost use Rattle.std.specs.Map.Iter.{ShowsInOrder, deref_pair};
@@ -67,13 +66,6 @@ impl<K: Place, V: Join, const LIMIT: u32> JoinMap<K, V, LIMIT> {
         self.entries.len() as u32
     }
 
-    /// Whether no key is held.
-    pub fn is_empty(&self) -> bool
-        ensures { result ≡ (length self.now == 0) }
-    {
-        self.entries.is_empty()
-    }
-
     /// The value at a key, or `None` if the key is not held.
     pub fn get(&self, key: &K) -> Option<&V>
         ensures value { option_copied result ≡ value_at K.cmp self.now key.now }
@@ -128,10 +120,13 @@ impl<K: Place, V: Join, const LIMIT: u32> JoinMap<K, V, LIMIT> {
         ensures within_limit { length self.new ≤ LIMIT }
         ensures each { EachValue V.sound self.old → V.sound value → EachValue V.sound self.new }
     {
-        if self.is_full() {
+        if self.len() == LIMIT {
             return Err(JoinRefusal::Full);
         }
-        self.insert(key, value)
+        match self.entries.insert(key, value) {
+            Ok(_) => Ok(()),
+            Err(_) => Err(JoinRefusal::OutOfMemory),
+        }
     }
 
     /// Joins a value into the one at a key, as joining a map of that one pair.
@@ -172,10 +167,11 @@ impl<K: Place, V: Join, const LIMIT: u32> JoinMap<K, V, LIMIT> {
         if let Some(held) = self.get_mut(&key) {
             return held.join_from(alloc, value);
         }
-        if self.is_full() {
+        // Before the copy asks for memory.
+        if self.len() == LIMIT {
             return Err(JoinRefusal::Full);
         }
-        self.insert(key, value.copy(alloc)?)
+        self.add_new(key, value.copy(alloc)?)
     }
 
     /// Joins what `update` says into the value at a key, or makes it the value at a new key. The
@@ -203,7 +199,7 @@ impl<K: Place, V: Join, const LIMIT: u32> JoinMap<K, V, LIMIT> {
         ensures ordered { IsOrdered K.cmp self.old }
         ensures within { length self.old ≤ LIMIT }
     {
-        if self.is_full() {
+        if self.len() == LIMIT {
             let Some(held) = self.get_mut(&key) else {
                 return Err(JoinRefusal::Full);
             };
@@ -221,34 +217,6 @@ impl<K: Place, V: Join, const LIMIT: u32> JoinMap<K, V, LIMIT> {
         // A vacant place that is dropped has no contract that the map is as before; this call has.
         place.or_try_insert_with(|| update.into_value(alloc))?;
         Ok(())
-    }
-
-    // Whether there is no room for a new key.
-    fn is_full(&self) -> bool
-        ensures full { OnTrue result (length self.now ≡ LIMIT) }
-        ensures room { OnFalse result (length self.now < LIMIT) }
-        ensures ordered { IsOrdered K.cmp self.now }
-    {
-        self.len() == LIMIT
-    }
-
-    // Adds an entry at a new key, for which there is room. A refusal leaves the map unchanged.
-    fn insert(&mut self, key: K, value: V) -> Result<(), JoinRefusal>
-        requires absent { IsNone (value_at K.cmp self.old key) }
-        requires room { length self.old < LIMIT }
-        ensures ok { OnOk result (self.new ≡ insert_entry K.cmp self.old key value) }
-        ensures joins { OnOk result
-            (self.new ≡ map_join K.cmp V.joined self.old ((key, value) ∷ [])) }
-        ensures err { OnErr result (self.new ≡ self.old) }
-        ensures refused { IfErr result (λ why. why ≡ JoinRefusal.OutOfMemory) }
-        ensures ordered { IsOrdered K.cmp self.new }
-        ensures within_limit { length self.new ≤ LIMIT }
-        ensures each { EachValue V.sound self.old → V.sound value → EachValue V.sound self.new }
-    {
-        match self.entries.insert(key, value) {
-            Ok(_) => Ok(()),
-            Err(_) => Err(JoinRefusal::OutOfMemory),
-        }
     }
 }
 

@@ -4,7 +4,7 @@ ghost use Rattle.std.specs.Prelude.{true, OnOk, IfSome, MatchOption, option_map,
 ghost use Rattle.std.specs.Prelude.{if◌then◌else◌, is_ok};
 ghost use Rattle.flute_memory.specs.Memory.{stored};
 
-use flute_output::{Folder, Name};
+use flute_output::Folder;
 use flute_parts::{DeviceFault, Failures};
 use std::alloc::{AllocError, Global};
 
@@ -31,9 +31,6 @@ pub struct MemoryFolder {
 }
 
 impl MemoryFolder {
-    ghost use Rattle.std.specs.Bool.{OnTrue, OnFalse};
-    ghost use Rattle.flute_output.specs.declared.folder.Name.TheVariants.{Out};
-    ghost use Rattle.flute_output.specs.Entries.{removes};
     ghost use Rattle.flute_memory.specs.Memory.{memory_entries};
 
     /// A folder where OUT has these bytes, or is not there, and the disk has all of that. After
@@ -101,26 +98,6 @@ impl MemoryFolder {
         }
         self.good -= 1;
         Ok(())
-    }
-
-    // Moves what OUT is to what it was.
-    fn keep_past(&mut self) -> bool
-        ensures kept { OnTrue result
-            (memory_entries self.new ≡ removes Out (memory_entries self.old)) }
-        ensures beside { self.new.beside ≡ self.old.beside }
-        ensures refused { OnFalse result (memory_entries self.new ≡ memory_entries self.old) }
-        ensures failures { self.new.failures.count ≡ self.old.failures.count }
-    {
-        match self.past.push(self.out.take()) {
-            Ok(()) => {
-                self.named = false;
-                true
-            }
-            Err(failed) => {
-                self.out = failed.value;
-                false
-            }
-        }
     }
 }
 
@@ -196,11 +173,19 @@ impl Folder for MemoryFolder {
 
     fn put_in_place(&mut self) -> Result<(), DeviceFault> {
         self.turn()?;
-        if self.beside.is_some() && self.keep_past() {
-            self.out = self.beside.take();
-            Ok(())
-        } else {
-            Err(self.fail())
+        if self.beside.is_none() {
+            return Err(self.fail());
+        }
+        match self.past.push(self.out.take()) {
+            Ok(()) => {
+                self.out = self.beside.take();
+                self.named = false;
+                Ok(())
+            }
+            Err(failed) => {
+                self.out = failed.value;
+                Err(self.fail())
+            }
         }
     }
 
@@ -210,21 +195,10 @@ impl Folder for MemoryFolder {
         Ok(())
     }
 
-    fn remove(&mut self, name: Name) -> Result<(), DeviceFault> {
+    fn remove(&mut self) -> Result<(), DeviceFault> {
         self.turn()?;
-        match name {
-            Name::Out => {
-                if self.keep_past() {
-                    Ok(())
-                } else {
-                    Err(self.fail())
-                }
-            }
-            Name::Beside => {
-                self.beside = None;
-                self.waiting.clear();
-                Ok(())
-            }
-        }
+        self.beside = None;
+        self.waiting.clear();
+        Ok(())
     }
 }

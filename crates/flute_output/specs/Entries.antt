@@ -2,8 +2,6 @@
 -- They keep what OUT was, since a command whose sink is an output promises nothing of its folder.
 use Rattle.std.specs.Prelude.{◌≡◌, ◌⊎◌, ℕ, Bool, true, false, List, [], ◌∷◌}
 use Rattle.std.specs.Prelude.{◌++◌, Option, Some, None, IsSome, option_map, Contains, ⊤}
-use Rattle.flute_output.specs.declared.folder.Name.{Name}
-use Rattle.flute_output.specs.declared.folder.Name.TheVariants.{Out, Beside}
 use Rattle.flute_output.specs.declared.output.FinishFault.{FinishFault}
 use Rattle.flute_output.specs.declared.output.FinishFault.TheVariants.{Work, Write, NotOnDisk}
 
@@ -74,10 +72,9 @@ put_in_place e =
 abbrev pub names_synced : Entries → Entries
 names_synced e = record e { named = true }
 
--- one of the two entries is removed
-abbrev pub removes : Name → Entries → Entries
-removes Out e = record e { out = None; past = e.past ++ e.out ∷ []; named = false }
-removes Beside e = record e { beside = None; waiting = [] }
+-- the file beside OUT is removed
+abbrev pub removed : Entries → Entries
+removed e = record e { beside = None; waiting = [] }
 
 abbrev pub file_bytes : Option Stored → List ℕ
 file_bytes None = []

@@ -4,38 +4,19 @@ ghost use Rattle.std.specs.Prelude.{◌≡◌, ◌+◌, None, if◌then◌else�
 use flute_parts::{DeviceFault, Failures, Sink};
 use std::alloc::Global;
 use std::fs::File;
-use std::io::{self, BufWriter, ErrorKind, Write};
+use std::io::{self, ErrorKind, Write};
 
-/// How many bytes are written at once.
+/// How many bytes wait in memory at most.
 const BUFFER: usize = 131_072;
 
-/// A file that takes bytes once it is open.
-#[derive(Drop)]
-enum Target {
-    Closed,
-    Open(File),
-}
-
-impl Write for Target {
-    fn write(&mut self, buf: &[u8]) -> io::Result<usize> {
-        match self {
-            Target::Closed => Err(ErrorKind::NotConnected.into()),
-            Target::Open(file) => file.write(buf),
-        }
-    }
-
-    fn flush(&mut self) -> io::Result<()> {
-        match self {
-            Target::Closed => Ok(()),
-            Target::Open(file) => file.flush(),
-        }
-    }
-}
-
-/// A file of the system whose bytes wait in memory until a flush. Contracts see nothing of them.
-#[derive(Drop)]
+/// A file of the system whose bytes wait in memory until a flush, or until it is dropped. Contracts
+/// see nothing of them.
 pub struct BufferedFile {
-    writer: BufWriter<Target>,
+    /// The file, if it is open.
+    pub file: Option<File>,
+    waiting: Vec<u8>,
+    /// Whether a flush has failed. Then each later one does, so that no bytes are left out.
+    is_broken: bool,
     failures: Failures,
 }
 
@@ -46,30 +27,25 @@ impl BufferedFile {
     ///
     /// `OutOfMemory`.
     pub fn closed(alloc: Global) -> io::Result<BufferedFile> {
-        let writer = BufWriter::with_capacity(alloc, BUFFER, Target::Closed)?;
         Ok(BufferedFile {
-            writer,
+            file: None,
+            waiting: Vec::with_capacity(alloc, BUFFER)?,
+            is_broken: false,
             failures: Failures::none(),
         })
     }
 
-    /// Flushes to this file from now on.
+    /// It is this file from now on. Bytes that wait for another are dropped.
     pub fn open(&mut self, file: File)
         ensures { self.new.failures ≡ self.old.failures }
     {
-        *self.writer.get_mut() = Target::Open(file);
-    }
-
-    /// The file, if it is open.
-    pub fn file(&self) -> Option<&File> {
-        match self.writer.get_ref() {
-            Target::Closed => None,
-            Target::Open(file) => Some(file),
-        }
+        self.file = Some(file);
+        self.waiting.clear();
+        self.is_broken = false;
     }
 
     /// Counts the failure of a call that failed.
-    pub fn count<T>(&mut self, done: io::Result<T>) -> Result<T, DeviceFault>
+    pub fn count<T, E: Drop>(&mut self, done: Result<T, E>) -> Result<T, DeviceFault>
         ensures { self.new.failures.count
             ≡ self.old.failures.count + (if is_ok result then 0 else 1) }
     {
@@ -86,13 +62,31 @@ impl BufferedFile {
     ///
     /// # Errors
     ///
-    /// `DeviceFault` if the file failed, or is not open. Which of them it has is then not known.
+    /// `DeviceFault` if the file failed, or is not open. Which of them it has is then not known,
+    /// and each later flush fails.
     pub fn flush(&mut self) -> Result<(), DeviceFault>
         ensures { self.new.failures.count
             ≡ self.old.failures.count + (if is_ok result then 0 else 1) }
     {
-        let flushed = self.writer.flush();
+        let flushed = match &mut self.file {
+            Some(file) if !self.is_broken => file.write_all(&self.waiting),
+            _ => Err(ErrorKind::NotConnected.into()),
+        };
+        self.is_broken = flushed.is_err();
+        self.waiting.clear();
         self.count(flushed)
+    }
+}
+
+impl Drop for BufferedFile {
+    fn drop(mut self) {
+        let _ = self.flush();
+        let BufferedFile {
+            file: _,
+            waiting: _,
+            is_broken: _,
+            failures: _,
+        } = self;
     }
 }
 
@@ -102,12 +96,12 @@ impl Sink for BufferedFile {
     ghost written = { λ _. None };
 
     fn write(&mut self, bytes: &[u8]) -> Result<usize, DeviceFault> {
-        match self.writer.write(bytes) {
-            Ok(count) if count > 0 || bytes.is_empty() => Ok(count),
-            _ => {
-                self.failures = self.failures.and_one();
-                Err(DeviceFault)
-            }
+        let count = bytes.len().min(BUFFER);
+        if self.waiting.len().saturating_add(count) > BUFFER {
+            self.flush()?;
         }
+        let waits = self.waiting.extend_from_slice(&bytes[..count]);
+        self.count(waits)?;
+        Ok(count)
     }
 }

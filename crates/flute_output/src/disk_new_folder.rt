@@ -1,93 +1,95 @@
 //! A new folder of the system.
-ghost use Rattle.std.specs.Prelude.{◌≡◌, ◌+◌, None, if◌then◌else◌, is_ok};
+ghost use Rattle.std.specs.Prelude.{None};
 
-use crate::folder_names::FolderNames;
-use crate::name_pair::sync_folder;
+use crate::buffered_file::BufferedFile;
+use crate::name_pair::{ATTEMPTS, NamePair, found_at, sync_folder};
 use crate::new_folder::NewFolder;
-use crate::place::OpenFault;
-use flute_parts::{DeviceFault, Failures};
+use flute_parts::{DeviceFault, Sink};
 use std::alloc::{Alloc, Global};
 use std::fs::{self, File, OpenOptions};
-use std::io::{self, ErrorKind, Write};
+use std::io::{self, ErrorKind};
+use std::path::{Path, PathBuf};
 use std::rt::Files;
-
-/// How many bytes wait in memory at most.
-const BUFFER: usize = 131_072;
 
 /// A new folder in the file system. Contracts see nothing of its files.
 #[derive(Drop)]
 pub struct DiskNewFolder<'a, R: Files<File = File> + Alloc + Clone + Drop> {
     rt: &'a R,
     alloc: Global,
-    names: FolderNames,
+    names: NamePair,
     /// The folder beside OUT, open and locked, and the folder that both are in, if that may be
     /// read. Both are open once the folder beside OUT is made.
     beside: Option<File>,
     parent: Option<File>,
-    /// The open file, its path, and its bytes that wait to be written.
-    file: Option<File>,
-    path: String,
-    waiting: Vec<u8>,
-    failures: Failures,
+    /// The open file, and its path.
+    writer: BufferedFile,
+    path: PathBuf,
 }
 
 impl<'a, R: Files<File = File> + Alloc + Clone + Drop> DiskNewFolder<'a, R> {
-    /// The new folder at this path. Nothing is made.
+    /// The new folder at this path, which may end with slashes. Nothing is made.
     ///
     /// # Errors
     ///
-    /// `CannotCreate` if the path has no name, and `OutOfMemory`.
-    pub fn new(rt: &'a R, alloc: Global, path: &str) -> Result<DiskNewFolder<'a, R>, OpenFault> {
-        let names = FolderNames::new(alloc, path)?;
-        let Ok(waiting) = Vec::with_capacity(alloc, BUFFER) else {
-            return Err(OpenFault::OutOfMemory);
-        };
+    /// `InvalidInput` if there is nothing before the slashes, and `OutOfMemory`.
+    pub fn new(rt: &'a R, alloc: Global, path: &str) -> io::Result<DiskNewFolder<'a, R>> {
+        let path = path.trim_end_matches('/');
+        if path.is_empty() {
+            return Err(ErrorKind::InvalidInput.into());
+        }
+        let out = PathBuf::from_str(alloc, path)?;
         Ok(DiskNewFolder {
             rt,
             alloc,
-            names,
+            names: NamePair::new(alloc, out)?,
             beside: None,
             parent: None,
-            file: None,
-            path: String::new(alloc),
-            waiting,
-            failures: Failures::none(),
+            writer: BufferedFile::closed(alloc)?,
+            path: PathBuf::new(alloc),
         })
     }
 
-    // Counts the failure of a call that failed.
-    fn count<T>(&mut self, done: io::Result<T>) -> Result<T, DeviceFault>
-        ensures { self.new.failures.count
-            ≡ self.old.failures.count + (if is_ok result then 0 else 1) }
-    {
-        match done {
-            Ok(value) => Ok(value),
-            Err(_) => {
-                self.failures = self.failures.and_one();
-                Err(DeviceFault)
+    // Makes the folder beside OUT, without files, and locked. What a killed run left there is taken
+    // over, and its files are removed.
+    //
+    // It fails also if OUT is there, whatever it is, or if what has the name beside it is not a
+    // folder that contains only files, or a running program has that locked.
+    fn make(&self) -> io::Result<File> {
+        for _ in 0..ATTEMPTS {
+            if found_at(self.rt, self.names.out.as_str())?.is_some() {
+                return Err(ErrorKind::AlreadyExists.into());
+            }
+            match fs::create_dir(self.rt, &self.names.beside) {
+                Err(error) if error.kind() != ErrorKind::AlreadyExists => return Err(error),
+                _ => {}
+            }
+            match found_at(self.rt, &self.names.beside)? {
+                Some(found) if !found.is_dir() => return Err(ErrorKind::AlreadyExists.into()),
+                _ => {}
+            }
+            match self.names.lock_beside(self.rt) {
+                Err(error) if error.kind() == ErrorKind::NotFound => {}
+                Err(error) => return Err(error),
+                Ok(folder) => {
+                    self.remove_files()?;
+                    return Ok(folder);
+                }
             }
         }
+        Err(ErrorKind::AlreadyExists.into())
     }
 
-    // Bytes wait until there is no room for more.
-    fn take(&mut self, bytes: &[u8]) -> io::Result<()>
-        ensures { self.new.failures ≡ self.old.failures }
-    {
-        if self.waiting.len() + bytes.len() > BUFFER {
-            self.write_waiting()?;
+    // Removes the files in the folder beside OUT. `AlreadyExists` if it has anything but regular
+    // files: no run left that.
+    fn remove_files(&self) -> io::Result<()> {
+        for entry in fs::read_dir(self.rt, &self.names.beside)? {
+            if !entry?.metadata()?.is_file() {
+                return Err(ErrorKind::AlreadyExists.into());
+            }
         }
-        if bytes.len() > BUFFER {
-            return write_to(&mut self.file, bytes);
+        for entry in fs::read_dir(self.rt, &self.names.beside)? {
+            fs::remove_file(self.rt, entry?.path())?;
         }
-        self.waiting.extend_from_slice(bytes)?;
-        Ok(())
-    }
-
-    fn write_waiting(&mut self) -> io::Result<()>
-        ensures { self.new.failures ≡ self.old.failures }
-    {
-        write_to(&mut self.file, &self.waiting)?;
-        self.waiting.clear();
         Ok(())
     }
 }
@@ -95,80 +97,76 @@ impl<'a, R: Files<File = File> + Alloc + Clone + Drop> DiskNewFolder<'a, R> {
 impl<R: Files<File = File> + Alloc + Clone + Drop> NewFolder for DiskNewFolder<'_, R> {
     ghost places = { λ _. None };
 
-    ghost failures = { λ f. f.failures.count };
+    ghost failures = { λ f. ⟦<BufferedFile as Sink>⟧.failures f.writer };
 
     fn create(&mut self) -> Result<(), DeviceFault> {
-        let parent = self.names.pair.parent(self.rt);
-        self.parent = self.count(parent)?;
-        let beside = self.names.create(self.rt);
-        self.beside = Some(self.count(beside)?);
+        let parent = self.names.parent(self.rt);
+        self.parent = self.writer.count(parent)?;
+        let made = self.make();
+        self.beside = Some(self.writer.count(made)?);
         Ok(())
     }
 
     fn begin(&mut self, name: &[u8]) -> Result<(), DeviceFault> {
-        let path = self.names.path_of(self.alloc, name);
-        self.path = self.count(path)?;
+        let name = self.writer.count(std::str::from_utf8(name))?;
+        let path = Path::new(&self.names.beside).join(self.alloc, name);
+        self.path = self.writer.count(path)?;
         let opened = OpenOptions::new()
             .write(true)
             .create_new(true)
             .open(self.rt, &self.path);
-        self.file = Some(self.count(opened)?);
-        self.waiting.clear();
+        let file = self.writer.count(opened)?;
+        self.writer.open(file);
         Ok(())
     }
 
     fn put(&mut self, bytes: &[u8]) -> Result<(), DeviceFault> {
-        let written = self.take(bytes);
-        self.count(written)
+        self.writer.write_all(bytes)
     }
 
     fn keep(&mut self) -> Result<(), DeviceFault> {
-        let written = self.write_waiting();
-        self.count(written)?;
-        let synced = match self.file.take() {
+        self.writer.flush()?;
+        let synced = match self.writer.file.take() {
             Some(file) => file.sync_all(),
             None => Err(ErrorKind::NotConnected.into()),
         };
-        self.count(synced)
+        self.writer.count(synced)
     }
 
     fn leave(&mut self) -> Result<(), DeviceFault> {
-        self.file = None;
-        self.waiting.clear();
+        self.writer.file = None;
         let removed = fs::remove_file(self.rt, &self.path);
-        self.count(removed)
+        self.writer.count(removed)
     }
 
     fn sync(&mut self) -> Result<(), DeviceFault> {
         let synced = sync_folder(&self.beside);
-        self.count(synced)
+        self.writer.count(synced)
     }
 
     fn put_in_place(&mut self) -> Result<(), DeviceFault> {
-        let put = match &self.beside {
-            Some(beside) => self.names.put_in_place(self.rt, beside),
-            None => Err(ErrorKind::NotFound.into()),
+        // A rename would replace an empty folder.
+        let checked = match found_at(self.rt, self.names.out.as_str()) {
+            Ok(Some(_)) => Err(ErrorKind::AlreadyExists.into()),
+            Ok(None) => self.names.check_beside(self.rt, self.beside.as_ref()),
+            Err(error) => Err(error),
         };
-        self.count(put)
+        self.writer.count(checked)?;
+        let put = fs::rename(self.rt, &self.names.beside, &self.names.out);
+        self.writer.count(put)
     }
 
     fn sync_name(&mut self) -> Result<(), DeviceFault> {
         let synced = sync_folder(&self.parent);
-        self.count(synced)
+        self.writer.count(synced)
     }
 
     fn remove(&mut self) -> Result<(), DeviceFault> {
-        let removed = match &self.beside {
-            Some(beside) => self.names.remove(self.rt, beside),
-            None => Ok(()),
-        };
-        self.count(removed)
-    }
-}
-
-fn write_to(file: &mut Option<File>, bytes: &[u8]) -> io::Result<()> {
-    match file {
-        Some(file) => file.write_all(bytes),
-        None => Err(ErrorKind::NotConnected.into()),
+        let checked = self.names.check_beside(self.rt, self.beside.as_ref());
+        self.writer.count(checked)?;
+        let emptied = self.remove_files();
+        self.writer.count(emptied)?;
+        let removed = fs::remove_dir(self.rt, &self.names.beside);
+        self.writer.count(removed)
     }
 }

@@ -5,7 +5,7 @@ use std::os::unix::fs::MetadataExt;
 
 /// A file of the system: two names that lead to one file have one number of a device
 /// and of a file on it.
-#[derive(Clone, Copy, Debug, PartialEq, Eq)]
+#[derive(Clone, Copy, PartialEq, Eq)]
 pub struct FileId {
     device: u64,
     number: u64,

@@ -2,13 +2,12 @@
 ghost use Rattle.std.specs.Prelude.{◌≡◌, ℕ, ◌+◌, ◌<◌, ◌≤◌, IfOk, IfErr};
 ghost use Rattle.std.specs.Prelude.{IfSome, OnOk, OnErr, Ok, Err, if◌then◌else◌, is_ok};
 ghost use Rattle.flute_output.specs.Entries.{IfWork};
-ghost use Rattle.flute_output.specs.NewFolders.{LeadsTo, IsNothing, HasBeside, FolderStays};
+ghost use Rattle.flute_output.specs.NewFolders.{LeadsTo, IsNothing, HasBeside};
 ghost use Rattle.flute_output.specs.NewFolders.{BecomesFolder, EndsAt, IsWholeOrNothing};
 ghost use Rattle.flute_output.specs.NewFolders.{NoneBeside, StaysThere, files_beside, folder_of};
 
 use crate::new_folder::NewFolder;
 use crate::output::FinishFault;
-use flute_parts::DeviceFault;
 
 /// Ends a folder after the work that filled it. If that was done, the names of its files are
 /// brought to the disk, it is named OUT, and that name is brought to the disk. If the work failed,
@@ -54,36 +53,25 @@ pub fn finish_folder<D: NewFolder, T: Drop, E: Drop>(
     ensures counted { D.failures folder.old ≤ D.failures folder.new }
 {
     let fault = match done {
-        Ok(value) => match keep_folder(folder) {
-            Ok(()) => {
-                return match folder.sync_name() {
-                    Ok(()) => Ok(value),
-                    Err(_) => Err(FinishFault::NotOnDisk),
-                };
+        Ok(value) => {
+            // It is named OUT once the disk has its files and their names, so that a lost power
+            // leaves all of it or nothing.
+            let kept = match folder.sync() {
+                Ok(()) => folder.put_in_place(),
+                fault => fault,
+            };
+            match kept {
+                Ok(()) => {
+                    return match folder.sync_name() {
+                        Ok(()) => Ok(value),
+                        Err(_) => Err(FinishFault::NotOnDisk),
+                    };
+                }
+                Err(_) => FinishFault::Write,
             }
-            Err(_) => FinishFault::Write,
-        },
+        }
         Err(fault) => FinishFault::Work(fault),
     };
     let _ = folder.remove();
     Err(fault)
-}
-
-// Renames the folder beside OUT to OUT once the disk has its files and their names, so that a lost
-// power leaves all of it or nothing.
-fn keep_folder<D: NewFolder>(folder: &mut D) -> Result<(), DeviceFault>
-    requires nothing { IfSome (D.places folder.old) IsNothing }
-    requires beside { IfSome (D.places folder.old) HasBeside }
-    ensures kept { OnOk result
-        (LeadsTo (λ old new. BecomesFolder (folder_of (files_beside old)) old new)
-        (D.places folder.old) (D.places folder.new)) }
-    ensures gone { OnOk result (LeadsTo NoneBeside
-        (D.places folder.old) (D.places folder.new)) }
-    ensures refused { OnErr result (LeadsTo FolderStays
-        (D.places folder.old) (D.places folder.new)) }
-    ensures failures { D.failures folder.new
-        ≡ D.failures folder.old + (if is_ok result then 0 else 1) }
-{
-    folder.sync()?;
-    folder.put_in_place()
 }

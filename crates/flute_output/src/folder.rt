@@ -2,18 +2,9 @@
 ghost use Rattle.std.specs.Prelude.{◌≡◌, ℕ, ◌+◌, ◌<◌, ◌≤◌, length, take};
 ghost use Rattle.std.specs.Prelude.{IfOk, OnOk, OnErr, Option, if◌then◌else◌, is_ok};
 ghost use Rattle.flute_output.specs.Entries.{Entries, Leads, Does, OutStays, created, takes};
-ghost use Rattle.flute_output.specs.Entries.{flushed, synced, put_in_place, names_synced, removes};
+ghost use Rattle.flute_output.specs.Entries.{flushed, synced, put_in_place, names_synced, removed};
 
 use flute_parts::DeviceFault;
-
-/// The two entries that an output needs.
-#[derive(Debug, Drop)]
-pub enum Name {
-    /// The name of the output.
-    Out,
-    /// The file beside it.
-    Beside,
-}
 
 /// A folder, as far as an output needs it: the name OUT, and a file beside it, which takes bytes.
 pub trait Folder {
@@ -94,13 +85,13 @@ pub trait Folder {
         ensures failures { failures self.new
             ≡ failures self.old + (if is_ok result then 0 else 1) };
 
-    /// Removes one of the two entries.
+    /// Removes the file beside OUT.
     ///
     /// # Errors
     ///
     /// `DeviceFault` if that failed. It is as before.
-    fn remove(&mut self, name: Name) -> Result<(), DeviceFault>
-        ensures removed { OnOk result (Does (removes name) (entries self.old) (entries self.new)) }
+    fn remove(&mut self) -> Result<(), DeviceFault>
+        ensures removed { OnOk result (Does removed (entries self.old) (entries self.new)) }
         ensures refused { OnErr result (Leads OutStays (entries self.old) (entries self.new)) }
         ensures failures { failures self.new
             ≡ failures self.old + (if is_ok result then 0 else 1) };

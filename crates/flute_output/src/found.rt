@@ -8,13 +8,14 @@ use std::rt::Files;
 /// Standard output, whatever the program was started with.
 const STANDARD_OUTPUT: &str = "/proc/self/fd/1";
 
-/// A regular file at the path of an output, and its first bytes.
+/// A regular file at the path of an output.
 #[derive(Drop)]
 pub struct Found {
     /// Which file it is.
     pub id: FileId,
-    /// Its first four bytes, if it has four and they can be read.
-    first: Option<[u8; 4]>,
+    /// Its first four bytes. In the place of those that it lacks, or that cannot be read, are
+    /// zeros.
+    pub first: [u8; 4],
 }
 
 impl Found {
@@ -25,18 +26,14 @@ impl Found {
         if !found.is_file() || is_standard_output(rt, &found) {
             return None;
         }
+        let mut first = [0; 4];
+        if let Ok(mut file) = fs::open(rt, path) {
+            let _ = file.read_exact(&mut first);
+        }
         Some(Found {
             id: FileId::of(&found),
-            first: first_bytes(rt, path),
+            first,
         })
-    }
-
-    /// Its first four bytes. None if it has fewer, or they cannot be read.
-    pub fn first_bytes(&self) -> &[u8] {
-        match &self.first {
-            Some(first) => first,
-            None => &[],
-        }
     }
 }
 
@@ -46,11 +43,4 @@ pub fn is_standard_output<R: Files>(rt: &R, found: &Metadata) -> bool {
         Ok(output) => FileId::of(&output) == FileId::of(found),
         Err(_) => false,
     }
-}
-
-fn first_bytes<R: Files<File = File>>(rt: &R, path: &str) -> Option<[u8; 4]> {
-    let mut first = [0; 4];
-    let mut file = fs::open(rt, path).ok()?;
-    file.read_exact(&mut first).ok()?;
-    Some(first)
 }

@@ -13,6 +13,9 @@ const SUFFIX: &str = ".partial";
 /// The folder of a path that names none.
 const HERE: &str = ".";
 
+/// How often a run tries to make what is beside OUT while other runs take its name.
+pub const ATTEMPTS: u32 = 16;
+
 /// The two names. What is beside OUT gets that name once it is whole.
 #[derive(Drop)]
 pub struct NamePair {
@@ -49,47 +52,32 @@ impl NamePair {
         }
     }
 
-    /// Opens and locks what is beside OUT. `None` if another run has taken its name away.
+    /// Opens and locks what is beside OUT.
     ///
     /// # Errors
     ///
-    /// Those of the system, and `WouldBlock` if a running program has it locked.
-    pub fn lock_beside<R: Files<File = File>>(&self, rt: &R) -> io::Result<Option<File>> {
-        let opened = match fs::open(rt, &self.beside) {
-            Err(error) if error.kind() == ErrorKind::NotFound => return Ok(None),
-            opened => opened?,
-        };
+    /// Those of the system; `WouldBlock` if a running program has it locked; and `NotFound` if
+    /// another run has taken its name away.
+    pub fn lock_beside<R: Files<File = File>>(&self, rt: &R) -> io::Result<File> {
+        let opened = fs::open(rt, &self.beside)?;
         lock(&opened)?;
-        if self.is_beside(rt, &opened)? {
-            Ok(Some(opened))
-        } else {
-            Ok(None)
-        }
+        self.check_beside(rt, Some(&opened))?;
+        Ok(opened)
     }
 
-    /// Whether this file or folder has the name beside OUT, and no other run has put its own there.
+    /// Checks that this file or folder has the name beside OUT.
     ///
     /// # Errors
     ///
-    /// Those of the system.
-    pub fn is_beside<R: Files>(&self, rt: &R, file: &File) -> io::Result<bool> {
-        match found_at(rt, &self.beside)? {
-            Some(found) => Ok(FileId::of(&found) == FileId::of(&file.metadata()?)),
-            None => Ok(false),
+    /// Those of the system, and `NotFound` if there is none, or another run has taken its name
+    /// away.
+    pub fn check_beside<R: Files>(&self, rt: &R, file: Option<&File>) -> io::Result<()> {
+        match (found_at(rt, &self.beside)?, file) {
+            (Some(found), Some(file)) if FileId::of(&found) == FileId::of(&file.metadata()?) => {
+                Ok(())
+            }
+            _ => Err(ErrorKind::NotFound.into()),
         }
-    }
-
-    /// Renames this file or folder, which is beside OUT, to OUT.
-    ///
-    /// # Errors
-    ///
-    /// Those of the system, and `NotFound` if the name beside OUT is no longer its own. Nothing was
-    /// renamed.
-    pub fn put_in_place<R: Files>(&self, rt: &R, file: &File) -> io::Result<()> {
-        if !self.is_beside(rt, file)? {
-            return Err(ErrorKind::NotFound.into());
-        }
-        fs::rename(rt, &self.beside, &self.out)
     }
 }
 

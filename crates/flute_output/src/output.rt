@@ -7,7 +7,7 @@ ghost use Rattle.flute_output.specs.Entries.{Lasts, Ends, IfWork, IsEitherAlways
 ghost use Rattle.flute_output.specs.Entries.{created, taken, whole, found_in, named_in};
 ghost use Rattle.std.specs.Io.KnownBytes.{WriteAppends};
 
-use crate::folder::{Folder, Name};
+use crate::folder::Folder;
 use flute_parts::{DeviceFault, Sink};
 use std::marker::Model;
 
@@ -32,7 +32,7 @@ impl<F: Folder + Drop> Model for Output<F> {
 }
 
 /// Why an output was not finished.
-#[derive(Debug, PartialEq, Eq, Drop)]
+#[derive(Debug, Drop)]
 pub enum FinishFault<E> {
     /// The work that wrote it failed so. OUT is as before.
     Work(E),
@@ -112,7 +112,7 @@ impl<F: Folder + Drop> Output<F> {
             },
             Err(fault) => FinishFault::Work(fault),
         };
-        let _ = folder.remove(Name::Beside);
+        let _ = folder.remove();
         (Err(fault), folder)
     }
 }

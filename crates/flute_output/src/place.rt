@@ -4,32 +4,18 @@ use crate::device_file::DeviceFile;
 use crate::disk_folder::DiskFolder;
 use crate::file_id::FileId;
 use crate::found::is_standard_output;
-use crate::neighbours::Neighbours;
+use crate::name_pair::{NamePair, found_at};
 use std::alloc::Global;
-use std::fs::{self, File, Metadata};
+use std::fs::{self, File};
 use std::io::{self, ErrorKind};
+use std::path::PathBuf;
 use std::rt::Files;
 
 /// The path that means standard output.
 const STANDARD: &str = "-";
 
-/// Why an output cannot be made.
-#[derive(Debug, Drop)]
-pub enum OpenFault {
-    /// The path is a folder, or the system refused what was asked of it.
-    CannotCreate,
-    /// There was no memory.
-    OutOfMemory,
-}
-
-impl From<io::Error> for OpenFault {
-    fn from(error: io::Error) -> OpenFault {
-        match error.kind() {
-            ErrorKind::OutOfMemory => OpenFault::OutOfMemory,
-            _ => OpenFault::CannotCreate,
-        }
-    }
-}
+/// The most links that are followed, as the system does.
+const MAX_LINKS: u32 = 40;
 
 /// What the path of an output leads to.
 #[derive(Drop)]
@@ -42,16 +28,6 @@ pub enum Place<F, D> {
     StandardOutput,
 }
 
-/// The file that the path of an output leads to, if there is one and it can be looked at. Called
-/// before the inputs are opened, it shows later whether another run has put a new file there
-/// meanwhile.
-pub fn file_at<R: Files>(rt: &R, path: &str) -> Option<FileId> {
-    match fs::metadata(rt, path) {
-        Ok(found) => Some(FileId::of(&found)),
-        Err(_) => None,
-    }
-}
-
 /// What the path of an output leads to, or standard output for the path `-`. Nothing is made, and
 /// what is there stays as it is. No later call asks for memory. The output may be one of `inputs`,
 /// but none of them may be the file beside it. It has to be the file `before` still once it is
@@ -59,19 +35,20 @@ pub fn file_at<R: Files>(rt: &R, path: &str) -> Option<FileId> {
 ///
 /// # Errors
 ///
-/// `CannotCreate` if the path is empty or a folder, or cannot be looked at, and `OutOfMemory`.
+/// Those of the system; `InvalidInput` if the path is empty, and `IsADirectory` if it is a folder;
+/// and `OutOfMemory`.
 pub fn place_at<'a, R: Files<File = File>>(
     rt: &'a R,
     alloc: Global,
     path: &str,
     before: Option<FileId>,
     inputs: Vec<FileId>,
-) -> Result<Place<DiskFolder<'a, R>, DeviceFile<'a, R>>, OpenFault> {
+) -> io::Result<Place<DiskFolder<'a, R>, DeviceFile<'a, R>>> {
     if path == STANDARD {
         return Ok(Place::StandardOutput);
     }
     if path.is_empty() {
-        return Err(OpenFault::CannotCreate);
+        return Err(ErrorKind::InvalidInput.into());
     }
     let found = match fs::metadata(rt, path) {
         Err(error) if error.kind() == ErrorKind::NotFound => None,
@@ -79,36 +56,39 @@ pub fn place_at<'a, R: Files<File = File>>(
     };
     if let Some(found) = &found {
         if found.is_dir() {
-            return Err(OpenFault::CannotCreate);
+            return Err(ErrorKind::IsADirectory.into());
         }
         if is_standard_output(rt, found) {
             return Ok(Place::StandardOutput);
         }
+        if !found.is_file() {
+            return Ok(Place::Device(DeviceFile::new(rt, alloc, path)?));
+        }
     }
-    match beside(rt, alloc, path, found.as_ref(), before)? {
-        Some(names) => Ok(Place::File(DiskFolder::new(rt, alloc, names, inputs)?)),
-        None => Ok(Place::Device(DeviceFile::new(rt, alloc, path)?)),
+    let names = NamePair::new(alloc, without_links(rt, alloc, path)?)?;
+    if let Some(found) = &found {
+        // A regular file without a name, as an open one that was removed, takes its bytes itself.
+        match fs::symlink_metadata(rt, &names.out) {
+            Ok(named) if FileId::of(&named) == FileId::of(found) => {}
+            _ => return Ok(Place::Device(DeviceFile::new(rt, alloc, path)?)),
+        }
     }
+    Ok(Place::File(DiskFolder::new(rt, alloc, names, found, before, inputs)?))
 }
 
-// The names of a regular file, or of nothing yet. A regular file without a name, as an open one
-// that was removed, takes its bytes itself.
-fn beside<R: Files>(
-    rt: &R,
-    alloc: Global,
-    path: &str,
-    found: Option<&Metadata>,
-    before: Option<FileId>,
-) -> io::Result<Option<Neighbours>> {
-    match found {
-        Some(found) if !found.is_file() => Ok(None),
-        Some(found) => {
-            let names = Neighbours::new(rt, alloc, path, Some(found), before)?;
-            match fs::symlink_metadata(rt, &names.pair.out) {
-                Ok(named) if FileId::of(&named) == FileId::of(found) => Ok(Some(names)),
-                _ => Ok(None),
-            }
+// Where the path leads to, without symbolic links at its end.
+fn without_links<R: Files>(rt: &R, alloc: Global, path: &str) -> io::Result<PathBuf> {
+    let mut path = PathBuf::from_str(alloc, path)?;
+    for _ in 0..=MAX_LINKS {
+        match found_at(rt, path.as_str())? {
+            Some(found) if found.is_symlink() => {}
+            _ => return Ok(path),
         }
-        None => Ok(Some(Neighbours::new(rt, alloc, path, None, before)?)),
+        let link = rt.read_link(alloc, path.as_str())?;
+        path = match path.parent() {
+            Some(folder) => folder.join(alloc, &link)?,
+            None => link,
+        };
     }
+    Err(ErrorKind::FilesystemLoop.into())
 }

@@ -7,6 +7,9 @@ use std::alloc::Global;
 use std::marker::Model;
 use thiserror::Error;
 
+/// The most bytes that an encoding symbol has.
+const MAX_LEN: usize = 65_535;
+
 /// The bytes of an encoding symbol: 1 to 65,535 of them.
 #[derive(Debug, Drop)]
 pub struct Bytes {
@@ -51,12 +54,14 @@ impl Bytes {
             (λ fault. (size_fault octets.now ≡ Some fault)
             ⊎ ((size_fault octets.now ≡ None) × (fault ≡ BytesFault.OutOfMemory))) }
     {
-        if let Some(fault) = fault_of(octets) {
-            return Err(fault);
+        if octets.is_empty() {
+            return Err(BytesFault::Empty);
         }
-        let mut copy = Vec::new(alloc);
-        match copy.extend_from_slice(octets) {
-            Ok(()) => Ok(Bytes { octets: copy }),
+        if octets.len() > MAX_LEN {
+            return Err(BytesFault::TooLong);
+        }
+        match octets.to_vec(alloc) {
+            Ok(octets) => Ok(Bytes { octets }),
             Err(_) => Err(BytesFault::OutOfMemory),
         }
     }
@@ -71,8 +76,11 @@ impl Bytes {
             (λ bytes. (bytes ≡ octets.items) × (size_fault octets.items ≡ None))
             (λ fault. size_fault octets.items ≡ Some fault) }
     {
-        if let Some(fault) = fault_of(&octets) {
-            return Err(fault);
+        if octets.is_empty() {
+            return Err(BytesFault::Empty);
+        }
+        if octets.len() > MAX_LEN {
+            return Err(BytesFault::TooLong);
         }
         Ok(Bytes { octets })
     }
@@ -93,19 +101,6 @@ impl Bytes {
         let Bytes { octets } = self;
         octets
     }
-}
-
-// Why the bytes are refused for their number, if they are.
-fn fault_of(octets: &[u8]) -> Option<BytesFault>
-    ensures { result ≡ size_fault octets.now }
-{
-    if octets.is_empty() {
-        return Some(BytesFault::Empty);
-    }
-    if octets.len() > 65_535 {
-        return Some(BytesFault::TooLong);
-    }
-    None
 }
 
 impl PartialEq for Bytes {

@@ -71,8 +71,24 @@ impl Info {
             (λ info. (info ≡ information length symbol block) × (info_fault info ≡ None))
             (λ fault. info_fault (information length symbol block) ≡ Some fault) }
     {
-        if let Some(fault) = fault_of(length, symbol, block) {
-            return Err(fault);
+        if length >= 1 << 48 {
+            return Err(InfoFault::Length);
+        }
+        if length > 0 {
+            if symbol == 0 {
+                return Err(InfoFault::SymbolLength);
+            }
+            if block == 0 {
+                return Err(InfoFault::BlockLength);
+            }
+            let symbols = length.div_ceil(u64::from(symbol));
+            let blocks = symbols.div_ceil(u64::from(block));
+            if blocks > 65_536 {
+                return Err(InfoFault::TooManyBlocks);
+            }
+            if symbols.div_ceil(blocks) > 65_536 {
+                return Err(InfoFault::BlockTooLong);
+            }
         }
         Ok(Info {
             transfer_length: length,
@@ -104,33 +120,6 @@ impl Info {
     {
         self.max_block_length
     }
-}
-
-// The first fault of the numbers.
-fn fault_of(length: u64, symbol: u16, block: u32) -> Option<InfoFault>
-    ensures { result ≡ info_fault (information length symbol block) }
-{
-    if length >= 1 << 48 {
-        return Some(InfoFault::Length);
-    }
-    if length == 0 {
-        return None;
-    }
-    if symbol == 0 {
-        return Some(InfoFault::SymbolLength);
-    }
-    if block == 0 {
-        return Some(InfoFault::BlockLength);
-    }
-    let symbols = length.div_ceil(u64::from(symbol));
-    let blocks = symbols.div_ceil(u64::from(block));
-    if blocks > 65_536 {
-        return Some(InfoFault::TooManyBlocks);
-    }
-    if symbols.div_ceil(blocks) > 65_536 {
-        return Some(InfoFault::BlockTooLong);
-    }
-    None
 }
 
 impl Value for Info {

@@ -26,7 +26,12 @@ use crate::symbol_id::SymbolId;
 
 /// The value of a list of facts at an address. A list at rising addresses has one fact at each, and
 /// is the only such list with the same values.
-pub fn facts_agree_or_conflict()
+///
+/// Lists with the same facts have the same value at each address, in whatever order these come and
+/// however often, and lists with the same values can replace one another in longer lists. A list
+/// that contains nothing more than another is below it, and this is an order. If a list is over
+/// limits, each list above it is over them too.
+pub fn lists_are_compared()
     ensures absent { AbsentWhereNoneStands }
     ensures value { ValueWhereAllAgree }
     ensures conflict { ConflictWhereTwoDiffer }
@@ -37,13 +42,8 @@ pub fn facts_agree_or_conflict()
     ensures one { RisingHasOneFact }
     ensures tells { RisingTellsItsFacts }
     ensures unique { RisingIsUnique }
-{}
 
-/// Lists with the same facts have the same value at each address, in whatever order these come and
-/// however often, and lists with the same values can replace one another in longer lists. A list
-/// that contains nothing more than another is below it, and this is an order. If a list is over
-/// limits, each list above it is over them too.
-pub fn lists_are_compared()
+    // Of two lists:
     ensures members { MembersDecide }
     ensures order { OrderIsFree }
     ensures repeats { RepeatsAreFree }

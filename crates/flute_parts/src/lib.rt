@@ -19,7 +19,6 @@ mod address;
 mod buffered_source;
 mod bytes;
 mod device;
-mod display;
 mod fact;
 mod failures;
 mod info;

@@ -12,7 +12,7 @@ use std::marker::Model;
 /// Its symbols are listed block after block, and in a block by their encoding symbol ID from 0 on:
 /// the place of a symbol is its number in that list, from 0. The larger blocks come first. Every
 /// call takes constant time, and no memory.
-#[derive(Debug, Drop)]
+#[derive(Drop)]
 pub struct Partition {
     info: Info,
     symbols: u64,

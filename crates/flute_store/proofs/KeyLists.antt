@@ -1,17 +1,25 @@
--- Store::keys: the keys of a store rise, and are those of the objects it holds (specs/Keys).
+-- Store::objects: the keys of a store rise, and are those of the objects it holds.
 use Rattle.std.proofs.Common.{◌≡◌, ℕ, zero, suc, List, [], ◌∷◌, ◌++◌, Some, refl, sym, ap, ◌∙◌}
 use Rattle.std.proofs.Common.{subst, inl, inr, ◌↔◌, arith}
-use Rattle.flute_store.{specs.Keys.{session_keys, store_keys}, proofs.Found.{object_held}}
+use Rattle.std.proofs.Common.{map}
+use Rattle.std.proofs.lemmas.List.{map-append}
+use Rattle.flute_store.{specs.HeldObjects.{keyed, keyed_objects}, proofs.Found.{object_held}}
 use Rattle.flute_store.proofs.FactEntries.{each-append}
 use Rattle.flute_store.proofs.StoreJoin.{OrderedSession, OrderedStore, ordered-store}
 use Rattle.flute_store.proofs.Exceeding.{first_value, later_value, solid-store, object_stands}
 use Rattle.flute_store.proofs.Common
-use Common.{Contains, Less, is_eq, ordering_then, Equal-is, keys_of, AllByRecursion, cases_Bool}
+use Common.{Contains, flat_map, Less, is_eq, ordering_then, Equal-is, keys_of, AllByRecursion, cases_Bool}
 use Common.{IsStrictlySortedBy, tied_itself, Contains-append_left, Contains-append_right, same_Some}
 use Common.{Contains-append_cases, sorted_tail, none-some, value_at, IsOrdered, EachValue, Session}
 use Common.{ObjectName, Key, session_cmp, object_cmp, key_cmp, session_total, object_total}
 use Common.{session_place, object_place, session_tells, object_tells, Object, key_in, content}
 use Common.{HoldsObject, IsStore}
+
+abbrev session_keys : {X : Type 0} → Session → List (ObjectName × X) → List Key
+session_keys session objects = map (λ e. key_in session e.0) objects
+
+abbrev store_keys : {X : Type 0} → List (Session × List (ObjectName × X)) → List Key
+store_keys sessions = flat_map (λ e. session_keys e.0 e.1) sessions
 
 -- ---- the keys rise
 abbrev Before : Key → List Key → Type 0
@@ -35,6 +43,18 @@ pub none_in : {X : Type 0} (x : X) → Contains [] x → ⊥
 none_in x c = omega (arith, c.1)
 
 module _ {X : Type 0} where
+  session-keys-are : (s : Session) (es : List (ObjectName × X))
+      → keys_of (keyed s es) ≡ session_keys s es
+  session-keys-are s [] = refl
+  session-keys-are s (e ∷ es) = ap (λ ks. key_in s e.0 ∷ ks) (session-keys-are s es)
+
+  keys-are : (m : List (Session × List (ObjectName × X)))
+      → keys_of (keyed_objects (λ os. os) m) ≡ store_keys m
+  keys-are [] = refl
+  keys-are (e ∷ m) =
+      map-append (λ (x : Key × X). x.0) (keyed e.0 e.1) (keyed_objects (λ os. os) m)
+      ∙ (λ i. session-keys-are e.0 e.1 i ++ keys-are m i)
+
   object_before : (s : Session) (o : ObjectName) (es : List (ObjectName × X))
       → AllByRecursion (λ y. object_cmp o y ≡ Less) (keys_of es)
       → Before (key_in s o) (session_keys s es)
@@ -113,8 +133,8 @@ module _ {n : ℕ} where
       (sessions_rise m p.1 q.1) (all_before e.0 e.1 m p.0)
 
   pub keys_rise : (m : List (Session × List (ObjectName × Object n))) → OrderedStore m
-      → IsStrictlySortedBy key_cmp (store_keys m)
-  keys_rise m p = sessions_rise m p.ordered p.each
+      → IsStrictlySortedBy key_cmp (keys_of (keyed_objects (λ os. os) m))
+  keys_rise m p = rw (keys-are m) (sessions_rise m p.ordered p.each)
 
   in_store : (m : List (Session × List (ObjectName × Object n))) (k : Key) → IsOrdered session_cmp m
       → EachValue OrderedSession m → Contains (store_keys m) k
@@ -152,9 +172,11 @@ module _ {n : ℕ} where
 
   -- they are those of the objects of which something is held
   pub keys_held : (s o : ℕ) (m : List (Session × List (ObjectName × Object n))) → IsStore s o m
-      → (key : Key) → Contains (store_keys m) key ↔ HoldsObject (content m) key
+      → (key : Key) → Contains (keys_of (keyed_objects (λ os. os) m)) key
+      ↔ HoldsObject (content m) key
   keys_held s o m p key =
-      let ordered = ordered-store s o m p in (
+      let ordered = ordered-store s o m p in
+      rw (keys-are m) (
         (λ c.
             let r = in_store m key ordered.ordered ordered.each c in
             object_stands (solid-store s o m p) key.session r.2 key.object r.3),

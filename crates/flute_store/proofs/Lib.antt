@@ -9,6 +9,7 @@ mod Rises
 mod Spelled
 mod Refused
 mod KeyLists
+mod HeldObjects
 mod Runs
 mod WholeObjects
 mod Lookups

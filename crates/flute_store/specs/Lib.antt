@@ -8,8 +8,7 @@ pub mod Beyond
 pub mod Walk
 pub mod ObjectFacts
 pub mod Held
-pub mod Taken
-pub mod Keys
+pub mod HeldObjects
 pub mod Memory
 pub mod Objects
 pub mod Laws

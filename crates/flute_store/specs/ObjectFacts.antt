@@ -5,15 +5,13 @@ use Rattle.flute_join.specs.JoinMap.{EachValue}
 use Rattle.flute_join.specs.declared.cell.Cell.{Cell}
 use Rattle.flute_join.specs.declared.cell.Cell.TheVariants.{Absent, One, Conflict}
 use Rattle.flute_parts.specs.Information.{Information}
-use Rattle.flute_parts.specs.Session.{Session}
-use Rattle.flute_parts.specs.declared.object_key.ObjectName.{ObjectName}
 use Rattle.flute_parts.specs.declared.key.Key.{Key}
 use Rattle.flute_parts.specs.declared.symbol_id.SymbolId.{SymbolId}
 use Rattle.flute_parts.specs.declared.fact.Fact.{Fact}
 use Rattle.flute_store.specs.declared.object.Object.{Object}
-use Rattle.flute_store.specs.Content.{key_in, info_cell_facts, symbol_cell_facts, symbols_facts}
-use Rattle.flute_store.specs.Content.{object_facts, session_facts}
-use Rattle.flute_store.specs.WellFormed.{IsObject, IsSession}
+use Rattle.flute_store.specs.Content.{info_cell_facts, symbol_cell_facts, symbols_facts}
+use Rattle.flute_store.specs.Content.{object_facts}
+use Rattle.flute_store.specs.WellFormed.{IsObject}
 
 cell_has : (key : Key) (id : SymbolId) (c : Cell (List ℕ)) (F : List Fact) → IsKnown c
     → symbol_cell_facts key id c ++ F ≢ []
@@ -36,18 +34,3 @@ pub object_has_facts : (n : ℕ) (x : Object n) (key : Key) → IsObject x → o
 object_has_facts n x key p =
     by_info key x.info (symbols_facts key x.symbols)
     (λ e. symbols_have key x.symbols p.symbols_are.each (p.some e))
-
-append_has : (F G : List Fact) → F ≢ [] → F ++ G ≢ []
-append_has [] G h = absurd (h refl)
-append_has (f ∷ F) G h = λ e. cc
-
-pub session_has_facts : (n o : ℕ) (os : List (ObjectName × Object n)) (session : Session)
-    → IsSession o os → session_facts session os ≢ []
-session_has_facts n o os session p = objects_have os p.each p.some
-  where
-    objects_have : (os : List (ObjectName × Object n)) → EachValue IsObject os → os ≢ []
-        → session_facts session os ≢ []
-    objects_have [] a h = λ e. h refl
-    objects_have (e ∷ es) a h =
-        append_has (object_facts (key_in session e.0) e.1) (session_facts session es)
-        (object_has_facts n e.1 (key_in session e.0) a.0)

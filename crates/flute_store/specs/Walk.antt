@@ -1,30 +1,30 @@
 -- What a walk has left.
-use Rattle.std.specs.Prelude.{List, [], ◌∷◌, flat_map, Option, Some, None, IfSome}
+use Rattle.std.specs.Prelude.{List, [], flat_map, Option, Some, None, IfSome}
 use Rattle.std.specs.Iterator.{YieldsFirstBy}
+use Rattle.std.specs.Borrow.{Bor}
+use Rattle.flute_join.specs.declared.cell.Cell.{Cell}
+use Rattle.flute_parts.specs.Information.{Information}
 use Rattle.flute_parts.specs.declared.fact.Fact.{Fact}
 use Rattle.flute_parts.specs.declared.fact.Fact.TheVariants.{Symbol}
 use Rattle.flute_parts.specs.declared.fact.FactRef.{FactRef}
 use Rattle.flute_parts.specs.SymbolBytes.{HasSymbolSize}
-use Rattle.flute_parts.specs.Session.{Session}
-use Rattle.flute_parts.specs.declared.object_key.ObjectName.{ObjectName}
 use Rattle.flute_parts.specs.declared.key.Key.{Key}
 use Rattle.flute_parts.specs.Addresses.{fact_of}
-use Rattle.flute_store.specs.Content.{key_in}
+use Rattle.flute_store.specs.Content.{info_cell_facts}
 
--- the fact, if there is one
-abbrev pub option_facts : Option FactRef → List Fact
-option_facts None = []
-option_facts (Some fact) = fact_of fact ∷ []
+-- the fact of transmission information, if that is left
+abbrev pub info_left : Key → Option (Bor (Cell Information)) → List Fact
+info_left key None = []
+info_left key (Some info) = info_cell_facts key info.now
 
 -- what is left of an iterator, if there is one
 abbrev pub option_rest : {X : Type 0} → Option (List X) → List X
 option_rest None = []
 option_rest (Some rest) = rest
 
--- the facts of the objects of a session, given those of an object
-abbrev pub facts_in : {O : Type 0} → (Key → O → List Fact) → Session → List (ObjectName × O)
-    → List Fact
-facts_in facts_of session objects = flat_map (λ e. facts_of (key_in session e.0) e.1) objects
+-- the facts of these objects, given those of one
+abbrev pub facts_in : {O : Type 0} → (Key → O → List Fact) → List (Key × O) → List Fact
+facts_in facts_of objects = flat_map (λ e. facts_of e.0 e.1) objects
 
 -- the bytes of a symbol are as many as one has; the types of all other parts have their ranges
 abbrev pub IsSized : Fact → Type 0

@@ -5,7 +5,7 @@ ghost use Rattle.flute_join.specs.Cell.{IsKnown};
 ghost use Rattle.flute_join.specs.JoinMap.{IsOrdered, EachValue};
 ghost use Rattle.flute_parts.specs.Order.{symbol_id_cmp};
 ghost use Rattle.flute_parts.specs.Partition.{ids};
-ghost use Rattle.flute_store.specs.PartitionScan.{at_start, gaps_left, ShowsNext, PassesGap};
+ghost use Rattle.flute_store.specs.PartitionScan.{at_start, gaps_left, PassesGap};
 ghost use Rattle.flute_store.specs.HeldScan.{walk_in, bound, IsHeldScan, Turns, IsAheadOf};
 ghost use Rattle.flute_store.specs.HeldScan.{HasEnded, counted};
 
@@ -48,24 +48,18 @@ impl<'a> HeldScan<'a> {
         }
     }
 
-    // The next held symbol, and how long its one value is.
-    fn next_held(&self) -> Option<Held>
-        requires { EachValue IsKnown self.now.held }
-        ensures { ShowsNext self.now.held result }
-    {
-        let (id, held) = self.held.first()?;
-        match held.value() {
-            Some(bytes) => Some((id, Some(bytes.len()))),
-            None => Some((id, None)),
-        }
-    }
-
     /// What comes next. None if a block was begun.
     pub fn turn(&mut self) -> Option<Turn>
         requires { IsHeldScan self.old }
         ensures { Turns self.old result self.new }
     {
-        let next = self.next_held();
+        let next = match self.held.first() {
+            Some((id, held)) => match held.value() {
+                Some(bytes) => Some((id, Some(bytes.len()))),
+                None => Some((id, None)),
+            },
+            None => None,
+        };
         let turn = self.walk.turn(&next);
         self.count(&turn);
         turn

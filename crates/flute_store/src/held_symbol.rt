@@ -4,7 +4,8 @@ ghost use Rattle.flute_join.specs.Cell.{cell_join, IsKnown, CellNeedsMemory};
 ghost use Rattle.flute_parts.specs.SymbolBytes.{HasSymbolSize};
 ghost use Rattle.flute_store.specs.ObjectJoin.{cells};
 
-use flute_join::{Cell, Join, JoinRefusal};
+use crate::update::SymbolUpdate;
+use flute_join::{Cell, Join, JoinInto, JoinRefusal};
 use flute_parts::Bytes;
 use std::alloc::Global;
 use std::marker::Model;
@@ -33,24 +34,6 @@ impl Model for HeldSymbol {
 }
 
 impl HeldSymbol {
-    /// These bytes, which takes no memory.
-    pub fn of_bytes(bytes: Bytes) -> Self
-        ensures { result ≡ Cell.One bytes }
-    {
-        HeldSymbol {
-            octets: bytes.into_vec(),
-        }
-    }
-
-    /// A conflict, which takes no memory.
-    pub fn conflict(alloc: Global) -> Self
-        ensures { result ≡ Cell.Conflict }
-    {
-        HeldSymbol {
-            octets: Vec::new(alloc),
-        }
-    }
-
     /// The bytes. None if there were two values.
     pub fn value(&self) -> Option<&[u8]>
         ensures { MatchOption result
@@ -96,6 +79,44 @@ impl Join for HeldSymbol {
         match self.octets.to_vec(alloc) {
             Ok(octets) => Ok(HeldSymbol { octets }),
             Err(_) => Err(JoinRefusal::OutOfMemory),
+        }
+    }
+}
+
+impl JoinInto<HeldSymbol> for SymbolUpdate<'_> {
+    ghost use Rattle.flute_store.specs.Update.{update_cell, HasSize};
+
+    ghost value = { update_cell };
+
+    ghost fits = { HasSize };
+
+    fn join_into(&self, held: &mut HeldSymbol) {
+        let differs = match (self, held.value()) {
+            (SymbolUpdate::Borrowed(bytes), Some(value)) => value != *bytes,
+            (SymbolUpdate::Owned(bytes), Some(value)) => value != bytes.as_slice(),
+            _ => true,
+        };
+        if differs {
+            held.set_conflict();
+        }
+    }
+
+    /// What is held of the symbol then. Borrowed bytes are copied; they are as many as a symbol's,
+    /// so the one refusal is `OutOfMemory`. Owned bytes are moved.
+    fn into_value(self, alloc: Global) -> Result<HeldSymbol, JoinRefusal> {
+        match self {
+            SymbolUpdate::Borrowed(bytes) => match Bytes::new(alloc, bytes) {
+                Ok(bytes) => Ok(HeldSymbol {
+                    octets: bytes.into_vec(),
+                }),
+                Err(_) => Err(JoinRefusal::OutOfMemory),
+            },
+            SymbolUpdate::Owned(bytes) => Ok(HeldSymbol {
+                octets: bytes.into_vec(),
+            }),
+            SymbolUpdate::Conflict => Ok(HeldSymbol {
+                octets: Vec::new(alloc),
+            }),
         }
     }
 }

@@ -23,10 +23,10 @@
 //! What is read in the order of a journal, and need not be held, is scanned by an [`ObjectScan`].
 #![tactic(auto)]
 
-mod display;
 mod extract;
 mod gap;
 mod gaps;
+mod held_objects;
 mod held_scan;
 mod held_symbol;
 mod keys;
@@ -47,6 +47,7 @@ mod walk;
 pub use extract::ExtractFault;
 pub use gap::{Gap, Reason};
 pub use gaps::{GapFault, Gaps};
+pub use held_objects::HasObjects;
 pub use keys::Keys;
 pub use scan::ObjectScan;
 pub use status::Status;
@@ -54,4 +55,4 @@ pub use store::{Shelf, Store};
 pub use taken::{TakeFault, Taken};
 pub use turn::Turn;
 pub use updating::Objects;
-pub use walk::{HasFacts, HasObjects, Walk};
+pub use walk::{HasFacts, Walk};

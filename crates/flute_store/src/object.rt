@@ -1,5 +1,5 @@
 //! What is held of one object.
-ghost use Rattle.std.specs.Prelude.{◌≡◌, ◌<◌, [], length, OnOk, OnErr, IsOk};
+ghost use Rattle.std.specs.Prelude.{◌≡◌, ◌<◌, length, OnOk, OnErr, IsOk};
 ghost use Rattle.flute_store.specs.Update.{update_symbols, HasSizes, IsHeldSymbol};
 ghost use Rattle.flute_store.specs.WellFormed.{AreSymbols};
 ghost use Rattle.flute_store.specs.ObjectJoin.{
@@ -11,7 +11,7 @@ ghost use Rattle.flute_store.specs.ObjectJoin.{
 };
 
 use crate::held_symbol::HeldSymbol;
-use crate::update::{SymbolUpdate, Update, join_info};
+use crate::update::{SymbolUpdate, Update};
 use flute_join::{Cell, Join, JoinMap, JoinRefusal};
 use flute_parts::{Info, SymbolId};
 use std::alloc::Global;
@@ -77,17 +77,6 @@ impl<const SYMBOLS: u32> Object<SYMBOLS> {
     ghost use Rattle.flute_store.specs.Update.{update_object, IsUpdate};
     ghost use Rattle.flute_store.specs.WellFormed.{IsObject, AreSymbols};
 
-    /// An object of which nothing is known.
-    pub fn new(alloc: Global) -> Self
-        ensures info { result.info ≡ Cell.Absent }
-        ensures symbols { result.symbols ≡ [] }
-    {
-        Object {
-            info: Cell::Absent,
-            symbols: JoinMap::new(alloc),
-        }
-    }
-
     /// Joins an update of the object. After a refusal it is unchanged.
     #[inline(always)]
     pub fn join_update(&mut self, alloc: Global, update: Update<'_>) -> Result<(), JoinRefusal>
@@ -103,7 +92,11 @@ impl<const SYMBOLS: u32> Object<SYMBOLS> {
     {
         let Update { info, symbol } = update;
         join_symbols(&mut self.symbols, alloc, symbol)?;
-        join_info(&mut self.info, &info);
+        match info {
+            Cell::Absent => {}
+            Cell::One(info) => self.info.put(info),
+            Cell::Conflict => self.info = Cell::Conflict,
+        }
         Ok(())
     }
 }

@@ -4,7 +4,7 @@ ghost use Rattle.flute_parts.specs.Information.{sizes};
 ghost use Rattle.flute_parts.specs.declared.fact.Fact.{Fact};
 ghost use Rattle.flute_store.specs.Scan.{Scanned, Turned, CanFollow, CanCome, at_begin, PartOf};
 ghost use Rattle.flute_store.specs.Scan.{GaveAll};
-ghost use Rattle.flute_store.specs.Scans.{Next, Scans, held_next, announced, passed_at_end};
+ghost use Rattle.flute_store.specs.Scans.{Next, Scans, held_next, announced};
 ghost use Rattle.flute_store.specs.Scans.{BeginsBlocks, Stepped};
 ghost use Rattle.flute_store.specs.Status.{TellsStatus};
 
@@ -74,7 +74,11 @@ impl ObjectScan {
     {
         // From this the proof knows where the scan may be.
         let _ = &self.key;
-        let held = held_next(&next);
+        let held = match &next {
+            Some((id, Some(bytes))) => Some((*id, Some(bytes.len()))),
+            Some((id, None)) => Some((*id, None)),
+            None => None,
+        };
         loop {
             if let Some(turn) = self.step(&held) {
                 return turn;
@@ -93,7 +97,11 @@ impl ObjectScan {
     {
         let turn = self.walk.turn(held);
         self.wanted.add_turn(&turn);
-        passed_at_end(turn, held)
+        match (turn, held) {
+            // A held symbol after the last block is passed.
+            (Some(Turn::End), Some(_)) => Some(Turn::Passed),
+            (turn, _) => turn,
+        }
     }
 
     /// How much is held of the object, once all its symbols were passed and all gaps given.
@@ -102,28 +110,5 @@ impl ObjectScan {
             → TellsStatus F s.key result }
     {
         self.wanted.status(self.info.length())
-    }
-}
-
-// A symbol by the length of its one value.
-#[inline(always)]
-fn held_next(next: &Option<(SymbolId, Option<&[u8]>)>) -> Option<Held>
-    ensures { result ≡ held_next next.now }
-{
-    match next {
-        Some((id, Some(bytes))) => Some((*id, Some(bytes.len()))),
-        Some((id, None)) => Some((*id, None)),
-        None => None,
-    }
-}
-
-// A held symbol after the last block is passed.
-#[inline(always)]
-fn passed_at_end(turn: Option<Turn>, held: &Option<Held>) -> Option<Turn>
-    ensures { result ≡ passed_at_end turn held.now }
-{
-    match (turn, held) {
-        (Some(Turn::End), Some(_)) => Some(Turn::Passed),
-        _ => turn,
     }
 }

@@ -40,6 +40,7 @@ ghost use Rattle.flute_wire.specs.Reading.{facts};
 ghost use Rattle.flute_wire.specs.Refusals.{Refuses};
 ghost use Rattle.flute_wire.specs.declared.refusal.Refusal.{Refusal};
 
+use crate::held_objects::HeldObjects;
 use crate::keys::Keys;
 use crate::taken::{TakeFault, Taken};
 use crate::update::Update;
@@ -214,8 +215,11 @@ impl<const SESSIONS: u32, const OBJECTS: u32, const SYMBOLS: u32> Store<
             return Ok(Taken { facts: 0 });
         };
         let facts = update.count();
-        self.join_update(alloc, &packet.key(sender), update)?;
-        Ok(Taken { facts })
+        match self.join_update(alloc, &packet.key(sender), update) {
+            Ok(()) => Ok(Taken { facts }),
+            Err(JoinRefusal::Full) => Err(TakeFault::Full),
+            Err(JoinRefusal::OutOfMemory) => Err(TakeFault::OutOfMemory),
+        }
     }
 
     /// The facts in the rising order of their addresses: sessions, in each its FDT Instances and
@@ -231,10 +235,10 @@ impl<const SESSIONS: u32, const OBJECTS: u32, const SYMBOLS: u32> Store<
     {
         // From this the proof knows that the store is within its limits.
         let _ = &self.sessions;
-        let sessions = self.sessions.iter();
+        let objects = HeldObjects::new(self.sessions.iter());
         Walk {
-            session: None,
-            sessions,
+            object: None,
+            objects,
         }
     }
 
@@ -255,11 +259,8 @@ impl<const SESSIONS: u32, const OBJECTS: u32, const SYMBOLS: u32> Store<
     {
         // From this the proof knows that each session has an object.
         let _ = &self.sessions;
-        let sessions = self.sessions.iter();
-        Keys {
-            session: None,
-            sessions,
-        }
+        let objects = HeldObjects::new(self.sessions.iter());
+        Keys { objects }
     }
 
     /// Whether a value or a conflict is held at the address. It takes no memory, and looks up the

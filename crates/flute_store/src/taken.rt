@@ -1,11 +1,10 @@
 //! The result of a datagram that a store takes or refuses.
 
-use flute_join::JoinRefusal;
 use flute_wire::Refusal;
 use thiserror::Error;
 
 /// What a datagram added.
-#[derive(Debug, Drop)]
+#[derive(Drop)]
 pub struct Taken {
     /// The number of its facts: 0, 1 or 2. They are counted whether or not they were known.
     pub facts: u64,
@@ -24,18 +23,4 @@ pub enum TakeFault {
     /// A request for memory was refused.
     #[error("out of memory")]
     OutOfMemory,
-}
-
-impl From<JoinRefusal> for TakeFault {
-    ghost use Rattle.flute_store.specs.Taken.{fault_of};
-    ghost use Rattle.std.specs.Prelude.{◌≡◌};
-
-    ghost from_gives = { λ why fault. fault ≡ fault_of why };
-
-    fn from(why: JoinRefusal) -> TakeFault {
-        match why {
-            JoinRefusal::Full => TakeFault::Full,
-            JoinRefusal::OutOfMemory => TakeFault::OutOfMemory,
-        }
-    }
 }

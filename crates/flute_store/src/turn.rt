@@ -3,7 +3,7 @@
 use crate::gap::Gap;
 
 /// What comes next of an object, whose held symbols are read along with those of its partition.
-#[derive(Clone, Copy, Debug)]
+#[derive(Clone, Copy)]
 pub enum Turn {
     /// A gap, which lies before the held symbol that was given, or ends with the one before it.
     Gap(Gap),

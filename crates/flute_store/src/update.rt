@@ -1,18 +1,14 @@
 //! An update of an object: what one fact or one packet adds to it.
 ghost use Rattle.std.specs.Prelude.{◌≡◌, [], ◌∷◌, length, ℕ, IfSome, IfNone};
-ghost use Rattle.flute_join.specs.Cell.{cell_join};
 ghost use Rattle.flute_parts.specs.Addresses.{address};
-ghost use Rattle.flute_parts.specs.Facts.{same_information};
 ghost use Rattle.flute_parts.specs.SymbolBytes.{HasSymbolSize};
 ghost use Rattle.flute_parts.specs.declared.key.Key.{Key as Name};
 ghost use Rattle.flute_wire.specs.Facts.{key_of, facts_of};
-ghost use Rattle.flute_store.specs.Update.{update_cell, update_facts, IsUpdate, HasSize};
+ghost use Rattle.flute_store.specs.Update.{update_facts, IsUpdate};
 
-use crate::held_symbol::HeldSymbol;
-use flute_join::{Cell, JoinInto, JoinRefusal};
+use flute_join::Cell;
 use flute_parts::{Bytes, Fact, Info, SymbolId};
 use flute_wire::Packet;
-use std::alloc::Global;
 
 /// An update of a symbol: its bytes, or that there were two values.
 #[derive(Drop)]
@@ -114,48 +110,5 @@ impl<'a> Update<'a> {
             Cell::Absent => symbols,
             _ => symbols + 1,
         }
-    }
-}
-
-impl JoinInto<HeldSymbol> for SymbolUpdate<'_> {
-    ghost use Rattle.flute_store.specs.Update.{update_cell, HasSize};
-
-    ghost value = { update_cell };
-
-    ghost fits = { HasSize };
-
-    fn join_into(&self, held: &mut HeldSymbol) {
-        let differs = match (self, held.value()) {
-            (SymbolUpdate::Borrowed(bytes), Some(value)) => value != *bytes,
-            (SymbolUpdate::Owned(bytes), Some(value)) => value != bytes.as_slice(),
-            _ => true,
-        };
-        if differs {
-            held.set_conflict();
-        }
-    }
-
-    /// What is held of the symbol then. Borrowed bytes are copied; they are as many as a symbol's,
-    /// so the one refusal is `OutOfMemory`. Owned bytes are moved.
-    fn into_value(self, alloc: Global) -> Result<HeldSymbol, JoinRefusal> {
-        match self {
-            SymbolUpdate::Borrowed(bytes) => match Bytes::new(alloc, bytes) {
-                Ok(bytes) => Ok(HeldSymbol::of_bytes(bytes)),
-                Err(_) => Err(JoinRefusal::OutOfMemory),
-            },
-            SymbolUpdate::Owned(bytes) => Ok(HeldSymbol::of_bytes(bytes)),
-            SymbolUpdate::Conflict => Ok(HeldSymbol::conflict(alloc)),
-        }
-    }
-}
-
-/// Joins an update of the transmission information. It takes no memory.
-pub fn join_info(held: &mut Cell<Info>, update: &Cell<Info>)
-    ensures { held.new ≡ cell_join same_information held.old update.now }
-{
-    match update {
-        Cell::Absent => {}
-        Cell::One(info) => held.put(*info),
-        Cell::Conflict => *held = Cell::Conflict,
     }
 }

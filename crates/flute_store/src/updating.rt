@@ -9,7 +9,7 @@ ghost use Rattle.flute_store.specs.Beyond.{SessionBeyond, StoreBeyond};
 
 use crate::object::Object;
 use crate::update::Update;
-use flute_join::{JoinMap, JoinRefusal};
+use flute_join::{Cell, JoinMap, JoinRefusal};
 use flute_parts::{Key, ObjectKey, SessionKey};
 use std::alloc::Global;
 
@@ -52,7 +52,10 @@ pub fn join_object<const OBJECTS: u32, const SYMBOLS: u32>(
     if objects.len() == OBJECTS {
         return Err(JoinRefusal::Full);
     }
-    let mut object = Object::new(alloc);
+    let mut object = Object {
+        info: Cell::Absent,
+        symbols: JoinMap::new(alloc),
+    };
     object.join_update(alloc, update)?;
     objects.add_new(key, object)
 }

@@ -1,24 +1,20 @@
 //! Choices of facts: which are taken.
-ghost use Rattle.std.specs.Prelude.{◌≡◌, Bool, true};
-ghost use Rattle.flute_parts.specs.Addresses.{fact_of};
+ghost use Rattle.std.specs.Prelude.{◌≡◌, Bool};
 ghost use Rattle.flute_parts.specs.declared.fact.Fact.{Fact};
+ghost use Rattle.flute_streams.specs.ChosenStreams.{is_passed_over};
 
 pub(crate) mod scope;
 pub(crate) mod selection;
 pub(crate) mod sessions;
 
-use flute_parts::FactRef;
+use crate::streams::stream::Stream;
 
 /// A choice of facts, of each of which it says alone whether it is taken.
 pub trait Choice {
     // Whether a fact is taken.
     ghost takes: { Self → Fact → Bool };
 
-    /// Whether all facts are taken. False is always right, and costs a question for each fact.
-    fn takes_all(&self) -> bool
-        ensures { result ≡ true → (fact : Fact) → takes self.now fact ≡ true };
-
-    /// Whether a fact is taken.
-    fn takes_fact(&self, fact: &FactRef<'_>) -> bool
-        ensures { result ≡ takes self.now (fact_of fact.now) };
+    /// Whether a stream holds a fact that is not taken.
+    fn passes_over<S: Stream>(&self, stream: &S) -> bool
+        ensures { result ≡ is_passed_over takes self.now (S.behaviour.held stream.now) };
 }

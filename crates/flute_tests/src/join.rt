@@ -29,7 +29,6 @@ fn cells_are_joined(rt: HostRuntime) -> Result<(), Fail> {
 #[test]
 fn a_map_takes_a_new_key(rt: HostRuntime) -> Result<(), Fail> {
     let mut map: Small = JoinMap::new(rt.alloc());
-    assert!(rt; map.is_empty());
     map.add_new(4, Cell::One(1))?;
     map.join_at(rt.alloc(), 5, &Cell::One(2))?;
     assert!(rt; map.contains(&4));
@@ -102,7 +101,6 @@ fn refusals_are_told(rt: HostRuntime) -> Result<(), Fail> {
 fn the_laws_are_of_these_types() {
     laws::joining_is_a_join::<Small>();
     laws::joining_is_a_join::<Cell<u8>>();
-    laws::joining_cells_is_a_join::<u8>();
-    laws::joining_maps_is_a_join::<u16, Small>();
-    laws::joining_maps_is_a_join::<u16, Cell<u8>>();
+    laws::cells_and_maps_are_joined::<u8, u16, Small>();
+    laws::cells_and_maps_are_joined::<u8, u16, Cell<u8>>();
 }

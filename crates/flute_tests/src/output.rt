@@ -1,7 +1,7 @@
 //! Each public call of `flute_output` once, over a folder in memory.
 
 use flute_memory::MemoryFolder;
-use flute_output::{FinishFault, Folder, Name, Output};
+use flute_output::{FinishFault, Folder, Output};
 use flute_parts::{DeviceFault, Sink};
 use std::test::Fail;
 
@@ -31,7 +31,7 @@ fn a_fault_of_the_work_drops_the_output(rt: HostRuntime) -> Result<(), Fail> {
     output.write_all(NEW)?;
     let fault: Result<u64, DeviceFault> = Err(DeviceFault);
     let (done, folder) = output.finish(fault);
-    assert_eq!(rt; done, Err(FinishFault::Work(DeviceFault)));
+    assert!(rt; matches!(done, Err(FinishFault::Work(DeviceFault))));
     assert!(rt; folder.out().is_none());
     Ok(())
 }
@@ -45,6 +45,6 @@ fn a_folder_in_memory(rt: HostRuntime) -> Result<(), Fail> {
     folder.sync()?;
     folder.put_in_place()?;
     folder.sync_names()?;
-    folder.remove(Name::Out)?;
+    folder.remove()?;
     Ok(())
 }

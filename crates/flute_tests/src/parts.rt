@@ -1,8 +1,7 @@
-//! Each public call of `flute_parts` once, and printed texts. Tests of many inputs are in
+//! Each public call of `flute_parts` once. Tests of many inputs are in
 //! `trials/parts`.
 
 mod devices;
-mod display;
 mod joins;
 mod listing;
 mod partitions;
@@ -83,7 +82,6 @@ fn faults_have_names(rt: HostRuntime) -> Result<(), Fail> {
 
 #[test]
 fn laws_can_be_called() {
-    laws::facts_agree_or_conflict();
     laws::lists_are_compared();
     laws::names_are_ordered();
     laws::symbols_are_listed();

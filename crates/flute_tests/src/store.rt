@@ -3,9 +3,8 @@
 use flute_parts::{
     Address, Bytes, Fact, Info, Key, MemorySink, ObjectKey, Part, Sender, SessionKey, SymbolId,
 };
-use flute_store::{Gap, Reason, Shelf, Status, laws};
+use flute_store::{Shelf, laws};
 use std::alloc::Global;
-use std::fmt::Display;
 use std::test::Fail;
 use test_vectors::{INFO_AND_FIRST_SYMBOL, bytes};
 
@@ -80,25 +79,6 @@ fn an_object_with_a_gap(rt: HostRuntime) -> Result<(), Fail> {
     let mut gaps = store.gaps(key)?;
     assert!(rt; gaps.next().is_some());
     assert!(rt; gaps.ticks() <= 4);
-    Ok(())
-}
-
-fn is_shown<T: Display>(rt: &HostRuntime, shown: &T, text: &str) -> Result<bool, Fail> {
-    Ok(format!(in rt.alloc(); "{shown}")?.as_str() == text)
-}
-
-#[test]
-fn gaps_and_statuses_are_shown(rt: HostRuntime) -> Result<(), Fail> {
-    let reason = Reason::Missing;
-    assert!(rt; is_shown(&rt, &reason, "missing")?);
-    let gap = Gap {
-        sbn: 1,
-        first: 9,
-        last: 12,
-        reason,
-    };
-    assert!(rt; is_shown(&rt, &gap, "gap 1/9-12 missing")?);
-    assert!(rt; is_shown(&rt, &Status::Whole { length: 40_000 }, "whole 40000")?);
     Ok(())
 }
 

@@ -42,9 +42,7 @@ fn an_object_is_sent(rt: HostRuntime) -> Result<(), Fail> {
     let key = file().ok_or("a key")?;
     let sent = carousel(rt.alloc(), &key, &Info::new(5, 4, 2)?, b"hello")?;
     assert!(rt; sent.len() == 2);
-    assert!(rt; !sent.is_empty());
     assert!(rt; sent.get(1).is_some());
-    assert!(rt; sent.iter().next().is_some());
     Ok(())
 }
 
@@ -60,6 +58,5 @@ fn bytes_are_kept(rt: HostRuntime) -> Result<(), Fail> {
 #[test]
 fn laws_have_no_condition() {
     one_reading();
-    computed_reading();
     an_object_is_told_by_its_datagrams();
 }

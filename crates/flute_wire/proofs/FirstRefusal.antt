@@ -124,13 +124,15 @@ none_found (Some b) bs is none = let e = sym none ∙ is in absurd cc
 
 -- ---- the walk
 
-pub found_in : (d area : List ℕ) (fti fdt cenc : Option (List ℕ)) → area ≡ extension_area d
-    → Finds area fti fdt cenc → Finds (extension_area d) fti fdt cenc
-found_in d area fti fdt cenc is f = subst (λ (a : List ℕ). Finds a fti fdt cenc) is f
+pub found_in : (d : List ℕ) {area : List ℕ} {fti fdt cenc : Option (List ℕ)}
+    → area ≡ extension_area d → Finds area fti fdt cenc
+    → Finds (extension_area d) fti fdt cenc
+found_in d {fti = fti} {fdt = fdt} {cenc = cenc} is f =
+    subst (λ (a : List ℕ). Finds a fti fdt cenc) is f
 
-pub passes_area : (d : List ℕ) (fti fdt cenc : Option (List ℕ)) → PassesUpTo 9 d
+pub passes_area : {d : List ℕ} {fti fdt cenc : Option (List ℕ)} → PassesUpTo 9 d
     → Finds (extension_area d) fti fdt cenc → PassesUpTo 11 d
-passes_area d fti fdt cenc before f =
+passes_area {d = d} {fti = fti} {fdt = fdt} {cenc = cenc} before f =
     let nine = passes_more 9 d ExtensionLength refl (λ h. absurd (omega arith)) before
     (λ none. none f.extensions f.spelled) in
     passes_more 10 d Repeated refl (λ h. absurd (omega arith)) nine (λ c.
@@ -182,15 +184,15 @@ some_if (Some b) P h = h
 
 -- ---- EXT_FTI
 
-pub refuses_fti : (d : List ℕ) (fti fdt cenc : Option (List ℕ)) → PassesUpTo 11 d
+pub refuses_fti : {d : List ℕ} {fti fdt cenc : Option (List ℕ)} → PassesUpTo 11 d
     → Finds (extension_area d) fti fdt cenc → (r : Refusal) → RefusesFti fti r → Refuses d r
-refuses_fti d fti fdt cenc before f FtiLength h =
+refuses_fti {d = d} {fti = fti} before f FtiLength h =
     record {
       applies = carries_found d ext_fti fti f.extensions f.spelled f.fti_is
           (λ body. length body ≡ 15 → ⊥) h;
       first = before;
     }
-refuses_fti d fti fdt cenc before f (Information fault) h =
+refuses_fti {d = d} {fti = fti} before f (Information fault) h =
     record {
       applies = carries_found d ext_fti fti f.extensions f.spelled f.fti_is
           (λ body. info_fault (fti_information body) ≡ Some fault)
@@ -206,13 +208,13 @@ refuses_fti d fti fdt cenc before f (Information fault) h =
           (found_carried d ext_fti fti f.extensions f.spelled f.fti_is
           (λ body. length body ≡ 15 → ⊥) c));
     }
-refuses_fti d fti fdt cenc before f _ h = absurd h
+refuses_fti before f _ h = absurd h
 
-pub passes_fti : (d : List ℕ) (fti fdt cenc : Option (List ℕ)) → PassesUpTo 11 d
+pub passes_fti : {d : List ℕ} {fti fdt cenc : Option (List ℕ)} → PassesUpTo 11 d
     → Finds (extension_area d) fti fdt cenc
     → IfSome fti (λ body. (length body ≡ 15) × (info_fault (fti_information body) ≡ None))
     → PassesUpTo 13 d
-passes_fti d fti fdt cenc before f taken =
+passes_fti {d = d} {fti = fti} before f taken =
     let twelve = passes_more 11 d FtiLength refl (λ e. absurd (omega arith)) before (λ c.
     not_both fti (λ body. (length body ≡ 15) × (info_fault (fti_information body) ≡ None))
     (λ body. length body ≡ 15 → ⊥) (λ b p q. q p.0) taken
@@ -284,28 +286,28 @@ passes_fdt {d = d} {fdt = fdt} is before f taken =
 
 -- ---- EXT_CENC and the payload
 
-pub refuses_cenc : (d : List ℕ) (fti fdt cenc : Option (List ℕ)) → PassesUpTo 15 d
+pub refuses_cenc : {d : List ℕ} {fti fdt cenc : Option (List ℕ)} → PassesUpTo 15 d
     → Finds (extension_area d) fti fdt cenc
     → IsSomeAnd cenc (λ body. content_encoding body ≡ 0 → ⊥) → Refuses d ContentEncoded
-refuses_cenc d fti fdt cenc before f h =
+refuses_cenc {d = d} {cenc = cenc} before f h =
     record {
       applies = carries_found d ext_cenc cenc f.extensions f.spelled f.cenc_is
           (λ body. content_encoding body ≡ 0 → ⊥) h;
       first = before;
     }
 
-pub passes_cenc : (d : List ℕ) (fti fdt cenc : Option (List ℕ)) → PassesUpTo 15 d
+pub passes_cenc : {d : List ℕ} {fti fdt cenc : Option (List ℕ)} → PassesUpTo 15 d
     → Finds (extension_area d) fti fdt cenc
     → IfSome cenc (λ body. content_encoding body ≡ 0) → PassesUpTo 16 d
-passes_cenc d fti fdt cenc before f plain =
+passes_cenc {d = d} {cenc = cenc} before f plain =
     passes_more 15 d ContentEncoded refl (λ e. absurd (omega arith)) before (λ c.
     not_both cenc (λ body. content_encoding body ≡ 0)
     (λ body. content_encoding body ≡ 0 → ⊥) (λ b p q. q p) plain
     (found_carried d ext_cenc cenc f.extensions f.spelled f.cenc_is
     (λ body. content_encoding body ≡ 0 → ⊥) c))
 
-pub refuses_tail : (d tail : List ℕ) → tail ≡ after_header d → PassesUpTo 16 d
+pub refuses_tail : {d tail : List ℕ} → tail ≡ after_header d → PassesUpTo 16 d
     → (0 < length tail) × (length tail < 4) → Refuses d PayloadIdCut
-refuses_tail d tail is before h =
+refuses_tail is before h =
     let len = ap length is in
     record { applies = (omega (arith, h.0), omega (arith, h.1)); first = before }

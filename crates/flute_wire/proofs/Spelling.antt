@@ -80,6 +80,18 @@ is_whole d p =
       codepoint = stable (first_word d).codepoint 0 i;
     }
 
+-- if that is true, none of the first checks refuses
+pub passes_whole : (d : List ℕ) → IsWhole d (first_word d) → PassesUpTo 9 d
+passes_whole d h TooLong lt a = let l = h.limit in omega arith
+passes_whole d h TooShort lt a = let l = h.word in omega arith
+passes_whole d h LctVersion lt a = a h.version
+passes_whole d h HeaderLength lt a = let l = h.fixed in omega arith
+passes_whole d h HeaderCut lt a = let l = h.header in omega arith
+passes_whole d h NoTsi lt a = let l = h.tsi in omega arith
+passes_whole d h NoToi lt a = let l = h.toi in omega arith
+passes_whole d h Codepoint lt a = a h.codepoint
+passes_whole d h _ lt a = omega (arith, lt)
+
 -- the parts, cut out by place
 unfoldable pub parts_of : List ℕ → List HeaderExtension → Parts
 parts_of d es = let w = first_word d in record {

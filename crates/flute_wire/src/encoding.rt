@@ -2,12 +2,11 @@
 
 ghost use Rattle.std.specs.Prelude.{◌≡◌, ◌++◌, None, IfOk, OnOk};
 ghost use Rattle.std.specs.Option.{option_map};
-ghost use Rattle.flute_parts.specs.ObjectName.{IsObjectName, instance_of};
 ghost use Rattle.flute_wire.specs.Outgoing.{said};
 ghost use Rattle.flute_wire.specs.Reading.{facts};
-ghost use Rattle.flute_wire.specs.Writing.{word_bytes, fdt_bytes, fti_bytes, symbol_bytes};
+ghost use Rattle.flute_wire.specs.Writing.{symbol_bytes};
 ghost use Rattle.flute_wire.specs.Writing.{IsWritten, outgoing_facts, words_to_write, write_fault};
-ghost use Rattle.flute_wire.specs.Encoding.{HasFittingId, HasFittingInformation};
+ghost use Rattle.flute_wire.specs.Encoding.{HasFittingId};
 
 use crate::datagram::Datagram;
 use crate::extensions::{EXT_FDT, EXT_FTI};
@@ -29,37 +28,6 @@ const FTI_WORDS: u8 = 4;
 /// The bytes of the FEC Payload ID (RFC 5445, section 3.2.1).
 pub const PAYLOAD_ID_LEN: usize = 4;
 
-/// Appends EXT_FDT, if the object is an FDT Instance.
-fn put_fdt(out: &mut Vec<u8>, key: &Key) -> Result<(), AllocError>
-    ensures bytes { OnOk result
-        (out.new.items ≡ out.old.items ++ fdt_bytes (instance_of key.now.object)) }
-    ensures fits { OnOk result (IsObjectName key.now.object) }
-{
-    if let Some(instance) = key.object.instance() {
-        let mut bytes = [EXT_FDT, 0, 0, 0];
-        BigEndian::write_u24(&mut bytes[1..], FLUTE_VERSION + instance);
-        out.extend_from_slice(&bytes)?;
-    }
-    Ok(())
-}
-
-/// Appends EXT_FTI, if there is transmission information. Two bytes of it are reserved, and 0.
-fn put_fti(out: &mut Vec<u8>, info: Option<Info>) -> Result<(), AllocError>
-    ensures bytes { OnOk result (out.new.items ≡ out.old.items ++ fti_bytes info) }
-    ensures fits { OnOk result (HasFittingInformation info) }
-{
-    if let Some(info) = info {
-        let mut bytes = [0; 16];
-        bytes[0] = EXT_FTI;
-        bytes[1] = FTI_WORDS;
-        BigEndian::write_u48(&mut bytes[2..8], info.length());
-        BigEndian::write_u16(&mut bytes[10..12], info.symbol());
-        BigEndian::write_u32(&mut bytes[12..], info.block());
-        out.extend_from_slice(&bytes)?;
-    }
-    Ok(())
-}
-
 /// Appends the FEC Payload ID and the bytes of the symbol, if there is one.
 fn put_symbol(out: &mut Vec<u8>, symbol: Option<(SymbolId, &[u8])>) -> Result<(), AllocError>
     ensures bytes { OnOk result (out.new.items
@@ -80,6 +48,7 @@ fn put_symbol(out: &mut Vec<u8>, symbol: Option<(SymbolId, &[u8])>) -> Result<()
 pub fn encoded(alloc: Global, outgoing: &Outgoing<'_>, words: u8) -> Result<Datagram, AllocError>
     requires words { words ≡ words_to_write (said outgoing.now) }
     requires sound { write_fault (said outgoing.now) ≡ None }
+    ensures sound { OnOk result (write_fault (said outgoing.now) ≡ None) }
     ensures written { IfOk result (λ datagram. IsWritten datagram (said outgoing.now)) }
     ensures facts { IfOk result (λ datagram. facts outgoing.now.key.session.sender datagram
         ≡ outgoing_facts outgoing.now.key outgoing.now.info (said outgoing.now).symbol) }
@@ -96,8 +65,21 @@ pub fn encoded(alloc: Global, outgoing: &Outgoing<'_>, words: u8) -> Result<Data
     BigEndian::write_u32(&mut fixed[12..], outgoing.key.object.toi() as u32);
     let mut bytes = Vec::with_capacity(alloc, 4 * usize::from(words) + payload_len)?;
     bytes.extend_from_slice(&fixed)?;
-    put_fdt(&mut bytes, &outgoing.key)?;
-    put_fti(&mut bytes, outgoing.info)?;
+    if let Some(instance) = outgoing.key.object.instance() {
+        let mut fdt = [EXT_FDT, 0, 0, 0];
+        BigEndian::write_u24(&mut fdt[1..], FLUTE_VERSION + instance);
+        bytes.extend_from_slice(&fdt)?;
+    }
+    if let Some(info) = outgoing.info {
+        // Two bytes of EXT_FTI are reserved, and 0.
+        let mut fti = [0; 16];
+        fti[0] = EXT_FTI;
+        fti[1] = FTI_WORDS;
+        BigEndian::write_u48(&mut fti[2..8], info.length());
+        BigEndian::write_u16(&mut fti[10..12], info.symbol());
+        BigEndian::write_u32(&mut fti[12..], info.block());
+        bytes.extend_from_slice(&fti)?;
+    }
     put_symbol(&mut bytes, outgoing.symbol)?;
     Ok(Datagram { bytes })
 }

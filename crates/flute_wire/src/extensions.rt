@@ -1,11 +1,11 @@
 //! The extensions of the LCT header (RFC 5651, section 5.2).
 
-ghost use Rattle.std.specs.Prelude.{◌≡◌, ◌≢◌, ◌<◌, ◌≤◌, ◌⊎◌, ◌++◌};
+ghost use Rattle.std.specs.Prelude.{◌≡◌, ◌≢◌, ◌<◌, ◌++◌};
 ghost use Rattle.std.specs.Prelude.{[], ◌∷◌, ℕ, List, length, IfSome, IfNone, IfOk, IfErr};
 ghost use Rattle.std.specs.Prelude.{OnErr};
 ghost use Rattle.std.specs.Option.{option_copied, option_to_list};
-ghost use Rattle.flute_wire.specs.Extensions.{HeaderExtension, IsExtension, HasExtensions};
-ghost use Rattle.flute_wire.specs.Extensions.{extension_bytes, bodies, ext_fti, ext_fdt, ext_cenc};
+ghost use Rattle.flute_wire.specs.Extensions.{HeaderExtension, IsExtension};
+ghost use Rattle.flute_wire.specs.Extensions.{extension_bytes, bodies};
 ghost use Rattle.flute_wire.specs.Walk.{extension_of, Finds, Occurs, RefusesArea};
 
 use crate::refusal::Refusal;

@@ -1,7 +1,7 @@
 //! The first word of the LCT header.
 
 ghost use Rattle.std.specs.Prelude.{◌≡◌};
-ghost use Rattle.flute_wire.specs.Header.{fields, cci_len, tsi_len, toi_len, header_len, fixed_words};
+ghost use Rattle.flute_wire.specs.Header.{fields};
 
 /// The fields that are read of the first 32-bit word of an LCT header: they give the lengths of the
 /// header's other fields (RFC 5651, section 5.1).
@@ -36,43 +36,5 @@ impl FirstWord {
             header_words: (bits >> 8 & 255) as u8,
             codepoint: (bits & 255) as u8,
         }
-    }
-
-    /// The bytes of the congestion control information.
-    pub fn cci_len(&self) -> usize
-        ensures { result ≡ cci_len self.now }
-    {
-        4 * (usize::from(self.congestion_words) + 1)
-    }
-
-    /// The bytes of the Transport Session Identifier.
-    pub fn tsi_len(&self) -> usize
-        ensures { result ≡ tsi_len self.now }
-    {
-        4 * usize::from(self.tsi_words) + 2 * usize::from(self.half_word)
-    }
-
-    /// The bytes of the Transport Object Identifier.
-    pub fn toi_len(&self) -> usize
-        ensures { result ≡ toi_len self.now }
-    {
-        4 * usize::from(self.toi_words) + 2 * usize::from(self.half_word)
-    }
-
-    /// The bytes of the whole header, its extensions included.
-    pub fn header_len(&self) -> usize
-        ensures { result ≡ header_len self.now }
-    {
-        4 * usize::from(self.header_words)
-    }
-
-    /// The words of the header before its extensions.
-    pub fn fixed_words(&self) -> usize
-        ensures { result ≡ fixed_words self.now }
-    {
-        2 + usize::from(self.congestion_words)
-            + usize::from(self.tsi_words)
-            + usize::from(self.toi_words)
-            + usize::from(self.half_word)
     }
 }

@@ -18,16 +18,13 @@ ghost use Rattle.flute_wire.specs.Facts.{facts_of};
 ghost use Rattle.flute_wire.specs.Reading.{packet, facts};
 ghost use Rattle.flute_wire.specs.declared.refusal.Refusal.{Refusal};
 
-/// A datagram spells one packet at most, and one exactly if no refusal applies to it.
+/// A datagram spells one packet at most, and one exactly if no refusal applies to it. That packet
+/// can be computed, and from it the facts of the datagram if some sender sent it: none, if it is
+/// refused.
 pub fn one_reading()
     ensures one { (d : List ℕ) (p q : Content) → Spells d p → Spells d q → p ≡ q }
     ensures some { (d : List ℕ) → ((p : Content) × Spells d p) ↔ ((r : Refusal) → ¬ Applies r d) }
     ensures decided { (d : List ℕ) → ((p : Content) × Spells d p) ⊎ ((r : Refusal) × Applies r d) }
-{}
-
-/// The packet of a datagram can be computed, and from it the facts of the datagram if some sender
-/// sent it: none, if it is refused.
-pub fn computed_reading()
     ensures packet { (d : List ℕ) (p : Content) → (packet d ≡ Some p) ↔ Spells d p }
     ensures facts { (s : ℕ) (d : List ℕ) (p : Content) → Spells d p → facts s d ≡ facts_of s p }
     ensures no_facts { (s : ℕ) (d : List ℕ) (r : Refusal) → Applies r d → facts s d ≡ [] }

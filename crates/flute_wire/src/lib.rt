@@ -20,13 +20,11 @@
 #![tactic(auto)]
 
 mod datagram;
-mod datagrams;
 mod encoding;
 mod extensions;
 mod first_word;
 mod header;
 mod laws;
-mod numbers;
 mod packet;
 mod reading;
 mod refusal;
@@ -34,10 +32,9 @@ mod sending;
 mod writing;
 
 pub use datagram::{Datagram, DatagramFault};
-pub use datagrams::Datagrams;
-pub use laws::{an_object_is_told_by_its_datagrams, computed_reading, one_reading};
+pub use laws::{an_object_is_told_by_its_datagrams, one_reading};
 pub use packet::Packet;
 pub use reading::read;
 pub use refusal::Refusal;
-pub use sending::{CarouselFault, carousel};
+pub use sending::{CarouselFault, Datagrams, carousel};
 pub use writing::{Outgoing, WriteFault, write};

@@ -1,13 +1,11 @@
 //! Datagrams read as packets.
 
-ghost use Rattle.std.specs.Prelude.{◌≡◌, ◌≢◌, ◌<◌, ◌≤◌, ◌⊎◌, ◌^◌};
+ghost use Rattle.std.specs.Prelude.{◌≡◌, ◌<◌, ◌≤◌, ◌⊎◌, ◌^◌};
 ghost use Rattle.std.specs.Prelude.{◌==◌, [], length, Option, Some, None, IfOk, IfErr, OnOk};
-ghost use Rattle.std.specs.Prelude.{OnErr, IfSome, IsSomeAnd, Ok, Err, ◌↔◌};
-ghost use Rattle.std.specs.Prelude.{if◌then◌else◌};
+ghost use Rattle.std.specs.Prelude.{OnErr, IfSome, IsSomeAnd, Ok, Err, ◌↔◌, if◌then◌else◌};
 ghost use Rattle.std.specs.Option.{option_copied, option_map};
 ghost use Rattle.flute_parts.specs.Information.{info_fault};
 ghost use Rattle.flute_wire.specs.Extensions.{fti_information, fdt_version, fdt_instance};
-ghost use Rattle.flute_wire.specs.Extensions.{content_encoding};
 ghost use Rattle.flute_wire.specs.Content.{Content};
 ghost use Rattle.flute_wire.specs.Datagram.{Spells, tail_symbol};
 ghost use Rattle.flute_wire.specs.Refusals.{Refuses};
@@ -16,9 +14,9 @@ ghost use Rattle.flute_wire.specs.Walk.{RefusesFti, RefusesFdt};
 
 use crate::extensions::Known;
 use crate::header::Header;
-use crate::numbers::{number_of_48_bits, u16_at, u32_at};
 use crate::packet::Packet;
 use crate::refusal::Refusal;
+use byteorder::{BigEndian, ByteOrder};
 use flute_parts::{Info, SymbolId};
 
 /// The length of EXT_FTI's body: four words without the byte of the type.
@@ -32,6 +30,7 @@ const FTI_LEN: usize = 15;
 ///
 /// `FtiLength` if EXT_FTI does not have four words, and else `Information` if its
 /// numbers are not valid.
+#[tactic(auto, using(crate::proofs::BigEndian::number_read))]
 fn information(fti: Option<&[u8]>) -> Result<Option<Info>, Refusal>
     ensures taken { OnOk result (IfSome (option_copied fti.entry)
         (λ body. (length body ≡ 15) × (info_fault (fti_information body) ≡ None))) }
@@ -45,32 +44,23 @@ fn information(fti: Option<&[u8]>) -> Result<Option<Info>, Refusal>
     if body.len() != FTI_LEN {
         return Err(Refusal::FtiLength);
     }
-    let length = number_of_48_bits(&body[1..7]);
-    let symbol = u16_at(&body[9..11]);
-    let block = u32_at(&body[11..15]);
+    let length = BigEndian::read_u48(&body[1..7]);
+    let symbol = BigEndian::read_u16(&body[9..11]);
+    let block = BigEndian::read_u32(&body[11..15]);
     match Info::new(length, symbol, block) {
         Ok(info) => Ok(Some(info)),
         Err(fault) => Err(Refusal::Information(fault)),
     }
 }
 
-/// FLUTE's version, of 4 bits, and the FDT Instance ID, of 20, in EXT_FDT
-/// (RFC 6726, section 3.4.1).
-fn fdt_fields(body: &[u8]) -> (u8, u32)
-    requires { length body.now ≡ 3 }
-    ensures version { result.0 ≡ fdt_version body.now }
-    ensures instance { result.1 ≡ fdt_instance body.now }
-{
-    let high = u32::from(body[0] & 15);
-    (body[0] >> 4, 65_536 * high + u32::from(u16_at(&body[1..])))
-}
-
 /// The FDT Instance ID, from EXT_FDT, of a packet with TOI 0. With another TOI, EXT_FDT is skipped.
+/// Its 24 bits are FLUTE's version, of 4, and the ID, of 20 (RFC 6726, section 3.4.1).
 ///
 /// # Errors
 ///
 /// `NoInstance` if the TOI is 0 and there is no EXT_FDT, and `FluteVersion` if it
 /// is not of version 2.
+#[tactic(auto, using(crate::proofs::BigEndian::number_read))]
 fn instance(toi: u128, fdt: Option<&[u8]>) -> Result<Option<u32>, Refusal>
     requires { IfSome (option_copied fdt) (λ body. length body ≡ 3) }
     ensures taken { OnOk result
@@ -86,27 +76,11 @@ fn instance(toi: u128, fdt: Option<&[u8]>) -> Result<Option<u32>, Refusal>
     let Some(body) = fdt else {
         return Err(Refusal::NoInstance);
     };
-    let (version, number) = fdt_fields(body);
-    if version != 2 {
+    let fields = BigEndian::read_u24(body);
+    if fields >> 20 != 2 {
         return Err(Refusal::FluteVersion);
     }
-    Ok(Some(number))
-}
-
-/// Refuses a content encoding as `ContentEncoded`: the first byte of EXT_CENC
-/// (RFC 6726, section 3.4.3).
-fn check_encoding(cenc: Option<&[u8]>) -> Result<(), Refusal>
-    requires { IfSome (option_copied cenc) (λ body. length body ≡ 3) }
-    ensures plain { OnOk result
-        (IfSome (option_copied cenc.entry) (λ body. content_encoding body ≡ 0)) }
-    ensures encoded { OnErr result
-        (IsSomeAnd (option_copied cenc.entry) (λ body. content_encoding body ≢ 0)) }
-    ensures refusal { IfErr result (λ r. r ≡ Refusal.ContentEncoded) }
-{
-    match cenc {
-        Some(body) if body[0] != 0 => Err(Refusal::ContentEncoded),
-        _ => Ok(()),
-    }
+    Ok(Some(fields % (1 << 20)))
 }
 
 /// The symbol after the header, if there is one: the FEC Payload ID and at least one byte
@@ -115,6 +89,7 @@ fn check_encoding(cenc: Option<&[u8]>) -> Result<(), Refusal>
 /// # Errors
 ///
 /// `PayloadIdCut` if 1 to 3 bytes follow the header.
+#[tactic(auto, using(crate::proofs::BigEndian::number_read))]
 fn symbol(tail: &[u8]) -> Result<Option<(SymbolId, &[u8])>, Refusal>
     ensures value { IfOk result (λ s. option_map (λ s. (s.0, s.1.now)) s ≡ tail_symbol tail.now) }
     ensures taken { OnOk result ((tail.now ≡ []) ⊎ (4 ≤ length tail.now)) }
@@ -131,30 +106,10 @@ fn symbol(tail: &[u8]) -> Result<Option<(SymbolId, &[u8])>, Refusal>
         return Ok(None);
     }
     let id = SymbolId {
-        sbn: u16_at(tail),
-        esi: u16_at(&tail[2..4]),
+        sbn: BigEndian::read_u16(tail),
+        esi: BigEndian::read_u16(&tail[2..4]),
     };
     Ok(Some((id, &tail[4..])))
-}
-
-/// The packet that the datagram spells, or the first refusal that applies.
-fn packet_of(datagram: &[u8]) -> Result<Packet<'_>, Refusal>
-    ensures spelled { IfOk result (λ p. Spells datagram.now p) }
-    ensures refused { IfErr result (λ r. Refuses datagram.now r) }
-{
-    let header = Header::read(datagram)?;
-    let known = Known::read(header.extensions)?;
-    let info = information(known.fti)?;
-    let instance = instance(header.toi, known.fdt)?;
-    check_encoding(known.cenc)?;
-    let symbol = symbol(header.tail)?;
-    Ok(Packet {
-        tsi: header.tsi,
-        toi: header.toi,
-        instance,
-        info,
-        symbol,
-    })
 }
 
 /// Reads a datagram as a packet of FLUTE version 2: the LCT header with its extensions
@@ -174,5 +129,21 @@ pub fn read(datagram: &[u8]) -> Result<Packet<'_>, Refusal>
     ensures packet { (p : Content) → (result ≡ Ok p) ↔ Spells datagram.now p }
     ensures refusal { (r : Refusal) → (result ≡ Err r) ↔ Refuses datagram.now r }
 {
-    packet_of(datagram)
+    let header = Header::read(datagram)?;
+    let known = Known::read(header.extensions)?;
+    let info = information(known.fti)?;
+    let instance = instance(header.toi, known.fdt)?;
+    // The first byte of EXT_CENC is the content encoding (RFC 6726, section 3.4.3).
+    match known.cenc {
+        Some(body) if body[0] != 0 => return Err(Refusal::ContentEncoded),
+        _ => {}
+    }
+    let symbol = symbol(header.tail)?;
+    Ok(Packet {
+        tsi: header.tsi,
+        toi: header.toi,
+        instance,
+        info,
+        symbol,
+    })
 }

@@ -1,9 +1,9 @@
 //! Packets written as datagrams.
 
-ghost use Rattle.std.specs.Prelude.{◌≡◌, Some, None, IfOk, IfErr, IfSome, OnOk, Err};
+ghost use Rattle.std.specs.Prelude.{◌≡◌, None, IfOk, IfErr, IfSome, Err};
 ghost use Rattle.flute_wire.specs.Outgoing.{said};
 ghost use Rattle.flute_wire.specs.Reading.{facts};
-ghost use Rattle.flute_wire.specs.Writing.{IsWritten, outgoing_facts, words_to_write, write_fault};
+ghost use Rattle.flute_wire.specs.Writing.{IsWritten, outgoing_facts, write_fault};
 ghost use Rattle.flute_wire.specs.declared.writing.WriteFault.TheVariants as faults;
 
 use crate::datagram::{Datagram, MAX_LEN};
@@ -46,37 +46,6 @@ pub enum WriteFault {
     OutOfMemory,
 }
 
-/// The 32-bit words of the header, if the packet can be written. It takes no memory.
-///
-/// # Errors
-///
-/// The first of `Tsi` to `TooLong` that applies.
-pub fn header_words(outgoing: &Outgoing<'_>) -> Result<u8, WriteFault>
-    ensures words { IfOk result (λ words. words ≡ words_to_write (said outgoing.now)) }
-    ensures sound { OnOk result (write_fault (said outgoing.now) ≡ None) }
-    ensures fault { IfErr result (λ fault. write_fault (said outgoing.now) ≡ Some fault) }
-{
-    if outgoing.key.session.tsi() >= 1 << 32 {
-        return Err(WriteFault::Tsi);
-    }
-    if outgoing.key.object.toi() >= 1 << 32 {
-        return Err(WriteFault::Toi);
-    }
-    let is_instance = outgoing.key.object.instance().is_some();
-    let fdt_words = if is_instance { 1 } else { 0 };
-    let fti_words = if outgoing.info.is_some() { 4 } else { 0 };
-    let words = 4 + fdt_words + fti_words;
-    if let Some((_, bytes)) = outgoing.symbol {
-        if bytes.is_empty() {
-            return Err(WriteFault::EmptySymbol);
-        }
-        if bytes.len() > MAX_LEN - 4 * usize::from(words) - PAYLOAD_ID_LEN {
-            return Err(WriteFault::TooLong);
-        }
-    }
-    Ok(words)
-}
-
 /// Writes a packet of FLUTE version 2 as a datagram. [`read`](crate::read) returns the same TSI and
 /// object, transmission information and symbol, and with the key's sender the same key. The sender
 /// is not written.
@@ -98,6 +67,26 @@ pub fn write(alloc: Global, outgoing: &Outgoing<'_>) -> Result<Datagram, WriteFa
     ensures memory { IfErr result (λ fault. write_fault (said outgoing.now) ≡ None
         → fault ≡ faults.OutOfMemory) }
 {
-    let words = header_words(outgoing)?;
-    encoded(alloc, outgoing, words).map_err(|_| WriteFault::OutOfMemory)
+    if outgoing.key.session.tsi() >= 1 << 32 {
+        return Err(WriteFault::Tsi);
+    }
+    if outgoing.key.object.toi() >= 1 << 32 {
+        return Err(WriteFault::Toi);
+    }
+    let is_instance = outgoing.key.object.instance().is_some();
+    let fdt_words = if is_instance { 1 } else { 0 };
+    let fti_words = if outgoing.info.is_some() { 4 } else { 0 };
+    let words = 4 + fdt_words + fti_words;
+    if let Some((_, bytes)) = outgoing.symbol {
+        if bytes.is_empty() {
+            return Err(WriteFault::EmptySymbol);
+        }
+        if bytes.len() > MAX_LEN - 4 * usize::from(words) - PAYLOAD_ID_LEN {
+            return Err(WriteFault::TooLong);
+        }
+    }
+    match encoded(alloc, outgoing, words) {
+        Ok(datagram) => Ok(datagram),
+        Err(_) => Err(WriteFault::OutOfMemory),
+    }
 }

@@ -1,7 +1,7 @@
 -- show: a journal whose entries are printed as they are read (specs/Show).
 use Rattle.std.proofs.Common.{◌≡◌, ℕ, ◌+◌, ◌≤◌, Bool, true, false, List, [], ◌∷◌, ◌++◌, length}
 use Rattle.std.proofs.Common.{Option, Some, None, Result, Ok, Err, ap, sym, ◌∙◌, subst, arith}
-use Rattle.std.specs.Prelude.{IfSome}
+use Rattle.std.specs.Prelude.{IfSome, IfErr, OnOk}
 use Rattle.std.specs.Io.KnownBytes.{Appends, Consumes}
 use Rattle.std.proofs.KnownBytes.{Appends-trans}
 use Rattle.std.proofs.lemmas.List.{length-append}
@@ -19,14 +19,18 @@ use Rattle.flute_journal.specs.JournalFraming.{journal_framing}
 use Rattle.flute_journal.specs.Framing.{is_open, GivesItem, GivesEnd, GivesFault, Gives, Sofar}
 use Rattle.flute_journal.proofs.Public.{whole-at, open_after, read_some, side-from, journal_sound}
 use Rattle.flute_journal.proofs.Public.{sofar-next, sofar-stops}
+use Rattle.flute_streams.specs.Selections.{selects}
 use Rattle.flute_streams.specs.declared.choice.selection.Selection.{Selection}
 use Rattle.flutejoin.specs.Lines.{fact_line, entries_line}
 use Rattle.flutejoin.specs.Selected.{selected}
 use Rattle.flutejoin.specs.Show.{entry_lines, FailsToRead, ShowsAll, ShowsUntil, ShowsPart}
-use Rattle.flutejoin.specs.Show.{of_entries, of_journal}
-use Rattle.flutejoin.specs.declared.command_fault.CommandFault.TheVariants.{Input}
+use Rattle.flutejoin.specs.Show.{of_entries, of_journal, ShowFails}
+use Rattle.flutejoin.specs.Objects.{FailsToWrite}
+use Rattle.flutejoin.specs.declared.command_fault.CommandFault.{CommandFault}
+use Rattle.flutejoin.specs.declared.command_fault.CommandFault.TheVariants.{CannotWrite, Input}
 use Rattle.flutejoin.specs.declared.limits.TheConstants.{MAX_ENTRIES}
-use Rattle.flutejoin.proofs.SelectedFacts.{few_selected, selected_more}
+use Rattle.flutejoin.proofs.SelectedFacts.{few_selected, just_line, none_selected, one_selected}
+use Rattle.flutejoin.proofs.SelectedFacts.{selected_more}
 
 -- The end of a journal, after its entries.
 
@@ -62,21 +66,33 @@ module _ {choice : Selection} {u v : Option (List ℕ)} {from : ReaderState Befo
       omega (arith, h.counted, few, most)
 
   module _ {w : Option (List ℕ)} {to : ReaderState Before} {f : Fact}
+      (g : GivesItem journal_framing MAX_ENTRIES from to v w f) where
+    pub shown-other : selects choice f ≡ false → Shown choice u w to s t count
+    shown-other other =
+        let same = sym (none_selected choice f h.entries other) in
+        record {
+          entries = h.entries ++ f ∷ [];
+          sofar = sofar-next journal_sound h.sofar g;
+          counted = h.counted ∙ ap length same;
+          written = subst (λ (l : List Fact). Appends s t (entry_lines l)) same h.written;
+        }
+
+  module _ {w : Option (List ℕ)} {to : ReaderState Before} {f : Fact}
       (g : GivesItem journal_framing MAX_ENTRIES from to v w f) {t' : Option (List ℕ)} where
-    pub shown-next : {lines : ℕ} → lines ≡ length (selected choice (f ∷ []))
-        → Appends t t' (entry_lines (selected choice (f ∷ [])))
-        → Shown choice u w to s t' (count + lines)
-    shown-next are line = record {
+    pub shown-line : selects choice f ≡ true → Appends t t' (fact_line f)
+        → Shown choice u w to s t' (count + 1)
+    shown-line chosen line = record {
       entries = h.entries ++ f ∷ [];
       sofar = sofar-next journal_sound h.sofar g;
       counted =
-          let more = ap length (selected_more choice f h.entries) in
-          let all = length-append (selected choice h.entries) (selected choice (f ∷ [])) in
-          omega (arith, h.counted, are, more, all);
+          let more = ap length (one_selected choice f h.entries chosen) in
+          let all = length-append (selected choice h.entries) (f ∷ []) in
+          omega (arith, h.counted, more, all);
       written =
           subst (λ (x : List ℕ). Appends s t' x) (lines_more choice h.entries f)
           (Appends-trans s t t' (entry_lines (selected choice h.entries))
-          (entry_lines (selected choice (f ∷ []))) h.written line);
+          (entry_lines (selected choice (f ∷ []))) h.written
+          (subst (λ (x : List ℕ). Appends t t' x) (sym (just_line choice f chosen)) line));
     }
 
     -- a line was written in part
@@ -168,3 +184,23 @@ read_failures T {u = u} {v = v} {state = state} {es = es} {r = r} {f = f} number
     let Q : Result (Option Fact) ReadFault → Type 0 = λ x. Fails m n x in
     let N : ℕ → Type 0 = λ i. Fails {T = T} i n (Err f) in
     subst N e (fails_same (Option Fact) T f m n (subst Q is now))
+
+-- The last line: the count.
+
+pub if_done : {A B : Type 0} (r : Result (Unit {0}) CommandFault) → (A → B)
+    → OnOk r A → OnOk r B
+if_done (Ok x) f a = f a
+if_done (Err x) f a = tt
+
+pub cut_short : {A : Type 0} (choice : Selection) (u v s t : Option (List ℕ))
+    (r : Result (Unit {0}) CommandFault) → (A → ShowsPart choice u v s t)
+    → IfErr r (FailsToWrite A) → IfErr r (ShowFails choice u v s t)
+cut_short choice u v s t (Ok x) f a = tt
+cut_short choice u v s t (Err CannotWrite) f a = f a
+cut_short choice u v s t (Err x) f a = absurd a
+
+pub only_written : (A : Type 0) (old new : ℕ) (r : Result (Unit {0}) CommandFault)
+    → IfErr r (FailsToWrite A) → new ≡ old → FailsToRead old new r
+only_written A old new (Ok x) a e = e
+only_written A old new (Err CannotWrite) a e = e
+only_written A old new (Err x) a e = absurd a

@@ -1,18 +1,16 @@
 -- What the command `extract --all` writes and returns.
-use Rattle.std.specs.Prelude.{ℕ, Bool, true, ◌&&◌, ◌==◌, List, [], ◌∷◌, ◌++◌, filter, Option, Some}
+use Rattle.std.specs.Prelude.{ℕ, Bool, true, ◌&&◌, ◌==◌, List, filter, Option, Some}
 use Rattle.std.specs.Prelude.{None, IfSome}
 use Rattle.std.specs.Io.KnownBytes.{IsAtEnd}
 use Rattle.flute_parts.specs.Addresses.{address}
-use Rattle.flute_parts.specs.Facts.{IsRising}
 use Rattle.flute_parts.specs.declared.fact.Fact.{Fact}
 use Rattle.flute_parts.specs.declared.key.Key.{Key}
 use Rattle.flute_output.specs.NewFolders.{Places}
 use Rattle.flute_journal.specs.Journal.{IsJournalWithin}
 use Rattle.flute_streams.specs.Sessions.{listed_tsis, takes}
 use Rattle.flutejoin.specs.Gaps.{GapsFail}
-use Rattle.flutejoin.specs.ObjectFiles.{TakesAll, Knows}
+use Rattle.flutejoin.specs.ObjectFiles.{TakesAll}
 use Rattle.flutejoin.specs.Limits.{Limits, IsOver}
-use Rattle.flutejoin.specs.declared.extract.object_files.ObjectFiles.{ObjectFiles}
 use Rattle.flutejoin.specs.declared.extract.picked.Picked.{Picked}
 use Rattle.flutejoin.specs.declared.limits.TheConstants.{MAX_ENTRIES}
 use Rattle.flutejoin.specs.declared.command_fault.CommandFault.{CommandFault}
@@ -45,8 +43,3 @@ pub record ExtractsAll (most : Limits) (input left : Option (List ℕ)) (picked 
 abbrev pub ExtractAllFails : Limits → Option (List ℕ) → Option (List ℕ) → CommandFault
     → Type 0
 ExtractAllFails = GapsFail
-
--- the fact may come next, and those that are picked of the facts before it came
-abbrev pub CanPick : Picked → ObjectFiles → Fact → Type 0
-CanPick picked objects fact =
-    (F : List Fact) × IsRising (F ++ fact ∷ []) × Knows (picked_facts picked F) objects

@@ -1,6 +1,6 @@
 -- The lines of a list of information, the facts they contain, and why they contain none.
 use Rattle.std.specs.Prelude.{◌≡◌, ℕ, ◌+◌, ◌<◌, ◌≤◌, ◌^◌, List, [], ◌∷◌, ◌++◌, length, ◌≢◌}
-use Rattle.std.specs.Prelude.{Some, Bool, true, false, ⊤}
+use Rattle.std.specs.Prelude.{take, Some, ⊤}
 use Rattle.std.specs.List.{flat_map, All}
 use Rattle.flute_parts.specs.Facts.{Same}
 use Rattle.flute_parts.specs.Information.{Information, HasInfoFields, information, info_fault}
@@ -122,22 +122,17 @@ pub data ListFails (most : Limits) (bytes : List ℕ) (fault : CommandFault) : T
 abbrev pub numbers_of : InfoNumbers → Information
 numbers_of numbers = information numbers.length numbers.symbol numbers.block
 
--- how much of a line is kept: all of it; or 512 bytes, and it has more
-abbrev pub IsKept : Bool → List ℕ → List ℕ → Type 0
-IsKept false kept words = kept ≡ words
-IsKept true kept words =
-    (more : List ℕ) × (words ≡ kept ++ more) × (512 ≤ length kept) × (0 < length more)
+-- of a line at most 512 bytes are kept
+abbrev pub IsKept : List ℕ → List ℕ → Type 0
+IsKept kept words = kept ≡ take 512 words
 
--- why the line with this number contains nothing
-pub data LineFails (number : ℕ) (words : List ℕ) (fault : CommandFault) : Type 0 where
-  no_line : fault ≡ ListLine number → TellsNothing words → LineFails number words fault
-  not_valid : (why : InfoFault) → fault ≡ ListInformation number why → TellsInvalid why words
-      → LineFails number words fault
-
--- why what it contains is not taken in addition to these facts
+-- why the line with this number, or what it contains in addition to these facts, is not taken
 pub data TakingFails (most : Limits) (told : List Fact) (number : ℕ) (words : List ℕ)
     (fault : CommandFault) : Type 0 where
-  of_line : LineFails number words fault → TakingFails most told number words fault
+  no_line : fault ≡ ListLine number → TellsNothing words
+      → TakingFails most told number words fault
+  not_valid : (why : InfoFault) → fault ≡ ListInformation number why → TellsInvalid why words
+      → TakingFails most told number words fault
   no_room : (facts : List Fact) → fault ≡ Full → LineTells words facts
       → IsOver most (told ++ facts) → TakingFails most told number words fault
   no_memory_for : fault ≡ OutOfMemory → TakingFails most told number words fault
@@ -148,5 +143,5 @@ pub record HoldsList {s o y : ℕ} (list : InformationList s o y) (bytes : List 
   pub words : List ℕ
   pub begins : BeginsLine bytes list.number facts words
   pub one_line : IsOneLine words
-  pub kept : IsKept list.long list.line words
+  pub kept : IsKept list.line words
   pub content : Same list.told facts

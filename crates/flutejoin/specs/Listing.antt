@@ -11,13 +11,11 @@ use Rattle.flute_parts.specs.declared.key.Key.{Key}
 use Rattle.flute_parts.specs.declared.symbol_id.SymbolId.{SymbolId}
 use Rattle.flute_parts.specs.declared.fact.Fact.{Fact}
 use Rattle.flute_parts.specs.declared.fact.Fact.TheVariants.{InfoConflict}
-use Rattle.flute_streams.specs.declared.choice.selection.Selection.{Selection}
 use Rattle.flute_store.specs.declared.status.Status.{Status}
 use Rattle.flute_store.specs.Scan.{Scanned, next_fact, Follows, GaveAll}
 use Rattle.flute_store.specs.Scans.{Scans}
 use Rattle.flute_store.specs.Status.{TellsStatus}
 use Rattle.flutejoin.specs.Objects.{gaps_at}
-use Rattle.flutejoin.specs.Selected.{selected}
 use Rattle.flutejoin.specs.Styles.{are_whole, listed_by, printed, shown_gap, told_lines}
 use Rattle.flutejoin.specs.Sums.{AddsObject, AreWithin, IsNone, by_session, session_line}
 use Rattle.flutejoin.specs.Sums.{sums_line, sums_of}
@@ -189,23 +187,10 @@ module _ (style : Style) where
       (F : List Fact) × IsRising (F ++ f ∷ []) × (length F ≤ MAX_ENTRIES)
       × ((lines gap_lines : List ℕ) × ListsWith F lines gap_lines listing.closed listing.open)
 
-  -- the fact may be the next of those of which some are listed, if it is selected
-  abbrev pub CanAddSelected : Selection → Fact → Listing → Type 0
-  CanAddSelected s f listing =
-      (F : List Fact) × IsRising (F ++ f ∷ []) × (length F ≤ MAX_ENTRIES)
-      × ((lines gap_lines : List ℕ)
-      × ListsWith (selected s F) lines gap_lines listing.closed listing.open)
-
   -- the state of an object with some facts
   abbrev pub IsState : ObjectState → Type 0
   IsState state = (key : Key) × (mine : List Fact) × (gaps : List ℕ)
       × StateIs key mine gaps state
-
-  -- the symbol may be the next of the object
-  abbrev pub CanPass : SymbolId × Option (Bor (List ℕ)) → ObjectState → Type 0
-  CanPass next state =
-      (key : Key) × (mine : List Fact) × (gaps : List ℕ)
-      × IsRising (mine ++ next_fact key next ∷ []) × StateIs key mine gaps state
 
   -- how much is held of the object, and the lines of its gaps
   abbrev pub TellsAll : List Fact → Key → Status → List ℕ → Type 0

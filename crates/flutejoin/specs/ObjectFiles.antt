@@ -137,11 +137,6 @@ CanPass scan next =
     (key : Key) × (mine : List Fact) × (open_file : Option NamedFile)
     × IsRising (mine ++ next_fact key next ∷ []) × HasScanned key mine scan open_file
 
-abbrev pub CanPassAt : FileState → SymbolId × Option (Bor (List ℕ)) → Type 0
-CanPassAt state next =
-    (key : Key) × (mine : List Fact) × (open_file : Option NamedFile)
-    × IsRising (mine ++ next_fact key next ∷ []) × FileStateIs key mine state open_file
-
 -- some facts of an object were passed
 abbrev pub HasPassed : FileScan → Type 0
 HasPassed scan =

@@ -15,7 +15,7 @@ use std::alloc::Global;
 pub type ForgetInput<R> = Chosen<OwnedJournalStream<R>, AllBut>;
 
 /// How many entries of a journal were forgotten, and how many are left.
-#[derive(Clone, Copy, Debug, Drop)]
+#[derive(Clone, Copy, Drop)]
 pub struct ForgetCounts {
     pub forgotten: u64,
     pub entries: u64,

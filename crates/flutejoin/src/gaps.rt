@@ -1,15 +1,10 @@
 //! The command `gaps`: how much is held of each object of a journal, listed as it is read.
-ghost use Rattle.std.specs.Prelude.{◌≡◌, ◌≢◌, ◌+◌, ◌⊎◌, ◌∷◌, ◌++◌, [], List, Bool, Some};
-ghost use Rattle.std.specs.Prelude.{IfErr, IfOk, Ok, OnOk, if◌then◌else◌, is_ok};
+ghost use Rattle.std.specs.Prelude.{◌≡◌, ◌≢◌, ◌+◌, ◌⊎◌, [], Some, IfErr, IfOk, OnOk};
 ghost use Rattle.std.specs.Io.KnownBytes.{Appends, IsAtEnd};
 ghost use Rattle.flute_parts.specs.Devices.{AppendsPart};
-ghost use Rattle.flute_parts.specs.declared.fact.Fact.{Fact as Known};
-ghost use Rattle.flute_parts.specs.Facts.{IsRising};
 ghost use Rattle.flutejoin.specs.declared.command_fault.CommandFault.TheVariants.{CannotWrite};
-ghost use Rattle.flutejoin.specs.Gaps.{ListsJournal, GapsFail, ReadsWithin};
+ghost use Rattle.flutejoin.specs.Gaps.{ListsJournal, GapsFail};
 ghost use Rattle.flutejoin.specs.Limits.{at_most};
-ghost use Rattle.flutejoin.specs.Listing.{CanAddSelected, Lists};
-ghost use Rattle.flutejoin.specs.Selected.{selected};
 ghost use Rattle.flutejoin.specs.Styles.{are_whole, printed};
 ghost use Rattle.flutejoin.specs.Show.{FailsToRead};
 ghost use Rattle.flutejoin.specs.Packet.{write_failures};
@@ -25,7 +20,7 @@ use crate::gaps::listing::Listing;
 use crate::limits::MAX_ENTRIES;
 use crate::lines::style::Style;
 use flute_journal::JournalReader;
-use flute_parts::{DeviceFault, Fact, Sink, Source, Tally};
+use flute_parts::{Sink, Source, Tally};
 use flute_streams::Selection;
 use std::alloc::Global;
 
@@ -82,38 +77,6 @@ pub fn gaps_from<
         ≡ A.failures lines.old + A.failures gap_lines.old + W.failures sink.old
         + write_failures result }
 {
-    let all_whole = put_aside::<SESSIONS, OBJECTS, SYMBOLS, _, _>(
-        alloc, source, selection, style, lines, gap_lines,
-    )?;
-    match lines.move_to(sink) {
-        Ok(()) => Ok(all_whole),
-        Err(_) => Err(CommandFault::CannotWrite),
-    }
-}
-
-// Puts aside the lines of the selected objects of a journal.
-fn put_aside<const SESSIONS: u32, const OBJECTS: u32, const SYMBOLS: u32, R: Source, A: Aside>(
-    alloc: Global,
-    source: &mut R,
-    selection: &Selection,
-    style: Style,
-    lines: &mut A,
-    gap_lines: &mut A,
-) -> Result<bool, CommandFault>
-    ensures listed { A.written lines.old ≡ Some [] → A.written gap_lines.old ≡ Some []
-        → IfOk result (λ all_whole. ListsJournal (at_most SESSIONS OBJECTS SYMBOLS)
-        selection.now (R.unread source.old)
-        (λ objects. (A.written lines.new ≡ Some (printed style objects))
-        × (all_whole ≡ are_whole style objects))) }
-    ensures end { OnOk result (IsAtEnd (R.unread source.new)) }
-    ensures whole { OnOk result (ReadsWithin (at_most SESSIONS OBJECTS SYMBOLS)
-        (R.unread source.old) (R.unread source.new)) }
-    ensures failed { IfErr result (GapsFail (at_most SESSIONS OBJECTS SYMBOLS)
-        (R.unread source.old) (R.unread source.new)) }
-    ensures read_failures { FailsToRead (R.failures source.old) (R.failures source.new) result }
-    ensures failures { A.failures lines.new + A.failures gap_lines.new
-        ≡ A.failures lines.old + A.failures gap_lines.old + write_failures result }
-{
     let mut listing = Listing::new();
     let mut tally = Tally::<SESSIONS, OBJECTS, SYMBOLS>::new();
     let mut reader = JournalReader::new(source, MAX_ENTRIES);
@@ -122,34 +85,12 @@ fn put_aside<const SESSIONS: u32, const OBJECTS: u32, const SYMBOLS: u32, R: Sou
         if !tally.count(&fact.address()) {
             return Err(CommandFault::Full);
         }
-        add_selected(&mut listing, selection, style, &fact, lines, gap_lines)?;
+        if selection.selects(&fact.as_ref()) {
+            listing.add(style, &fact, lines, gap_lines)?;
+        }
         spare = fact.into_vec(alloc);
     }
-    Ok(listing.finish(style, lines, gap_lines)?)
-}
-
-// Takes the next fact, if it is selected.
-#[inline(always)]
-fn add_selected<A: Aside>(
-    listing: &mut Listing,
-    selection: &Selection,
-    style: Style,
-    fact: &Fact,
-    lines: &mut A,
-    gap_lines: &mut A,
-) -> Result<(), DeviceFault>
-    requires { CanAddSelected style selection.now fact.now listing.old }
-    ensures added { (known : Bool) (F : List Known) → IsRising (F ++ fact.now ∷ [])
-        → Lists style known (selected selection.now F) listing.old
-        (A.written lines.old) (A.written gap_lines.old)
-        → OnOk result (Lists style known (selected selection.now (F ++ fact.now ∷ []))
-        listing.new (A.written lines.new) (A.written gap_lines.new)) }
-    ensures failures { A.failures lines.new + A.failures gap_lines.new
-        ≡ A.failures lines.old + A.failures gap_lines.old + (if is_ok result then 0 else 1) }
-{
-    if selection.selects(&fact.as_ref()) {
-        listing.add(style, fact, lines, gap_lines)
-    } else {
-        Ok(())
-    }
+    let all_whole = listing.finish(style, lines, gap_lines)?;
+    lines.move_to(sink)?;
+    Ok(all_whole)
 }

@@ -4,11 +4,7 @@ ghost use Rattle.std.specs.Prelude.{min, sum_by, None, OnOk, IfOk, IfErr, IfSome
 ghost use Rattle.std.specs.List.{AllByRecursion};
 ghost use Rattle.flute_parts.specs.Devices.{times_failed};
 ghost use Rattle.flute_parts.specs.declared.fact.Fact.{Fact};
-ghost use Rattle.flute_streams.specs.Advances.{AreNew};
-ghost use Rattle.flute_streams.specs.Chains.{chained, taken};
-ghost use Rattle.flute_streams.specs.FirstFaults.{FirstFault};
-ghost use Rattle.flute_streams.specs.StreamMerges.{EndsMerged, AppendsNoJournal, NoneFails};
-ghost use Rattle.flute_streams.specs.Streams.{most_of};
+ghost use Rattle.flute_streams.specs.StreamMerges.{AppendsNoJournal};
 ghost use Rattle.flute_journal.specs.declared.fault.ReadFault.TheVariants.{Read};
 ghost use Rattle.flutejoin.specs.declared.command_fault.CommandFault.TheVariants.{Input};
 ghost use Rattle.flutejoin.specs.declared.command_fault.CommandFault.TheVariants.{OutOfMemory};
@@ -21,7 +17,6 @@ ghost use Rattle.flutejoin.specs.Joined.{Choice, choice_of};
 ghost use Rattle.flutejoin.specs.Joining.{JoinsTo};
 ghost use Rattle.flutejoin.specs.JoinFaults.{JoinToFails, NamesOneOf, WantsAside};
 ghost use Rattle.flutejoin.specs.JoinParts.{AreInspected, IsReady, JoinsInspected};
-ghost use Rattle.flutejoin.specs.JoinParts.{joined_behaviour};
 ghost use Rattle.flutejoin.specs.JoinParts.{IsHeld, Ends, NeverStops};
 ghost use Rattle.flutejoin.specs.Limits.{IsCountable, at_most};
 ghost use Rattle.flutejoin.specs.Status.{of_stop};
@@ -32,7 +27,7 @@ pub(crate) mod join_counts;
 pub(crate) mod join_input;
 pub(crate) mod joined;
 pub(crate) mod peeked_source;
-pub(crate) mod putting_aside;
+pub(crate) mod runs;
 
 use crate::aside::Asides;
 use crate::command_fault::{CommandFault, load_fault};
@@ -248,7 +243,11 @@ fn join_held<
     ensures sink_failures { IfOk result (λ joined. joined.within ≡ true
         → W.failures sink.new ≡ W.failures sink.old + times_failed joined.cut) }
 {
-    match join_chained::<SESSIONS, OBJECTS, SYMBOLS, _, _, _>(alloc, held, inputs, sink) {
+    let mut streams = Chained {
+        first: &mut *held,
+        others: &mut *inputs,
+    };
+    match join_streams::<SESSIONS, OBJECTS, SYMBOLS, _, _>(alloc, &mut streams, sink) {
         Ok(joined) => Ok(joined),
         Err(fault) => Err(stop_fault(&fault)),
     }
@@ -263,47 +262,4 @@ fn stop_fault(stopped: &InputFault) -> CommandFault
     } else {
         load_fault(stopped.number, stopped.fault)
     }
-}
-
-// Joins a stream and inputs.
-fn join_chained<
-    const SESSIONS: u32,
-    const OBJECTS: u32,
-    const SYMBOLS: u32,
-    S: Stream,
-    R: Source,
-    W: Sink,
->(
-    alloc: Global,
-    first: &mut S,
-    inputs: &mut [JoinInput<R>],
-    sink: &mut W,
-) -> Result<MergedJournal, InputFault>
-    requires new { AreNew (joined_behaviour R.unread R.buffered R.failures S.behaviour)
-        (chained first.old (taken inputs.old)) }
-    requires most { most_of (joined_behaviour R.unread R.buffered R.failures S.behaviour)
-        (chained first.old (taken inputs.old)) < 2 ^ 64 }
-    ensures ended { IfOk result (λ joined. EndsMerged
-        (joined_behaviour R.unread R.buffered R.failures S.behaviour)
-        (chained first.old (taken inputs.old)) (chained first.new (taken inputs.new))
-        SESSIONS OBJECTS SYMBOLS joined (W.written sink.old) (W.written sink.new)) }
-    ensures cut { IfOk result (λ joined. joined.cut ≡ true
-        → AppendsNoJournal (W.written sink.old) (W.written sink.new)) }
-    ensures over { IfOk result (λ joined. joined.within ≡ false → joined.cut ≡ true) }
-    ensures short { IfErr result
-        (λ _. AppendsNoJournal (W.written sink.old) (W.written sink.new)) }
-    ensures first { IfErr result
-        (FirstFault (joined_behaviour R.unread R.buffered R.failures S.behaviour)
-        (chained first.old (taken inputs.old)) (chained first.new (taken inputs.new))) }
-    ensures failures { IfOk result (λ _. NoneFails
-        (joined_behaviour R.unread R.buffered R.failures S.behaviour)
-        (chained first.old (taken inputs.old)) (chained first.new (taken inputs.new))) }
-    ensures sink_failures { IfOk result (λ joined. joined.within ≡ true
-        → W.failures sink.new ≡ W.failures sink.old + times_failed joined.cut) }
-{
-    let mut streams = Chained {
-        first: &mut *first,
-        others: &mut *inputs,
-    };
-    join_streams::<SESSIONS, OBJECTS, SYMBOLS, _, _>(alloc, &mut streams, sink)
 }

@@ -4,7 +4,7 @@ ghost use Rattle.std.specs.Prelude.{None};
 use flute_parts::{DeviceFault, Sink};
 
 /// A sink that takes all bytes, keeps none of them, and never fails.
-#[derive(Clone, Copy, Debug)]
+#[derive(Drop)]
 pub struct Nothing;
 
 impl Sink for Nothing {

@@ -9,7 +9,7 @@ use crate::command_fault::CommandFault;
 use flute_journal::{Kind, kind_of};
 
 /// Which files that are there a command overwrites with its output.
-#[derive(Clone, Copy, Debug)]
+#[derive(Clone, Copy)]
 pub enum Overwrites {
     /// Any file.
     Any,

@@ -5,9 +5,8 @@ ghost use Rattle.flutejoin.specs.Pieces.{packet_head, payload};
 ghost use Rattle.flutejoin.specs.Packet.{HasLines, FailsWith, write_failures};
 
 use crate::command_fault::CommandFault;
-use crate::lines::fact_lines::{push_info, push_object, push_symbol_head};
+use crate::lines::fact_lines::{push_info, push_object, push_symbol};
 use crate::lines::hex_digits::HexDigits;
-use crate::lines::report_lines::write_line;
 use crate::lines::text::Text;
 use flute_parts::{Sender, Sink};
 use flute_wire::{Packet, read};
@@ -37,16 +36,17 @@ pub fn packet_to<W: Sink>(alloc: Global, text: &str, sink: &mut W) -> Result<(),
         Ok(packet) => packet,
         Err(refusal) => return Err(CommandFault::Refused(refusal)),
     };
-    let head = head_of(&packet);
-    match write_line(sink, &HexDigits::new(), &head, payload(&packet)) {
+    let (head, payload) = pieces_of(&packet);
+    match HexDigits::new().write_line(sink, &head, payload) {
         Ok(()) => Ok(()),
         Err(_) => Err(CommandFault::CannotWrite),
     }
 }
 
-// All that is written before the symbol's bytes.
-fn head_of(packet: &Packet<'_>) -> Text
-    ensures { result ≡ packet_head packet.now }
+// All that is written before the symbol's bytes, and these.
+fn pieces_of<'a>(packet: &Packet<'a>) -> (Text, &'a [u8])
+    ensures head { result.0 ≡ packet_head packet.now }
+    ensures payload { result.1.now ≡ payload packet.now.symbol }
 {
     // No line names the sender, which a datagram does not contain.
     let key = packet.key(Sender::new(0));
@@ -58,15 +58,14 @@ fn head_of(packet: &Packet<'_>) -> Text
     text.push("\n");
     push_info(&mut text, packet.info());
     text.push("\n");
-    push_symbol_head(&mut text, packet.symbol());
-    text
-}
-
-fn payload<'a>(packet: &Packet<'a>) -> &'a [u8]
-    ensures { result.now ≡ payload packet.now.symbol }
-{
     match packet.symbol() {
-        Some((_, bytes)) => bytes,
-        None => &[],
+        Some((id, bytes)) => {
+            push_symbol(&mut text, id, bytes.len());
+            (text, bytes)
+        }
+        None => {
+            text.push("symbol none");
+            (text, &[])
+        }
     }
 }

@@ -1,20 +1,17 @@
 //! The command `show`: a line for each entry of a journal.
-ghost use Rattle.std.specs.Prelude.{◌≡◌, ◌+◌, ◌∷◌, [], length, if◌then◌else◌, is_ok};
-ghost use Rattle.std.specs.Prelude.{IfErr, IfOk, OnOk};
-ghost use Rattle.flute_parts.specs.Devices.{Writes};
+ghost use Rattle.std.specs.Prelude.{◌≡◌, ◌+◌, IfErr, OnOk};
 ghost use Rattle.flutejoin.specs.Pieces.{fact_head, fact_bytes};
-ghost use Rattle.flutejoin.specs.Selected.{selected};
-ghost use Rattle.flutejoin.specs.Show.{FailsToRead, ShowsAll, ShowFails, entry_lines};
+ghost use Rattle.flutejoin.specs.Show.{FailsToRead, ShowsAll, ShowFails};
 ghost use Rattle.flutejoin.specs.Packet.{write_failures};
 
 use crate::command_fault::{CommandFault, at_input};
 use crate::limits::MAX_ENTRIES;
-use crate::lines::fact_lines::{push_information, push_key, push_symbol, push_symbol_id};
+use crate::lines::fact_lines::{push_key, push_numbers, push_symbol, push_symbol_id};
 use crate::lines::hex_digits::HexDigits;
-use crate::lines::report_lines::{write_count, write_line};
+use crate::lines::report_lines::count_to;
 use crate::lines::text::Text;
 use flute_journal::JournalReader;
-use flute_parts::{DeviceFault, Fact, Sink, Source};
+use flute_parts::{Fact, Sink, Source};
 use flute_streams::Selection;
 use std::alloc::Global;
 
@@ -45,38 +42,14 @@ pub fn show_to<R: Source, W: Sink>(
     let mut count = 0;
     let mut spare = Vec::new(alloc);
     while let Some(fact) = at_input(1, reader.next_with(alloc, spare))? {
-        match write_selected(sink, &digits, selection, &fact) {
-            Ok(lines) => count += lines,
-            Err(_) => return Err(CommandFault::CannotWrite),
+        if selection.selects(&fact.as_ref()) {
+            let head = head_of(&fact);
+            digits.write_line(sink, &head, bytes_of(&fact))?;
+            count += 1;
         }
         spare = fact.into_vec(alloc);
     }
-    match write_count(sink, "entries", count) {
-        Ok(()) => Ok(()),
-        Err(_) => Err(CommandFault::CannotWrite),
-    }
-}
-
-// Writes the line of an entry if that is selected, and returns how many lines these are.
-fn write_selected<W: Sink>(
-    sink: &mut W,
-    digits: &HexDigits,
-    selection: &Selection,
-    fact: &Fact,
-) -> Result<u64, DeviceFault>
-    ensures lines { Writes (W.written sink.old) (W.written sink.new)
-        (entry_lines (selected selection.now (fact.now ∷ []))) result }
-    ensures count { IfOk result (λ lines.
-        lines ≡ length (selected selection.now (fact.now ∷ []))) }
-    ensures failures { W.failures sink.new ≡ W.failures sink.old
-        + (if is_ok result then 0 else 1) }
-{
-    if !selection.selects(&fact.as_ref()) {
-        return Ok(0);
-    }
-    let head = head_of(fact);
-    write_line(sink, digits, &head, bytes_of(fact))?;
-    Ok(1)
+    count_to("entries", count, sink)
 }
 
 // All of the line before a symbol's bytes.
@@ -88,7 +61,7 @@ fn head_of(fact: &Fact) -> Text
         Fact::Info { key, info } => {
             push_key(&mut text, key);
             text.push(" ");
-            push_information(&mut text, info);
+            push_numbers(&mut text, info.length(), info.symbol(), info.block());
         }
         Fact::InfoConflict { key } => {
             push_key(&mut text, key);

@@ -2,11 +2,12 @@
 ghost use Rattle.std.specs.Prelude.{◌≡◌, ◌+◌, None, IfErr, if◌then◌else◌, is_ok};
 ghost use Rattle.flutejoin.specs.declared.command_fault.CommandFault.TheVariants.{OutOfMemory};
 
+use crate::input::Reader;
 use flute_parts::{DeviceFault, Failures, Sink};
 use flutejoin::{Aside, CommandFault};
 use itoa::Buffer;
 use std::fs::{self, File, OpenOptions};
-use std::io::{self, ErrorKind, Read, Seek, SeekFrom, Write};
+use std::io::{self, Cursor, ErrorKind, Read, Seek, SeekFrom, Write};
 use std::os::unix::fs::OpenOptionsExt;
 
 /// How many bytes are held in memory. What is more goes to a file.
@@ -17,15 +18,6 @@ const NAMES: u32 = 1_000;
 
 /// How many bytes of it are read at once.
 const CHUNK: usize = 65_536;
-
-/// Where bytes are that were put aside.
-#[derive(Drop)]
-pub enum Kept {
-    /// All of them in memory.
-    Held(Vec<u8>),
-    /// All of them in a file, whose position is at its beginning.
-    File(File),
-}
 
 /// Bytes that are put aside: up to 128 KiB in memory, and what came before them in a file, which
 /// has no name. Contracts see nothing of its bytes.
@@ -60,37 +52,23 @@ impl<'a> FileAside<'a> {
         })
     }
 
-    /// What was put aside, to be read.
+    /// What reads the bytes that were put aside: they are in memory, or all of them in the file.
     ///
     /// # Errors
     ///
     /// If the file failed.
-    pub fn keep(mut self) -> io::Result<Kept> {
+    pub fn reader(mut self) -> io::Result<Reader> {
         if self.file.is_some() {
             self.spill()?;
         }
         match self.file {
             Some(mut file) => {
                 file.seek(SeekFrom::Start(0))?;
-                Ok(Kept::File(file))
+                Ok(Reader::File(file))
             }
             None => {
                 self.held.shrink_to_fit();
-                Ok(Kept::Held(self.held))
-            }
-        }
-    }
-
-    // Counts the failure of a call that failed.
-    fn count<T, E: Drop>(&mut self, done: Result<T, E>) -> Result<T, DeviceFault>
-        ensures { self.new.failures.count
-            ≡ self.old.failures.count + (if is_ok result then 0 else 1) }
-    {
-        match done {
-            Ok(value) => Ok(value),
-            Err(_) => {
-                self.failures = self.failures.and_one();
-                Err(DeviceFault)
+                Ok(Reader::Held(Cursor::new(self.held)))
             }
         }
     }
@@ -109,18 +87,6 @@ impl<'a> FileAside<'a> {
         self.held.clear();
         Ok(())
     }
-
-    // Empties the file.
-    fn empty(&mut self) -> io::Result<()>
-        ensures { self.new.failures ≡ self.old.failures }
-    {
-        if let Some(file) = &mut self.file {
-            file.set_len(0)?;
-            file.seek(SeekFrom::Start(0))?;
-        }
-        self.spilled = 0;
-        Ok(())
-    }
 }
 
 impl Sink for FileAside<'_> {
@@ -130,12 +96,11 @@ impl Sink for FileAside<'_> {
 
     fn write(&mut self, bytes: &[u8]) -> Result<usize, DeviceFault> {
         // Those that are held go to the file if there is no room for both.
-        if self.held.len().saturating_add(bytes.len()) > HELD {
-            let spilled = self.spill();
-            self.count(spilled)?;
+        let is_full = self.held.len().saturating_add(bytes.len()) > HELD;
+        if (is_full && self.spill().is_err()) || self.held.extend_from_slice(bytes).is_err() {
+            self.failures = self.failures.and_one();
+            return Err(DeviceFault);
         }
-        let held = self.held.extend_from_slice(bytes);
-        self.count(held)?;
         Ok(bytes.len())
     }
 }
@@ -144,12 +109,11 @@ impl Aside for FileAside<'_> {
     // The bytes that are held come last: if the file failed before, the sink has a proper prefix.
     fn move_to<W: Sink>(&mut self, sink: &mut W) -> Result<(), DeviceFault> {
         if let Some(file) = &mut self.file {
-            if !copy(file, self.spilled, sink)? {
+            if !empty(file, self.spilled, sink)? {
                 self.failures = self.failures.and_one();
                 return Err(DeviceFault);
             }
-            let emptied = self.empty();
-            self.count(emptied)?;
+            self.spilled = 0;
         }
         sink.write_all(&self.held)?;
         self.held.clear();
@@ -157,8 +121,8 @@ impl Aside for FileAside<'_> {
     }
 }
 
-// Copies the first bytes of a file, so many, to a sink; false if the file failed.
-fn copy<W: Sink>(file: &mut File, count: u64, sink: &mut W) -> Result<bool, DeviceFault>
+// Copies the first bytes of a file, so many, to a sink, and empties the file; false if that failed.
+fn empty<W: Sink>(file: &mut File, count: u64, sink: &mut W) -> Result<bool, DeviceFault>
     ensures { W.failures sink.new ≡ W.failures sink.old + (if is_ok result then 0 else 1) }
 {
     if file.seek(SeekFrom::Start(0)).is_err() {
@@ -174,7 +138,7 @@ fn copy<W: Sink>(file: &mut File, count: u64, sink: &mut W) -> Result<bool, Devi
         sink.write_all(&buffer[..part])?;
         left -= part as u64;
     }
-    Ok(true)
+    Ok(file.set_len(0).is_ok() && file.seek(SeekFrom::Start(0)).is_ok())
 }
 
 // A new file whose path begins so, and whose name is taken away at once. Names that were left

@@ -1,12 +1,12 @@
 //! Where a command puts bytes aside.
 
-use crate::aside::{FileAside, Kept};
-use crate::input::{Input, Reader, input_of};
+use crate::aside::FileAside;
+use crate::input::{Input, input_of};
 use flute_parts::Failures;
 use flutejoin::{Asides, CommandFault};
 use std::alloc::AllocError;
 use std::env;
-use std::io::{self, Cursor};
+use std::io;
 
 /// How the name of a file begins that is put aside in the folder for temporary files.
 const NAME: &str = "flutejoin.";
@@ -56,10 +56,8 @@ impl<'a> Asides for FileAsides<'a> {
     }
 
     fn again(&mut self, aside: FileAside<'a>) -> Result<Input, CommandFault> {
-        let reader = match aside.keep() {
-            Ok(Kept::Held(bytes)) => Reader::Held(Cursor::new(bytes)),
-            Ok(Kept::File(file)) => Reader::File(file),
-            Err(_) => return Err(CommandFault::CannotWrite),
+        let Ok(reader) = aside.reader() else {
+            return Err(CommandFault::CannotWrite);
         };
         match input_of(self.rt, reader, 1) {
             Some(input) => Ok(input),

@@ -9,18 +9,19 @@ ghost use Rattle.flutejoin.specs.declared.command_fault.CommandFault.TheVariants
 mod aside;
 mod asides;
 mod input;
-mod streams;
 mod system;
 
-use crate::streams::standard_output;
 use crate::system::System;
 use flute_output::take_standard_streams;
 use flute_parts::StdSink;
 use flutejoin::CommandFault;
 use flutejoin_run::run;
 use std::env;
-use std::io::{self, ErrorKind};
+use std::io::{self, BufWriter, ErrorKind};
 use std::process::ExitCode;
+
+/// How many bytes of standard output are written at once.
+const BUFFER: usize = 131_072;
 
 fn main(rt: HostRuntime) -> ExitCode {
     take_standard_streams(&rt);
@@ -52,7 +53,11 @@ fn run_words(rt: &HostRuntime) -> Result<(), CommandFault> {
         }
         Err(_) => return Err(CommandFault::NotText),
     };
-    let mut output = standard_output(rt)?;
+    // Nothing that is printed asks for memory.
+    let Ok(writer) = BufWriter::with_capacity(rt.alloc(), BUFFER, io::writer(rt)) else {
+        return Err(CommandFault::OutOfMemory);
+    };
+    let mut output = StdSink::new(writer);
     let mut errors = StdSink::new(rt.stderr());
     run(
         &mut System::new(rt),

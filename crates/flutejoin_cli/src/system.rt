@@ -4,12 +4,10 @@ ghost use Rattle.flutejoin_commands.specs.Worlds.{IsNotMade};
 
 use crate::asides::{FileAsides, beside};
 use crate::input::{Input, Reader, input_of};
-use flute_output::{
-    DeviceFile, DiskFolder, DiskNewFolder, FileId, Found, OpenFault, Place, file_at, place_at,
-};
+use flute_output::{DeviceFile, DiskFolder, DiskNewFolder, FileId, Found, Place, place_at};
 use flute_parts::Failures;
 use flutejoin::{CommandFault, Overwrites};
-use flutejoin_commands::{Inputs, NotOpened, World};
+use flutejoin_commands::{Inputs, World};
 use std::fs::{self, Metadata};
 use std::io::{self, ErrorKind};
 use std::mem;
@@ -65,13 +63,13 @@ impl Inputs for System<'_> {
 
     ghost closed = { λ _. None };
 
-    fn open(&mut self, path: &str, among: usize) -> Result<Input, NotOpened> {
+    fn open(&mut self, number: usize, path: &str, among: usize) -> Result<Input, CommandFault> {
         self.asked = self.asked.and_one();
         let Ok((reader, found)) = reader_at(self.rt, path) else {
-            return Err(NotOpened::Refused);
+            return Err(CommandFault::CannotOpen(number));
         };
         let Some(input) = input_of(self.rt, reader, among) else {
-            return Err(NotOpened::OutOfMemory);
+            return Err(CommandFault::OutOfMemory);
         };
         self.size = None;
         if let Some(found) = found {
@@ -79,7 +77,7 @@ impl Inputs for System<'_> {
                 self.size = Some(found.len());
             }
             if self.files.push(FileId::of(&found)).is_err() {
-                return Err(NotOpened::OutOfMemory);
+                return Err(CommandFault::OutOfMemory);
             }
         }
         Ok(input)
@@ -96,10 +94,15 @@ impl<'a> World for System<'a> {
     type Asides = FileAsides<'a>;
 
     fn look(&mut self, out: &str) {
-        self.before = file_at(self.rt, out);
         let is_file = match fs::metadata(self.rt, out) {
-            Ok(found) => found.is_file(),
-            Err(_) => out != STANDARD,
+            Ok(found) => {
+                self.before = Some(FileId::of(&found));
+                found.is_file()
+            }
+            Err(_) => {
+                self.before = None;
+                out != STANDARD
+            }
         };
         self.beside = if is_file {
             beside(self.rt, out).ok()
@@ -117,7 +120,7 @@ impl<'a> World for System<'a> {
     fn guard(&mut self, out: &str, overwrites: Overwrites) -> Result<(), CommandFault> {
         match Found::at(self.rt, out) {
             Some(found) if out != STANDARD => {
-                overwrites.check(found.first_bytes(), self.files.contains(&found.id))?;
+                overwrites.check(&found.first, self.files.contains(&found.id))?;
                 Ok(())
             }
             _ => Ok(()),
@@ -146,12 +149,12 @@ impl<'a> World for System<'a> {
     fn close(&mut self, _out: &str, _folder: Self::Folder) {}
 }
 
-fn not_made(fault: OpenFault) -> CommandFault
+fn not_made(error: io::Error) -> CommandFault
     ensures { IsNotMade result }
 {
-    match fault {
-        OpenFault::CannotCreate => CommandFault::CannotCreate,
-        OpenFault::OutOfMemory => CommandFault::OutOfMemory,
+    match error.kind() {
+        ErrorKind::OutOfMemory => CommandFault::OutOfMemory,
+        _ => CommandFault::CannotCreate,
     }
 }
 

@@ -89,26 +89,27 @@ pub record OutputEnds {A : Type 0} (now new : Option Entries) (n l : ℕ)
   pub gone : OnErr ended (l ≡ n + (if is_ok done then 1 else 0) → NothingBeside now new)
   pub cause : OnOk done (OnErr ended (n < l))
 
--- only the last step of finishing failed
-pub not_on_disk : {A : Type 0} {writes : A → Option (List ℕ) → Option (List ℕ) → Type 0}
+-- only the last step of finishing failed; `answer` is what the lines report of what was done
+pub not_on_disk : {X A : Type 0} {writes : A → Option (List ℕ) → Option (List ℕ) → Type 0}
     {fails : CommandFault → Type 0} {lines : A → List ℕ} {made now new : Option Entries}
-    {m n l : ℕ} {told : Option (List ℕ)} {t : ℕ} (done : Result A CommandFault)
-    (ended : Result A (FinishFault CommandFault)) → WorkEnds writes made now m n done
+    {m n l : ℕ} {told : Option (List ℕ)} {t : ℕ} (answer : X → A)
+    (done : Result X CommandFault) (ended : Result X (FinishFault CommandFault))
+    → WorkEnds (λ x. writes (answer x)) made now m n done
     → OutputEnds now new n l done ended → ended ≡ Err NotOnDisk
     → FailsWriting writes fails lines (devices made m told t) (devices new l told t) fault.NotOnDisk
-not_on_disk (Ok x) (Ok y) w e is = absurd cc
-not_on_disk (Ok x) (Err (Work f)) w e is = absurd cc
-not_on_disk (Ok x) (Err Write) w e is = absurd cc
-not_on_disk {writes = writes} {made = made} {now = now} {new = new} (Ok x) (Err NotOnDisk) w e is =
-    by_disk refl (record {
-      answer = x;
-      out = there_since (writes x) made now new w.same w.written e.dropped e.any_moment;
+not_on_disk answer (Ok x) (Ok y) w e is = absurd cc
+not_on_disk answer (Ok x) (Err (Work f)) w e is = absurd cc
+not_on_disk answer (Ok x) (Err Write) w e is = absurd cc
+not_on_disk {writes = writes} {made = made} {now = now} {new = new} answer (Ok x) (Err NotOnDisk) w
+    e is = by_disk refl (record {
+      answer = answer x;
+      out = there_since (writes (answer x)) made now new w.same w.written e.dropped e.any_moment;
       folder_fails = omega (arith, w.quiet, e.cause);
       cleared = λ once.
           beside_since made now new w.same.found (e.gone (omega (arith, w.quiet, once)));
       untold = record { report = refl; failures = refl };
     })
-not_on_disk (Err f) ended w e is =
+not_on_disk answer (Err f) ended w e is =
     let clash : Err (Work f) ≡ Err NotOnDisk = sym e.fault ∙ is in absurd cc
 
 -- From what was known once the file beside OUT was made to what was known before.

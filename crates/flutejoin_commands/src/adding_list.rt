@@ -38,7 +38,7 @@ impl<R: Source + Drop> Work for InfoListWork<R> {
 
     ghost tells = { λ _. entries_line };
 
-    fn write<W: Sink>(&mut self, sink: &mut W) -> Result<u64, CommandFault> {
+    fn write<W: Sink>(&mut self, sink: &mut W) -> Result<(u64, Text), CommandFault> {
         let source = &mut self.source;
         let list = &mut self.list;
         let entries = if self.any_size {
@@ -53,12 +53,8 @@ impl<R: Source + Drop> Work for InfoListWork<R> {
         if entries > MAX_ENTRIES {
             return Err(CommandFault::Full);
         }
-        Ok(entries)
-    }
-
-    fn lines(&self, entries: &u64) -> Text {
         let mut lines = Text::new();
-        lines.push_count("entries", *entries);
-        lines
+        lines.push_count("entries", entries);
+        Ok((entries, lines))
     }
 }

@@ -6,7 +6,7 @@ ghost use Rattle.flutejoin_commands.specs.Named.{IsBefore};
 ghost use Rattle.flutejoin_commands.specs.Opened.{AreOpened};
 ghost use Rattle.flutejoin_commands.specs.Worlds.{MayOverwrite};
 
-use crate::opening::{open_input, open_inputs, open_two};
+use crate::opening::{open_inputs, open_two};
 use crate::world::World;
 use flutejoin::{CommandFault, JoinInput, Overwrites};
 use std::alloc::Global;
@@ -30,7 +30,7 @@ pub fn begin<W: World>(
     ensures same_closed { W.closed world.new ≡ W.closed world.old }
 {
     world.look(out);
-    let input = open_input(world, 1, path)?;
+    let input = world.open(1, path, 1)?;
     world.guard(out, overwrites)?;
     Ok(input)
 }

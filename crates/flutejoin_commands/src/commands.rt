@@ -344,7 +344,7 @@ pub fn carousel<W: World, O: Outlet, E: Sink>(
 }
 
 // An input of these bytes, and how many they are: if that is not known, they are put aside.
-fn measured<W: World>(world: &mut W, source: W::Input) -> Result<(W::Input, u64), CommandFault>
+fn measured<W: World>(world: &mut W, mut source: W::Input) -> Result<(W::Input, u64), CommandFault>
     ensures same { IfOk result
         (λ m. IsAgain (W.files world.old) (W.Input.unread source) (W.Input.unread m.0)) }
     ensures failed { IfErr result (MeasureFails (W.Input.unread source)) }
@@ -354,22 +354,12 @@ fn measured<W: World>(world: &mut W, source: W::Input) -> Result<(W::Input, u64)
     match world.size(&source) {
         Some(size) if is_too_large(Some(size)) => Err(CommandFault::TooLarge(1)),
         Some(size) => Ok((source, size)),
-        None => put_by(world, source),
+        None => {
+            let mut asides = world.asides();
+            let mut aside = asides.aside()?;
+            let size = put_aside(&mut source, &mut aside)?;
+            let again = asides.again(aside)?;
+            Ok((again, size))
+        }
     }
-}
-
-// An input of the bytes that were put aside, and how many they are.
-fn put_by<W: World>(world: &mut W, source: W::Input) -> Result<(W::Input, u64), CommandFault>
-    ensures same { IfOk result
-        (λ m. IsAgain (W.files world.old) (W.Input.unread source) (W.Input.unread m.0)) }
-    ensures failed { IfErr result (MeasureFails (W.Input.unread source)) }
-    ensures same_files { W.files world.new ≡ W.files world.old }
-    ensures same_closed { W.closed world.new ≡ W.closed world.old }
-{
-    let mut source = source;
-    let mut asides = world.asides();
-    let mut aside = asides.aside()?;
-    let size = put_aside(&mut source, &mut aside)?;
-    let again = asides.again(aside)?;
-    Ok((again, size))
 }

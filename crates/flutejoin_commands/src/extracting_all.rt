@@ -2,7 +2,7 @@
 ghost use Rattle.std.specs.Prelude.{◌≡◌, ◌+◌, ◌≤◌, ◌⊎◌, ℕ, List, Option};
 ghost use Rattle.std.specs.Prelude.{IfOk, IfErr, IfSome, OnOk, Err, codes};
 ghost use Rattle.std.specs.Io.KnownBytes.{Appends};
-ghost use Rattle.flute_output.specs.NewFolders.{Places, LeadsTo, IsMade, FolderStays, IsReady};
+ghost use Rattle.flute_output.specs.NewFolders.{Places, LeadsTo, FolderStays, IsReady};
 ghost use Rattle.flutejoin.specs.declared.command_fault.CommandFault.TheVariants.{CannotWrite};
 ghost use Rattle.flutejoin.specs.ExtractAll.{ExtractsAll, ExtractAllFails};
 ghost use Rattle.flutejoin.specs.Limits.{limits_of};
@@ -10,7 +10,7 @@ ghost use Rattle.flutejoin.specs.Lines.{count_line};
 ghost use Rattle.flutejoin_commands.specs.Folders.{LeavesFolder, FolderFails, IsOneFolderAlways};
 ghost use Rattle.flutejoin_commands.specs.Folders.{finish_fault};
 
-use crate::report::Report;
+use crate::outlet::Outlet;
 use flute_output::{FinishFault, NewFolder, finish_folder};
 use flute_parts::Source;
 use flutejoin::{
@@ -29,7 +29,7 @@ use std::alloc::Global;
 /// if the report or the disk failed, or the folder could not be put in its place: there is no OUT
 /// then. `NotOnDisk` if OUT is there, but the disk did not confirm that it has this name. Last,
 /// `CannotWrite` if the report failed to take the number: OUT is there then.
-pub fn extract_all_into<D: NewFolder, R: Source, P: Report>(
+pub fn extract_all_into<D: NewFolder, R: Source, P: Outlet>(
     alloc: Global,
     any_size: bool,
     folder: &mut D,
@@ -46,34 +46,9 @@ pub fn extract_all_into<D: NewFolder, R: Source, P: Report>(
         picked.now (D.places folder.old) (D.places folder.new)) }
     ensures any_moment { IsOneFolderAlways (D.places folder.old) (D.places folder.new) }
 {
-    match folder.create() {
-        Ok(()) => write_made(alloc, any_size, folder, source, picked, report),
-        Err(_) => Err(CommandFault::CannotCreate),
-    }
-}
-
-// Fills a folder that was made, and ends it.
-fn write_made<D: NewFolder, R: Source, P: Report>(
-    alloc: Global,
-    any_size: bool,
-    folder: &mut D,
-    source: &mut R,
-    picked: &Picked,
-    report: &mut P,
-) -> Result<(), CommandFault>
-    requires made { (o : Option Places) × LeadsTo IsMade o (D.places folder.old) }
-    ensures extracted { (o : Option Places) → LeadsTo IsMade o (D.places folder.old)
-        → OnOk result (LeavesFolder (limits_of any_size) (R.unread source.old)
-        picked.now
-        o (D.places folder.new) (P.written report.old) (P.written report.new)) }
-    ensures handed_on { OnOk result (P.handed_on report.new ≡ P.written report.new) }
-    ensures failed { (o : Option Places) → LeadsTo IsMade o (D.places folder.old)
-        → IfErr result (FolderFails (limits_of any_size)
-        (R.unread source.old) (R.unread source.new)
-        picked.now o (D.places folder.new)) }
-    ensures any_moment { (o : Option Places) → LeadsTo IsMade o (D.places folder.old)
-        → IsOneFolderAlways o (D.places folder.new) }
-{
+    let Ok(()) = folder.create() else {
+        return Err(CommandFault::CannotCreate);
+    };
     let filled = fill(alloc, any_size, folder, source, picked, report);
     match finish_folder(folder, filled) {
         Ok(count) => tell(report, count),
@@ -93,7 +68,7 @@ fn fault_of(fault: FinishFault<CommandFault>) -> CommandFault
 }
 
 // Fills the folder, and hands the lines on: those of the objects before a fault, too.
-fn fill<D: NewFolder, R: Source, P: Report>(
+fn fill<D: NewFolder, R: Source, P: Outlet>(
     alloc: Global,
     any_size: bool,
     folder: &mut D,
@@ -129,7 +104,7 @@ fn fill<D: NewFolder, R: Source, P: Report>(
 }
 
 // Reports how many files were written.
-fn tell<P: Report>(report: &mut P, count: u64) -> Result<(), CommandFault>
+fn tell<P: Outlet>(report: &mut P, count: u64) -> Result<(), CommandFault>
     ensures told { OnOk result (Appends (P.written report.old) (P.written report.new)
         (count_line (codes "written") count)) }
     ensures handed_on { OnOk result (P.handed_on report.new ≡ P.written report.new) }

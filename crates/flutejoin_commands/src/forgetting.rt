@@ -28,14 +28,11 @@ impl<R: Source + Drop> Work for ForgetWork<R> {
 
     ghost tells = { λ _. forget_lines };
 
-    fn write<W: Sink>(&mut self, sink: &mut W) -> Result<ForgetCounts, CommandFault> {
-        forget_to(self.alloc, &mut self.input, sink)
-    }
-
-    fn lines(&self, counts: &ForgetCounts) -> Text {
+    fn write<W: Sink>(&mut self, sink: &mut W) -> Result<(ForgetCounts, Text), CommandFault> {
+        let counts = forget_to(self.alloc, &mut self.input, sink)?;
         let mut lines = Text::new();
         lines.push_count("forgotten", counts.forgotten);
         lines.push_count("entries", counts.entries);
-        lines
+        Ok((counts, lines))
     }
 }

@@ -91,15 +91,11 @@ impl<R: Source + Drop, A: Asides<Input = R>> Work for JoinWork<R, A> {
 
     ghost tells = { λ w. join_lines w.scope };
 
-    fn write<W: Sink>(&mut self, sink: &mut W) -> Result<JoinCounts, CommandFault> {
+    fn write<W: Sink>(&mut self, sink: &mut W) -> Result<(JoinCounts, Text), CommandFault> {
         let counts = self.join(sink)?;
         if counts.entries > MAX_ENTRIES {
             return Err(CommandFault::Full);
         }
-        Ok(counts)
-    }
-
-    fn lines(&self, counts: &JoinCounts) -> Text {
         let mut lines = Text::new();
         lines.push_count("datagrams", counts.datagrams);
         lines.push_count("refused", counts.refused);
@@ -107,6 +103,6 @@ impl<R: Source + Drop, A: Asides<Input = R>> Work for JoinWork<R, A> {
             lines.push_count("others", counts.others);
         }
         lines.push_count("entries", counts.entries);
-        lines
+        Ok((counts, lines))
     }
 }

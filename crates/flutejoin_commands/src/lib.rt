@@ -2,8 +2,8 @@
 //!
 //! A command that writes an output is a [`Work`], done by [`write_into`]: OUT is then what it
 //! wrote, whole, and a report has its lines; or OUT is as it was. An output that takes its bytes
-//! itself, as a pipe, is an [`Outlet`]: [`write_through`], [`write_held`]. [`show_on`], [`gaps_on`]
-//! and [`packet_on`] print, and [`open_inputs`] opens inputs by their names.
+//! itself, as a pipe, is an [`Outlet`]: [`write_through`], [`write_held`]. [`gaps_on`] prints, and
+//! [`open_inputs`] opens inputs by their names.
 //!
 //! Where an output is at a name, [`leave`] does one of these with what the name leads to, in a
 //! [`World`]; [`join`], [`merge`], [`info`], [`extract`], [`carousel`], [`show`], [`gaps`] and
@@ -41,9 +41,7 @@ mod outlet_command;
 mod output_command;
 mod printing;
 mod prints;
-mod report;
 mod sending;
-mod std_report;
 mod work;
 mod world;
 
@@ -57,14 +55,12 @@ pub use joining::JoinWork;
 pub use leaving::{leave, leave_held};
 pub use merging::MergeWork;
 pub use no_output::without_output;
-pub use opening::{Inputs, NotOpened, open_input, open_inputs, open_two};
+pub use opening::{Inputs, open_inputs, open_two};
 pub use outlet::Outlet;
 pub use outlet_command::{write_held, write_through};
 pub use output_command::write_into;
-pub use printing::{gaps_on, hand_on, packet_on, show_on};
+pub use printing::{gaps_on, hand_on};
 pub use prints::{extract_all, gaps, packet, show};
-pub use report::Report;
 pub use sending::SendWork;
-pub use std_report::StdReport;
 pub use work::Work;
 pub use world::World;

@@ -30,17 +30,13 @@ impl<A: Source + Drop, B: Source + Drop> Work for MergeWork<A, B> {
 
     ghost tells = { λ _. entries_line };
 
-    fn write<W: Sink>(&mut self, sink: &mut W) -> Result<u64, CommandFault> {
+    fn write<W: Sink>(&mut self, sink: &mut W) -> Result<(u64, Text), CommandFault> {
         let entries = merge_to(self.alloc, &mut self.first, &mut self.second, sink)?;
         if entries > MAX_ENTRIES {
             return Err(CommandFault::Full);
         }
-        Ok(entries)
-    }
-
-    fn lines(&self, entries: &u64) -> Text {
         let mut lines = Text::new();
-        lines.push_count("entries", *entries);
-        lines
+        lines.push_count("entries", entries);
+        Ok((entries, lines))
     }
 }

@@ -13,15 +13,6 @@ use flute_parts::Source;
 use flutejoin::{CommandFault, JoinInput};
 use std::alloc::Global;
 
-/// Why an input is not opened.
-#[derive(Clone, Copy, Debug, PartialEq, Eq)]
-pub enum NotOpened {
-    /// It is not there, or is no input, or is not given.
-    Refused,
-    /// There was no memory.
-    OutOfMemory,
-}
-
 /// What opens inputs by their names.
 pub trait Inputs {
     type Input: Source + Drop;
@@ -38,74 +29,29 @@ pub trait Inputs {
     // The outputs that were closed so far, the last first, if they are known.
     ghost closed: { Self → Option (List Closing) };
 
-    /// Opens the input with this name: it gives the bytes that the name has. It is one of so many
-    /// that are read together, and share the memory for reading.
+    /// Opens the input with this name, whose number is this, from 1: it gives the bytes that the
+    /// name has. It is one of so many that are read together, and share the memory for reading.
     ///
     /// # Errors
     ///
-    /// If it is refused, or there is no memory.
-    fn open(&mut self, path: &str, among: usize) -> Result<Self::Input, NotOpened>
+    /// `CannotOpen` with the number if it is not there, or is no input; and `OutOfMemory`.
+    fn open(&mut self, number: usize, path: &str, among: usize) -> Result<Self::Input, CommandFault>
         ensures opened { IfOk result
             (λ input. HasBytes (files self.old) path.now (Self.Input.unread input)) }
-        ensures refused { result ≡ Err NotOpened.Refused → IsNoFile (files self.old) path.now }
+        ensures failed { IfErr result (λ fault.
+            ((fault ≡ CannotOpen number) × IsNoFile (files self.old) path.now)
+            ⊎ (fault ≡ OutOfMemory)) }
         ensures same_files { files self.new ≡ files self.old }
         ensures same_folders { folders self.new ≡ folders self.old }
         ensures same_closed { closed self.new ≡ closed self.old }
         ensures asked { asked self.new ≡ asked self.old + 1 };
 }
 
-/// Opens the input with this number, from 1.
-///
-/// # Errors
-///
-/// `CannotOpen` with the number, or `OutOfMemory`.
-pub fn open_input<I: Inputs>(
-    inputs: &mut I,
-    number: usize,
-    path: &str,
-) -> Result<I::Input, CommandFault>
-    ensures opened { IfOk result
-        (λ input. HasBytes (I.files inputs.old) path.now (I.Input.unread input)) }
-    ensures failed { IfErr result (λ fault.
-        ((fault ≡ CannotOpen number) × IsNoFile (I.files inputs.old) path.now)
-        ⊎ (fault ≡ OutOfMemory)) }
-    ensures same_files { I.files inputs.new ≡ I.files inputs.old }
-    ensures same_closed { I.closed inputs.new ≡ I.closed inputs.old }
-    ensures same_folders { I.folders inputs.new ≡ I.folders inputs.old }
-    ensures asked { I.asked inputs.new ≡ I.asked inputs.old + 1 }
-{
-    open_among(inputs, 1, number, path)
-}
-
-// Opens the input with this number, from 1, one of so many that are read together.
-fn open_among<I: Inputs>(
-    inputs: &mut I,
-    among: usize,
-    number: usize,
-    path: &str,
-) -> Result<I::Input, CommandFault>
-    ensures opened { IfOk result
-        (λ input. HasBytes (I.files inputs.old) path.now (I.Input.unread input)) }
-    ensures failed { IfErr result (λ fault.
-        ((fault ≡ CannotOpen number) × IsNoFile (I.files inputs.old) path.now)
-        ⊎ (fault ≡ OutOfMemory)) }
-    ensures same_files { I.files inputs.new ≡ I.files inputs.old }
-    ensures same_closed { I.closed inputs.new ≡ I.closed inputs.old }
-    ensures same_folders { I.folders inputs.new ≡ I.folders inputs.old }
-    ensures asked { I.asked inputs.new ≡ I.asked inputs.old + 1 }
-{
-    match inputs.open(path, among) {
-        Ok(source) => Ok(source),
-        Err(NotOpened::Refused) => Err(CommandFault::CannotOpen(number)),
-        Err(NotOpened::OutOfMemory) => Err(CommandFault::OutOfMemory),
-    }
-}
-
 /// Opens two inputs, the first and then the second.
 ///
 /// # Errors
 ///
-/// As [`open_input`], of the first that is not opened.
+/// As [`Inputs::open`], of the first that is not opened.
 pub fn open_two<I: Inputs>(
     inputs: &mut I,
     first: &str,
@@ -124,8 +70,8 @@ pub fn open_two<I: Inputs>(
     ensures each_once { OnOk result (I.asked inputs.new ≡ I.asked inputs.old + 2) }
     ensures at_most { I.asked inputs.new ≤ I.asked inputs.old + 2 }
 {
-    let opened = open_input(inputs, 1, first)?;
-    match open_input(inputs, 2, second) {
+    let opened = inputs.open(1, first, 1)?;
+    match inputs.open(2, second, 1) {
         Ok(other) => Ok((opened, other)),
         Err(fault) => Err(fault),
     }
@@ -157,7 +103,7 @@ pub fn open_inputs<I: Inputs>(
 {
     let mut opened = Vec::new(alloc);
     for (k, path) in paths.iter().enumerate() {
-        let input = open_one(inputs, paths.len(), k + 1, path)?;
+        let input = open_one(inputs, k + 1, path, paths.len())?;
         if opened.push(input).is_err() {
             return Err(CommandFault::OutOfMemory);
         }
@@ -168,9 +114,9 @@ pub fn open_inputs<I: Inputs>(
 // Opens the input with this number, one of so many, and reads its first bytes.
 fn open_one<I: Inputs>(
     inputs: &mut I,
-    among: usize,
     number: usize,
     path: &str,
+    among: usize,
 ) -> Result<JoinInput<I::Input>, CommandFault>
     ensures opened { IfOk result (IsOpened (I.files inputs.old) I.Input.unread path.now) }
     ensures failed { IfErr result (IsNotOpened (I.files inputs.old) I.Input.unread
@@ -179,7 +125,7 @@ fn open_one<I: Inputs>(
     ensures same_closed { I.closed inputs.new ≡ I.closed inputs.old }
     ensures asked { I.asked inputs.new ≡ I.asked inputs.old + 1 }
 {
-    let source = open_among(inputs, among, number, path)?;
+    let source = inputs.open(number, path, among)?;
     match JoinInput::open(source) {
         Ok(input) => Ok(input),
         Err(_) => Err(CommandFault::Input(number, ReadFault::Read)),

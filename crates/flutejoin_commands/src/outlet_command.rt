@@ -40,11 +40,11 @@ pub fn write_through<O: Outlet, K: Work + Drop, P: Sink>(
     if output.open().is_err() {
         return Err(without_output(&mut work, CommandFault::CannotCreate));
     }
-    let answer = work.write(output)?;
+    let (_answer, lines) = work.write(output)?;
     if output.flush().is_err() {
         return Err(CommandFault::CannotWrite);
     }
-    match report.write_all(work.lines(&answer).as_slice()) {
+    match report.write_all(lines.as_slice()) {
         Ok(()) => Ok(()),
         Err(_) => Err(CommandFault::CannotWrite),
     }
@@ -80,8 +80,8 @@ pub fn write_held<O: Outlet, K: Work + Drop, P: Sink>(
         → O.written output.new ≡ O.written output.old) }
 {
     let mut held = MemorySink::new(alloc);
-    let answer = match work.write(&mut held) {
-        Ok(answer) => answer,
+    let lines = match work.write(&mut held) {
+        Ok((_answer, lines)) => lines,
         Err(CommandFault::CannotWrite) => return Err(CommandFault::OutOfMemory),
         Err(fault) => return Err(fault),
     };
@@ -91,7 +91,7 @@ pub fn write_held<O: Outlet, K: Work + Drop, P: Sink>(
     if output.write_all(held.as_slice()).is_err() || output.flush().is_err() {
         return Err(CommandFault::CannotWrite);
     }
-    match report.write_all(work.lines(&answer).as_slice()) {
+    match report.write_all(lines.as_slice()) {
         Ok(()) => Ok(()),
         Err(_) => Err(CommandFault::CannotWrite),
     }

@@ -79,8 +79,8 @@ fn write_created<F: Folder + Drop, K: Work + Drop, P: Sink, B: Begun>(
     let written = work.write(&mut begun);
     let (done, folder) = begun.output.finish(written);
     match done {
-        Ok(answer) => {
-            let told = report.write_all(work.lines(&answer).as_slice());
+        Ok((_answer, lines)) => {
+            let told = report.write_all(lines.as_slice());
             (told.map_err(|_| CommandFault::CannotWrite), folder)
         }
         Err(FinishFault::Work(fault)) => (Err(fault), folder),

@@ -1,54 +1,24 @@
-//! The commands that print and write no file.
+//! What is missing is printed, and what is printed is handed on.
 ghost use Rattle.std.specs.Prelude.{◌≡◌, ◌≢◌, ◌⊎◌, ◌<◌, ◌≤◌, ◌+◌, ◌||◌, [], Some, Err, OnOk, OnErr};
 ghost use Rattle.std.specs.Prelude.{IfOk, IfErr, not};
 ghost use Rattle.std.specs.Io.KnownBytes.{Appends, IsAtEnd};
 ghost use Rattle.flute_parts.specs.Devices.{AppendsPart};
 ghost use Rattle.flutejoin.specs.Gaps.{ListsJournal, GapsFail};
 ghost use Rattle.flutejoin.specs.Limits.{limits_of};
-ghost use Rattle.flutejoin.specs.Packet.{HasLines, FailsWith, write_failures};
-ghost use Rattle.flutejoin.specs.Show.{ShowsAll, ShowFails};
+ghost use Rattle.flutejoin.specs.Packet.{write_failures};
 ghost use Rattle.flutejoin.specs.declared.command_fault.CommandFault.TheVariants.{CannotWrite};
 ghost use Rattle.flutejoin.specs.declared.command_fault.CommandFault.TheVariants.{NotAllWhole};
 ghost use Rattle.flutejoin.specs.Styles.{are_whole, passes_check, printed};
 ghost use Rattle.flutejoin_commands.specs.Prints.{FailsToFlush, IfPrinted, IsHandedOn};
 
-use crate::report::Report;
+use crate::outlet::Outlet;
 use flute_parts::{Sink, Source};
 use flute_streams::Selection;
 use flutejoin::{
     ANY_OBJECTS, ANY_SESSIONS, ANY_SYMBOLS, Aside, CommandFault, MAX_OBJECTS, MAX_SESSIONS,
-    MAX_SYMBOLS, Style, gaps_from, packet_to, show_to,
+    MAX_SYMBOLS, Style, gaps_from,
 };
 use std::alloc::Global;
-
-/// Prints what is selected of a journal, as [`show_to`] writes it, and hands it on: after a fault
-/// of the journal too.
-///
-/// # Errors
-///
-/// Those of [`show_to`]; or `CannotWrite` if all was written and not handed on.
-pub fn show_on<R: Source, P: Report>(
-    alloc: Global,
-    source: &mut R,
-    selection: &Selection,
-    report: &mut P,
-) -> Result<(), CommandFault>
-    ensures shown { OnOk result (ShowsAll selection.now
-        (R.unread source.old) (P.written report.old) (P.written report.new)) }
-    ensures failed { IfErr result (λ fault.
-        ShowFails selection.now (R.unread source.old) (R.unread source.new)
-        (P.written report.old) (P.written report.new) fault
-        ⊎ FailsToFlush (ShowsAll selection.now (R.unread source.old)
-        (P.written report.old) (P.written report.new)) fault) }
-    ensures flushed { IsHandedOn (P.failures report.old) (P.failures report.new)
-        (P.written report.new) (P.handed_on report.new) }
-    ensures quiet { OnOk result (P.failures report.new ≡ P.failures report.old) }
-    ensures cause { IfErr result (λ fault. fault ≡ CannotWrite
-        → P.failures report.old < P.failures report.new) }
-{
-    let shown = show_to(alloc, source, selection, report);
-    hand_on(report, shown)
-}
 
 /// Prints what is missing of the selected objects of a journal, as [`gaps_from`] writes it, and
 /// hands it on.
@@ -59,7 +29,7 @@ pub fn show_on<R: Source, P: Report>(
 /// Those of [`gaps_from`]; or `CannotWrite` if all was written and not handed on; or last, if the
 /// style asks for a check, `NotAllWhole`: all was handed on, and not all objects that are listed
 /// are whole.
-pub fn gaps_on<R: Source, A: Aside, P: Report>(
+pub fn gaps_on<R: Source, A: Aside, P: Outlet>(
     alloc: Global,
     any_size: bool,
     source: &mut R,
@@ -159,34 +129,12 @@ fn checked(style: Style, all_whole: bool) -> Result<(), CommandFault>
     }
 }
 
-/// Prints what a datagram says, as [`packet_to`] writes it, and hands it on.
-///
-/// # Errors
-///
-/// Those of [`packet_to`]; or `CannotWrite` if all was written and not handed on.
-pub fn packet_on<P: Report>(alloc: Global, text: &str, report: &mut P) -> Result<(), CommandFault>
-    ensures printed { OnOk result
-        (HasLines text.now (Appends (P.written report.old) (P.written report.new))) }
-    ensures failed { IfErr result (λ fault.
-        FailsWith text.now (P.written report.old) (P.written report.new) fault
-        ⊎ FailsToFlush (HasLines text.now
-        (Appends (P.written report.old) (P.written report.new))) fault) }
-    ensures flushed { IsHandedOn (P.failures report.old) (P.failures report.new)
-        (P.written report.new) (P.handed_on report.new) }
-    ensures quiet { OnOk result (P.failures report.new ≡ P.failures report.old) }
-    ensures cause { IfErr result (λ fault. fault ≡ CannotWrite
-        → P.failures report.old < P.failures report.new) }
-{
-    let printed = packet_to(alloc, text, report);
-    hand_on(report, printed)
-}
-
 /// Hands on what was printed.
 ///
 /// # Errors
 ///
 /// The fault of the work, which comes first; `CannotWrite` if the report failed.
-pub fn hand_on<P: Report>(
+pub fn hand_on<P: Outlet>(
     report: &mut P,
     done: Result<(), CommandFault>,
 ) -> Result<(), CommandFault>

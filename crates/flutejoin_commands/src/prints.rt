@@ -1,41 +1,49 @@
 //! The commands that leave no file at a name, from the names of their files to what they print.
-ghost use Rattle.std.specs.Prelude.{◌≡◌, OnOk, IfErr};
+ghost use Rattle.std.specs.Prelude.{◌≡◌, ◌⊎◌, ◌<◌, OnOk, IfErr};
 ghost use Rattle.flutejoin.specs.Limits.{limits_of};
+ghost use Rattle.flutejoin.specs.declared.command_fault.CommandFault.TheVariants.{CannotWrite};
 ghost use Rattle.flutejoin_commands.specs.Printed.{PrintsPacket, PacketFails, ShowsName};
 ghost use Rattle.flutejoin_commands.specs.Printed.{ShowNameFails, ListsName, ListNameFails};
 ghost use Rattle.flutejoin_commands.specs.Printed.{LeavesFolderOfName, FolderOfNameFails};
-ghost use Rattle.flutejoin_commands.specs.Prints.{IfPrinted};
+ghost use Rattle.flutejoin_commands.specs.Prints.{IfPrinted, IsHandedOn};
 
 use crate::extracting_all::extract_all_into;
-use crate::opening::open_input;
-use crate::printing::{gaps_on, packet_on, show_on};
-use crate::report::Report;
+use crate::outlet::Outlet;
+use crate::printing::{gaps_on, hand_on};
 use crate::world::World;
 use flute_streams::Selection;
-use flutejoin::{Asides, CommandFault, Picked, Style};
+use flutejoin::{Asides, CommandFault, Picked, Style, packet_to, show_to};
 use std::alloc::Global;
 
-/// Prints what a datagram in hexadecimal says.
+/// Prints what a datagram in hexadecimal says, as [`packet_to`] writes it, and hands it on.
 ///
 /// # Errors
 ///
-/// Those of [`packet_on`].
-pub fn packet<P: Report>(alloc: Global, hex: &str, output: &mut P) -> Result<(), CommandFault>
+/// Those of [`packet_to`]; or `CannotWrite` if all was written and not handed on.
+pub fn packet<P: Outlet>(alloc: Global, hex: &str, output: &mut P) -> Result<(), CommandFault>
     ensures printed { OnOk result
         (PrintsPacket hex.now (P.written output.old) (P.written output.new)) }
     ensures handed_on { OnOk result (P.handed_on output.new ≡ P.written output.new) }
     ensures failed { IfErr result
         (PacketFails hex.now (P.written output.old) (P.written output.new)) }
+    ensures flushed { IsHandedOn (P.failures output.old) (P.failures output.new)
+        (P.written output.new) (P.handed_on output.new) }
+    ensures quiet { OnOk result (P.failures output.new ≡ P.failures output.old) }
+    ensures cause { IfErr result (λ fault. fault ≡ CannotWrite
+        → P.failures output.old < P.failures output.new) }
 {
-    packet_on(alloc, hex, output)
+    let printed = packet_to(alloc, hex, output);
+    hand_on(output, printed)
 }
 
-/// Prints what is selected of the entries of the journal of this name.
+/// Prints what is selected of the entries of the journal of this name, as [`show_to`] writes it,
+/// and hands it on: after a fault of the journal too.
 ///
 /// # Errors
 ///
-/// That the input is not opened; then those of [`show_on`].
-pub fn show<W: World, P: Report>(
+/// That the input is not opened; then those of [`show_to`]; or `CannotWrite` if all was written and
+/// not handed on.
+pub fn show<W: World, P: Outlet>(
     world: &mut W,
     alloc: Global,
     selection: &Selection,
@@ -47,11 +55,18 @@ pub fn show<W: World, P: Report>(
     ensures handed_on { OnOk result (P.handed_on output.new ≡ P.written output.new) }
     ensures failed { IfErr result (ShowNameFails (W.files world.old) j.now selection.now
         (P.written output.old) (P.written output.new)) }
+    ensures flushed { (P.written output.new ≡ P.written output.old)
+        ⊎ IsHandedOn (P.failures output.old) (P.failures output.new)
+        (P.written output.new) (P.handed_on output.new) }
+    ensures quiet { OnOk result (P.failures output.new ≡ P.failures output.old) }
+    ensures cause { IfErr result (λ fault. fault ≡ CannotWrite
+        → P.failures output.old < P.failures output.new) }
     ensures same_files { W.files world.new ≡ W.files world.old }
     ensures same_closed { W.closed world.new ≡ W.closed world.old }
 {
-    let mut source = open_input(world, 1, j)?;
-    show_on(alloc, &mut source, selection, output)
+    let mut source = world.open(1, j, 1)?;
+    let shown = show_to(alloc, &mut source, selection, output);
+    hand_on(output, shown)
 }
 
 /// Prints what is missing of the selected objects of the journal of this name, in a style.
@@ -59,7 +74,7 @@ pub fn show<W: World, P: Report>(
 /// # Errors
 ///
 /// That the input is not opened, or `OutOfMemory`; then those of [`gaps_on`].
-pub fn gaps<W: World, P: Report>(
+pub fn gaps<W: World, P: Outlet>(
     world: &mut W,
     alloc: Global,
     any_size: bool,
@@ -78,7 +93,7 @@ pub fn gaps<W: World, P: Report>(
     ensures same_files { W.files world.new ≡ W.files world.old }
     ensures same_closed { W.closed world.new ≡ W.closed world.old }
 {
-    let mut source = open_input(world, 1, j)?;
+    let mut source = world.open(1, j, 1)?;
     let mut asides = world.asides();
     let mut lines = asides.aside()?;
     let mut gap_lines = asides.aside()?;
@@ -100,7 +115,7 @@ pub fn gaps<W: World, P: Report>(
 /// # Errors
 ///
 /// That the input is not opened, or the output cannot be made; then those of [`extract_all_into`].
-pub fn extract_all<W: World, P: Report>(
+pub fn extract_all<W: World, P: Outlet>(
     world: &mut W,
     alloc: Global,
     out: &str,
@@ -118,7 +133,7 @@ pub fn extract_all<W: World, P: Report>(
     ensures same_files { W.files world.new ≡ W.files world.old }
     ensures same_closed { W.closed world.new ≡ W.closed world.old }
 {
-    let mut source = open_input(world, 1, j)?;
+    let mut source = world.open(1, j, 1)?;
     let mut folder = world.new_folder(out)?;
     extract_all_into(alloc, any_size, &mut folder, &mut source, picked, output)
 }

@@ -32,7 +32,7 @@ impl<R: Source + Drop> Work for SendWork<R> {
 
     ghost tells = { λ _. datagrams_line };
 
-    fn write<W: Sink>(&mut self, sink: &mut W) -> Result<u64, CommandFault> {
+    fn write<W: Sink>(&mut self, sink: &mut W) -> Result<(u64, Text), CommandFault> {
         let datagrams = send_to(
             self.alloc,
             &self.key,
@@ -45,12 +45,8 @@ impl<R: Source + Drop> Work for SendWork<R> {
         if datagrams > MAX_ENTRIES {
             return Err(CommandFault::Full);
         }
-        Ok(datagrams)
-    }
-
-    fn lines(&self, count: &u64) -> Text {
         let mut lines = Text::new();
-        lines.push_count("datagrams", *count);
-        lines
+        lines.push_count("datagrams", datagrams);
+        Ok((datagrams, lines))
     }
 }

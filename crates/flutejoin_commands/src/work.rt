@@ -24,21 +24,17 @@ pub trait Work {
     // The lines that report an answer.
     ghost tells: { Self → Self.Answer → List ℕ };
 
-    /// Does the work.
+    /// Does the work, and tells what it did, with the lines that report that.
     ///
     /// # Errors
     ///
     /// What is wrong with the inputs; or `CannotWrite` if the sink failed.
-    fn write<W: Sink>(&mut self, sink: &mut W) -> Result<Self::Answer, CommandFault>
+    fn write<W: Sink>(&mut self, sink: &mut W) -> Result<(Self::Answer, Text), CommandFault>
         ensures written { IfOk result
-            (λ x. writes self.old x (W.written sink.old) (W.written sink.new)) }
+            (λ x. writes self.old x.0 (W.written sink.old) (W.written sink.new)) }
+        ensures told { IfOk result (λ x. x.1 ≡ tells self.old x.0) }
         ensures failed { IfErr result (fails self.old) }
-        ensures tells { tells self.new ≡ tells self.old }
         ensures quiet { OnOk result (W.failures sink.new ≡ W.failures sink.old) }
         ensures cause { IfErr result (λ fault. fault ≡ CannotWrite
             → W.failures sink.new ≡ W.failures sink.old + 1) };
-
-    /// The lines that report an answer.
-    fn lines(&self, answer: &Self::Answer) -> Text
-        ensures { result ≡ tells self.now answer.now };
 }

@@ -1,12 +1,14 @@
 -- Options of the command line, and their faults (specs/Options).
-use Rattle.std.proofs.Common.{◌≡◌, ℕ, true, List, Option, Some, None, Result, Ok, Err}
-use Rattle.std.proofs.Common.{refl, ap, ◌∙◌}
+use Rattle.std.proofs.Common.{◌≡◌, ◌<◌, ◌+◌, ℕ, Bool, true, false, List, Option, Some, None}
+use Rattle.std.proofs.Common.{Result, Ok, Err, Bor, length, drop, get_or, refl, ap, ◌∙◌}
+use Rattle.std.proofs.Common.{if◌then◌else◌}
 use Rattle.std.proofs.lemmas.Bool.{lt-ltb}
-use Rattle.std.specs.Prelude.{IsErrAnd, MatchOption, MatchResult, ok_or}
+use Rattle.std.proofs.lemmas.List.{at_drop_more}
+use Rattle.std.specs.Prelude.{◌==◌, IsErrAnd, MatchOption, MatchResult, ok_or}
 use Rattle.clap.specs.Walk.{Row}
 use Rattle.flutejoin.specs.Sender.{NamesSender}
 use Rattle.flutejoin_line.specs.Options.{IsNumber, IsSource}
-use Rattle.flutejoin_line.specs.Options.{has_number, is_below}
+use Rattle.flutejoin_line.specs.Options.{first_unfit, form_of, has_number, is_below, times_of}
 use Rattle.flutejoin.specs.declared.command_fault.CommandFault.{CommandFault}
 use Rattle.flutejoin.specs.declared.command_fault.CommandFault.TheVariants.{BadSource}
 
@@ -39,3 +41,27 @@ pub handed_on : {A : Type 0} (read : Result A CommandFault) (fault : CommandFaul
     → MatchResult read P Q
 handed_on (Err e) fault P Q is told = rw is told
 handed_on (Ok x) fault P Q is told = absurd is
+
+-- the options of a form from one on: that one is given as often as it is to be, or not
+module _ (options : List (Bor (List ℕ) × ℕ)) (i : ℕ) (d : Bor (List ℕ) × ℕ)
+    (rows : List Row) (within : i < length options) where
+  abbrev name : List ℕ
+  name = (get_or options i d).0.now
+
+  abbrev as_often : Bool
+  as_often = times_of name rows == (get_or options i d).1
+
+  abbrev rest : Option (List ℕ)
+  rest = first_unfit (form_of (drop (i + 1) options)) rows
+
+  next : first_unfit (form_of (drop i options)) rows ≡ (if as_often then rest else Some name)
+  next = at_drop_more (λ left. first_unfit (form_of left) rows) options i d within
+
+  pub fits : (times_of (get_or options i d).0.now rows == (get_or options i d).1) ≡ true
+      → first_unfit (form_of (drop i options)) rows
+      ≡ first_unfit (form_of (drop (i + 1) options)) rows
+  fits is = next ∙ ap (λ b. if b then rest else Some name) is
+
+  pub unfit : (times_of (get_or options i d).0.now rows == (get_or options i d).1) ≡ false
+      → first_unfit (form_of (drop i options)) rows ≡ Some (get_or options i d).0.now
+  unfit is = next ∙ ap (λ b. if b then rest else Some name) is

@@ -4,6 +4,7 @@ use Rattle.std.specs.Prelude.{false, List, [], ◌∷◌, ◌++◌, length, map,
 use Rattle.std.specs.Prelude.{nat_lt, nat_le, Option, Some, None, is_some, unwrap_or}
 use Rattle.std.specs.List.{All, list_all}
 use Rattle.std.specs.Char.{is_ascii_digit}
+use Rattle.std.specs.Borrow.{Bor}
 use Rattle.std.specs.Str.Parse.{digits_value}
 use Rattle.clap.specs.Matches.{found_of}
 use Rattle.clap.specs.Walk.{Row, all_of, first_of, one_of, rows_of}
@@ -49,15 +50,15 @@ first_unfit [] rows = None
 first_unfit (option ∷ options) rows =
     if times_of option.0 rows == option.1 then first_unfit options rows else Some option.0
 
-abbrev pub IsBadOption : List ℕ → CommandFault → Type 0
-IsBadOption option (BadOption name) = name.now ≡ option
-IsBadOption option _ = ⊥
-
 -- the fault names that option, or is another
 abbrev pub IsFormFault : List (List ℕ × ℕ) → (CommandFault → Type 0) → List Row
     → CommandFault → Type 0
 IsFormFault options IsOther rows (BadOption name) = first_unfit options rows ≡ Some name.now
 IsFormFault options IsOther rows fault = (first_unfit options rows ≡ None) × IsOther fault
+
+-- options with their numbers, as the code has them
+abbrev pub form_of : List (Bor (List ℕ) × ℕ) → List (List ℕ × ℕ)
+form_of options = map (λ option. (option.0.now, option.1)) options
 
 -- `extract` of one object
 abbrev pub extract_form : List (List ℕ × ℕ)

@@ -2,28 +2,51 @@
 ghost use Rattle.std.specs.Prelude.{codes};
 ghost use Rattle.clap.specs.Walk.{Rule};
 ghost use Rattle.flutejoin_line.specs.Parser.{IsArgument, force_flag, input_list, long_flag};
-ghost use Rattle.flutejoin_line.specs.Parser.{needed};
-ghost use Rattle.flutejoin_line.specs.Parser.{option, out, place, session_list};
+ghost use Rattle.flutejoin_line.specs.Parser.{needed, option, out, place, session_list};
 
 use clap::{Arg, ArgAction};
 use std::alloc::Global;
 
-const SOURCE_HELP: &str = "\
+/// What is told of the journal that is read.
+pub const JOURNAL: &str = "The journal; - is standard input";
+
+/// What is told of `--force` if OUT may be a journal or the input without it.
+pub const FORCE: &str = "Write OUT even if it is a datagram file";
+
+/// What is told of `--force` if OUT may be none of these without it.
+pub const FORCE_ALL: &str = "Write OUT even if it is a datagram file, a journal or the input";
+
+/// What is told of `--any-size`, which lifts the limits of a store.
+pub const ANY_SIZE: &str = "Take in more sessions, objects and symbols than a store holds";
+
+/// What is told of `--conflicts` if it selects entries.
+pub const CONFLICTS: &str = "Only symbols and information of which two values were told";
+
+/// What is told of `--source`: the sender of datagram files, or of an object.
+pub const SOURCE: &str = "\
 The sender's address, as 10.0.0.1, 2001:db8::1 or its 8 or 32 hexadecimal digits; left out, it \
 is ::, and not 0.0.0.0 (but any sender with `show`, `gaps`, \
 `forget` and `extract --all`)";
 
+/// What is told of `--tsi` if it is given once.
+pub const SESSION: &str = "The session, by its Transport Session Identifier";
+
+/// What is told of `--toi`.
+pub const OBJECT: &str = "The object, by its Transport Object Identifier: 0 for an FDT Instance";
+
+/// What is told of `--fdt`.
+pub const INSTANCE: &str = "The FDT Instance ID, with --toi 0 alone";
+
+/// What is told of `--symbol` if it is a length.
+pub const SYMBOL: &str = "The encoding symbol length, in bytes";
+
+/// What is told of `--block`.
+pub const BLOCK: &str = "The maximum source block length, in symbols";
+
 /// What is told of `--memory`.
-pub const MEMORY_HELP: &str = "\
+pub const MEMORY: &str = "\
 Hold at most SIZE bytes of datagram files in memory, 256M by default: the rest is put aside in a \
 file without a name beside OUT, or in TMPDIR for `-o -`";
-
-/// The journal that is read.
-pub fn journal<'a>(alloc: Global) -> Arg<'a>
-    ensures { IsArgument (place (codes "J")) result }
-{
-    input(alloc, "J", "The journal; - is standard input")
-}
 
 /// A word at its place.
 pub fn input<'a>(alloc: Global, name: &'a str, help: &'a str) -> Arg<'a>
@@ -56,24 +79,8 @@ pub fn output<'a>(alloc: Global) -> Arg<'a>
     .short('o')
 }
 
-/// The flag of a command whose OUT may be a journal or its input.
-pub fn force<'a>(alloc: Global) -> Arg<'a>
-    ensures { IsArgument force_flag result }
-{
-    flag(alloc, "Write OUT even if it is a datagram file")
-}
-
-/// The flag of a command whose OUT may be none of these.
-pub fn force_all<'a>(alloc: Global) -> Arg<'a>
-    ensures { IsArgument force_flag result }
-{
-    flag(
-        alloc,
-        "Write OUT even if it is a datagram file, a journal or the input",
-    )
-}
-
-fn flag<'a>(alloc: Global, help: &'a str) -> Arg<'a>
+/// The flag with which OUT is written whatever it is.
+pub fn force<'a>(alloc: Global, help: &'a str) -> Arg<'a>
     ensures { IsArgument force_flag result }
 {
     Arg::new(alloc, "force")
@@ -81,40 +88,6 @@ fn flag<'a>(alloc: Global, help: &'a str) -> Arg<'a>
         .long("force")
         .action(ArgAction::SetTrue)
         .help(help)
-}
-
-/// The flag that lifts the limits of a store.
-pub fn any_size<'a>(alloc: Global) -> Arg<'a>
-    ensures { IsArgument (long_flag (codes "any-size")) result }
-{
-    long_flag(
-        alloc,
-        "any-size",
-        "Take in more sessions, objects and symbols than a store holds",
-    )
-}
-
-/// The flag for conflicts alone.
-pub fn conflicts<'a>(alloc: Global) -> Arg<'a>
-    ensures { IsArgument (long_flag (codes "conflicts")) result }
-{
-    long_flag(
-        alloc,
-        "conflicts",
-        "Only symbols and information of which two values were told",
-    )
-}
-
-/// A symbol by its block and its number there.
-pub fn symbol_id<'a>(alloc: Global) -> Arg<'a>
-    ensures { IsArgument (option (codes "symbol")) result }
-{
-    value(
-        alloc,
-        "symbol",
-        "BLOCK/SYMBOL",
-        "Only the symbol of this source block number and encoding symbol ID, as 0/17",
-    )
 }
 
 /// A flag that has no short name.
@@ -127,75 +100,17 @@ pub fn long_flag<'a>(alloc: Global, name: &'a str, help: &'a str) -> Arg<'a>
         .help(help)
 }
 
-/// The lines of `info`.
-pub fn list<'a>(alloc: Global) -> Arg<'a>
-    ensures { IsArgument (option (codes "list")) result }
-{
-    value(
-        alloc,
-        "list",
-        "LINES",
-        "A file of lines as `show` prints them for information; - is standard input",
-    )
-}
-
-/// The session of an object.
-pub fn session<'a>(alloc: Global) -> Arg<'a>
-    ensures { IsArgument (option (codes "tsi")) result }
-{
-    number(
-        alloc,
-        "tsi",
-        "The session, by its Transport Session Identifier",
-    )
-}
-
-/// The sessions of a join.
+/// The sessions that are taken.
 pub fn sessions<'a>(alloc: Global) -> Arg<'a>
     ensures { IsArgument session_list result }
 {
-    number(
+    option(
         alloc,
         "tsi",
+        "N",
         "A session that is taken; up to 64 times; left out, all are",
     )
     .action(ArgAction::Append)
-}
-
-/// The TOI of an object.
-pub fn object<'a>(alloc: Global) -> Arg<'a>
-    ensures { IsArgument (option (codes "toi")) result }
-{
-    number(
-        alloc,
-        "toi",
-        "The object, by its Transport Object Identifier: 0 for an FDT Instance",
-    )
-}
-
-/// The number of an FDT Instance.
-pub fn instance<'a>(alloc: Global) -> Arg<'a>
-    ensures { IsArgument (option (codes "fdt")) result }
-{
-    number(alloc, "fdt", "The FDT Instance ID, with --toi 0 alone")
-}
-
-/// How long its symbols are.
-pub fn symbol<'a>(alloc: Global) -> Arg<'a>
-    ensures { IsArgument (option (codes "symbol")) result }
-{
-    number(alloc, "symbol", "The encoding symbol length, in bytes")
-}
-
-/// How many symbols its blocks have.
-pub fn block<'a>(alloc: Global) -> Arg<'a>
-    ensures { IsArgument (option (codes "block")) result }
-{
-    number(
-        alloc,
-        "block",
-        "The maximum source block length, in symbols",
-    )
 }
 
 /// An option that has to be given.
@@ -205,22 +120,8 @@ pub fn required<'a>(arg: Arg<'a>) -> Arg<'a>
     arg.required(true)
 }
 
-/// The sender of datagram files, or of an object.
-pub fn source<'a>(alloc: Global) -> Arg<'a>
-    ensures { IsArgument (option (codes "source")) result }
-{
-    value(alloc, "source", "ADDRESS", SOURCE_HELP)
-}
-
-/// An option whose value is a number.
-pub fn number<'a>(alloc: Global, name: &'a str, help: &'a str) -> Arg<'a>
-    ensures { IsArgument (option name.entry.now) result }
-{
-    value(alloc, name, "N", help)
-}
-
 /// An option with one value, which the help names so.
-pub fn value<'a>(alloc: Global, name: &'a str, value_name: &'a str, help: &'a str) -> Arg<'a>
+pub fn option<'a>(alloc: Global, name: &'a str, value_name: &'a str, help: &'a str) -> Arg<'a>
     ensures { IsArgument (option name.entry.now) result }
 {
     Arg::new(alloc, name)

@@ -13,6 +13,7 @@
 mod arguments;
 mod extract_line;
 mod forget_line;
+mod help_texts;
 mod info_line;
 mod key_numbers;
 mod line;

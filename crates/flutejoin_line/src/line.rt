@@ -10,16 +10,16 @@ ghost use Rattle.flutejoin_line.specs.Options.{IsZero, carousel_options, found_r
 ghost use Rattle.flutejoin_line.specs.Parser.{command_in, refusals_of};
 ghost use Rattle.flutejoin_line.specs.Selecting.{IsSelectionFault};
 
-use crate::extract_line::extract_of;
+use crate::extract_line::{extract_all, extract_one};
 use crate::forget_line::forget_of;
-use crate::info_line::info_of;
+use crate::info_line::{info_list, info_one};
 use crate::key_numbers::KeyNumbers;
 use crate::numbers::{number_below, sessions, source};
 use crate::object_numbers::ObjectNumbers;
 use crate::parser::command;
 use crate::selection_options::selection;
 use crate::sizes::memory;
-use crate::words::{flag, text};
+use crate::words::{flag, text, word};
 use clap::ArgMatches;
 use clap::error::ErrorKind;
 use flute_parts::{Key, Sender};
@@ -33,7 +33,7 @@ const STANDARD: &str = "-";
 /// What the program is to do. Its texts are words of the command line. With `force`, `out` is
 /// written even if it is a file that the command does not overwrite otherwise. With `any_size`,
 /// there may be more sessions, objects and symbols than a store of the program holds.
-#[derive(Debug, Drop)]
+#[derive(Drop)]
 pub enum Line<'a> {
     /// Print what the datagram `hex` says.
     Packet {
@@ -171,8 +171,12 @@ fn line_by_name<'a>(
             j: text(matches, "J"),
         }),
         "gaps" => gaps_of(matches),
-        "extract" => extract_of(matches),
-        "info" => info_of(matches),
+        "extract" if flag(matches, "all") => extract_all(matches),
+        "extract" => extract_one(matches),
+        "info" => match word(matches, "list") {
+            Some(list) => info_list(matches, list),
+            None => info_one(matches),
+        },
         "join" => join_of(alloc, matches),
         "merge" => merge_of(matches),
         "forget" => forget_of(matches),

@@ -1,7 +1,8 @@
 //! What the parser found for an argument.
-ghost use Rattle.std.specs.Prelude.{◌≡◌, ◌==◌, MatchResult, false, option_map, true};
+ghost use Rattle.std.specs.Prelude.{◌≡◌, MatchResult, None, option_map};
 ghost use Rattle.clap.specs.Walk.{first_of};
-ghost use Rattle.flutejoin_line.specs.Options.{IsBadOption, IsFlag, found_rows, times_of, word};
+ghost use Rattle.flutejoin_line.specs.Options.{IsFlag, IsFormFault, first_unfit, form_of};
+ghost use Rattle.flutejoin_line.specs.Options.{found_rows, word};
 
 use clap::ArgMatches;
 use flutejoin::CommandFault;
@@ -20,26 +21,27 @@ pub fn text<'a>(matches: &ArgMatches<'a>, id: &str) -> &'a str
     word(matches, id).unwrap_or("")
 }
 
-/// That the option with this name is given so often.
+/// That each of these options is given so often.
 ///
 /// # Errors
 ///
-/// `BadOption` if it is given more or less often.
+/// `BadOption` with the first that is given more or less often.
 pub fn given(
     matches: &ArgMatches<'_>,
-    option: &'static str,
-    times: usize,
+    options: &[(&'static str, usize)],
 ) -> Result<(), CommandFault>
     ensures { let rows = found_rows matches.now in
-        MatchResult result (λ _. (times_of option.now rows == times) ≡ true)
-        (λ fault. IsBadOption option.now fault
-        × ((times_of option.now rows == times) ≡ false)) }
+        let form = form_of options.now in
+        MatchResult result (λ _. first_unfit form rows ≡ None)
+        (IsFormFault form (λ _. ⊥) rows) }
 {
-    if matches.get_strs(option).unwrap_or(&[]).len() == times {
-        Ok(())
-    } else {
-        Err(CommandFault::BadOption(option))
+    for option in options {
+        let (name, times) = *option;
+        if matches.get_strs(name).unwrap_or(&[]).len() != times {
+            return Err(CommandFault::BadOption(name));
+        }
     }
+    Ok(())
 }
 
 /// Whether the flag that has this name is set.

@@ -2,7 +2,7 @@
 ghost use Rattle.std.specs.Prelude.{◌≡◌, ◌++◌, Some, []};
 
 use flute_parts::{DeviceFault, Failures, Sink};
-use flutejoin_commands::{Outlet, Report};
+use flutejoin_commands::Outlet;
 use std::alloc::Global;
 
 /// A report for tests. Its bytes wait in memory until a flush, and it fails for good after a given
@@ -20,7 +20,7 @@ impl MemoryReport {
     /// fails only if it finds no memory for more.
     pub fn new(alloc: Global, good: usize) -> MemoryReport
         ensures bytes { ⟦<MemoryReport as Sink>⟧.written result ≡ Some [] }
-        ensures handed_on { ⟦<MemoryReport as Report>⟧.handed_on result ≡ Some [] }
+        ensures handed_on { ⟦<MemoryReport as Outlet>⟧.handed_on result ≡ Some [] }
         ensures failures { ⟦<MemoryReport as Sink>⟧.failures result ≡ 0 }
     {
         MemoryReport {
@@ -33,7 +33,7 @@ impl MemoryReport {
 
     /// The bytes that were handed on.
     pub fn handed_on(&self) -> &[u8]
-        ensures { ⟦<MemoryReport as Report>⟧.handed_on self.now ≡ Some result.now }
+        ensures { ⟦<MemoryReport as Outlet>⟧.handed_on self.now ≡ Some result.now }
     {
         &self.handed_on
     }
@@ -66,22 +66,20 @@ impl Sink for MemoryReport {
     }
 }
 
-impl Report for MemoryReport {
+impl Outlet for MemoryReport {
     ghost handed_on = { λ r. Some r.handed_on.items };
 
-    fn flush(&mut self) -> Result<(), DeviceFault> {
-        if self.works() && self.handed_on.extend_from_slice(&self.waiting).is_ok() {
-            self.waiting.clear();
+    fn open(&mut self) -> Result<(), DeviceFault> {
+        if self.works() {
             return Ok(());
         }
         self.failures = self.failures.and_one();
         Err(DeviceFault)
     }
-}
 
-impl Outlet for MemoryReport {
-    fn open(&mut self) -> Result<(), DeviceFault> {
-        if self.works() {
+    fn flush(&mut self) -> Result<(), DeviceFault> {
+        if self.works() && self.handed_on.extend_from_slice(&self.waiting).is_ok() {
+            self.waiting.clear();
             return Ok(());
         }
         self.failures = self.failures.and_one();

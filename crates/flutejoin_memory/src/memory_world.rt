@@ -15,7 +15,7 @@ use flute_memory::{MemoryFolder, MemoryNewFolder};
 use flute_output::Place;
 use flute_parts::{Failures, Source};
 use flutejoin::{CommandFault, Overwrites};
-use flutejoin_commands::{Inputs, NotOpened, World};
+use flutejoin_commands::{Inputs, World};
 use std::alloc::{AllocError, Global};
 
 /// The name that means standard output.
@@ -129,15 +129,20 @@ impl<'a> Inputs for MemoryWorld<'a> {
 
     ghost closed = { λ w. Some w.changes.told.closed };
 
-    fn open(&mut self, path: &str, _among: usize) -> Result<OwnedSource, NotOpened> {
+    fn open(
+        &mut self,
+        number: usize,
+        path: &str,
+        _among: usize,
+    ) -> Result<OwnedSource, CommandFault> {
         self.asked = self.asked.and_one();
         match self.copied(path) {
             Ok(Some(bytes)) => match self.note_opened(path) {
                 Ok(()) => Ok(OwnedSource::new(bytes)),
-                Err(_) => Err(NotOpened::OutOfMemory),
+                Err(_) => Err(CommandFault::OutOfMemory),
             },
-            Ok(None) => Err(NotOpened::Refused),
-            Err(_) => Err(NotOpened::OutOfMemory),
+            Ok(None) => Err(CommandFault::CannotOpen(number)),
+            Err(_) => Err(CommandFault::OutOfMemory),
         }
     }
 }

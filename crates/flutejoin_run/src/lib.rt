@@ -4,7 +4,7 @@
 //! With the system's files and streams (from `flutejoin_cli`):
 //!
 //! ```
-//! let mut output = standard_output(rt)?;
+//! let mut output = StdSink::new(writer);
 //! let mut errors = StdSink::new(rt.stderr());
 //! run(
 //!     &mut System::new(rt),

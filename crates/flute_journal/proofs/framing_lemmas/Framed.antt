@@ -1,7 +1,7 @@
 -- Lemmas on framed files, and what the calls of a reader give (specs/Framing).
 use Rattle.flute_journal.proofs.Common.{◌≡◌, ℕ, ◌+◌, ◌<◌, List, [], ◌∷◌, ◌++◌, length, drop}
 use Rattle.flute_journal.proofs.Common.{drop_at, Option, Some, None, Result, Ok, Err, IsTrue, true}
-use Rattle.flute_journal.proofs.Common.{refl, ap, ◌∙◌, subst, arith, inr, IfSome, IfErr, Consumes}
+use Rattle.flute_journal.proofs.Common.{refl, ap, sym, ◌∙◌, subst, arith, inr, IfSome, IfErr, Consumes}
 use Rattle.flute_journal.proofs.Common.{Consumes-nil, Consumes-trans, ReadFault, IsFaultOf}
 use Rattle.flute_journal.proofs.Common.{StaysWithin}
 use Rattle.flute_journal.proofs.framing_lemmas.ReadsUpTo.{IsBehind, asked, fault_up_to}
@@ -99,6 +99,15 @@ module _ {V P T : Type 0} (framing : Framing V P T) where
       record { told = told; ended = e; bytes = inr (opened, h.0, h.1) }
   gives limit told old u v (Err f) e (opened, h) =
       record { told = told; stays = e; found = inr (opened, h) }
+
+  -- the same of a state that is known by an equation
+  pub gives_from : (limit : ℕ) (told : T) {at old new : ReaderState P} (u v : Option (List ℕ))
+      (r : Result (Option V) ReadFault) → old ≡ at
+      → new ≡ state_after framing (place_at framing told at) r
+      → (is_open at ≡ true) × ReadsFrom framing told limit at u v r
+      → Gives framing limit old new u v r
+  gives_from limit told {at = at} {new = new} u v r is after h =
+      subst (λ s. Gives framing limit s new u v r) (sym is) (gives limit told at u v r after h)
 
 module _ {V P T : Type 0} {framing : Framing V P T} (sound : IsSound framing) where
   pub reads_header : (limit : ℕ) (told : T) (u v : Option (List ℕ)) {f : ReadFault}

@@ -4,7 +4,7 @@ ghost use Rattle.flute_journal.specs.Format.{sender_size, version_bytes};
 ghost use Rattle.flute_journal.specs.Faults.{is_version};
 
 /// The version of a journal: whether its entries name their senders.
-#[derive(Clone, Copy, Debug, PartialEq, Eq)]
+#[derive(Clone, Copy)]
 pub enum Version {
     /// They don't, and each sender is 0. Such journals are read, and no longer written.
     One,

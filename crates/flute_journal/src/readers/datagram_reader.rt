@@ -1,6 +1,6 @@
 //! Reading a datagram file, record by record.
-ghost use Rattle.std.specs.Prelude.{◌≡◌, ◌≢◌, ◌+◌, ◌<◌, ◌^◌, IfOk, IfErr};
-ghost use Rattle.std.specs.Prelude.{IfSome, length as length_of};
+ghost use Rattle.std.specs.Prelude.{◌≡◌, ◌≢◌, ◌+◌, ◌<◌, IfErr};
+ghost use Rattle.std.specs.Prelude.{length as length_of};
 ghost use Rattle.std.specs.List.{AllByRecursion};
 ghost use Rattle.flute_parts.specs.BigEndian.{big_endian};
 ghost use Rattle.flute_journal.specs.Numbers.{in_bytes};
@@ -10,7 +10,7 @@ ghost use Rattle.flute_journal.specs.Faults.{opening_fault};
 ghost use Rattle.flute_journal.specs.Parsing.{cut_fault};
 ghost use Rattle.flute_journal.specs.Records.{file_header, record_of, IsDatagram};
 ghost use Rattle.flute_journal.specs.FileFraming.{IsFileFault, file_framing};
-ghost use Rattle.flute_journal.specs.Framing.{is_open, Gives, ReadsFrom, ReadsNext, state_after};
+ghost use Rattle.flute_journal.specs.Framing.{is_open, Gives, ReadsNext};
 ghost use Rattle.flute_journal.specs.DatagramReaders.{datagrams_source_of, records_limit_of};
 ghost use Rattle.flute_journal.specs.DatagramReaders.{file_stage_of};
 ghost use Rattle.flute_journal.specs.declared.fault.ReadFault.TheVariants.{OutOfMemory};
@@ -56,8 +56,8 @@ impl<'a, R: Source> DatagramReader<'a, R> {
     /// The next datagram, of 0 to 65,535 bytes, whatever they say. None once the input ends between
     /// two records, and from then on.
     ///
-    /// A record after the first that is whole in the source's buffer is read there; any
-    /// other is read field by field. The bytes of the datagram are the only memory that is taken.
+    /// A record that is whole in the source's buffer is read there; any other is read field by
+    /// field. The bytes of the datagram are the only memory that is taken.
     ///
     /// # Errors
     ///
@@ -109,34 +109,26 @@ impl<'a, R: Source> DatagramReader<'a, R> {
             (R.failures (datagrams_source_of self.old).now)
             (R.failures (datagrams_source_of self.new).now) result }
     {
-        let (count, given) = match self.state {
+        let count = match self.state {
             ReaderState::Ended => return Ok(None),
             ReaderState::Failed(fault) => return Err(fault),
-            ReaderState::Header => (0, read_first(alloc, self.source, self.max_records)),
-            ReaderState::Items(count) => (
-                count,
-                read_record(alloc, self.source, self.max_records, count, spare),
-            ),
+            ReaderState::Header => match read_header(self.source) {
+                Ok(()) => 0,
+                Err(fault) => {
+                    self.state = ReaderState::Failed(fault);
+                    return Err(fault);
+                }
+            },
+            ReaderState::Items(count) => count,
         };
-        self.state = state_after(count, &given);
+        let given = read_record(alloc, self.source, self.max_records, count, spare);
+        self.state = match &given {
+            Ok(Some(_)) => ReaderState::Items(count + 1),
+            Ok(None) => ReaderState::Ended,
+            Err(fault) => ReaderState::Failed(*fault),
+        };
         given
     }
-}
-
-// Reads the header, and then the first record if there is one.
-#[tactic(auto, using(crate::proofs::readers_lemmas::FileCalls::reads_file_first))]
-fn read_first<R: Source>(
-    alloc: Global,
-    source: &mut R,
-    max_records: u64,
-) -> Result<Option<Datagram>, ReadFault>
-    ensures reads { ReadsFrom file_framing tt max_records ReaderState.Header (R.unread source.old)
-        (R.unread source.new) result }
-    ensures faults { IfErr result IsFileFault }
-    ensures failures { Fails (R.failures source.old) (R.failures source.new) result }
-{
-    read_header(source)?;
-    read_fields(alloc, source, max_records, 0)
 }
 
 // Reads the magic number and the version.
@@ -212,16 +204,4 @@ fn read_fields<R: Source>(
         unreachable!();
     };
     Ok(Some(datagram))
-}
-
-// The state of a reader that gave this after so many records.
-fn state_after(count: u64, given: &Result<Option<Datagram>, ReadFault>) -> ReaderState<u64>
-    requires { IfOk given.now (λ o. IfSome o (λ _. count + 1 < 2 ^ 64)) }
-    ensures { result ≡ state_after file_framing count given.now }
-{
-    match given {
-        Ok(Some(_)) => ReaderState::Items(count + 1),
-        Ok(None) => ReaderState::Ended,
-        Err(fault) => ReaderState::Failed(*fault),
-    }
 }

@@ -11,7 +11,7 @@ ghost use Rattle.flute_journal.specs.JournalFraming.{journal_framing};
 ghost use Rattle.flute_journal.specs.Framing.{ReadsNext};
 ghost use Rattle.flute_parts.specs.Ranges.{IsByte};
 ghost use Rattle.flute_journal.specs.Parsing.{head_size, head_bytes, HeadIn, BodyIn, IsBody};
-ghost use Rattle.flute_journal.specs.Parsing.{body_fault, cut_fault, end_fault, ReadsEnd};
+ghost use Rattle.flute_journal.specs.Parsing.{body_fault, cut_fault, end_fault};
 ghost use Rattle.flute_journal.specs.declared.fault.ReadFault.TheVariants.{OutOfMemory};
 
 use crate::fault::ReadFault;
@@ -66,7 +66,9 @@ pub fn read_entry<R: Source>(
         return Err(shortage(read.failed));
     };
     if byte == END {
-        read_end(source, before.count)?;
+        let mut buffer = [0; 9];
+        let read = read_up_to(source, &mut buffer);
+        read.or_failed(check_end(before.count, read.bytes))?;
         return Ok(None);
     }
     let Some(kind) = Kind::from_byte(byte) else {
@@ -77,18 +79,6 @@ pub fn read_entry<R: Source>(
     }
     let fact = read_body(alloc, source, before.version, kind, before.last)?;
     Ok(Some(fact))
-}
-
-// Reads the number of entries, which nothing may follow.
-#[tactic(auto, using(crate::proofs::framing_lemmas::ReadsUpTo::parsed_fails))]
-fn read_end<R: Source>(source: &mut R, count: u64) -> Result<(), ReadFault>
-    ensures reads { ReadsEnd count (R.unread source.old) (R.unread source.new) result }
-    ensures advances { Advances (R.unread source.old) (R.unread source.new) 9 }
-    ensures failures { Fails (R.failures source.old) (R.failures source.new) result }
-{
-    let mut buffer = [0; 9];
-    let read = read_up_to(source, &mut buffer);
-    read.or_failed(check_end(count, read.bytes))
 }
 
 // Reads what follows the kind of an entry.

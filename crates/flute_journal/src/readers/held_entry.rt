@@ -4,7 +4,7 @@ ghost use Rattle.std.specs.Io.KnownBytes.{Consumes};
 ghost use Rattle.flute_parts.specs.Addresses.{fact_of};
 ghost use Rattle.flute_parts.specs.declared.fact.Fact.{Fact};
 ghost use Rattle.flute_journal.specs.HeldEntries.{fact_held, fact_in, address_of, size_of};
-ghost use Rattle.flute_journal.specs.HeldEntries.{spelled_in, value_held};
+ghost use Rattle.flute_journal.specs.HeldEntries.{spelled_in};
 ghost use Rattle.flute_journal.specs.declared.readers.held_entry.HeldEntry.TheVariants as held;
 
 use flute_parts::{Address, Bytes, Fact, FactRef, Info, Part, Source};
@@ -57,15 +57,31 @@ impl HeldEntry {
         HeldEntry::Entry { address, value }
     }
 
-    /// The fact that is held by a reader whose source's buffer lends these bytes.
+    /// The fact that is held by a reader whose source's buffer lends these bytes. A value that is
+    /// none of its part is a conflict.
     #[inline(always)]
     pub fn fact<'a>(&'a self, buffer: &'a [u8]) -> Option<FactRef<'a>>
         ensures { fact_in result ≡ fact_held buffer.now self.now }
     {
-        match self {
-            HeldEntry::Nothing => None,
-            HeldEntry::Entry { address, value } => Some(value.fact(address, buffer)),
-        }
+        let HeldEntry::Entry { address, value } = self else {
+            return None;
+        };
+        let key = address.key;
+        Some(match (address.part, value) {
+            (Part::Info, HeldValue::Info(info)) => FactRef::Info { key, info: *info },
+            (Part::Info, _) => FactRef::InfoConflict { key },
+            (Part::Symbol(id), HeldValue::Symbol(bytes)) => FactRef::Symbol {
+                key,
+                id,
+                bytes: bytes.as_slice(),
+            },
+            (Part::Symbol(id), HeldValue::InBuffer(size)) => FactRef::Symbol {
+                key,
+                id,
+                bytes: behind(front(buffer, *size), HEAD_LEN),
+            },
+            (Part::Symbol(id), _) => FactRef::SymbolConflict { key, id },
+        })
     }
 
     /// The address of that fact.
@@ -111,36 +127,6 @@ impl HeldEntry {
                 ..
             } => bytes.into_vec(),
             _ => Vec::new(alloc),
-        }
-    }
-}
-
-impl HeldValue {
-    // The fact that says this of an address. A value that is none of its part is a conflict.
-    #[inline(always)]
-    fn fact<'a>(&'a self, address: &Address, buffer: &'a [u8]) -> FactRef<'a>
-        ensures { fact_of result
-            ≡ value_held buffer.now address.now.key address.now.part self.now }
-    {
-        let key = address.key;
-        match address.part {
-            Part::Info => match self {
-                HeldValue::Info(info) => FactRef::Info { key, info: *info },
-                _ => FactRef::InfoConflict { key },
-            },
-            Part::Symbol(id) => match self {
-                HeldValue::Symbol(bytes) => FactRef::Symbol {
-                    key,
-                    id,
-                    bytes: bytes.as_slice(),
-                },
-                HeldValue::InBuffer(size) => FactRef::Symbol {
-                    key,
-                    id,
-                    bytes: behind(front(buffer, *size), HEAD_LEN),
-                },
-                _ => FactRef::SymbolConflict { key, id },
-            },
         }
     }
 }

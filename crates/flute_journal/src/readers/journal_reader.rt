@@ -19,6 +19,7 @@ use crate::readers::lent::{hold_next, take_entry};
 use crate::readers::reader_state::ReaderState;
 use flute_parts::{Fact, Part, Source};
 use std::alloc::Global;
+use std::mem;
 
 /// A journal that is read entry by entry. It never reads past what it has given.
 #[derive(Drop)]
@@ -206,7 +207,7 @@ fn hold_in_place<R: Source>(
     let ReaderState::Items(before) = state else {
         return false;
     };
-    if before.version != Version::Two || before.count >= max_entries {
+    if !matches!(before.version, Version::Two) || before.count >= max_entries {
         return false;
     }
     let Some(last) = &mut before.last else {
@@ -268,48 +269,28 @@ fn read_fields<R: Source>(
     ensures failures { FailsIf (is_open state.old)
         (R.failures source.old) (R.failures source.new) result }
 {
-    match &*state {
-        ReaderState::Ended => Ok(None),
-        ReaderState::Failed(fault) => Err(*fault),
-        ReaderState::Header => read_first(alloc, source, max_entries, state),
-        ReaderState::Items(before) => {
-            let given = read_entry(alloc, source, max_entries, before);
-            let next = state_after(before, &given);
-            *state = next;
-            given
+    let before = match mem::replace(state, ReaderState::Ended) {
+        ReaderState::Ended => return Ok(None),
+        ReaderState::Failed(fault) => {
+            *state = ReaderState::Failed(fault);
+            return Err(fault);
         }
-    }
-}
-
-// Reads the header, and then the first entry or the end, and puts the state of the reader
-// afterwards into `state`.
-#[inline(never)]
-fn read_first<R: Source>(
-    alloc: Global,
-    source: &mut R,
-    max_entries: u64,
-    state: &mut ReaderState<Before>,
-) -> Result<Option<Fact>, ReadFault>
-    ensures gives { Gives journal_framing max_entries ReaderState.Header state.new
-        (R.unread source.old) (R.unread source.new) result }
-    ensures failures { Fails (R.failures source.old) (R.failures source.new) result }
-{
-    match read_header(source) {
-        Ok(version) => {
-            let before = Before {
+        ReaderState::Header => match read_header(source) {
+            Ok(version) => Before {
                 version,
                 count: 0,
                 last: None,
-            };
-            let given = read_entry(alloc, source, max_entries, &before);
-            *state = state_after(&before, &given);
-            given
-        }
-        Err(fault) => {
-            *state = ReaderState::Failed(fault);
-            Err(fault)
-        }
-    }
+            },
+            Err(fault) => {
+                *state = ReaderState::Failed(fault);
+                return Err(fault);
+            }
+        },
+        ReaderState::Items(before) => before,
+    };
+    let given = read_entry(alloc, source, max_entries, &before);
+    *state = state_after(&before, &given);
+    given
 }
 
 // The state of a reader that gave this after `before`.

@@ -11,7 +11,7 @@ use crate::fault::SaveFault;
 use crate::format::number::length_field;
 use crate::readers::datagram_reader::FILE_HEADER;
 use flute_parts::{DeviceFault, Sink};
-use flute_wire::{Datagram, Datagrams};
+use flute_wire::Datagram;
 
 /// Writes a datagram file, a record for each datagram in their order, and returns the number of the
 /// records. It takes no memory of its own.
@@ -20,7 +20,7 @@ use flute_wire::{Datagram, Datagrams};
 ///
 /// `Write` if the sink failed. A proper prefix of the file was then written.
 #[tactic(auto, using(crate::proofs::writers_lemmas::Sending::sends))]
-pub fn write_datagrams<W: Sink>(datagrams: &Datagrams, sink: &mut W) -> Result<u64, SaveFault>
+pub fn write_datagrams<W: Sink>(datagrams: &[Datagram], sink: &mut W) -> Result<u64, SaveFault>
     ensures bytes { Writes (W.written sink.old) (W.written sink.new)
         (file_header ++ flat_map record_of datagrams.now) result }
     ensures file { IfOk result

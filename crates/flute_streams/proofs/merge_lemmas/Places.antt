@@ -7,7 +7,7 @@ use Rattle.flute_streams.proofs.Common.{[], address, address_cmp, ap, arith}
 use Rattle.flute_streams.proofs.Common.{bytes_eq, cases_Bool, conflict_at, entry, fact_same}
 use Rattle.flute_streams.proofs.Common.{if◌then◌else◌, inl, inr, length, option_list}
 use Rattle.flute_streams.proofs.Common.{address_of, refl, same_Some, same_fact, slice_get}
-use Rattle.flute_streams.proofs.Common.{subst, suc}
+use Rattle.flute_streams.proofs.Common.{not, subst, suc}
 use Rattle.flute_streams.proofs.Common.{sym, true, false, zero, ℕ, ◌++◌, ◌<◌, ◌∙◌, ◌∷◌, ◌≡◌, ◌≢◌}
 use Rattle.std.specs.Prelude.{◌==◌}
 use Rattle.std.proofs.lemmas.Slice.Eq.{bytes_eq-Decides}
@@ -242,18 +242,28 @@ module _ {S : Type 0} (b : Behaviour S) (streams : List S) where
         ∙ ap (λ a. Some (conflict_at a)) (sym at);
   }
 
-  -- nor does the same value
-  pub joins-same : (l : LowestValue) (k : ℕ) → l.conflict ≡ false
+  -- else it is a conflict with it unless that is the same
+  pub joins-by : (l : LowestValue) (k : ℕ) (same : Bool) → l.conflict ≡ false
+      → place_at b streams (first_at k) ≡ place_at b streams l
       → ((g f : Fact) → held_at b streams l.number ≡ Some g → held_at b streams k ≡ Some f
-      → true ≡ same_fact g f) → Joins b streams l k l
-  joins-same l k e alike = record {
+      → same ≡ same_fact g f)
+      → Joins b streams l k (record { number = l.number; conflict = not same })
+  joins-by l k same e here alike = record {
     number = refl;
-    same = λ g f v h s. v;
+    same = λ g f v h s.
+        ap (λ c. if not c then conflict_of held else held) (alike g f (is v) h ∙ s) ∙ is v;
     apart = λ g f v h s.
-        let held = held_at b streams l.number in
-        let t = alike g f (sym (ap (λ c. if c then conflict_of held else held) e) ∙ v) h in
-        absurd cc;
+        let at = same_Some (address f) (address g)
+        (sym (ap address_of h) ∙ here ∙ ap address_of (is v)) in
+        ap (λ c. if not c then conflict_of held else held) (alike g f (is v) h ∙ s)
+        ∙ ap conflict_of (is v) ∙ ap (λ a. Some (conflict_at a)) (sym at);
   }
+    where
+      held : Option Fact
+      held = held_at b streams l.number
+
+      is : {g : Fact} → value_at b streams l ≡ Some g → held ≡ Some g
+      is v = sym (ap (λ c. if c then conflict_of held else held) e) ∙ v
 
   -- One stream more, which holds the fact f.
   module _ (facts : List Fact) (k : ℕ) {f : Fact} (here : held_at b streams k ≡ Some f) where

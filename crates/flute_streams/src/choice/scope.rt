@@ -5,10 +5,11 @@ ghost use Rattle.flute_streams.specs.Scopes.{is_all, of_scope, takes_key};
 
 use crate::choice::Choice;
 use crate::choice::sessions::Sessions;
-use flute_parts::{FactRef, Key, ObjectKey};
+use crate::streams::stream::Stream;
+use flute_parts::{Key, ObjectKey};
 
 /// Which objects are taken. Each field narrows the others.
-#[derive(Clone, Copy, Debug)]
+#[derive(Clone, Copy)]
 pub struct Scope {
     /// Those of these sessions.
     pub sessions: Sessions,
@@ -58,12 +59,10 @@ impl Choice for Scope {
     ghost takes = { of_scope };
 
     #[inline(always)]
-    fn takes_all(&self) -> bool {
-        self.is_all()
-    }
-
-    #[inline(always)]
-    fn takes_fact(&self, fact: &FactRef<'_>) -> bool {
-        self.takes(&fact.address().key)
+    fn passes_over<S: Stream>(&self, stream: &S) -> bool {
+        match stream.address() {
+            Some(address) => !self.takes(&address.key),
+            None => false,
+        }
     }
 }

@@ -2,15 +2,15 @@
 ghost use Rattle.std.specs.Prelude.{◌≡◌, true};
 ghost use Rattle.flute_parts.specs.Addresses.{fact_of};
 ghost use Rattle.flute_parts.specs.declared.fact.Fact.{Fact};
-ghost use Rattle.flute_streams.specs.Selections.{is_everything, selects, selects_kind};
-ghost use Rattle.flute_streams.specs.Selections.{selects_symbol};
+ghost use Rattle.flute_streams.specs.Selections.{is_everything, selects};
 
 use crate::choice::Choice;
 use crate::choice::scope::Scope;
+use crate::streams::stream::Stream;
 use flute_parts::{Address, FactRef, Part, Sender, SymbolId};
 
 /// Which facts are selected. Each field narrows the others.
-#[derive(Clone, Copy, Debug)]
+#[derive(Clone, Copy)]
 pub struct Selection {
     /// Those of this sender, or of any.
     pub sender: Option<Sender>,
@@ -59,55 +59,25 @@ impl Selection {
             Some(sender) => key.session.sender() == sender,
             None => true,
         };
-        is_sender
-            && self.scope.takes(&key)
-            && self.has_symbol(&part)
-            && (!self.info || matches!(part, Part::Info))
-            && self.has_kind(fact)
-    }
-
-    // Whether facts of this part may be selected.
-    #[inline(always)]
-    fn has_symbol(&self, part: &Part) -> bool
-        ensures { result ≡ selects_symbol self.now.symbol part.now }
-    {
-        match (self.symbol, *part) {
+        let is_symbol = match (self.symbol, part) {
             (None, _) => true,
             (Some(one), Part::Symbol(id)) => one.sbn == id.sbn && one.esi == id.esi,
             (Some(_), Part::Info) => false,
-        }
-    }
-
-    // Whether facts of this kind may be.
-    #[inline(always)]
-    fn has_kind(&self, fact: &FactRef<'_>) -> bool
-        ensures { result ≡ selects_kind self.now.conflicts (fact_of fact.now) }
-    {
-        !self.conflicts
-            || matches!(
-                fact,
-                FactRef::InfoConflict { .. } | FactRef::SymbolConflict { .. }
-            )
-    }
-}
-
-/// What is selected is taken.
-impl Choice for Selection {
-    ghost takes = { selects };
-
-    #[inline(always)]
-    fn takes_all(&self) -> bool {
-        self.is_all()
-    }
-
-    #[inline(always)]
-    fn takes_fact(&self, fact: &FactRef<'_>) -> bool {
-        self.selects(fact)
+        };
+        let is_conflict = matches!(
+            fact,
+            FactRef::InfoConflict { .. } | FactRef::SymbolConflict { .. }
+        );
+        is_sender
+            && self.scope.takes(&key)
+            && is_symbol
+            && (!self.info || matches!(part, Part::Info))
+            && (!self.conflicts || is_conflict)
     }
 }
 
 /// What is selected is left out, and all else is taken.
-#[derive(Clone, Copy, Debug)]
+#[derive(Clone, Copy)]
 pub struct AllBut(pub Selection);
 
 impl Choice for AllBut {
@@ -116,12 +86,10 @@ impl Choice for AllBut {
     ghost takes = { λ rest. leaves rest.0 };
 
     #[inline(always)]
-    fn takes_all(&self) -> bool {
-        false
-    }
-
-    #[inline(always)]
-    fn takes_fact(&self, fact: &FactRef<'_>) -> bool {
-        !self.0.selects(fact)
+    fn passes_over<S: Stream>(&self, stream: &S) -> bool {
+        match stream.head() {
+            Some(fact) => self.0.selects(&fact),
+            None => false,
+        }
     }
 }

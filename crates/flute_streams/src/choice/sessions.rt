@@ -4,7 +4,7 @@ ghost use Rattle.flute_streams.specs.Sessions.{listed_tsis, takes};
 
 /// The sessions whose entries and datagrams are taken: all, or those with one of at most 64
 /// Transport Session Identifiers (RFC 5651, section 5.1), whoever their sender is.
-#[derive(Clone, Copy, Debug)]
+#[derive(Clone, Copy)]
 pub struct Sessions {
     tsis: [u64; 64],
     count: usize,

@@ -1,9 +1,6 @@
 //! Any number of streams, merged into one journal.
 ghost use Rattle.std.specs.Prelude.{◌≡◌, ◌≢◌, true, false, ◌+◌, ◌<◌, ◌≤◌};
-ghost use Rattle.std.specs.Prelude.{◌^◌, List, [], ◌∷◌, ◌++◌, IfOk, IfErr};
-ghost use Rattle.flute_parts.specs.declared.fact.Fact.{Fact};
-ghost use Rattle.flute_parts.specs.Addresses.{address};
-ghost use Rattle.flute_parts.specs.Facts.{IsRising};
+ghost use Rattle.std.specs.Prelude.{◌^◌, IfOk, IfErr};
 ghost use Rattle.flute_streams.specs.declared.merge.streams_fault.StreamsFault.TheVariants.{Write};
 ghost use Rattle.flute_parts.specs.Devices.{times_failed};
 ghost use Rattle.flute_streams.specs.Streams.{most_of};
@@ -11,7 +8,7 @@ ghost use Rattle.flute_streams.specs.Advances.{AreNew};
 ghost use Rattle.flute_streams.specs.FirstFaults.{FirstFault};
 ghost use Rattle.flute_streams.specs.StreamMerges.{MergedAll, AppendsPartOf, ReadsAhead};
 ghost use Rattle.flute_streams.specs.StreamMerges.{NamesInput, CanGoOn, FailAs, NoneFails};
-ghost use Rattle.flute_streams.specs.StreamMerges.{AppendsNoJournal, EndsMerged, IsCounted};
+ghost use Rattle.flute_streams.specs.StreamMerges.{AppendsNoJournal, EndsMerged};
 ghost use Rattle.flute_streams.specs.StreamMerges.{streams_sink_failed};
 
 use crate::merge::advance::advance_at;
@@ -22,11 +19,11 @@ use crate::merge::stopped::first_fault;
 use crate::merge::streams_fault::{InputFault, StreamsFault};
 use crate::streams::Streams;
 use flute_journal::JournalWriter;
-use flute_parts::{Address, Sink, Tally};
+use flute_parts::{Sink, Tally};
 use std::alloc::Global;
 
 /// The journal that a merge wrote.
-#[derive(Clone, Copy, Debug)]
+#[derive(Clone, Copy)]
 pub struct MergedJournal {
     /// The number of its entries.
     pub entries: u64,
@@ -180,7 +177,7 @@ fn merge_into<const SESSIONS: u32, const OBJECTS: u32, const SYMBOLS: u32, G: St
         return Err(StreamsFault::Input(fault));
     }
     writer.header();
-    if stops(writer, patient) {
+    if writer.failed && !patient {
         return Err(StreamsFault::Write);
     }
     let mut tally = Tally::<SESSIONS, OBJECTS, SYMBOLS>::new();
@@ -190,7 +187,7 @@ fn merge_into<const SESSIONS: u32, const OBJECTS: u32, const SYMBOLS: u32, G: St
     let mut ranks = Ranks::new();
     while let Some(lowest) = lead.lowest(&ranks, streams) {
         write_lowest(streams, &lowest, writer);
-        if stops(writer, patient) {
+        if writer.failed && !patient {
             return Err(StreamsFault::Write);
         }
         let first = lowest.number;
@@ -198,7 +195,7 @@ fn merge_into<const SESSIONS: u32, const OBJECTS: u32, const SYMBOLS: u32, G: St
             unreachable!();
         };
         let place = *place;
-        within = count_place(&mut tally, within, &place);
+        within = within && tally.count(&place);
         if let Err(fault) = lead.advance::<G, W>(&mut ranks, alloc, streams, &place, first) {
             return Err(StreamsFault::Input(fault));
         }
@@ -212,7 +209,7 @@ fn merge_into<const SESSIONS: u32, const OBJECTS: u32, const SYMBOLS: u32, G: St
         });
     }
     writer.end(entries);
-    if stops(writer, patient) {
+    if writer.failed && !patient {
         return Err(StreamsFault::Write);
     }
     let cut = writer.failed;
@@ -221,26 +218,4 @@ fn merge_into<const SESSIONS: u32, const OBJECTS: u32, const SYMBOLS: u32, G: St
         within,
         cut,
     })
-}
-
-// Whether a merge stops, as its sink has failed.
-#[inline(always)]
-fn stops<W>(writer: &JournalWriter<'_, W>, patient: bool) -> bool
-    ensures stops { result ≡ true → (writer.now.failed ≡ true) × (patient ≡ false) }
-    ensures goes_on { result ≡ false → patient ≡ false → writer.now.failed ≡ false }
-{
-    writer.failed && !patient
-}
-
-// Counts one address more, unless a limit was passed before, and returns whether none is passed.
-fn count_place<const SESSIONS: u32, const OBJECTS: u32, const SYMBOLS: u32>(
-    tally: &mut Tally<SESSIONS, OBJECTS, SYMBOLS>,
-    within: bool,
-    place: &Address,
-) -> bool
-    ensures { (F : List Fact) (f : Fact) → address f ≡ place.now → IsRising (F ++ f ∷ [])
-        → IsCounted SESSIONS OBJECTS SYMBOLS tally.old within F
-        → IsCounted SESSIONS OBJECTS SYMBOLS tally.new result (F ++ f ∷ []) }
-{
-    if within { tally.count(place) } else { false }
 }

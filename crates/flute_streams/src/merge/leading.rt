@@ -58,7 +58,7 @@ impl Lead {
                 None => None,
             };
         }
-        if streams.count() >= MANY && ranks.are_known() {
+        if streams.count() >= MANY && ranks.key.is_some() {
             if let Some(lowest) = ranks.lowest_held(streams) {
                 return Some(lowest);
             }
@@ -105,7 +105,7 @@ impl Lead {
         if streams.count() >= MANY {
             return self.advance_many::<G, W>(ranks, alloc, streams, place, first);
         }
-        ranks.forget();
+        ranks.key = None;
         let moved = advance_at(alloc, streams, Some(place), first)?;
         // of two or three streams each is looked at as fast as a lead (a join of two journals has
         // three)
@@ -139,18 +139,18 @@ impl Lead {
             (G.streams streams.old) (G.streams streams.new)) }
         ensures names { G.names streams.new ≡ G.names streams.old }
     {
-        let moved = if ranks.are_of(&place.key) {
+        let moved = if ranks.key == Some(place.key) {
             ranks.advance(alloc, streams, place)?
         } else {
-            ranks.forget();
+            ranks.key = None;
             advance_at(alloc, streams, Some(place), first)?
         };
         if moved.count == 1 && ranks.may_lead(moved.last) {
             self.look(streams, moved.last);
         }
         if self.known {
-            ranks.forget();
-        } else if streams.count() <= MOST && !ranks.are_known() {
+            ranks.key = None;
+        } else if streams.count() <= MOST && ranks.key.is_none() {
             ranks.rank(streams, place.key);
         }
         Ok(())

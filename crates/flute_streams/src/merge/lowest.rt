@@ -3,7 +3,7 @@ ghost use Rattle.std.specs.Prelude.{◌≡◌, ◌++◌, ◌<◌, List, IfSome, 
 ghost use Rattle.std.specs.Prelude.{slice_get};
 ghost use Rattle.flute_parts.specs.Addresses.{address, fact_of};
 ghost use Rattle.flute_parts.specs.Order.{address_cmp};
-ghost use Rattle.flute_parts.specs.Facts.{conflict_at, same_fact};
+ghost use Rattle.flute_parts.specs.Facts.{same_fact};
 ghost use Rattle.flute_parts.specs.Ranges.{IsFact};
 ghost use Rattle.flute_parts.specs.declared.address.Address.{Address};
 ghost use Rattle.flute_parts.specs.declared.fact.Fact.{Fact};
@@ -44,7 +44,8 @@ impl LowestValue {
     }
 
     /// The value, with what one stream more holds at that address. `spelled` are the bytes of the
-    /// first one's entry, or none.
+    /// first one's entry, or none. If the bytes of both entries lie in memory, only these are
+    /// compared.
     #[inline(always)]
     pub fn joined<G: Streams>(self, streams: &G, spelled: &[u8], number: usize) -> LowestValue
         requires own { (s : G.Stream) → slice_get (G.streams streams.now) self.number ≡ Some s
@@ -55,12 +56,18 @@ impl LowestValue {
             ≡ place_at G.behaviour (G.streams streams.now) self }
         ensures { Joins G.behaviour (G.streams streams.now) self number result }
     {
-        if self.conflict || hold_same(streams, spelled, self.number, number) {
+        if self.conflict {
             return self;
         }
+        let other = streams.spelled(number);
+        let same = if spelled.is_empty() || other.is_empty() {
+            hold_same_facts(streams, self.number, number)
+        } else {
+            same_bytes(spelled, other)
+        };
         LowestValue {
             number: self.number,
-            conflict: true,
+            conflict: !same,
         }
     }
 }
@@ -123,30 +130,7 @@ fn order_of(first: Option<&Address>, second: Option<&Address>) -> Ordering
     }
 }
 
-// Whether two streams that are at one address hold the same value there. If the bytes of both
-// entries lie in memory, only these are compared: those of the first are `one`.
-#[inline(always)]
-fn hold_same<G: Streams>(streams: &G, one: &[u8], first: usize, second: usize) -> bool
-    requires own { (s : G.Stream) → slice_get (G.streams streams.now) first ≡ Some s
-        → one.now ≡ G.behaviour.spelled s }
-    requires spelled { AreSpelled G.behaviour (G.streams streams.now) }
-    requires first { first < length (G.streams streams.now) }
-    requires second { second < length (G.streams streams.now) }
-    requires place { address_of (held_at G.behaviour (G.streams streams.now) first)
-        ≡ address_of (held_at G.behaviour (G.streams streams.now) second) }
-    ensures { (g f : Fact) → held_at G.behaviour (G.streams streams.now) first ≡ Some g
-        → held_at G.behaviour (G.streams streams.now) second ≡ Some f
-        → result ≡ same_fact g f }
-{
-    let other = streams.spelled(second);
-    if one.is_empty() || other.is_empty() {
-        hold_same_facts(streams, first, second)
-    } else {
-        same_bytes(one, other)
-    }
-}
-
-// The same, whatever lies in memory.
+// Whether two streams that are at one address hold the same value there, whatever lies in memory.
 #[inline(never)]
 fn hold_same_facts<G: Streams>(streams: &G, first: usize, second: usize) -> bool
     requires first { first < length (G.streams streams.now) }
@@ -225,20 +209,13 @@ fn write_value<G: Streams, W: Sink>(
     let Some(fact) = streams.head(lowest.number) else {
         unreachable!();
     };
-    if lowest.conflict {
-        writer.entry(&conflict_at(&fact.address()));
-    } else {
+    if !lowest.conflict {
         writer.entry(&fact);
+        return;
     }
-}
-
-// The fact that there is a conflict at an address.
-fn conflict_at<'a>(place: &Address) -> FactRef<'a>
-    ensures { fact_of result ≡ conflict_at place.now }
-{
-    let key = place.key;
-    match place.part {
+    let Address { key, part } = fact.address();
+    writer.entry(&match part {
         Part::Info => FactRef::InfoConflict { key },
         Part::Symbol(id) => FactRef::SymbolConflict { key, id },
-    }
+    });
 }

@@ -3,7 +3,7 @@
 ghost use Rattle.std.specs.Prelude.{◌≡◌, true, false, ℕ, ◌≢◌, ◌<◌, ◌≤◌};
 ghost use Rattle.std.specs.Prelude.{◌/◌, ◌+◌};
 ghost use Rattle.std.specs.Prelude.{None, Some, length, IfSome, IfOk, IfErr, OnOk};
-ghost use Rattle.std.specs.Prelude.{option_copied, slice_get, slice_index};
+ghost use Rattle.std.specs.Prelude.{option_copied, slice_index};
 ghost use Rattle.flute_streams.specs.Streams.{heads};
 ghost use Rattle.flute_streams.specs.Lowest.{AreSpelled, IsLowest, Stands, value_at};
 ghost use Rattle.flute_streams.specs.Advances.{GoOnAt, StopsIn};
@@ -42,7 +42,7 @@ const BEHIND: u64 = u64::MAX;
 #[derive(Drop)]
 pub struct Ranks {
     /// The object. None if the streams have no ranks.
-    key: Option<Key>,
+    pub key: Option<Key>,
     /// The rank of the stream with each number.
     ranks: [u64; MOST],
     /// The lowest rank in each block.
@@ -67,31 +67,6 @@ impl Ranks {
         }
     }
 
-    /// Forgets the ranks.
-    #[inline(always)]
-    pub fn forget(&mut self)
-        ensures { self.new.key ≡ None }
-    {
-        self.key = None;
-    }
-
-    /// Whether the streams have ranks.
-    #[inline(always)]
-    pub fn are_known(&self) -> bool {
-        self.key.is_some()
-    }
-
-    /// Whether the streams have ranks among the parts of this object.
-    #[inline(always)]
-    pub fn are_of(&self, key: &Key) -> bool
-        ensures { result ≡ true → self.now.key ≡ Some key.now }
-    {
-        match &self.key {
-            Some(mine) => mine == key,
-            None => false,
-        }
-    }
-
     /// Whether to look if the stream with this number leads, which was advanced alone: if there are
     /// ranks, only once it was so several times in succession.
     #[inline(always)]
@@ -100,7 +75,7 @@ impl Ranks {
         ensures ranks { self.new.ranks ≡ self.old.ranks }
         ensures lows { self.new.lows ≡ self.old.lows }
     {
-        if !self.are_known() {
+        if self.key.is_none() {
             return true;
         }
         self.alone = if number == self.last {

@@ -1,7 +1,7 @@
 //! A stream of which only some facts are taken.
 ghost use Rattle.std.specs.Prelude.{◌≡◌};
 ghost use Rattle.flute_streams.specs.Streams.{IsNew};
-ghost use Rattle.flute_streams.specs.ChosenStreams.{chosen_behaviour, is_passed_over};
+ghost use Rattle.flute_streams.specs.ChosenStreams.{chosen_behaviour};
 
 use crate::choice::Choice;
 use crate::streams::stream::Stream;
@@ -59,24 +59,10 @@ impl<S: Stream, C: Choice> Stream for Chosen<S, C> {
     #[inline(always)]
     fn advance(&mut self, alloc: Global) -> Result<(), LoadFault> {
         self.stream.advance(alloc)?;
-        while is_other(&self.choice, &self.stream) {
+        while self.choice.passes_over(&self.stream) {
             self.others = self.others.saturating_add(1);
             self.stream.advance(alloc)?;
         }
         Ok(())
-    }
-}
-
-// Whether a stream holds a fact that is not taken.
-#[inline(always)]
-fn is_other<C: Choice, S: Stream>(choice: &C, stream: &S) -> bool
-    ensures { result ≡ is_passed_over C.takes choice.now (S.behaviour.held stream.now) }
-{
-    if choice.takes_all() {
-        return false;
-    }
-    match stream.head() {
-        Some(fact) => !choice.takes_fact(&fact),
-        None => false,
     }
 }

@@ -1,6 +1,5 @@
 //! The facts of a store as a stream.
 ghost use Rattle.std.specs.Prelude.{◌≡◌, None, length};
-ghost use Rattle.flute_parts.specs.Addresses.{fact_of};
 ghost use Rattle.flute_parts.specs.Facts.{IsRising};
 ghost use Rattle.flute_streams.specs.Streams.{IsNew, address_of};
 ghost use Rattle.flute_streams.specs.Listed.{listed_behaviour};
@@ -40,10 +39,15 @@ impl<'a, S: HasObjects + 'a> Stream for WalkStream<'a, S> {
 
     #[inline(always)]
     fn head(&self) -> Option<FactRef<'_>> {
-        match &self.held {
-            Some((_, fact)) => Some(copied(fact)),
-            None => None,
-        }
+        let Some((_, fact)) = &self.held else {
+            return None;
+        };
+        Some(match *fact {
+            FactRef::Info { key, info } => FactRef::Info { key, info },
+            FactRef::InfoConflict { key } => FactRef::InfoConflict { key },
+            FactRef::Symbol { key, id, bytes } => FactRef::Symbol { key, id, bytes },
+            FactRef::SymbolConflict { key, id } => FactRef::SymbolConflict { key, id },
+        })
     }
 
     fn address(&self) -> Option<&Address> {
@@ -63,18 +67,5 @@ impl<'a, S: HasObjects + 'a> Stream for WalkStream<'a, S> {
             None => None,
         };
         Ok(())
-    }
-}
-
-// The same fact.
-#[inline(always)]
-fn copied<'a>(fact: &FactRef<'a>) -> FactRef<'a>
-    ensures { fact_of result ≡ fact_of fact.now }
-{
-    match *fact {
-        FactRef::Info { key, info } => FactRef::Info { key, info },
-        FactRef::InfoConflict { key } => FactRef::InfoConflict { key },
-        FactRef::Symbol { key, id, bytes } => FactRef::Symbol { key, id, bytes },
-        FactRef::SymbolConflict { key, id } => FactRef::SymbolConflict { key, id },
     }
 }

@@ -27,5 +27,5 @@ fn a_fact_is_held(rt: HostRuntime) -> Result<(), Fail> {
 
 #[test]
 fn kinds_are_told_by_first_bytes(rt: HostRuntime) {
-    assert!(rt; kind_of(b"FLDG") == Some(Kind::Datagrams));
+    assert!(rt; matches!(kind_of(b"FLDG"), Some(Kind::Datagrams)));
 }

@@ -59,9 +59,10 @@ fn whole_and_chosen_journals_are_merged(rt: HostRuntime) -> Result<(), Fail> {
     scope.sessions = sessions;
     scope.files = true;
     let key = file().ok_or("a key")?;
-    assert!(rt; scope.takes(&key) && !scope.is_all() && !scope.takes_all());
+    assert!(rt; scope.takes(&key) && !scope.is_all());
     let journal = OwnedJournalStream::new(MemorySource::new(&whole), MANY);
     let mut chosen = Chosen::new(journal, scope);
+    assert!(rt; !chosen.choice.passes_over(&chosen.stream));
     let mut sink = MemorySink::new(rt.alloc());
     let joined = merge_two::<4, 4, 4, _, _, _>(rt.alloc(), &mut all, &mut chosen, &mut sink)?;
     assert!(rt; joined.entries == 3);
@@ -85,16 +86,16 @@ fn a_journal_is_written_without_a_symbol(rt: HostRuntime) -> Result<(), Fail> {
     Ok(())
 }
 
-/// What is selected of one, alone.
+/// What is left of one, alone.
 #[test]
-fn selected_facts_are_merged(rt: HostRuntime) -> Result<(), Fail> {
+fn facts_that_are_left_are_merged(rt: HostRuntime) -> Result<(), Fail> {
     let whole = bytes(rt.alloc(), WHOLE)?;
     let journal = OwnedJournalStream::new(MemorySource::new(&whole), MANY);
-    let mut selected = Chosen::new(journal, Selection::all());
-    let mut one = &mut selected;
+    let mut left = Chosen::new(journal, AllBut(Selection::all()));
+    let mut one = &mut left;
     let mut sink = MemorySink::new(rt.alloc());
     let joined = merge_all::<4, 4, 4, _, _>(rt.alloc(), &mut one, &mut sink)?;
-    assert!(rt; joined.entries == 3);
+    assert!(rt; joined.entries == 0);
     Ok(())
 }
 

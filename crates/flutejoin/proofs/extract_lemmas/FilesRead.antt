@@ -1,8 +1,8 @@
 -- extract --all: whole picked objects become files as the journal is read (specs/ExtractAll).
 use Rattle.std.proofs.Common.{◌≡◌, ℕ, ◌+◌, ◌<◌, ◌≤◌, ◌^◌, true, false, List, [], ◌∷◌, ◌++◌}
-use Rattle.std.proofs.Common.{length, arith, Option, None, Result, Ok, Err, inl, inr, refl, ap}
+use Rattle.std.proofs.Common.{length, arith, Option, None, inl, inr, refl, ap}
 use Rattle.std.proofs.Common.{◌∙◌, subst, append-nil}
-use Rattle.std.specs.Prelude.{IfSome, IfOk, IfErr}
+use Rattle.std.specs.Prelude.{IfSome}
 use Rattle.std.specs.Io.KnownBytes.{IsAtEnd}
 use Rattle.std.proofs.lemmas.List.{length-append}
 use Rattle.std.proofs.lemmas.List.Elements.{filter-append}
@@ -21,7 +21,8 @@ use Rattle.flute_journal.specs.Framing.{GivesItem, GivesEnd, GivesFault, Sofar}
 use Rattle.flute_journal.specs.JournalFraming.{journal_framing}
 use Rattle.flute_journal.proofs.Public.{loaded-over, side-from, journal_sound, sofar-next}
 use Rattle.flute_journal.proofs.Public.{Loaded, sofar-stops}
-use Rattle.flutejoin.specs.ExtractAll.{ExtractsAll, CanPick, is_picked, picked_facts}
+use Rattle.flutejoin.specs.ExtractAll.{ExtractsAll, is_picked, picked_facts}
+use Rattle.flutejoin.specs.ObjectFiles.{CanAdd}
 use Rattle.flutejoin.specs.Gaps.{ReadsWithin}
 use Rattle.flutejoin.specs.Load.{LoadFails}
 use Rattle.flutejoin.specs.ObjectFiles.{Takes, TakesAll, KnowsSome}
@@ -92,10 +93,10 @@ module _ {s o y : ℕ} {u v : Option (List ℕ)} {from : ReaderState Before} {ta
     entry_rises = (sofar-next journal_sound h.sofar
         g).are_items.in_order
 
-    pub can_pick : CanPick picked objects f
-    can_pick = (
-      h.entries,
-      entry_rises,
+    pub can_pick : is_picked picked (address f).key ≡ true → CanAdd objects f
+    can_pick e = (
+      picked_facts picked h.entries,
+      picked_rises picked h.entries f e entry_rises,
       (
         h.takes.files,
         h.takes.told,

@@ -1,9 +1,9 @@
 -- extract --all: a folder that is filled, call after call (flute_output: specs/NewFolders).
 use Rattle.std.proofs.Common.{◌≡◌, ℕ, List, [], ◌∷◌, ◌++◌, Option, Some, None, refl, sym, ap, ◌∙◌}
-use Rattle.std.proofs.Common.{subst, append_assoc, append-nil}
-use Rattle.std.specs.Prelude.{IsSome, IfSome, option_map}
+use Rattle.std.proofs.Common.{subst, append_assoc}
+use Rattle.std.specs.Prelude.{IsSome, option_map}
 use Rattle.flute_output.specs.NewFolders.{NamedFile, Filled, Places, LeadsTo, Makes, Fills}
-use Rattle.flute_output.specs.NewFolders.{FolderStays, IsReady, begins, puts, keeps, keeps_open}
+use Rattle.flute_output.specs.NewFolders.{FolderStays, begins, puts, keeps, keeps_open}
 use Rattle.flute_output.specs.NewFolders.{leaves, with_bytes, with_files, files_in, files_beside}
 
 both_stay : (a b c : Places) → FolderStays a b → FolderStays b c → FolderStays a c

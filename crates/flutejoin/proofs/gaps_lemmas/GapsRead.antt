@@ -1,4 +1,4 @@
--- put_aside: a journal whose objects are listed as it is read (specs/Gaps).
+-- gaps_from: a journal whose objects are listed as it is read (specs/Gaps).
 use Rattle.std.proofs.Common.{◌≡◌, ◌≤◌, ℕ, Bool, true, false, List, [], ◌∷◌, ◌++◌, Option, Some}
 use Rattle.std.proofs.Common.{None, inl, inr, refl, length, arith}
 use Rattle.std.specs.Prelude.{IfSome, IsTrue}
@@ -20,7 +20,7 @@ use Rattle.flute_journal.proofs.Public.{loaded-over, side-from, journal_sound, s
 use Rattle.flute_journal.proofs.Public.{Loaded, sofar-stops}
 use Rattle.flutejoin.specs.Gaps.{ListsJournal, ReadsWithin}
 use Rattle.flutejoin.specs.Load.{LoadFails}
-use Rattle.flutejoin.specs.Listing.{CanAddSelected, Lists, ListsWith}
+use Rattle.flutejoin.specs.Listing.{CanAdd, Lists, ListsWith}
 use Rattle.flutejoin.specs.Selected.{selected}
 use Rattle.flutejoin.specs.Limits.{Limits, at_most, BeginsOverLimits}
 use Rattle.flutejoin.specs.Told.{AreTold, Told}
@@ -28,7 +28,7 @@ use Rattle.flutejoin.specs.declared.command_fault.CommandFault.TheVariants.{Inpu
 use Rattle.flutejoin.specs.declared.limits.TheConstants.{MAX_ENTRIES}
 use Rattle.flutejoin.specs.declared.gaps.listing.Listing.{Listing}
 use Rattle.flutejoin.specs.declared.lines.style.Style.{Style}
-use Rattle.flutejoin.proofs.SelectedFacts.{few_selected, rising_picked}
+use Rattle.flutejoin.proofs.SelectedFacts.{few_selected, rising_picked, selected_rises}
 use Rattle.flutejoin.proofs.Shown.{whole}
 
 -- what is put aside: lines, and those of the gaps of the open object
@@ -90,8 +90,13 @@ module _ {s o y : ℕ} {choice : Selection} {style : Style} {u v : Option (List 
       lists = λ known is. l known (h.lists known is);
     }
 
-    pub can_add : CanAddSelected style choice f listing
-    can_add = (h.entries, entry_rises, h.sofar.are_items.few, is_open)
+    pub can_add : selects choice f ≡ true → CanAdd style f listing
+    can_add e = (
+      selected choice h.entries,
+      selected_rises choice f h.entries e entry_rises,
+      omega (arith, few_selected choice h.entries, h.sofar.are_items.few),
+      is_open,
+    )
 
     -- an entry more was read, within the limits
     pub within_read : {tally' : Tally s o y}

@@ -105,8 +105,9 @@ by_name P i t (Instance n) = i n
 by_name P i t (File n) = t n
 
 -- an object after the words object fdt is no file
-pub no_file : (s tail rest : List ℕ) (n : ℕ) → n < 2 ^ 112 → s ≡ object_words (File n) ++ tail
-    → s ≡ codes "object fdt " ++ rest → ⊥
+pub no_file : (s tail rest : List ℕ) (n : ℕ) → n < 2 ^ 112
+    → s ≡ codes " " ++ (object_words (File n) ++ tail)
+    → s ≡ codes " object fdt " ++ rest → ⊥
 no_file s tail rest n small is found =
-    no_fdt n tail rest (omega arith) (append_cancel_left (codes "object ") (decimal n ++ tail)
+    no_fdt n tail rest (omega arith) (append_cancel_left (codes " object ") (decimal n ++ tail)
     (codes "fdt " ++ rest) (sym is ∙ found))

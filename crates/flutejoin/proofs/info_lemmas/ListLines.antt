@@ -10,8 +10,9 @@ use Rattle.std.specs.List.{flat_map}
 use Rattle.std.proofs.KnownBytes.{Consumes-trans}
 use Rattle.std.proofs.lemmas.Fmt.{length-decimal-le_wide}
 use Rattle.std.proofs.lemmas.Grind.{flat_map-append}
-use Rattle.std.proofs.lemmas.List.{take-append-drop, take_more}
-use Rattle.std.proofs.lemmas.List.Elements.{All-nil}
+use Rattle.std.proofs.lemmas.List.{length-take, nil_from_length, take_all, take-append-drop}
+use Rattle.std.proofs.lemmas.List.{take-append-le, take_more}
+use Rattle.std.proofs.lemmas.List.Elements.{All-append, All-cons, All-nil}
 use Rattle.flute_journal.specs.declared.fault.ReadFault.TheVariants.{Read}
 use Rattle.flute_parts.specs.Facts.{Same}
 use Rattle.flute_parts.specs.Information.{Information, HasInfoFields, info_fault}
@@ -27,12 +28,12 @@ use Rattle.flute_parts.proofs.Public.{Same-trans}
 use Rattle.flutejoin.specs.declared.command_fault.CommandFault.{CommandFault}
 use Rattle.flutejoin.specs.declared.command_fault.CommandFault.TheVariants.{Input, ListLine}
 use Rattle.flutejoin.specs.declared.info.information_list.InformationList.{InformationList}
-use Rattle.flutejoin.specs.InformationLines.{HasNumbers, Shows, LineTells, shown}
+use Rattle.flutejoin.specs.InformationLines.{HasNumbers, IsPassedOver, Shows, LineTells, shown}
 use Rattle.flutejoin.specs.InformationLines.{IsOneLine, LinesTell, ListTells, BeginsLine, HasLine}
 use Rattle.flutejoin.specs.InformationLines.{TellsNothing, TellsInvalid}
 use Rattle.flutejoin.specs.Limits.{Limits}
 use Rattle.flutejoin.specs.InformationLines.{ListFails, nothing, no_end, too_long, invalid, over}
-use Rattle.flutejoin.specs.InformationLines.{no_memory, IsKept, TakingFails, of_line, no_line}
+use Rattle.flutejoin.specs.InformationLines.{no_memory, IsKept, TakingFails, no_line}
 use Rattle.flutejoin.specs.InformationLines.{not_valid, no_room, no_memory_for, HoldsList}
 use Rattle.flutejoin.specs.Lines.{line, source_words, object_words, information_words, fact_words}
 use Rattle.flutejoin.specs.JoinParts.{NamesOnly}
@@ -104,18 +105,40 @@ begins_at bytes number facts words more b = record {
 
 -- What is kept of a line.
 
-pub kept_nothing : (long : Bool) (kept : List ℕ) → long ≡ false → kept ≡ [] → IsKept long kept []
-kept_nothing long kept e f = subst (λ b. IsKept b kept []) (sym e) f
+kept_nothing : (kept : List ℕ) → kept ≡ [] → IsKept kept []
+kept_nothing kept e = e
 
-none_kept : (long : Bool) (kept words : List ℕ) → kept ≡ [] → IsKept long kept words → words ≡ []
-none_kept false kept words e h = sym h ∙ e
-none_kept true kept words e h = absurd (omega (arith, ap length e, h.2))
+none_kept : (kept words : List ℕ) → kept ≡ [] → IsKept kept words → words ≡ []
+none_kept kept words e h =
+    nil_from_length words (omega (arith, ap length (sym h ∙ e), length-take 512 words))
 
-some_kept : (long : Bool) (kept words : List ℕ) → 0 < length kept → IsKept long kept words
-    → 0 < length words
-some_kept false kept words some h = omega (arith, ap length h)
-some_kept true kept words some h =
-    omega (arith, ap length h.1, length-append kept h.0)
+some_kept : (kept words : List ℕ) → 0 < length kept → IsKept kept words → 0 < length words
+some_kept kept words some h = omega (arith, some, ap length h, length-take 512 words)
+
+-- another byte is kept, or there is no room for it
+kept_more : (kept words : List ℕ) (byte : ℕ) → length kept < 512 → IsKept kept words
+    → IsKept (kept ++ byte ∷ []) (words ++ byte ∷ [])
+kept_more kept words byte few h =
+    let short : length words < 512 = omega (arith, few, ap length h, length-take 512 words) in
+    ap (λ l. l ++ byte ∷ []) (h ∙ take_all 512 words (omega (arith, short)))
+    ∙ sym (take_all 512 (words ++ byte ∷ [])
+    (omega (arith, short, length-append words (byte ∷ []))))
+
+kept_full : (kept words : List ℕ) (byte : ℕ) → 512 ≤ length kept → IsKept kept words
+    → IsKept kept (words ++ byte ∷ [])
+kept_full kept words byte full h =
+    let long : 512 ≤ length words = omega (arith, full, ap length h, length-take 512 words) in
+    h ∙ sym (take-append-le 512 words (byte ∷ []) long)
+
+pub passed_kept : (kept words : List ℕ) → IsKept kept words → IsPassedOver kept
+    → IsPassedOver words
+passed_kept kept [] h p = tt
+passed_kept kept (byte ∷ words) h p = subst IsPassedOver h p
+
+pub kept_passed : (kept words : List ℕ) → IsKept kept words → IsPassedOver words
+    → IsPassedOver kept
+kept_passed kept [] h p = subst IsPassedOver (sym h) tt
+kept_passed kept (byte ∷ words) h p = subst IsPassedOver (sym h) p
 
 -- The fact that a line contains.
 
@@ -126,7 +149,7 @@ tells_shown words key info numbers shows e none =
     shown key info (shows.key_is, (subst HasInfoFields (sym e) shows.numbers.1, none))
     (subst (λ i. words ≡ fact_words (Info key i)) (sym e) shows.words_are) refl
 
--- A line of information has at most 512 bytes.
+-- A line of information has at most 320 bytes.
 
 number_short : (n : ℕ) → n < 2 ^ 128 → length (decimal n) ≤ 39
 number_short n small = length-decimal-le_wide 39 n (omega arith) (omega arith) (omega arith)
@@ -180,9 +203,9 @@ information_short i numbers =
       number_short i.max_block_length (omega (arith, numbers.1.1)),
     )
 
--- the words of information, all together, have at most 512 bytes
+-- the words of information, all together, have at most 320 bytes
 fact_short : (key : Key) (info : Information) → IsKey key → HasNumbers info
-    → length (fact_words (Info key info)) ≤ 512
+    → length (fact_words (Info key info)) ≤ 320
 fact_short key info named numbers =
     let e = ap length (fact_chain key info) in
     let s : length (codes "session ") ≡ 8 = refl in
@@ -203,18 +226,25 @@ fact_short key info named numbers =
       information_short info numbers,
     )
 
-pub shows_short : (kept words : List ℕ) (key : Key) (info : Information)
-    → IsKept true kept words → Shows words key info → ⊥
-shows_short kept words key info h shows =
-    omega (
-      arith,
-      fact_short key info shows.key_is shows.numbers,
-      ap length shows.words_are,
-      ap length h.1,
-      length-append kept h.0,
-      h.2,
-      h.3,
-    )
+-- and so all of its line is kept
+pub shows_kept : (kept words : List ℕ) (key : Key) (info : Information)
+    → IsKept kept words → Shows words key info → kept ≡ words
+shows_kept kept words key info h shows =
+    h ∙ take_all 512 words
+    (omega (arith, fact_short key info shows.key_is shows.numbers, ap length shows.words_are))
+
+pub kept_shows : (kept words : List ℕ) (key : Key) (info : Information)
+    → IsKept kept words → IsKey key → HasNumbers info → kept ≡ fact_words (Info key info)
+    → Shows words key info
+kept_shows kept words key info h named numbers is =
+    let few = fact_short key info named numbers in
+    let short : length words < 512 =
+    omega (arith, few, ap length is, ap length h, length-take 512 words) in
+    record {
+      key_is = named;
+      numbers = numbers;
+      words_are = sym (take_all 512 words (omega (arith, short))) ∙ sym h ∙ is;
+    }
 
 -- What an InformationList has read: HoldsList (specs/InformationLines), byte by byte.
 
@@ -223,24 +253,23 @@ unfolding LinesTell
 tell_none = refl
 
 pub holds_nothing : {s o y : ℕ} (list : InformationList s o y) → list.told ≡ [] → list.line ≡ []
-    → list.long ≡ false → list.number ≡ 1 → HoldsList list []
-holds_nothing list told kept long number = record {
+    → list.number ≡ 1 → HoldsList list []
+holds_nothing list told kept number = record {
   facts = [];
   words = [];
   begins = record { lines = []; text = refl; tell = tell_none; number_is = omega (arith, number) };
   one_line = All-nil (λ byte. byte ≢ 10);
-  kept = kept_nothing list.long list.line long kept;
+  kept = kept_nothing list.line kept;
   content = subst (λ F. Same F []) (sym told) (Same-itself []);
 }
 
 -- a line was ended, and its fact was put into the store
-pub line_ended : {s o y : ℕ} (old new : InformationList s o y) (bytes : List ℕ) → new.line ≡ [] →
-    new.long ≡ false
-    → new.number ≡ old.number + 1
-    → ((words : List ℕ) → IsKept old.long old.line words → (facts : List Fact)
+pub line_ended : {s o y : ℕ} (old new : InformationList s o y) (bytes : List ℕ)
+    → new.line ≡ [] → new.number ≡ old.number + 1
+    → ((words : List ℕ) → IsKept old.line words → (facts : List Fact)
     × LineTells words facts × Same new.told (old.told ++ facts))
     → HoldsList old bytes → HoldsList new (bytes ++ 10 ∷ [])
-line_ended old new bytes kept long number took h =
+line_ended old new bytes kept number took h =
     let t = took h.words h.kept in
     record {
       facts = h.facts ++ t.0;
@@ -249,16 +278,52 @@ line_ended old new bytes kept long number took h =
           subst (λ n. BeginsLine (bytes ++ 10 ∷ []) n (h.facts ++ t.0) []) (sym number)
           (begins_more [] h.begins h.one_line t.1);
       one_line = All-nil (λ byte. byte ≢ 10);
-      kept = kept_nothing new.long new.line long kept;
+      kept = kept_nothing new.line kept;
       content =
           Same-trans new.told (old.told ++ t.0) (h.facts ++ t.0) t.2
           (Same-append old.told h.facts t.0 t.0 h.content (Same-itself t.0));
     }
 
+-- a byte of the line more: it is kept, or there is no room for it
+module _ {s o y : ℕ} (old new : InformationList s o y) (bytes : List ℕ) (byte : ℕ) where
+  line_grows : new.told ≡ old.told → new.number ≡ old.number → byte ≢ 10
+      → (h : HoldsList old bytes) → IsKept new.line (h.words ++ byte ∷ [])
+      → HoldsList new (bytes ++ byte ∷ [])
+  line_grows told number other h kept = record {
+    facts = h.facts;
+    words = h.words ++ byte ∷ [];
+    begins = record {
+      lines = h.begins.lines;
+      text =
+          ap (λ (l : List ℕ). l ++ byte ∷ []) h.begins.text
+          ∙ append_assoc (flat_map line h.begins.lines) h.words (byte ∷ []);
+      tell = h.begins.tell;
+      number_is = number ∙ h.begins.number_is;
+    };
+    one_line = All-append (λ b. b ≢ 10) h.words (byte ∷ []) h.one_line
+        (All-cons (λ b. b ≢ 10) byte [] other (All-nil (λ b. b ≢ 10)));
+    kept = kept;
+    content = subst (λ F. Same F h.facts) (sym told) h.content;
+  }
+
+  pub byte_kept : new.told ≡ old.told → new.number ≡ old.number → byte ≢ 10
+      → length old.line < 512 → new.line ≡ old.line ++ byte ∷ [] → HoldsList old bytes
+      → HoldsList new (bytes ++ byte ∷ [])
+  byte_kept told number other few line h =
+      line_grows told number other h
+      (line ∙ kept_more old.line h.words byte few h.kept)
+
+  pub byte_left : new.told ≡ old.told → new.number ≡ old.number → byte ≢ 10
+      → 512 ≤ length old.line → new.line ≡ old.line → HoldsList old bytes
+      → HoldsList new (bytes ++ byte ∷ [])
+  byte_left told number other full line h =
+      line_grows told number other h
+      (line ∙ kept_full old.line h.words byte full h.kept)
+
 -- a line was not taken: why the list fails
 pub line_failed : {s o y : ℕ} (most : Limits) (old : InformationList s o y)
     (bytes more : List ℕ) (fault : CommandFault)
-    → ((words : List ℕ) → IsKept old.long old.line words
+    → ((words : List ℕ) → IsKept old.line words
     → TakingFails most old.told old.number words fault)
     → HoldsList old bytes → ListFails most (bytes ++ 10 ∷ more) fault
 line_failed most old bytes more fault why h = go (why h.words h.kept)
@@ -275,8 +340,8 @@ line_failed most old bytes more fault why h = go (why h.words h.kept)
 
     go : TakingFails most old.told old.number h.words fault
         → ListFails most (bytes ++ 10 ∷ more) fault
-    go (of_line (no_line e p)) = nothing old.number e (at TellsNothing p)
-    go (of_line (not_valid w e p)) = invalid old.number w e (at (TellsInvalid w) p)
+    go (no_line e p) = nothing old.number e (at TellsNothing p)
+    go (not_valid w e p) = invalid old.number w e (at (TellsInvalid w) p)
     go (no_room facts e tells full) = over e (record {
       number = old.number + 1;
       facts = h.facts ++ facts;
@@ -301,7 +366,7 @@ all_told list bytes kept h = (
     text =
         h.begins.text
         ∙ ap (λ (l : List ℕ). flat_map line h.begins.lines ++ l)
-        (none_kept list.long list.line h.words kept h.kept)
+        (none_kept list.line h.words kept h.kept)
         ∙ append-nil (flat_map line h.begins.lines);
     tell = h.begins.tell;
   },
@@ -323,7 +388,7 @@ not_ended list kept b bytes same is some h = no_end list.number refl (record {
   begins = h.begins;
   one_line = h.one_line;
   some =
-      some_kept list.long list.line h.words
+      some_kept list.line h.words
       (subst (λ (l : List ℕ). 0 < length l) same (some_length (length kept) b is some)) h.kept;
 })
 

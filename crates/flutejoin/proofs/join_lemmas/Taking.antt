@@ -1,4 +1,4 @@
--- Joined::take: a datagram that was taken, or refused and counted.
+-- HeldFiles::take: a datagram that was taken, or refused and counted.
 use Rattle.std.proofs.Common.{◌≡◌, ◌<◌, ◌++◌, ◌↔◌, ℕ, zero, suc, List, Option, Some, None, true}
 use Rattle.std.proofs.Common.{false, Result, Ok, Err, refl, ap, arith, append-nil}
 use Rattle.std.specs.Prelude.{is_none}

@@ -8,12 +8,11 @@ ghost use Rattle.flute_parts.specs.declared.key.Key.{Key as Name};
 ghost use Rattle.flute_parts.specs.Addresses.{address};
 ghost use Rattle.flute_parts.specs.Facts.{IsRising};
 ghost use Rattle.flute_output.specs.NewFolders.{NamedFile, Places, LeadsTo, FolderStays, IsReady};
-ghost use Rattle.flute_store.specs.Held.{HoldsObject};
 ghost use Rattle.flute_store.specs.Scan.{next_fact};
 ghost use Rattle.flutejoin.specs.Listing.{IsFirstOf};
 ghost use Rattle.flutejoin.specs.ObjectFiles.{Takes, TakesAll, Knows, KnowsSome, CanAdd};
-ghost use Rattle.flutejoin.specs.ObjectFiles.{CanPassAt, HasPassedAt, StandsInto, FileStateIs};
-ghost use Rattle.flutejoin.specs.ObjectFiles.{Ends};
+ghost use Rattle.flutejoin.specs.ObjectFiles.{HasPassedAt, StandsInto, FileStateIs, Ends};
+ghost use Rattle.flute_store.specs.Held.{HoldsObject};
 
 use crate::extract::file_names::file_name;
 use crate::extract::file_scan::{FileScan, FileState};
@@ -113,7 +112,10 @@ impl ObjectFiles {
             ≡ D.failures folder.old + W.failures lines.old + (if is_ok result then 0 else 1) }
     {
         match &mut self.last {
-            Some(object) if object.key == *key => object.pass(id, value, folder),
+            Some(object) if object.key == *key => match &mut object.state {
+                FileState::OneInformation(scan) => scan.pass(id, value, folder),
+                FileState::NoInformation | FileState::ConflictingInformation => Ok(()),
+            },
             _ => self.begin(*key, FileState::NoInformation, folder, lines),
         }
     }
@@ -226,33 +228,6 @@ impl ObjectFiles {
     {
         self.close(folder, lines)?;
         Ok(self.written)
-    }
-}
-
-impl ObjectFile {
-    // Takes its next symbol, with its one value, or None if it has two.
-    #[inline(always)]
-    fn pass<D: NewFolder>(
-        &mut self,
-        id: SymbolId,
-        value: Option<&[u8]>,
-        folder: &mut D,
-    ) -> Result<(), DeviceFault>
-        requires { CanPassAt self.old.state (id, value) }
-        ensures key { self.new.key ≡ self.old.key }
-        ensures passed { (mine : List Known) (key : Name) (files : List NamedFile)
-            (p0 : Option Places) → IsRising (mine ++ next_fact key (id, value.entry) ∷ [])
-            → StandsInto key mine self.old.state files p0 (D.places folder.old)
-            → OnOk result (StandsInto key (mine ++ next_fact key (id, value.entry) ∷ [])
-            self.new.state files p0 (D.places folder.new)) }
-        ensures stays { LeadsTo FolderStays (D.places folder.old) (D.places folder.new) }
-        ensures failures { D.failures folder.new
-            ≡ D.failures folder.old + (if is_ok result then 0 else 1) }
-    {
-        match &mut self.state {
-            FileState::OneInformation(scan) => scan.pass(id, value, folder),
-            FileState::NoInformation | FileState::ConflictingInformation => Ok(()),
-        }
     }
 }
 

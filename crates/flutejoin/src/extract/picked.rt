@@ -6,7 +6,7 @@ use flute_parts::{Key, Sender};
 use flute_streams::Sessions;
 
 /// The objects of one sender, or of all, and of some sessions.
-#[derive(Clone, Copy, Debug)]
+#[derive(Clone, Copy)]
 pub struct Picked {
     pub sender: Option<Sender>,
     pub sessions: Sessions,

@@ -1,6 +1,6 @@
 //! The words of the lines that say how much is held of an object.
-ghost use Rattle.std.specs.Prelude.{◌≡◌, ◌+◌, ◌≤◌, ◌++◌, length};
-ghost use Rattle.flutejoin.specs.Lines.{line, status_words, status_line, reason_words, gap_line};
+ghost use Rattle.std.specs.Prelude.{◌≡◌, ◌≤◌, length};
+ghost use Rattle.flutejoin.specs.Lines.{line, status_line, gap_line};
 
 use crate::lines::fact_lines::push_key;
 use crate::lines::text::Text;
@@ -15,15 +15,6 @@ pub fn status_text(key: &Key, status: Status) -> Text
     let mut text = Text::new();
     push_key(&mut text, key);
     text.push(" ");
-    push_status(&mut text, status);
-    text
-}
-
-fn push_status(text: &mut Text, status: Status)
-    requires { length text.old + 200 ≤ 512 }
-    ensures text { text.new ≡ text.old ++ status_words status }
-    ensures len { length text.new ≤ length text.old + 200 }
-{
     match status {
         Status::NoInformation => text.push("no information"),
         Status::ConflictingInformation => text.push("conflicting information"),
@@ -44,6 +35,7 @@ fn push_status(text: &mut Text, status: Status)
             text.push_number(misfit);
         }
     }
+    text
 }
 
 /// The words of a gap's line.
@@ -58,17 +50,10 @@ pub fn gap_text(gap: &Gap) -> Text
     text.push_number(gap.first);
     text.push("-");
     text.push_number(gap.last);
-    text.push(reason_words(gap.reason));
-    text
-}
-
-fn reason_words(reason: Reason) -> &'static str
-    ensures words { result.now ≡ reason_words reason }
-    ensures len { length result.now ≤ 20 }
-{
-    match reason {
-        Reason::Missing => " missing",
-        Reason::Conflicting => " conflicting",
-        Reason::Misfit => " misfit",
+    match gap.reason {
+        Reason::Missing => text.push(" missing"),
+        Reason::Conflicting => text.push(" conflicting"),
+        Reason::Misfit => text.push(" misfit"),
     }
+    text
 }

@@ -6,10 +6,10 @@ ghost use Rattle.flute_parts.specs.Addresses.{address};
 ghost use Rattle.flute_parts.specs.Facts.{IsRising};
 ghost use Rattle.flute_store.specs.Scan.{Scanned, next_fact, CanFollow};
 ghost use Rattle.flute_store.specs.Scans.{Scans};
-ghost use Rattle.flute_store.specs.Held.{HoldsObject};
 ghost use Rattle.std.specs.Io.KnownBytes.{Appends};
-ghost use Rattle.flutejoin.specs.Listing.{AllClosed, CanAdd, CanPass, IsFirstOf, IsListed, IsOpen};
+ghost use Rattle.flutejoin.specs.Listing.{AllClosed, CanAdd, IsFirstOf, IsListed, IsOpen};
 ghost use Rattle.flutejoin.specs.Listing.{IsState, Knows, Lists, Passes, StateIs, TellsAll};
+ghost use Rattle.flute_store.specs.Held.{HoldsObject};
 ghost use Rattle.flutejoin.specs.Styles.{shown_gap};
 
 use crate::aside::Aside;
@@ -123,9 +123,12 @@ impl Listing {
             ≡ A.failures lines.old + A.failures gap_lines.old + (if is_ok result then 0 else 1) }
     {
         match &mut self.open {
-            Some(object) if object.key == *key => {
-                pass_symbol(style, &mut object.state, gap_lines, id, value)
-            }
+            Some(object) if object.key == *key => match &mut object.state {
+                ObjectState::OneInformation(scan) => {
+                    pass(style, scan, gap_lines, Some((id, value)))
+                }
+                ObjectState::NoInformation | ObjectState::ConflictingInformation => Ok(()),
+            },
             _ => self.begin(style, *key, ObjectState::NoInformation, lines, gap_lines),
         }
     }
@@ -200,31 +203,6 @@ impl Listing {
         self.close(style, lines, gap_lines)?;
         end_session(&self.closed.sums, lines)?;
         Ok(self.closed.all_whole)
-    }
-}
-
-// Takes the next symbol of an object.
-#[inline(always)]
-fn pass_symbol<A: Aside>(
-    style: Style,
-    state: &mut ObjectState,
-    gap_lines: &mut A,
-    id: SymbolId,
-    value: Option<&[u8]>,
-) -> Result<(), DeviceFault>
-    requires { CanPass style (id, value) state.old }
-    ensures passed { (known : Bool) (key : Key) (mine : List Fact) (gaps : List ℕ)
-        → IsRising (mine ++ next_fact key (id, value.entry) ∷ [])
-        → StateIs style key mine gaps state.old → Knows known (A.written gap_lines.old) gaps
-        → OnOk result ((all : List ℕ)
-        × StateIs style key (mine ++ next_fact key (id, value.entry) ∷ []) all state.new
-        × Knows known (A.written gap_lines.new) all) }
-    ensures failures { A.failures gap_lines.new
-        ≡ A.failures gap_lines.old + (if is_ok result then 0 else 1) }
-{
-    match state {
-        ObjectState::OneInformation(scan) => pass(style, scan, gap_lines, Some((id, value))),
-        ObjectState::NoInformation | ObjectState::ConflictingInformation => Ok(()),
     }
 }
 

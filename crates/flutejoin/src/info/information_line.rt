@@ -7,11 +7,10 @@ ghost use Rattle.hex.specs.Hex.{encode_lower};
 ghost use Rattle.flute_parts.specs.Information.{Information};
 ghost use Rattle.flute_parts.specs.ObjectName.{IsObjectName};
 ghost use Rattle.flute_parts.specs.Ranges.{IsKey};
-ghost use Rattle.flute_parts.specs.Session.{Session, IsSession, session};
+ghost use Rattle.flute_parts.specs.Session.{Session, IsSession};
 ghost use Rattle.flute_parts.specs.declared.fact.Fact.TheVariants.{Info as InfoFact};
 ghost use Rattle.flute_parts.specs.declared.key.Key.{Key as KeyValue};
 ghost use Rattle.flute_parts.specs.declared.object_key.ObjectName.{ObjectName as NameValue};
-ghost use Rattle.flute_parts.specs.declared.object_key.ObjectName.TheVariants.{Instance};
 ghost use Rattle.flutejoin.specs.InformationLines.{HasNumbers, numbers_of};
 ghost use Rattle.flutejoin.specs.Lines.{source_words, object_words, information_words, fact_words};
 
@@ -53,17 +52,22 @@ fn digits_len(text: &[u8]) -> usize
     text.len()
 }
 
-// The number at the front of a text, and what follows it.
-fn number(text: &[u8]) -> Option<(u128, &[u8])>
+// The number after these words, and what follows it.
+fn number_after<'a>(text: &'a [u8], words: &str) -> Option<(u128, &'a [u8])>
+    ensures found { IfSome result (λ _. (rest : List ℕ) × (text.now ≡ words.now ++ rest)) }
     ensures finds { (n : ℕ) (tail : List ℕ) → n < 2 ^ 128
-        → is_ascii_digit (slice_index tail 0) ≡ false → text.now ≡ decimal n ++ tail
+        → is_ascii_digit (slice_index tail 0) ≡ false
+        → text.now ≡ words.now ++ (decimal n ++ tail)
         → MatchOption result ⊥ (λ r. (r.0 ≡ n) × (r.1.now ≡ tail)) }
 {
-    let len = digits_len(text);
+    let Some(rest) = after(text, words) else {
+        return None;
+    };
+    let len = digits_len(rest);
     if len == 0 {
         return None;
     }
-    let (digits, rest) = text.split_at(len);
+    let (digits, rest) = rest.split_at(len);
     let Ok(digits) = std::str::from_utf8(digits) else {
         return None;
     };
@@ -73,38 +77,8 @@ fn number(text: &[u8]) -> Option<(u128, &[u8])>
     }
 }
 
-// The number after these words, and what follows it.
-fn number_after<'a>(text: &'a [u8], words: &str) -> Option<(u128, &'a [u8])>
-    ensures finds { (n : ℕ) (tail : List ℕ) → n < 2 ^ 128
-        → is_ascii_digit (slice_index tail 0) ≡ false
-        → text.now ≡ words.now ++ (decimal n ++ tail)
-        → MatchOption result ⊥ (λ r. (r.0 ≡ n) × (r.1.now ≡ tail)) }
-{
-    match after(text, words) {
-        Some(rest) => number(rest),
-        None => None,
-    }
-}
-
-// The sender of 32 digits, and what follows them.
-fn address(text: &[u8]) -> Option<(u128, &[u8])>
-    ensures finds { (n : ℕ) (tail : List ℕ) → n < 2 ^ 128
-        → text.now ≡ encode_lower (bytes_high_first 16 n) ++ tail
-        → MatchOption result ⊥ (λ r. (r.0 ≡ n) × (r.1.now ≡ tail)) }
-{
-    if text.len() < 32 {
-        return None;
-    }
-    let (digits, rest) = text.split_at(32);
-    let mut bytes = [0; 16];
-    match hex::decode_to_slice(digits, &mut bytes) {
-        Ok(()) => Some((BigEndian::read_u128(&bytes), rest)),
-        Err(_) => None,
-    }
-}
-
 // The sender before a session, 0 if there is none, and what follows.
-fn source(text: &[u8]) -> Option<(u128, &[u8])>
+fn source_in(text: &[u8]) -> Option<(u128, &[u8])>
     ensures finds { (n : ℕ) (tail : List ℕ) → n < 2 ^ 128
         → text.now ≡ source_words n ++ (codes "session " ++ tail)
         → MatchOption result ⊥ (λ r. (r.0 ≡ n) × (r.1.now ≡ codes "session " ++ tail)) }
@@ -112,24 +86,29 @@ fn source(text: &[u8]) -> Option<(u128, &[u8])>
     let Some(rest) = after(text, "source ") else {
         return Some((0, text));
     };
-    let Some((sender, rest)) = address(rest) else {
+    if rest.len() < 32 {
         return None;
-    };
-    match after(rest, " ") {
-        Some(rest) => Some((sender, rest)),
-        None => None,
+    }
+    let (digits, rest) = rest.split_at(32);
+    let mut bytes = [0; 16];
+    match hex::decode_to_slice(digits, &mut bytes) {
+        Ok(()) => match after(rest, " ") {
+            Some(rest) => Some((BigEndian::read_u128(&bytes), rest)),
+            None => None,
+        },
+        Err(_) => None,
     }
 }
 
 // The sender and the number of the session at the front of a text, and what follows it.
-fn session(text: &[u8]) -> Option<(u128, u128, &[u8])>
+fn session_in(text: &[u8]) -> Option<(u128, u128, &[u8])>
     ensures finds { (s : Session) (tail : List ℕ) → IsSession s
         → is_ascii_digit (slice_index tail 0) ≡ false
         → text.now ≡ source_words s.sender ++ (codes "session " ++ (decimal s.tsi ++ tail))
         → MatchOption result ⊥ (λ r. (r.0 ≡ s.sender) × (r.1 ≡ s.tsi)
         × (r.2.now ≡ tail)) }
 {
-    let Some((sender, rest)) = source(text) else {
+    let Some((sender, rest)) = source_in(text) else {
         return None;
     };
     match number_after(rest, "session ") {
@@ -138,27 +117,17 @@ fn session(text: &[u8]) -> Option<(u128, u128, &[u8])>
     }
 }
 
-// The name of the FDT Instance whose ID is at the front of a text, and what follows it.
-fn instance(text: &[u8]) -> Option<(ObjectName, &[u8])>
-    ensures finds { (n : ℕ) (tail : List ℕ) → n < 2 ^ 20
-        → is_ascii_digit (slice_index tail 0) ≡ false → text.now ≡ decimal n ++ tail
-        → MatchOption result ⊥ (λ r. (r.0 ≡ Instance n) × (r.1.now ≡ tail)) }
-{
-    match number(text) {
-        Some((id, rest)) if id < 1 << 20 => Some((ObjectName::Instance(id as u32), rest)),
-        _ => None,
-    }
-}
-
-// The name of the object at the front of a text, and what follows it.
-fn object(text: &[u8]) -> Option<(ObjectName, &[u8])>
+// The name of the object after the space at the front of a text, and what follows it.
+fn object_in(text: &[u8]) -> Option<(ObjectName, &[u8])>
     ensures finds { (name : NameValue) (tail : List ℕ) → IsObjectName name
-        → is_ascii_digit (slice_index tail 0) ≡ false → text.now ≡ object_words name ++ tail
+        → is_ascii_digit (slice_index tail 0) ≡ false
+        → text.now ≡ codes " " ++ (object_words name ++ tail)
         → MatchOption result ⊥ (λ r. (r.0 ≡ name) × (r.1.now ≡ tail)) }
 {
-    match after(text, "object fdt ") {
-        Some(rest) => instance(rest),
-        None => match number_after(text, "object ") {
+    match number_after(text, " object fdt ") {
+        Some((id, rest)) if id < 1 << 20 => Some((ObjectName::Instance(id as u32), rest)),
+        Some(_) => None,
+        None => match number_after(text, " object ") {
             Some((toi, rest)) => Some((ObjectName::File(toi), rest)),
             None => None,
         },
@@ -182,12 +151,13 @@ fn key_of(sender: u128, tsi: u128, name: ObjectName) -> Option<Key>
     Some(Key { session, object })
 }
 
-// The numbers of the information that a text is, whatever follows them.
+// The numbers of the information after the space at the front of a text, whatever follows them.
 fn information_in(text: &[u8]) -> Option<InfoNumbers>
-    ensures finds { (info : Information) → HasNumbers info → text.now ≡ information_words info
+    ensures finds { (info : Information) → HasNumbers info
+        → text.now ≡ codes " " ++ information_words info
         → MatchOption result ⊥ (λ numbers. numbers_of numbers ≡ info) }
 {
-    let Some((length, rest)) = number_after(text, "info length ") else {
+    let Some((length, rest)) = number_after(text, " info length ") else {
         return None;
     };
     let Some((symbol, rest)) = number_after(rest, " symbol ") else {
@@ -207,33 +177,6 @@ fn information_in(text: &[u8]) -> Option<InfoNumbers>
     }
 }
 
-// The object and the numbers of a line of information, and maybe of another line.
-fn loose_information(line: &[u8]) -> Option<(Key, InfoNumbers)>
-    ensures finds { (key : KeyValue) (info : Information) → IsKey key → HasNumbers info
-        → line.now ≡ fact_words (InfoFact key info)
-        → MatchOption result ⊥ (λ told. (told.0 ≡ key) × (numbers_of told.1 ≡ info)) }
-{
-    let Some((sender, tsi, rest)) = session(line) else {
-        return None;
-    };
-    let Some(rest) = after(rest, " ") else {
-        return None;
-    };
-    let Some((name, rest)) = object(rest) else {
-        return None;
-    };
-    let Some(rest) = after(rest, " ") else {
-        return None;
-    };
-    let Some(numbers) = information_in(rest) else {
-        return None;
-    };
-    match key_of(sender, tsi, name) {
-        Some(key) => Some((key, numbers)),
-        None => None,
-    }
-}
-
 /// The object and the numbers of its information in a line, without its line feed: exactly
 /// if it is the line that `show` prints for them. It takes no memory.
 pub(crate) fn read_information(line: &[u8]) -> Option<(Key, InfoNumbers)>
@@ -243,7 +186,16 @@ pub(crate) fn read_information(line: &[u8]) -> Option<(Key, InfoNumbers)>
         → line.now ≡ fact_words (InfoFact key info)
         → MatchOption result ⊥ (λ told. (told.0 ≡ key) × (numbers_of told.1 ≡ info)) }
 {
-    let Some((key, numbers)) = loose_information(line) else {
+    let Some((sender, tsi, rest)) = session_in(line) else {
+        return None;
+    };
+    let Some((name, rest)) = object_in(rest) else {
+        return None;
+    };
+    let Some(numbers) = information_in(rest) else {
+        return None;
+    };
+    let Some(key) = key_of(sender, tsi, name) else {
         return None;
     };
     let mut text = Text::new();

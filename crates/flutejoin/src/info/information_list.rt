@@ -1,17 +1,11 @@
 //! A list of information: a text of lines, each with that of an object.
-ghost use Rattle.std.specs.Prelude.{◌≡◌, ◌≢◌, ◌↔◌, true, ◌≤◌, ◌<◌};
-ghost use Rattle.std.specs.Prelude.{◌+◌, ◌^◌, List, ℕ, [], ◌∷◌, ◌++◌, length};
-ghost use Rattle.std.specs.Prelude.{take};
-ghost use Rattle.std.specs.Prelude.{OnOk, IfOk, IfErr, IfSome, MatchOption, ◌⊎◌};
+ghost use Rattle.std.specs.Prelude.{◌≡◌, ◌↔◌, ◌≤◌, ◌<◌, ◌+◌, ◌^◌, ◌⊎◌, true, List, ℕ, [], ◌∷◌, ◌++◌};
+ghost use Rattle.std.specs.Prelude.{length, OnOk, IfOk, IfErr, IfSome};
 ghost use Rattle.flute_parts.specs.Facts.{Same};
-ghost use Rattle.flute_parts.specs.Information.{Information};
 ghost use Rattle.flute_parts.specs.declared.fact.Fact.{Fact as FactValue};
-ghost use Rattle.flute_parts.specs.declared.key.Key.{Key as KeyValue};
-ghost use Rattle.flute_streams.specs.Streams.{option_list};
-ghost use Rattle.flutejoin.specs.InformationLines.{IsPassedOver, Shows, LineTells, ListTells};
+ghost use Rattle.flutejoin.specs.InformationLines.{IsPassedOver, LineTells, ListTells};
 ghost use Rattle.flutejoin.specs.InformationLines.{ListFails};
-ghost use Rattle.flutejoin.specs.InformationLines.{HoldsList, IsKept, LineFails, TakingFails};
-ghost use Rattle.flutejoin.specs.InformationLines.{numbers_of};
+ghost use Rattle.flutejoin.specs.InformationLines.{HoldsList, IsKept, TakingFails};
 ghost use Rattle.flutejoin.specs.JoinParts.{NamesOnly};
 ghost use Rattle.flutejoin.specs.Limits.{at_most};
 ghost use Rattle.flutejoin.specs.Show.{FailsToRead};
@@ -19,11 +13,11 @@ ghost use Rattle.flute_journal.specs.declared.fault.ReadFault.TheVariants.{Read}
 ghost use Rattle.flutejoin.specs.declared.command_fault.CommandFault.TheVariants.{Input};
 
 use crate::command_fault::CommandFault;
-use crate::info::information_line::{InfoNumbers, read_information};
+use crate::info::information_line::read_information;
 use crate::lines::text::Text;
 use flute_join::JoinRefusal;
 use flute_journal::ReadFault;
-use flute_parts::{Fact, Info, Key, Source};
+use flute_parts::{Fact, Info, Source};
 use flute_store::Store;
 use std::alloc::Global;
 
@@ -40,8 +34,6 @@ pub(crate) struct InformationList<const SESSIONS: u32, const OBJECTS: u32, const
     told: Store<SESSIONS, OBJECTS, SYMBOLS>,
     /// The next line, or its first 512 bytes.
     line: Text,
-    /// Whether that line is longer.
-    long: bool,
     /// Its number, from 1.
     number: u64,
 }
@@ -59,7 +51,6 @@ impl<const SESSIONS: u32, const OBJECTS: u32, const SYMBOLS: u32> InformationLis
         InformationList {
             told: Store::new(alloc),
             line: Text::new(),
-            long: false,
             number: 1,
         }
     }
@@ -67,24 +58,29 @@ impl<const SESSIONS: u32, const OBJECTS: u32, const SYMBOLS: u32> InformationLis
     // Takes the fact of the line, of which all was read.
     fn take_line(&mut self, alloc: Global) -> Result<(), CommandFault>
         ensures line { self.new.line ≡ self.old.line }
-        ensures long { self.new.long ≡ self.old.long }
         ensures number { self.new.number ≡ self.old.number }
-        ensures taken { OnOk result ((words : List ℕ)
-            → IsKept self.old.long self.old.line words
+        ensures taken { OnOk result ((words : List ℕ) → IsKept self.old.line words
             → (facts : List FactValue) × LineTells words facts
             × Same self.new.told (self.old.told ++ facts)) }
-        ensures failed { IfErr result (λ fault. (words : List ℕ)
-            → IsKept self.old.long self.old.line words
+        ensures failed { IfErr result (λ fault. (words : List ℕ) → IsKept self.old.line words
             → TakingFails (at_most SESSIONS OBJECTS SYMBOLS) self.old.told self.old.number words
             fault) }
     {
-        match fact_of_line(self.number, self.line.as_slice(), self.long)? {
-            None => Ok(()),
-            Some(fact) => match self.told.put(alloc, fact) {
-                Ok(()) => Ok(()),
-                Err(JoinRefusal::Full) => Err(CommandFault::Full),
-                Err(JoinRefusal::OutOfMemory) => Err(CommandFault::OutOfMemory),
-            },
+        let line = self.line.as_slice();
+        if is_passed_over(line) {
+            return Ok(());
+        }
+        let Some((key, numbers)) = read_information(line) else {
+            return Err(CommandFault::ListLine(self.number));
+        };
+        let info = match Info::new(numbers.length, numbers.symbol, numbers.block) {
+            Ok(info) => info,
+            Err(fault) => return Err(CommandFault::ListInformation(self.number, fault)),
+        };
+        match self.told.put(alloc, Fact::Info { key, info }) {
+            Ok(()) => Ok(()),
+            Err(JoinRefusal::Full) => Err(CommandFault::Full),
+            Err(JoinRefusal::OutOfMemory) => Err(CommandFault::OutOfMemory),
         }
     }
 
@@ -100,23 +96,8 @@ impl<const SESSIONS: u32, const OBJECTS: u32, const SYMBOLS: u32> InformationLis
     {
         self.take_line(alloc)?;
         self.line = Text::new();
-        self.long = false;
         self.number += 1;
         Ok(())
-    }
-
-    // Takes a byte of the line.
-    fn push(&mut self, byte: u8)
-        requires words { byte ≢ 10 }
-        ensures number { self.new.number ≡ self.old.number }
-        ensures taken { (bytes : List ℕ) → HoldsList self.old bytes
-            → HoldsList self.new (bytes ++ byte ∷ []) }
-    {
-        if self.line.as_slice().len() < ROOM {
-            self.line.push_bytes(&[byte]);
-        } else {
-            self.long = true;
-        }
     }
 
     // Takes the next bytes of the list.
@@ -132,8 +113,8 @@ impl<const SESSIONS: u32, const OBJECTS: u32, const SYMBOLS: u32> InformationLis
         for byte in piece {
             if *byte == b'\n' {
                 self.end_line(alloc)?;
-            } else {
-                self.push(*byte);
+            } else if self.line.as_slice().len() < ROOM {
+                self.line.push_bytes(&[*byte]);
             }
         }
         Ok(())
@@ -161,34 +142,6 @@ fn is_passed_over(line: &[u8]) -> bool
     match line.first() {
         Some(byte) => *byte == b'#',
         None => true,
-    }
-}
-
-// The object and the numbers of a line, of which this was kept, and maybe more was not.
-fn told_by(kept: &[u8], long: bool) -> Option<(Key, InfoNumbers)>
-    ensures { (words : List ℕ) → IsKept long kept.now words → MatchOption result
-        ((key : KeyValue) (info : Information) → Shows words key info → ⊥)
-        (λ told. Shows words told.0 (numbers_of told.1)) }
-{
-    if long { None } else { read_information(kept) }
-}
-
-// The fact of the line with this number.
-fn fact_of_line(number: u64, kept: &[u8], long: bool) -> Result<Option<Fact>, CommandFault>
-    ensures tells { IfOk result (λ told. (words : List ℕ) → IsKept long kept.now words
-        → LineTells words (option_list told)) }
-    ensures failed { IfErr result (λ fault. (words : List ℕ) → IsKept long kept.now words
-        → LineFails number words fault) }
-{
-    if is_passed_over(kept) {
-        return Ok(None);
-    }
-    let Some((key, numbers)) = told_by(kept, long) else {
-        return Err(CommandFault::ListLine(number));
-    };
-    match Info::new(numbers.length, numbers.symbol, numbers.block) {
-        Ok(info) => Ok(Some(Fact::Info { key, info })),
-        Err(fault) => Err(CommandFault::ListInformation(number, fault)),
     }
 }
 

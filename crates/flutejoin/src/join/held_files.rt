@@ -17,14 +17,14 @@ ghost use Rattle.flutejoin.specs.Show.{FailsToRead};
 use crate::aside::Asides;
 use crate::command_fault::{CommandFault, at_input};
 use crate::join::joined::Joined;
-use crate::join::putting_aside::{merge_beyond, put_store};
+use crate::join::runs::{MAX_RUNS, add_run, merge_beyond};
 use crate::limits::MAX_ENTRIES;
-use flute_journal::DatagramReader;
 use flute_journal::laws::a_file_is_read_record_by_record;
+use flute_journal::{DatagramReader, write_store};
 use flute_parts::{FactRef, Sender, Source};
-use flute_store::Store;
+use flute_store::{Store, TakeFault};
 use flute_streams::{OwnedJournalStream, Scope};
-use flute_wire::{computed_reading, read};
+use flute_wire::{one_reading, read};
 use std::alloc::Global;
 
 /// How many bytes a fact takes beside those of its symbol.
@@ -61,7 +61,11 @@ impl<const SESSIONS: u32, const OBJECTS: u32, const SYMBOLS: u32, R: Source + Dr
         ensures none { result.told.datagrams ≡ 0 }
     {
         HeldFiles {
-            told: Joined::new(alloc),
+            told: Joined {
+                store: Store::new(alloc),
+                datagrams: 0,
+                refused: 0,
+            },
             fits: true,
             others: 0,
             runs: Vec::new(alloc),
@@ -96,13 +100,19 @@ impl<const SESSIONS: u32, const OBJECTS: u32, const SYMBOLS: u32, R: Source + Dr
             self.others += 1;
             return Ok(());
         }
-        match self.told.take(alloc, sender, datagram) {
-            Err(CommandFault::Full) => {
+        // By this the proof knows that a datagram is a packet or refused.
+        one_reading();
+        match self.told.store.take(alloc, sender, datagram) {
+            Ok(_) => {}
+            Err(TakeFault::Datagram(_)) => self.told.refused += 1,
+            Err(TakeFault::Full) => {
                 self.fits = false;
-                Ok(())
+                return Ok(());
             }
-            taken => taken,
+            Err(TakeFault::OutOfMemory) => return Err(CommandFault::OutOfMemory),
         }
+        self.told.datagrams += 1;
+        Ok(())
     }
 
     // Makes room for the next datagram, after one of so many bytes: if the store may have grown
@@ -128,8 +138,15 @@ impl<const SESSIONS: u32, const OBJECTS: u32, const SYMBOLS: u32, R: Source + Dr
         if self.size <= self.memory || !self.fits {
             return Ok(());
         }
-        self.size = size_of(&self.told.store);
-        if self.size <= self.memory / 2 {
+        let mut size: u64 = 0;
+        for fact in self.told.store.walk() {
+            if let FactRef::Symbol { bytes, .. } = fact {
+                size = size.saturating_add(bytes.len() as u64);
+            }
+            size = size.saturating_add(FACT);
+        }
+        self.size = size;
+        if size <= self.memory / 2 {
             return Ok(());
         }
         self.put_aside(alloc, asides)
@@ -158,7 +175,16 @@ impl<const SESSIONS: u32, const OBJECTS: u32, const SYMBOLS: u32, R: Source + Dr
         ensures same_tells { A.tells asides.new ≡ A.tells asides.old }
         ensures made { A.made asides.old < A.made asides.new }
     {
-        put_store(alloc, asides, &self.told.store, &mut self.runs)?;
+        merge_beyond(alloc, asides, MAX_RUNS - 1, &mut self.runs)?;
+        let Ok(mut aside) = asides.aside() else {
+            return Err(CommandFault::CannotPutAside);
+        };
+        // By this the proof knows that the store's facts are the entries of its journal.
+        self.told.store.keeps_order_and_limits();
+        let Ok(entries) = write_store(&self.told.store, &mut aside) else {
+            return Err(CommandFault::CannotPutAside);
+        };
+        add_run(asides, aside, entries, &mut self.runs)?;
         self.told.store = Store::new(alloc);
         self.size = 0;
         Ok(())
@@ -244,20 +270,6 @@ impl<const SESSIONS: u32, const OBJECTS: u32, const SYMBOLS: u32, R: Source + Dr
     }
 }
 
-// About how many bytes a store takes.
-fn size_of<const SESSIONS: u32, const OBJECTS: u32, const SYMBOLS: u32>(
-    store: &Store<SESSIONS, OBJECTS, SYMBOLS>,
-) -> u64 {
-    let mut size: u64 = 0;
-    for fact in store.walk() {
-        if let FactRef::Symbol { bytes, .. } = fact {
-            size = size.saturating_add(bytes.len() as u64);
-        }
-        size = size.saturating_add(FACT);
-    }
-    size
-}
-
 // Whether a datagram is a packet of an object that is not taken.
 fn is_of_others(sender: Sender, scope: &Scope, datagram: &[u8]) -> bool
     ensures others { result ≡ true
@@ -270,7 +282,7 @@ fn is_of_others(sender: Sender, scope: &Scope, datagram: &[u8]) -> bool
         ≡ facts sender datagram.now }
 {
     // By this the proof knows which facts a datagram contains.
-    computed_reading();
+    one_reading();
     if scope.is_all() {
         return false;
     }

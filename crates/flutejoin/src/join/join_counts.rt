@@ -1,7 +1,7 @@
 //! The numbers that a join reports.
 
 /// What a join has written, in numbers.
-#[derive(Clone, Copy, Debug)]
+#[derive(Clone, Copy)]
 pub struct JoinCounts {
     /// How many datagrams the datagram files among the inputs have.
     pub datagrams: u64,

@@ -1,10 +1,8 @@
 //! The words of the lines that are printed.
 ghost use Rattle.std.specs.Prelude.{◌≡◌, ◌+◌, ◌≤◌, ◌++◌, length};
-ghost use Rattle.std.specs.Option.{option_map};
 ghost use Rattle.flute_parts.specs.Information.{information};
 ghost use Rattle.flutejoin.specs.Lines.{key_words, object_words, information_words, id_words};
 ghost use Rattle.flutejoin.specs.Lines.{symbol_words, info_or_none};
-ghost use Rattle.flutejoin.specs.Pieces.{symbol_head};
 
 use crate::lines::text::Text;
 use crate::sender::push_source;
@@ -42,15 +40,6 @@ pub fn push_numbers(text: &mut Text, len: u64, symbol: u16, block: u32)
     text.push_number(block);
 }
 
-/// Appends `info` and the three numbers of the information.
-pub fn push_information(text: &mut Text, info: &Info)
-    requires { length text.old + 160 ≤ 512 }
-    ensures text { text.new ≡ text.old ++ information_words info.now }
-    ensures len { length text.new ≤ length text.old + 160 }
-{
-    push_numbers(text, info.length(), info.symbol(), info.block());
-}
-
 /// Appends what there is of the information.
 pub fn push_info(text: &mut Text, info: Option<Info>)
     requires { length text.old + 160 ≤ 512 }
@@ -58,7 +47,7 @@ pub fn push_info(text: &mut Text, info: Option<Info>)
     ensures len { length text.new ≤ length text.old + 160 }
 {
     match info {
-        Some(info) => push_information(text, &info),
+        Some(info) => push_numbers(text, info.length(), info.symbol(), info.block()),
         None => text.push("info none"),
     }
 }
@@ -98,17 +87,4 @@ pub fn push_symbol(text: &mut Text, id: SymbolId, len: usize)
     text.push(" length ");
     text.push_number(len);
     text.push(" ");
-}
-
-/// Appends what there is of the symbol, but for its bytes.
-pub fn push_symbol_head(text: &mut Text, symbol: Option<(SymbolId, &[u8])>)
-    requires { length text.old + 160 ≤ 512 }
-    ensures text { text.new
-        ≡ text.old ++ symbol_head (option_map (λ s. (s.0, s.1.now)) symbol.entry) }
-    ensures len { length text.new ≤ length text.old + 160 }
-{
-    match symbol {
-        Some((id, bytes)) => push_symbol(text, id, bytes.len()),
-        None => text.push("symbol none"),
-    }
 }

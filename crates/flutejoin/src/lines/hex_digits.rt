@@ -1,9 +1,10 @@
-//! Bytes in hexadecimal.
-ghost use Rattle.std.specs.Prelude.{◌≡◌, ◌+◌, ◌*◌, length, if◌then◌else◌, is_ok};
+//! Lines that end with bytes in hexadecimal.
+ghost use Rattle.std.specs.Prelude.{◌≡◌, ◌+◌, ◌*◌, ◌++◌, codes, length, if◌then◌else◌, is_ok};
 ghost use Rattle.hex.specs.Hex.{encode_lower};
 ghost use Rattle.flute_parts.specs.Devices.{Writes};
 ghost use Rattle.flutejoin.specs.Digits.{HasDigits};
 
+use crate::lines::text::Text;
 use flute_parts::{DeviceFault, Sink};
 
 /// How many bytes are put into digits at a time.
@@ -28,18 +29,24 @@ impl HexDigits {
         HexDigits { pairs }
     }
 
-    /// Writes bytes as digits, two for each. It takes no memory.
+    /// Writes a line of some words, and then of bytes as digits, two for each. It takes no memory.
     ///
     /// # Errors
     ///
-    /// `DeviceFault` if the sink failed: it then took a proper prefix of the digits.
+    /// `DeviceFault` if the sink failed: it then took a proper prefix of the line.
     #[inline(never)]
-    pub fn write<W: Sink>(&self, sink: &mut W, bytes: &[u8]) -> Result<(), DeviceFault>
-        ensures digits { Writes (W.written sink.old) (W.written sink.new)
-            (encode_lower bytes.now) result }
+    pub fn write_line<W: Sink>(
+        &self,
+        sink: &mut W,
+        words: &Text,
+        bytes: &[u8],
+    ) -> Result<(), DeviceFault>
+        ensures line { Writes (W.written sink.old) (W.written sink.new)
+            (words.now ++ (encode_lower bytes.now ++ codes "\n")) result }
         ensures failures { W.failures sink.new
             ≡ W.failures sink.old + (if is_ok result then 0 else 1) }
     {
+        sink.write_all(words.as_slice())?;
         let mut digits = [0; 2 * PIECE];
         let mut rest = bytes;
         while !rest.is_empty() {
@@ -49,7 +56,7 @@ impl HexDigits {
             sink.write_all(room)?;
             rest = later;
         }
-        Ok(())
+        sink.write_all(b"\n")
     }
 
     // Puts the digits of the bytes into the room, which has two places for each.

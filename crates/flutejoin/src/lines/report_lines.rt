@@ -1,15 +1,13 @@
 //! Lines, written to a sink.
-ghost use Rattle.std.specs.Prelude.{◌≡◌, ◌+◌, ◌≤◌, ◌++◌, length, codes, if◌then◌else◌, is_ok};
+ghost use Rattle.std.specs.Prelude.{◌≡◌, ◌+◌, ◌≤◌, length, if◌then◌else◌, is_ok};
 ghost use Rattle.std.specs.Prelude.{OnOk, IfErr};
 ghost use Rattle.std.specs.Io.KnownBytes.{Appends};
-ghost use Rattle.hex.specs.Hex.{encode_lower};
 ghost use Rattle.flute_parts.specs.Devices.{Writes, AppendsPart};
 ghost use Rattle.flutejoin.specs.Lines.{line, count_line};
 ghost use Rattle.flutejoin.specs.Objects.{FailsToWrite};
 ghost use Rattle.flutejoin.specs.Packet.{write_failures};
 
 use crate::command_fault::CommandFault;
-use crate::lines::hex_digits::HexDigits;
 use crate::lines::text::Text;
 use flute_parts::{DeviceFault, Sink};
 
@@ -28,46 +26,6 @@ pub fn write_words<W: Sink>(sink: &mut W, mut words: Text) -> Result<(), DeviceF
     sink.write_all(words.as_slice())
 }
 
-/// Writes a line of some words, and then of bytes in hexadecimal.
-///
-/// # Errors
-///
-/// `DeviceFault` if the sink failed: it then took a proper prefix of the line.
-pub fn write_line<W: Sink>(
-    sink: &mut W,
-    digits: &HexDigits,
-    words: &Text,
-    bytes: &[u8],
-) -> Result<(), DeviceFault>
-    ensures line { Writes (W.written sink.old) (W.written sink.new)
-        (words.now ++ (encode_lower bytes.now ++ codes "\n")) result }
-    ensures failures { W.failures sink.new ≡ W.failures sink.old
-        + (if is_ok result then 0 else 1) }
-{
-    sink.write_all(words.as_slice())?;
-    digits.write(sink, bytes)?;
-    sink.write_all(b"\n")
-}
-
-/// Writes a line of a word and a number.
-///
-/// # Errors
-///
-/// `DeviceFault` if the sink failed: it then took a proper prefix of the line.
-pub fn write_count<W: Sink>(sink: &mut W, word: &str, count: u64) -> Result<(), DeviceFault>
-    requires { length word.now ≤ 100 }
-    ensures line { Writes (W.written sink.old) (W.written sink.new)
-        (count_line word.now count) result }
-    ensures failures { W.failures sink.new ≡ W.failures sink.old
-        + (if is_ok result then 0 else 1) }
-{
-    let mut text = Text::new();
-    text.push(word);
-    text.push(" ");
-    text.push_number(count);
-    write_words(sink, text)
-}
-
 /// Writes a line of a word of at most 100 bytes and a number: what a command reports of its work.
 ///
 /// # Errors
@@ -81,7 +39,11 @@ pub fn count_to<W: Sink>(word: &str, count: u64, sink: &mut W) -> Result<(), Com
         (AppendsPart (W.written sink.old) (W.written sink.new) (count_line word.now count))) }
     ensures failures { W.failures sink.new ≡ W.failures sink.old + write_failures result }
 {
-    match write_count(sink, word, count) {
+    let mut text = Text::new();
+    text.push(word);
+    text.push(" ");
+    text.push_number(count);
+    match write_words(sink, text) {
         Ok(()) => Ok(()),
         Err(_) => Err(CommandFault::CannotWrite),
     }

@@ -4,9 +4,9 @@ ghost use Rattle.flutejoin.specs.Styles.{is_shown, is_told, is_whole};
 
 use flute_store::{Reason, Status};
 
-/// What `gaps` prints of the objects of a journal, and whether all of them have to be whole. By
-/// default all objects have a line, and all their gaps.
-#[derive(Clone, Copy, Debug, Default, PartialEq, Eq)]
+/// What `gaps` prints of the objects of a journal, and whether all of them have to be whole. If
+/// nothing is set, all objects have a line, and all their gaps.
+#[derive(Clone, Copy)]
 pub struct Style {
     /// Whether it is a fault if an object that is listed is not whole. All is printed before.
     pub check: bool,

@@ -8,7 +8,7 @@ use std::marker::Model;
 const ROOM: usize = 512;
 
 /// A text of a line's words and numbers. It takes no memory.
-#[derive(Debug, Drop)]
+#[derive(Drop)]
 pub struct Text {
     bytes: ArrayVec<u8, ROOM>,
 }

@@ -67,7 +67,11 @@ fn gaps_are_printed_as_the_journal_is_read(rt: HostRuntime) -> Result<(), Fail> 
         rt.alloc(),
         &mut source,
         &Selection::all(),
-        Style::default(),
+        Style {
+            check: false,
+            summary: false,
+            conflicts: false,
+        },
         &mut lines,
         &mut gap_lines,
         &mut sink,
@@ -83,8 +87,9 @@ fn sums_are_printed_of_a_session(rt: HostRuntime) -> Result<(), Fail> {
     let mut lines = MemoryAside::new(rt.alloc());
     let mut gap_lines = MemoryAside::new(rt.alloc());
     let style = Style {
+        check: false,
         summary: true,
-        ..Style::default()
+        conflicts: false,
     };
     let all_whole = gaps_from::<MAX_SESSIONS, MAX_OBJECTS, MAX_SYMBOLS, _, _, _>(
         rt.alloc(),

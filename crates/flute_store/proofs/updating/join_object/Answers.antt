@@ -75,8 +75,7 @@ pub returns-in_err-join_update-clause-full : goal.returns-in_err-join_update-cla
 returns-in_err-join_update-clause-full g c =
     let refused = err_from_is_err_and c.from_residual.result c.from_residual.ensures.1 in
     let is =
-    made g.row.SYMBOLS _ (update_object c.args.update) c.new-object.ensures.info
-    c.new-object.ensures.symbols in
+    made g.row.SYMBOLS _ (update_object c.args.update) (λ _. Absent) c.new.ensures in
     rw (refused.1, refused.2)
     (λ e. inr (new-beyond (objects_joined g.row.SYMBOLS) _ _ _
     ObjectBeyond c.in_default.ensures.ordered (sym c.in_default.ensures.value)
@@ -86,8 +85,7 @@ pub returns-in_err-join_update-clause-room : goal.returns-in_err-join_update-cla
 returns-in_err-join_update-clause-room g c =
     let refused = err_from_is_err_and c.from_residual.result c.from_residual.ensures.1 in
     let is =
-    made g.row.SYMBOLS _ (update_object c.args.update) c.new-object.ensures.info
-    c.new-object.ensures.symbols in
+    made g.row.SYMBOLS _ (update_object c.args.update) (λ _. Absent) c.new.ensures in
     let room : length c.args.objects.now < g.row.OBJECTS = omega arith in
     rw (refused.1, refused.2)
     (λ n. new-sound (objects_joined g.row.SYMBOLS)
@@ -97,8 +95,7 @@ returns-in_err-join_update-clause-room g c =
 pub returns-clause-ok : goal.returns-clause-ok
 returns-clause-ok g c =
     let is =
-    made g.row.SYMBOLS _ (update_object c.args.update) c.new-object.ensures.info
-    c.new-object.ensures.symbols in
+    made g.row.SYMBOLS _ (update_object c.args.update) (λ _. Absent) c.new.ensures in
     let added = rw (c.in_ok-join_update.ensures.ok ∙ is) at c.add_new.ensures.ok in
     added_joins object_total (object_join_laws g.row.SYMBOLS) _ _ _ _
     (sym c.in_default.ensures.value) c.add_new.result added
@@ -106,8 +103,7 @@ returns-clause-ok g c =
 pub returns-clause-room : goal.returns-clause-room
 returns-clause-room g c =
     let is =
-    made g.row.SYMBOLS _ (update_object c.args.update) c.new-object.ensures.info
-    c.new-object.ensures.symbols in
+    made g.row.SYMBOLS _ (update_object c.args.update) (λ _. Absent) c.new.ensures in
     let room : length c.args.objects.now < g.row.OBJECTS = omega arith in
     λ n. new-sound (objects_joined g.row.SYMBOLS)
     (has-room c.args.objects.now c.in_default.ensures.ordered c.requires.each room) _ _

@@ -11,7 +11,8 @@ returns-in-Ok-write_line-clause-printed g c = record {
   spelled = search rules;
   written = rw c.in-Ok-write_line.is at (packet_written c.in-Ok-read.packet
       (g.W.Sink.written c.args.sink.now) (g.W.Sink.written c.write_line.new.sink)
-      c.write_line.result c.head_of-head.ensures c.payload.ensures c.write_line.ensures.line);
+      c.write_line.result c.pieces_of-head.ensures.head c.pieces_of-head.ensures.payload
+      c.write_line.ensures.line);
 }
 
 pub returns-clause-failed : goal.returns-clause-failed
@@ -22,5 +23,6 @@ returns-clause-failed g c = record {
   spelled = search rules;
   written = rw c.in-Err-write_line.is at (packet_written c.in-Ok-read.packet
       (g.W.Sink.written c.args.sink.now) (g.W.Sink.written c.write_line.new.sink)
-      c.write_line.result c.head_of-head.ensures c.payload.ensures c.write_line.ensures.line);
+      c.write_line.result c.pieces_of-head.ensures.head c.pieces_of-head.ensures.payload
+      c.write_line.ensures.line);
 }

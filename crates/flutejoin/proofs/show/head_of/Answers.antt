@@ -8,10 +8,13 @@ unfolding fact_head
 returns-in-Info c =
     rw (
       c.in-Info.is,
-      c.push_information.ensures.text,
+      c.push_numbers.ensures.text,
       c.push.ensures.text,
       c.push_key.ensures.text,
       c.new-text.ensures,
+      c.length.ensures.value,
+      c.symbol.ensures.value,
+      c.block.ensures.value,
     ) refl
 
 pub returns-in-InfoConflict : goal.returns-in-InfoConflict

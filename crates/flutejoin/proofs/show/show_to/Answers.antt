@@ -1,15 +1,23 @@
 -- show_to: its loop writes the lines of the selected entries; its end, and each fault.
 use Rattle.std.proofs.Common.{◌≡◌, ◌∙◌, ℕ, List, Option, ap, sym, subst, refl, rules, Ok, Err}
-use Rattle.std.proofs.Common.{◌≤◌, [], ◌∷◌, arith}
+use Rattle.std.proofs.Common.{arith}
 use Rattle.flutejoin.specs.Show.{FailsToRead, ShowsPart, ShowsUntil}
 use Rattle.flutejoin.specs.declared.command_fault.CommandFault.TheVariants.{Input}
 use Rattle.std.proofs.lemmas.Result.{err_from_is_err_and}
 use Rattle.flutejoin.proofs.Mapped.{read_failed, read_done}
-use Rattle.flutejoin.proofs.Shown.{shown-next, shown-part, shown-fault, shown-all, shown-cut}
+use Rattle.flutejoin.proofs.Shown.{shown-line, shown-other, shown-part, shown-fault, shown-all}
+use Rattle.flutejoin.proofs.Shown.{shown-cut, if_done, cut_short, only_written}
+use Rattle.std.proofs.Common.{true, false}
+use Rattle.std.specs.Prelude.{IfErr}
+use Rattle.flute_parts.specs.Devices.{AppendsPart}
+use Rattle.flute_streams.specs.Selections.{selects}
+use Rattle.flutejoin.specs.Show.{ShowFails}
+use Rattle.flutejoin.proofs.SelectedFacts.{just_line}
+use Rattle.flutejoin.proofs.lines_lemmas.WrittenPieces.{fact_written}
 use Rattle.flutejoin.proofs.Shown.{entry_given, end_given, fault_given, no_read_failure}
-use Rattle.flutejoin.proofs.SelectedFacts.{few_selected}
 use Rattle.flutejoin.proofs.Shown.{few_shown, read_failures}
 use Rattle.flutejoin.proofs.show.show_to.Goals as goal
+use Rattle.flutejoin.proofs.show.show_to.Goals.{then-selects+in_ok-write_line, else-selects}
 
 pub returns-in_err-fact-clause-failed : goal.returns-in_err-fact-clause-failed
 returns-in_err-fact-clause-failed g c =
@@ -46,24 +54,35 @@ returns-in_err-fact-clause-read_failures g c =
     λ x same. subst (λ (y : g.row.R.Denot). P (g.R.Source.failures y)) same here in
     rw (e.1 ∙ ap Err (e.2 ∙ r.2)) (at _ (search rules))
 
-pub returns-in-Err-clause-failed : goal.returns-in-Err-clause-failed
-returns-in-Err-clause-failed g c =
+pub returns-in_err-write_line-clause-failed : goal.returns-in_err-write_line-clause-failed
+returns-in_err-write_line-clause-failed g c =
     let u = g.R.Source.unread c.args.source.now in
     let v = g.R.Source.unread c.loop-fact.reader.source.now in
     let w = g.R.Source.unread c.next_with.new.self.source.now in
     let from = c.loop-fact.reader.state in
     let to = c.next_with.new.self.state in
-    let s = g.W.Sink.written c.args.sink.now in
-    let t' = g.W.Sink.written c.write_selected.new.sink in
     let h = c.loop-fact.invariant in
+    let choice = c.args.selection.now in
+    let f = c.in-Some.fact in
+    let s = g.W.Sink.written c.args.sink.now in
+    let t = g.W.Sink.written c.loop-fact.sink in
+    let t' = g.W.Sink.written c.write_line.new.sink in
     let r = read_done c.next_with.result c.at_input.result 1 c.in_ok-fact.field-0
     c.at_input.ensures c.in_ok-fact.was ∙ ap Ok c.in-Some.is in
     let gave = entry_given from to v w c.next_with.ensures.gives h.limit r in
-    let here = shown-part h.shown gave c.in-Err.ensures.lines in
-    let P : Option (List ℕ) → Type 0 = λ left. ShowsPart c.args.selection.now u left s t' in
+    let e = err_from_is_err_and c.from_residual-in_err-write_line.result
+    c.from_residual-in_err-write_line.ensures.1 in
+    let chosen : selects choice f ≡ true =
+    ap (selects choice) (sym c.as_ref.ensures) ∙ sym c.selects.ensures ∙ c.if-selects.true in
+    let line = rw c.in_err-write_line.was at
+    (fact_written f t t' c.write_line.result c.head_of-head.ensures
+    c.bytes_of.ensures c.write_line.ensures.line) in
+    let here = shown-part h.shown gave
+    (subst (λ (x : List ℕ). AppendsPart t t' x) (sym (just_line choice f chosen)) line) in
+    let P : Option (List ℕ) → Type 0 = λ left. ShowsPart choice u left s t' in
     let at : (x : g.row.R.Denot) → c.next_with.new.self.source.now ≡ x → P (g.R.Source.unread x) =
     λ x same. subst (λ (y : g.row.R.Denot). P (g.R.Source.unread y)) same here in
-    at _ (search rules)
+    rw (e.1 ∙ ap Err e.2) (at _ (search rules))
 
 pub loop-fact-preserved : goal.loop-fact-preserved
 loop-fact-preserved g c =
@@ -72,41 +91,63 @@ loop-fact-preserved g c =
     let from = c.loop-fact.reader.state in
     let to = c.next_with.new.self.state in
     let h = c.loop-fact.invariant in
+    let choice = c.args.selection.now in
+    let f = c.in-Some.fact in
     let r = read_done c.next_with.result c.at_input.result 1 c.in_ok-fact.field-0
     c.at_input.ensures c.in_ok-fact.was ∙ ap Ok c.in-Some.is in
     let gave = entry_given from to v w c.next_with.ensures.gives h.limit r in
     record {
-      shown =
-          shown-next h.shown gave c.in-Ok.ensures.count
-          c.in-Ok.ensures.lines;
+      shown = elim c.if-selects.branch [
+        | then-selects+in_ok-write_line w ↦
+            let t = g.W.Sink.written c.loop-fact.sink in
+            let t' = g.W.Sink.written w.write_line.new.sink in
+            let chosen : selects choice f ≡ true =
+            ap (selects choice) (sym c.as_ref.ensures) ∙ sym c.selects.ensures
+            ∙ w.if-selects.true in
+            let line = rw w.in_ok-write_line.was at
+            (fact_written f t t' w.write_line.result w.head_of-head.ensures
+            w.bytes_of.ensures w.write_line.ensures.line) in
+            rw (w.sink-is, w.count-is) (shown-line h.shown gave chosen line)
+        | else-selects w ↦
+            let other : selects choice f ≡ false =
+            ap (selects choice) (sym c.as_ref.ensures) ∙ sym c.selects.ensures
+            ∙ w.if-selects.false in
+            rw (w.sink-is, w.count-is) (shown-other h.shown gave other)
+      ];
       limit = c.next_with.ensures.limit ∙ h.limit;
       source = c.next_with.ensures.source ∙ h.source;
       reads = no_read_failure c.next_with.result _ r c.next_with.ensures.failures h.reads;
-      writes = omega (arith, c.in-Ok.ensures.failures, h.writes);
+      writes = elim c.if-selects.branch [
+        | then-selects+in_ok-write_line w ↦
+            rw w.sink-is (omega (arith, w.in_ok-write_line.ensures.failures, h.writes))
+        | else-selects w ↦ rw w.sink-is h.writes
+      ];
     }
 
-pub returns-in-Err-write_count-clause-failed : goal.returns-in-Err-write_count-clause-failed
-returns-in-Err-write_count-clause-failed g c =
+pub returns-clause-failed : goal.returns-clause-failed
+returns-clause-failed g c =
     let u = g.R.Source.unread c.args.source.now in
     let v = g.R.Source.unread c.loop-fact.reader.source.now in
     let w = g.R.Source.unread c.next_with.new.self.source.now in
     let from = c.loop-fact.reader.state in
     let to = c.next_with.new.self.state in
-    let s = g.W.Sink.written c.args.sink.now in
-    let t' = g.W.Sink.written c.write_count.new.sink in
     let h = c.loop-fact.invariant in
+    let s = g.W.Sink.written c.args.sink.now in
+    let t' = g.W.Sink.written c.count_to.new.sink in
     let r = read_done c.next_with.result c.at_input.result 1 c.in_ok-fact.field-0
     c.at_input.ensures c.in_ok-fact.was ∙ ap Ok c.in_default.is in
     let gave = end_given c.loop-fact.reader.max_entries from to v w
     c.next_with.ensures.gives r in
-    let here = shown-cut h.shown gave c.in-Err-write_count.ensures.line in
-    let P : Option (List ℕ) → Type 0 = λ left. ShowsPart c.args.selection.now u left s t' in
+    let P : Option (List ℕ) → Type 0 =
+    λ left. IfErr c.count_to.result (ShowFails c.args.selection.now u left s t') in
+    let here : P w = cut_short c.args.selection.now u w s t' c.count_to.result
+    (λ line. shown-cut h.shown gave line) c.count_to.ensures.failed in
     let at : (x : g.row.R.Denot) → c.next_with.new.self.source.now ≡ x → P (g.R.Source.unread x) =
     λ x same. subst (λ (y : g.row.R.Denot). P (g.R.Source.unread y)) same here in
     at _ (search rules)
 
-pub returns-in-Ok-write_count-clause-printed : goal.returns-in-Ok-write_count-clause-printed
-returns-in-Ok-write_count-clause-printed g c =
+pub returns-clause-printed : goal.returns-clause-printed
+returns-clause-printed g c =
     let v = g.R.Source.unread c.loop-fact.reader.source.now in
     let w = g.R.Source.unread c.next_with.new.self.source.now in
     let from = c.loop-fact.reader.state in
@@ -116,11 +157,23 @@ returns-in-Ok-write_count-clause-printed g c =
     c.at_input.ensures c.in_ok-fact.was ∙ ap Ok c.in_default.is in
     let gave = end_given c.loop-fact.reader.max_entries from to v w
     c.next_with.ensures.gives r in
-    shown-all h.shown gave c.in-Ok-write_count.ensures.line
+    if_done c.count_to.result (λ line. shown-all h.shown gave line) c.count_to.ensures.printed
+
+pub returns-clause-read_failures : goal.returns-clause-read_failures
+returns-clause-read_failures g c =
+    let h = c.loop-fact.invariant in
+    let result = c.count_to.result in
+    let r = read_done c.next_with.result c.at_input.result 1 c.in_ok-fact.field-0
+    c.at_input.ensures c.in_ok-fact.was ∙ ap Ok c.in_default.is in
+    let quiet = no_read_failure c.next_with.result _ r c.next_with.ensures.failures h.reads in
+    let P : ℕ → Type 0 = λ n. FailsToRead (g.R.Source.failures c.args.source.now) n result in
+    let at : (x : g.row.R.Denot) → c.next_with.new.self.source.now ≡ x
+    → P (g.R.Source.failures x) =
+    λ x same. subst (λ (y : g.row.R.Denot). P (g.R.Source.failures y)) same
+    (only_written _ _ _ result c.count_to.ensures.failed quiet) in
+    at _ (search rules)
 
 pub overflow_add-count : goal.overflow_add-count
 overflow_add-count g c =
     let few = few_shown c.loop-fact.invariant.shown in
-    let one : c.in-Ok.lines ≤ 1 = subst (λ n. n ≤ 1) (sym c.in-Ok.ensures.count)
-    (few_selected c.args.selection.now (c.in-Some.fact ∷ [])) in
-    omega (arith, few, one)
+    omega (arith, few)

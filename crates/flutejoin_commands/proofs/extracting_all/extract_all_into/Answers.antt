@@ -1,22 +1,111 @@
-use Rattle.std.proofs.Common.{inl, refl}
-use Rattle.flutejoin_commands.specs.Folders.{of_create}
+-- extract_all_into: the folder that was filled and ended, at any moment, or why not.
+use Rattle.std.proofs.Common.{Result, ℕ, inr, subst, sym}
+use Rattle.std.specs.Prelude.{IfOk}
+use Rattle.flutejoin.specs.ExtractAll.{ExtractsAll}
+use Rattle.flutejoin.specs.declared.command_fault.CommandFault.{CommandFault}
+use Rattle.flutejoin.specs.Limits.{limits_of}
+use Rattle.flutejoin_commands.proofs.FolderSteps.{made_ready, made_nothing, filled_beside}
+use Rattle.flutejoin_commands.proofs.FolderSteps.{one_always, leaves_folder, there_failed, on_ok}
+use Rattle.flutejoin_commands.specs.Folders.{FolderFails}
+use Rattle.flutejoin_commands.proofs.FolderSteps.{Filling, Finishing, on_if_ok, if_err}
+use Rattle.flutejoin_commands.proofs.FolderSteps.{not_finished}
 use Rattle.flutejoin_commands.proofs.extracting_all.extract_all_into.Goals as goal
 
-pub write_made-requires : goal.write_made-requires
-write_made-requires g c = record
-    { made = (g.D.NewFolder.places c.args.folder.now, c.in-Ok.ensures.made) }
+pub fill-filled-requires : goal.fill-filled-requires
+fill-filled-requires g c = made_ready (g.D.NewFolder.places c.args.folder.now)
+    (g.D.NewFolder.places c.create.new.self) c.in-Ok.ensures.made
 
-pub returns-in-Ok-clause-extracted : goal.returns-in-Ok-clause-extracted
-returns-in-Ok-clause-extracted g c = c.write_made.ensures.extracted _ c.in-Ok.ensures.made
+pub finish_folder-requires-clause-nothing : goal.finish_folder-requires-clause-nothing
+finish_folder-requires-clause-nothing g c = made_nothing (g.D.NewFolder.places c.args.folder.now)
+    (g.D.NewFolder.places c.create.new.self) (g.D.NewFolder.places c.fill-filled.new.folder)
+    c.in-Ok.ensures.made c.fill-filled.ensures.stays
 
-pub returns-in-Ok-clause-failed : goal.returns-in-Ok-clause-failed
-returns-in-Ok-clause-failed g c = c.write_made.ensures.failed _ c.in-Ok.ensures.made
+pub finish_folder-requires-clause-beside : goal.finish_folder-requires-clause-beside
+finish_folder-requires-clause-beside g c =
+    on_if_ok c.fill-filled.result (λ n e. filled_beside e.taken.files
+    (g.D.NewFolder.places c.create.new.self) (g.D.NewFolder.places c.fill-filled.new.folder)
+    e.taken.filled) c.fill-filled.ensures.filled
 
-pub returns-in-Ok-clause-any_moment : goal.returns-in-Ok-clause-any_moment
-returns-in-Ok-clause-any_moment g c = c.write_made.ensures.any_moment _ c.in-Ok.ensures.made
+pub returns-in-Ok-finish_folder-clause-extracted : goal.returns-in-Ok-finish_folder-clause-extracted
+returns-in-Ok-finish_folder-clause-extracted g c =
+    let o = g.D.NewFolder.places c.args.folder.now in
+    let h = c.in-Ok.ensures.made in
+    let m = g.D.NewFolder.places c.create.new.self in
+    let f = g.D.NewFolder.places c.fill-filled.new.folder in
+    let n = g.D.NewFolder.places c.finish_folder.new.folder in
+    let u = g.R.Source.unread c.args.source.now in
+    let w = g.R.Source.unread c.fill-filled.new.source in
+    let picked = c.args.picked.now in
+    let r = g.P.Sink.written c.args.report.now in
+    let r' = g.P.Sink.written c.fill-filled.new.report in
+    let e = subst (λ (x : Result ℕ CommandFault). IfOk x
+    (ExtractsAll (limits_of c.args.any_size) u w picked m f r r'))
+    c.in-Ok-finish_folder.ensures.done c.fill-filled.ensures.filled in
+    on_ok c.tell.result (λ line. leaves_folder o n h e
+    c.in-Ok-finish_folder.ensures.kept c.in-Ok-finish_folder.ensures.lasts
+    c.in-Ok-finish_folder.ensures.gone_ok line) c.tell.ensures.told
+
+pub returns-in-Ok-finish_folder-clause-failed : goal.returns-in-Ok-finish_folder-clause-failed
+returns-in-Ok-finish_folder-clause-failed g c =
+    let o = g.D.NewFolder.places c.args.folder.now in
+    let h = c.in-Ok.ensures.made in
+    let m = g.D.NewFolder.places c.create.new.self in
+    let f = g.D.NewFolder.places c.fill-filled.new.folder in
+    let n = g.D.NewFolder.places c.finish_folder.new.folder in
+    let u = g.R.Source.unread c.args.source.now in
+    let w = g.R.Source.unread c.fill-filled.new.source in
+    let picked = c.args.picked.now in
+    let r = g.P.Sink.written c.args.report.now in
+    let r' = g.P.Sink.written c.fill-filled.new.report in
+    let e = subst (λ (x : Result ℕ CommandFault). IfOk x
+    (ExtractsAll (limits_of c.args.any_size) u w picked m f r r'))
+    c.in-Ok-finish_folder.ensures.done c.fill-filled.ensures.filled in
+    if_err c.tell.result
+    (λ fault is. there_failed o n (inr is) h e c.in-Ok-finish_folder.ensures.kept)
+    c.tell.ensures.failed
+
+pub returns-in-Ok-finish_folder-clause-any_moment
+    : goal.returns-in-Ok-finish_folder-clause-any_moment
+returns-in-Ok-finish_folder-clause-any_moment g c =
+    let o = g.D.NewFolder.places c.args.folder.now in
+    let h = c.in-Ok.ensures.made in
+    inr (one_always o (g.D.NewFolder.places c.create.new.self)
+    (g.D.NewFolder.places c.fill-filled.new.folder)
+    (g.D.NewFolder.places c.finish_folder.new.folder) h c.fill-filled.ensures.stays
+    c.finish_folder.ensures.any_moment)
 
 pub returns-in-Err-clause-failed : goal.returns-in-Err-clause-failed
-returns-in-Err-clause-failed g c = of_create refl c.in-Err.ensures.refused
+returns-in-Err-clause-failed g c =
+    let o = g.D.NewFolder.places c.args.folder.now in
+    let h = c.in-Ok.ensures.made in
+    let u = g.R.Source.unread c.args.source.now in
+    let w = g.R.Source.unread c.fill-filled.new.source in
+    let m = g.D.NewFolder.places c.create.new.self in
+    let f = g.D.NewFolder.places c.fill-filled.new.folder in
+    let r = g.P.Sink.written c.args.report.now in
+    let r' = g.P.Sink.written c.fill-filled.new.report in
+    let filling : Filling (limits_of c.args.any_size) u w c.args.picked.now m f r r'
+    c.fill-filled.result = record {
+      stays = c.fill-filled.ensures.stays;
+      extracted = c.fill-filled.ensures.filled;
+      failed = c.fill-filled.ensures.failed;
+    } in
+    let finishing : Finishing f (g.D.NewFolder.places c.finish_folder.new.folder)
+    c.fill-filled.result c.finish_folder.result = record {
+      fault = c.finish_folder.ensures.fault;
+      work = c.finish_folder.ensures.work;
+      dropped = c.finish_folder.ensures.dropped;
+    } in
+    let e = not_finished c.in-Err.is h filling finishing in
+    subst (λ x. FolderFails (limits_of c.args.any_size) u w c.args.picked.now o
+    (g.D.NewFolder.places c.finish_folder.new.folder)
+    x) (sym c.fault_of.ensures) e
 
 pub returns-in-Err-clause-any_moment : goal.returns-in-Err-clause-any_moment
-returns-in-Err-clause-any_moment g c = inl c.in-Err.ensures.refused
+returns-in-Err-clause-any_moment g c =
+    let o = g.D.NewFolder.places c.args.folder.now in
+    let h = c.in-Ok.ensures.made in
+    inr (one_always o (g.D.NewFolder.places c.create.new.self)
+    (g.D.NewFolder.places c.fill-filled.new.folder)
+    (g.D.NewFolder.places c.finish_folder.new.folder) h c.fill-filled.ensures.stays
+    c.finish_folder.ensures.any_moment)

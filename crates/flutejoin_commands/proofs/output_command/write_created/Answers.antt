@@ -24,8 +24,8 @@ returns-clause-failed g c =
     let failures = g.F.Folder.failures in
     let now = c.write-written.new.sink.output in
     let new = c.finish-done.result.1 in
-    let work : WorkEnds (g.K.Work.writes c.args.work) (entries c.args.output) (entries now)
-    (failures c.args.output) (failures now) c.write-written.result = record {
+    let work : WorkEnds (λ x. g.K.Work.writes c.args.work x.0) (entries c.args.output)
+    (entries now) (failures c.args.output) (failures now) c.write-written.result = record {
       same = record {
         found = c.write-written.new.sink.found ∙ sym c.requires.found;
         named = c.write-written.new.sink.named ∙ sym c.requires.named;
@@ -41,4 +41,4 @@ returns-clause-failed g c =
       gone = c.finish-done.ensures.gone;
       cause = c.finish-done.ensures.cause;
     } in
-    not_on_disk c.write-written.result c.finish-done.result.0 work output (search rules)
+    not_on_disk (λ x. x.0) c.write-written.result c.finish-done.result.0 work output (search rules)

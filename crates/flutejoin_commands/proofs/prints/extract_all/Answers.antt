@@ -28,5 +28,5 @@ returns-clause-failed g c =
     fault) after result
     (subst (λ b. IfErr result
     (FolderFails (limits_of c.args.any_size) (unread c.in_ok-source.source) left picked b after))
-    (c.in_ok-folder.ensures.named ∙ ap (λ f. f c.args.out.now) c.open_input.ensures.same_folders)
+    (c.in_ok-folder.ensures.named ∙ ap (λ f. f c.args.out.now) c.open.ensures.same_folders)
     c.extract_all_into.ensures.failed))

@@ -25,7 +25,7 @@ returns-clause-listed g c =
     let a = g.W.Asides.Aside.Sink.written c.in_ok-lines.lines in
     let b = g.W.Asides.Aside.Sink.written c.in_ok-gap_lines.gap_lines in
     let r = c.gaps_on.result in
-    let same = c.open_input.ensures.same_files in
+    let same = c.open.ensures.same_files in
     let Lists : Bool → Option (List ℕ) → Type 0 = λ p k.
     ListsJournal (limits_of c.args.any_size) c.args.selection.now k
     (λ objects. Appends old new (printed style objects) × (passes_check style objects ≡ p)) in
@@ -52,7 +52,7 @@ returns-clause-failed g c =
     let a = g.W.Asides.Aside.Sink.written c.in_ok-lines.lines in
     let b = g.W.Asides.Aside.Sink.written c.in_ok-gap_lines.gap_lines in
     let r = c.gaps_on.result in
-    let same = c.open_input.ensures.same_files in
+    let same = c.open.ensures.same_files in
     let Lists : Bool → Option (List ℕ) → Type 0 = λ p k.
     ListsJournal (limits_of c.args.any_size) c.args.selection.now k
     (λ objects. Appends old new (printed style objects) × (passes_check style objects ≡ p)) in

@@ -1,8 +1,5 @@
 use Rattle.std.proofs.Common.{rules}
-use Rattle.flutejoin_line.proofs.Parsing.{arguments_added}
 use Rattle.flutejoin_line.proofs.parser.gaps_command.Goals as goal
 
 pub returns : goal.returns
-returns c =
-    arguments_added c.in_ok-arguments.ensures.items (search rules) c.named.ensures
-    c.in_ok-command.ensures
+returns c = c.command_with.ensures _ (rw c.in_ok-arguments.ensures.items (search rules))

@@ -1,16 +1,30 @@
-use Rattle.std.proofs.Common.{arith, refl}
+-- given: one option more.
+use Rattle.std.proofs.Common.{arith, refl, ◌∙◌, Bor, List, [], ℕ}
 use Rattle.std.proofs.lemmas.Grind.{common_steps}
+use Rattle.flutejoin_line.specs.Options.{found_rows}
 use Rattle.flutejoin_line.proofs.CommandWords.{times_read}
+use Rattle.flutejoin_line.proofs.Options.{fits, unfit}
 use Rattle.flutejoin_line.proofs.words.given.Goals as goal
+
+-- what stands for an option past the last
+abbrev none : Bor (List ℕ) × ℕ
+none = (record { ref_ptr = (0, 0); now = [] }, 0)
+
+pub loop-option-init : goal.loop-option-init
+loop-option-init c = refl
 
 pub returns-then-unwrap_or-times : goal.returns-then-unwrap_or-times
 returns-then-unwrap_or-times c =
-    rw (← times_read c.args.matches.now _ c.get_strs.result _ c.unwrap_or.result
-    c.get_strs.ensures c.unwrap_or.ensures refl) (grind (arith, common_steps))
+    c.loop-option.invariant
+    ∙ unfit c.args.options.now c.loop-option.option-index none (found_rows c.args.matches.now)
+    (omega (arith, c.loop-option-test.true))
+    (rw (← times_read c.args.matches.now _ c.get_strs.result _ c.unwrap_or.result
+    c.get_strs.ensures c.unwrap_or.ensures refl) (grind (arith, common_steps)))
 
-pub returns-else-unwrap_or-times : goal.returns-else-unwrap_or-times
-returns-else-unwrap_or-times c = (
-  refl,
-  rw (← times_read c.args.matches.now _ c.get_strs.result _ c.unwrap_or.result
-      c.get_strs.ensures c.unwrap_or.ensures refl) (grind (arith, common_steps)),
-)
+pub loop-option-preserved : goal.loop-option-preserved
+loop-option-preserved c =
+    c.loop-option.invariant
+    ∙ fits c.args.options.now c.loop-option.option-index none (found_rows c.args.matches.now)
+    (omega (arith, c.loop-option-test.true))
+    (rw (← times_read c.args.matches.now _ c.get_strs.result _ c.unwrap_or.result
+    c.get_strs.ensures c.unwrap_or.ensures refl) (grind (arith, common_steps)))

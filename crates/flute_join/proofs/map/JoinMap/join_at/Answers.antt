@@ -1,5 +1,5 @@
 -- JoinMap::join_at: at a held and at a new key, after success and each refusal, each clause.
-use Rattle.std.proofs.Common.{arith, [], ◌∷◌, sym, ap, ◌∙◌, subst}
+use Rattle.std.proofs.Common.{arith, ◌<◌, [], ◌∷◌, length, sym, ap, ◌∙◌, subst}
 use Rattle.std.specs.BTreeMap.{is_at}
 use Rattle.std.specs.Map.{set_value}
 use Rattle.std.proofs.lemmas.Result.{on_ok_weaker}
@@ -40,13 +40,13 @@ returns-in-Some-clause-within g c =
     c.args.value.now c.in-Some.ensures.ordered c.in-Some.ensures.within
     (sym c.in-Some.ensures.value)) c.join_from.ensures.within
 
-pub returns-then-is_full-clause-above_old : goal.returns-then-is_full-clause-above_old
-returns-then-is_full-clause-above_old g c =
+pub returns-then-len-clause-above_old : goal.returns-then-len-clause-above_old
+returns-then-len-clause-above_old g c =
     below_self (map_join_laws g.met.K.Ord.total g.met.K.Place.same_where_equal
     g.met.V.Join.join_laws) _
 
-pub returns-then-is_full-clause-below_join : goal.returns-then-is_full-clause-below_join
-returns-then-is_full-clause-below_join g c =
+pub returns-then-len-clause-below_join : goal.returns-then-len-clause-below_join
+returns-then-len-clause-below_join g c =
     below_join (map_join_laws g.met.K.Ord.total g.met.K.Place.same_where_equal
     g.met.V.Join.join_laws) _ _
 
@@ -60,15 +60,16 @@ returns-in_err-copy-clause-below_join g c =
     below_join (map_join_laws g.met.K.Ord.total g.met.K.Place.same_where_equal
     g.met.V.Join.join_laws) _ _
 
-pub returns-then-is_full-clause-full : goal.returns-then-is_full-clause-full
-returns-then-is_full-clause-full g c =
+pub returns-then-len-clause-full : goal.returns-then-len-clause-full
+returns-then-len-clause-full g c =
     let absent = sym c.in_default.ensures.value in
+    let full = sym c.len.ensures.value ∙ c.if-len.true in
     λ _. over_new g.met.K.Ord.total g.met.V.Join.join_laws g.met.K.Place.same_where_equal
     g.row.LIMIT g.V.Join.over c.args.self.now c.args.key c.args.value.now
-    c.if-is_full.ensures.full absent
+    full absent
 
 pub returns-clause-ok : goal.returns-clause-ok
-returns-clause-ok g c = rw c.in_ok-copy.ensures.equal at c.insert.ensures.joins
+returns-clause-ok g c = rw c.in_ok-copy.ensures.equal at c.add_new.ensures.joins
 
 pub returns-clause-above_old : goal.returns-clause-above_old
 returns-clause-above_old g c =
@@ -76,7 +77,7 @@ returns-clause-above_old g c =
     g.met.V.Join.join_laws in
     let es = c.args.self.now in
     by_outcome (IsBelow (map_join g.K.Ord.cmp g.V.Join.joined) es)
-    c.insert.result (returns-clause-ok g c) c.insert.ensures.err (below_join laws es _)
+    c.add_new.result (returns-clause-ok g c) c.add_new.ensures.err (below_join laws es _)
     (below_self laws es)
 
 pub returns-clause-below_join : goal.returns-clause-below_join
@@ -86,15 +87,17 @@ returns-clause-below_join g c =
     let es = c.args.self.now in
     let joined = map_join g.K.Ord.cmp g.V.Join.joined es ((c.args.key, c.args.value.now) ∷ []) in
     by_outcome (λ m. IsBelow (map_join g.K.Ord.cmp g.V.Join.joined) m joined)
-    c.insert.result (returns-clause-ok g c) c.insert.ensures.err (below_self laws joined)
+    c.add_new.result (returns-clause-ok g c) c.add_new.ensures.err (below_self laws joined)
     (below_join laws es _)
 
 pub returns-clause-within : goal.returns-clause-within
 returns-clause-within g c =
-    on_ok_weaker c.insert.result (λ _.
+    let room : length c.args.self.now < g.row.LIMIT =
+    omega (arith, c.len.ensures.value, c.len.ensures.within, c.if-len.false) in
+    on_ok_weaker c.add_new.result (λ _.
     not_over_new g.met.K.Ord.total g.met.V.Join.join_laws g.met.K.Place.same_where_equal
     g.row.LIMIT g.V.Join.over c.args.self.now c.args.key c.args.value.now
-    c.if-is_full.ensures.room (sym c.in_default.ensures.value)) c.insert.ensures.ok
+    room (sym c.in_default.ensures.value)) c.add_new.ensures.ok
 
 pub returns-in-Some-clause-each : goal.returns-in-Some-clause-each
 returns-in-Some-clause-each g c =
@@ -106,7 +109,7 @@ returns-in-Some-clause-each g c =
 
 pub returns-clause-each : goal.returns-clause-each
 returns-clause-each g c =
-    λ each value. c.insert.ensures.each each
+    λ each value. c.add_new.ensures.each each
     (subst g.V.Join.sound (sym c.in_ok-copy.ensures.equal) value)
 
 pub returns-in-Some-clause-within_limit : goal.returns-in-Some-clause-within_limit

@@ -12,8 +12,8 @@ join_into-requires g c =
     each-value_at g.K.Ord.cmp g.V.Join.sound c.args.self.now c.args.key c.in-Some.held.now
     c.requires.each (sym c.in-Some.ensures.value)
 
-pub returns-then-is_full-clause-ok : goal.returns-then-is_full-clause-ok
-returns-then-is_full-clause-ok g c =
+pub returns-then-len-clause-ok : goal.returns-then-len-clause-ok
+returns-then-len-clause-ok g c =
     ap (set_value (is_at (g.K.Ord.cmp c.args.key)) c.args.self.now) c.join_into.ensures
     ∙ sym (single_held g.met.K.Ord.total g.met.V.Join.join_laws c.args.self.now c.args.key
     c.in-Some.held.now (g.U.JoinInto.value c.args.update) c.in-Some.ensures.ordered

@@ -1,16 +1,16 @@
 -- read_entry: what was read of the end, of a wrong kind, over the bound, or of a faulty entry.
 use Rattle.flute_journal.proofs.Common.{Consumes, Err, IsFactIn, ReadsNext, journal_framing, Some}
-use Rattle.flute_journal.proofs.Common.{StaysWithin, [], ap, entry_in, err_from_is_err_and}
+use Rattle.flute_journal.proofs.Common.{ReadsEnd, StaysWithin, [], ap, entry_in, err_from_is_err_and}
 use Rattle.flute_journal.proofs.Common.{next_fault, subst, sym, ◌∙◌, ◌∷◌, ◌≡◌}
 use Rattle.flute_journal.proofs.framing_lemmas.ReadsUpTo.{fault_here}
 use Rattle.flute_journal.proofs.format_lemmas.Parts.{one_byte, kind_wrong, too_many}
-use Rattle.flute_journal.proofs.readers_lemmas.Bodies.{KindRead, end_ends, end_stops, kind_read}
+use Rattle.flute_journal.proofs.readers_lemmas.Bodies.{KindRead, end_ends, end_reads, end_stops, kind_read}
 use Rattle.flute_journal.proofs.readers_lemmas.Bodies.{body_stops, body_ends}
 use Rattle.flute_journal.specs.declared.fault.ReadFault.TheVariants as faults
 use Rattle.flute_journal.proofs.readers.entry_fields.read_entry.Goals as goal
 
-pub returns-in_err-read_end-clause-reads : goal.returns-in_err-read_end-clause-reads
-returns-in_err-read_end-clause-reads g c =
+pub returns-in_err-or_failed-clause-reads : goal.returns-in_err-or_failed-clause-reads
+returns-in_err-or_failed-clause-reads g c =
     let front = c.read_up_to-read.result.bytes.now in
     let byte = c.in-Some.field-0.now in
     let is : front ≡ 255 ∷ [] =
@@ -20,21 +20,24 @@ returns-in_err-read_end-clause-reads g c =
     subst (ReadsNext journal_framing c.args.max_entries c.args.before.now
     (g.R.Source.unread c.args.source.now) _) (sym (e.1 ∙ ap Err e.2))
     (end_stops c.args.max_entries c.args.before.now (g.R.Source.unread c.args.source.now)
-    (g.R.Source.unread c.read_up_to-read.new.source) _ c.in_err-read_end.field-0.0
+    (g.R.Source.unread c.read_up_to-read.new.source) _ c.in_err-or_failed.field-0.0
     (subst (Consumes (g.R.Source.unread c.args.source.now)
     (g.R.Source.unread c.read_up_to-read.new.source)) is c.read_up_to-read.ensures.filled.read)
-    c.in_err-read_end.ensures.reads)
+    (subst (ReadsEnd c.args.before.now.count _ _) (sym c.in_err-or_failed.ensures)
+    (end_reads c.args.before.now.count _ _ c.read_up_to-read-then-byte.result.failed _
+    c.check_end.result c.read_up_to-read-then-byte.ensures.filled c.check_end.ensures)))
 
-pub returns-in_err-read_end-clause-within : goal.returns-in_err-read_end-clause-within
-returns-in_err-read_end-clause-within g c =
+pub returns-in_err-or_failed-clause-within : goal.returns-in_err-or_failed-clause-within
+returns-in_err-or_failed-clause-within g c =
     let e = err_from_is_err_and c.from_residual.result c.from_residual.ensures.1 in
     let filled = c.read_up_to-read.ensures.filled in
     subst (StaysWithin (entry_in c.args.before.now.version) (IsFactIn c.args.before.now.version) _
     _) (sym e.1)
     (end_ends c.args.before.now.version (g.R.Source.unread c.args.source.now)
-    (g.R.Source.unread c.read_up_to-read.new.source) (g.R.Source.unread c.read_end.new.source)
+    (g.R.Source.unread c.read_up_to-read.new.source)
+    (g.R.Source.unread c.read_up_to-read-then-byte.new.source)
     c.read_up_to-read.result.bytes.now
-    filled.most filled.read c.in_err-read_end.ensures.advances)
+    filled.most filled.read c.read_up_to-read-then-byte.ensures.advances)
 
 pub returns-in_default-from_byte-clause-reads : goal.returns-in_default-from_byte-clause-reads
 returns-in_default-from_byte-clause-reads g c =

@@ -1,17 +1,42 @@
-use Rattle.flute_journal.proofs.Common.{Items, journal_framing, refl}
-use Rattle.flute_journal.proofs.framing_lemmas.Framed.{gives}
-use Rattle.flute_journal.proofs.readers_lemmas.Calls.{reads_entries}
+-- read_fields: the next entry or the end, after the header or after an entry; or a fault.
+use Rattle.flute_journal.proofs.Common.{Err, None, Two, journal_framing, refl, sym, ◌∙◌}
+use Rattle.flute_journal.proofs.framing_lemmas.Framed.{ReadsWithin, reads_header}
+use Rattle.flute_journal.proofs.framing_lemmas.Framed.{reads_first, gives_from}
+use Rattle.flute_journal.proofs.framing_lemmas.Framings.{journal_sound}
+use Rattle.flute_journal.proofs.readers_lemmas.Calls.{any_fault, reads_entries}
+use Rattle.flute_journal.proofs.readers.journal_reader.read_fields.Goals.{in-Header+in-Ok, in-Items}
 use Rattle.flute_journal.proofs.readers.journal_reader.read_fields.Goals as goal
 
-pub returns-in-Header-clause-gives : goal.returns-in-Header-clause-gives
-returns-in-Header-clause-gives g c = rw c.in-Header.is c.read_first.ensures.gives
-
-pub returns-in-Items-clause-gives : goal.returns-in-Items-clause-gives
-returns-in-Items-clause-gives g c =
-    let at = c.in-Items in
-    rw at.is (gives journal_framing c.args.max_entries at.before.version (Items at.before) _ _ _
-    c.state_after-next.ensures (
+pub returns-in-Err-clause-gives : goal.returns-in-Err-clause-gives
+returns-in-Err-clause-gives g c =
+    let f = c.in-Err.fault in
+    gives_from journal_framing c.args.max_entries Two _ _ (Err f)
+    (sym c.replace.ensures.value ∙ c.in-Header.is) refl (
       refl,
-      reads_entries c.args.max_entries at.before _ _ c.read_entry-given.result
-          c.read_entry-given.ensures.reads c.read_entry-given.ensures.within,
-    ))
+      reads_header journal_sound c.args.max_entries Two _ _ c.in-Err.ensures.reads
+          c.in-Err.ensures.memory tt c.read_header.ensures.advances,
+    )
+
+pub returns-clause-gives : goal.returns-clause-gives
+returns-clause-gives g c =
+    let limit = c.args.max_entries in
+    let given = c.read_entry-given.result in
+    elim c.match-replace.branch [
+      | in-Header+in-Ok w ↦
+          let version = w.in-Ok.version in
+          let read = rw (w.before-is, w.source-is) at c.read_entry-given.ensures in
+          let within : ReadsWithin journal_framing limit
+          (record { version = version; count = 0; last = None })
+          (g.R.Source.unread w.read_header.new.source)
+          (g.R.Source.unread c.read_entry-given.new.source) given =
+          record { next = read.reads; within = read.within; possible = any_fault given } in
+          gives_from journal_framing limit version _ _ given
+          (sym c.replace.ensures.value ∙ w.in-Header.is) (rw w.before-is at c.state_after.ensures)
+          (refl, reads_first journal_sound version _ _ w.in-Ok.ensures.reads.1 within)
+      | in-Items w ↦
+          let before = w.in-Items.before in
+          let read = rw (w.before-is, w.source-is) at c.read_entry-given.ensures in
+          gives_from journal_framing limit before.version _ _ given
+          (sym c.replace.ensures.value ∙ w.in-Items.is) (rw w.before-is at c.state_after.ensures)
+          (refl, reads_entries limit before _ _ given read.reads read.within)
+    ]

@@ -1,4 +1,5 @@
-use Rattle.flute_journal.proofs.Common.{◌≡◌, Some, rules, slice_get, flat_map}
+use Rattle.flute_journal.proofs.Common.{◌≡◌, Some, refl, slice_get, flat_map}
+use Rattle.std.proofs.lemmas.Option.{slice_get_read, slice_get_past}
 use Rattle.flute_journal.proofs.Common.{err_from_is_err_and, AppendsPart-first, file_header}
 use Rattle.flute_journal.proofs.Common.{record_of}
 use Rattle.flute_journal.proofs.writers_lemmas.Sending.{sent-part, sent-all, sent-file}
@@ -16,16 +17,20 @@ returns-in_err-write_record-clause-bytes g c =
     let e = err_from_is_err_and c.from_residual-in_err-write_record.result
     c.from_residual-in_err-write_record.ensures.1 in
     let here : slice_get c.args.datagrams.now c.loop-datagram.place
-    ≡ Some c.in-Some.datagram.now = search rules in
+    ≡ Some c.in-Some.datagram.now =
+    slice_get_read c.args.datagrams.now _ c.loop-datagram.place c.in-Some.datagram.now refl
+    c.in-Some.ensures.lookup.3.0 c.in-Some.ensures.lookup.1 in
     rw e.1 (sent-part (g.W.Sink.written c.write_record.new.sink) c.loop-datagram.invariant.0 here
     c.in_err-write_record.ensures.bytes)
 
 pub returns-clause-bytes : goal.returns-clause-bytes
 returns-clause-bytes g c =
     sent-all c.args.datagrams.now c.loop-datagram.place (g.W.Sink.written c.args.sink.now)
-    (g.W.Sink.written c.loop-datagram.sink) c.loop-datagram.invariant.0 (search rules)
+    (g.W.Sink.written c.loop-datagram.sink) c.loop-datagram.invariant.0
+    (slice_get_past c.args.datagrams.now c.loop-datagram.place c.in_default.ensures.lookup.3)
 
 pub returns-clause-file : goal.returns-clause-file
 returns-clause-file g c =
     sent-file c.args.datagrams.now c.loop-datagram.place (g.W.Sink.written c.args.sink.now)
-    (g.W.Sink.written c.loop-datagram.sink) c.loop-datagram.invariant.0 (search rules)
+    (g.W.Sink.written c.loop-datagram.sink) c.loop-datagram.invariant.0
+    (slice_get_past c.args.datagrams.now c.loop-datagram.place c.in_default.ensures.lookup.3)

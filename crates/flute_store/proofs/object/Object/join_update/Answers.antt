@@ -23,7 +23,7 @@ returns-in_err-join_symbols-clause-room g c =
     (λ n. sound g.row.SYMBOLS c.args.self.now c.args.update c.requires.update.some
     (c.in_err-join_symbols.ensures.room n))
 
-pub returns-clause-room : goal.returns-clause-room
-returns-clause-room g c =
+pub returns-in-Absent-clause-room : goal.returns-in-Absent-clause-room
+returns-in-Absent-clause-room g c =
     λ n. sound g.row.SYMBOLS c.args.self.now c.args.update c.requires.update.some
     (c.in_ok-join_symbols.ensures.room (λ e. cc))

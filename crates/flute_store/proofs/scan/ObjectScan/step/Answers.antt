@@ -1,8 +1,10 @@
 -- ObjectScan::step: the turn it makes, and the blocks that are left.
-use Rattle.std.proofs.Common.{sym, subst, ap, ◌∙◌}
+use Rattle.std.proofs.Common.{◌≡◌, rules, sym, subst, ap, ◌∙◌}
 use Rattle.flute_store.proofs.Common.{turn_of, ScanState, Scans, announced, passed_at_end, Stepped}
 use Rattle.flute_store.proofs.ScanGaps.{Step}
 use Rattle.flute_store.proofs.ScanSteps.{can-add, step-scan, stepped, begins-blocks}
+use Rattle.flute_store.proofs.scan.ObjectScan.step.Goals.{in-Some-End-Some, in_default}
+use Rattle.flute_store.proofs.scan.ObjectScan.step.Goals.{in_default-2, in_default-3}
 use Rattle.flute_store.proofs.scan.ObjectScan.step.Goals as goal
 
 pub add_turn-requires : goal.add_turn-requires
@@ -21,8 +23,14 @@ returns-clause-step c = λ s next h q f.
       turn_is = c.turn-turn.ensures.turn ∙ ap (turn_of c.self.inside.walk) h;
       place = c.turn-turn.ensures.place;
     } in
-    subst (Stepped s next _) (sym
-    (c.passed_at_end.ensures ∙ ap (passed_at_end c.turn-turn.result) h))
+    let passed : c.match-turn.result ≡ passed_at_end c.turn-turn.result c.args.held.now =
+    elim c.match-turn.branch [
+      | in-Some-End-Some w ↦ search rules
+      | in_default w ↦ search rules
+      | in_default-2 w ↦ search rules
+      | in_default-3 w ↦ search rules
+    ] in
+    subst (Stepped s next _) (sym (passed ∙ ap (passed_at_end c.turn-turn.result) h))
     (stepped next c.turn-turn.result step _ f c.add_turn.ensures)
 
 pub returns-clause-blocks : goal.returns-clause-blocks

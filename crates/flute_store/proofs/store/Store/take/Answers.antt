@@ -1,9 +1,9 @@
 -- Store::take: each clause for a datagram that is taken, refused, or without room.
-use Rattle.std.proofs.Common.{◌≡◌, [], ap, append-nil, refl, ◌∙◌}
+use Rattle.std.proofs.Common.{◌≡◌, [], Err, ap, append-nil, refl, ◌∙◌}
 use Rattle.flute_wire.proofs.Public.{facts-refused, facts-Spells}
-use Rattle.flute_store.proofs.Common.{err_from_is_err_and, facts, ok_is_not_err, update_facts}
+use Rattle.flute_store.proofs.Common.{facts, ok_is_not_err, update_facts}
 use Rattle.flute_store.proofs.{Counting.{not_over_more}, Spelled.{spelled-size}}
-use Rattle.flute_store.proofs.Refused.{full_fault, no_datagram_fault, not_full}
+use Rattle.flute_store.proofs.Refused.{not_full}
 use Rattle.flute_store.proofs.store.Store.take.Goals as goal
 
 pub returns-in-Err-clause-full : goal.returns-in-Err-clause-full
@@ -48,53 +48,60 @@ returns-in_default-clause-full g c =
           (told ∙ c.in_default.ensures.nothing c.args.sender) over)),
     )
 
-pub returns-in_err-join_update-clause-refused : goal.returns-in_err-join_update-clause-refused
-returns-in_err-join_update-clause-refused g c =
-    let refused = err_from_is_err_and c.from_residual.result c.from_residual.ensures.1 in
-    rw (refused.1, refused.2)
-    (λ r. (
-      (λ e. absurd (no_datagram_fault c.in_err-join_update.field-0.0 r e)),
-      (λ h. absurd (ok_is_not_err _ _ ((c.in-Ok.ensures.refusal r).1 h))),
-    ))
-
-pub returns-in_err-join_update-clause-full : goal.returns-in_err-join_update-clause-full
-returns-in_err-join_update-clause-full g c =
-    let refused = err_from_is_err_and c.from_residual.result c.from_residual.ensures.1 in
+pub returns-in-Ok-join_update-clause-ok : goal.returns-in-Ok-join_update-clause-ok
+returns-in-Ok-join_update-clause-ok g c =
     let told = facts-Spells c.args.sender c.args.datagram.now c.in-Ok.packet
     c.in-Ok.ensures.spelled in
     let update = ap (λ key. update_facts key c.in-Some.update) c.key.ensures
     ∙ c.in-Some.ensures.facts c.args.sender in
-    rw (refused.1, refused.2, told, ← update)
-    (full_fault c.in_err-join_update.field-0.0 _ c.in_err-join_update.ensures.full)
+    rw (told, ← update) c.in-Ok-join_update.ensures.ok
 
-pub returns-in_err-join_update-clause-held : goal.returns-in_err-join_update-clause-held
-returns-in_err-join_update-clause-held g c =
-    let told = facts-Spells c.args.sender c.args.datagram.now c.in-Ok.packet
-    c.in-Ok.ensures.spelled in
-    let update = ap (λ key. update_facts key c.in-Some.update) c.key.ensures
-    ∙ c.in-Some.ensures.facts c.args.sender in
-    rw (told, ← update) (λ p s h. let e = c.in_err-join_update.ensures.held h in cc)
-
-pub returns-clause-ok : goal.returns-clause-ok
-returns-clause-ok g c =
-    let told = facts-Spells c.args.sender c.args.datagram.now c.in-Ok.packet
-    c.in-Ok.ensures.spelled in
-    let update = ap (λ key. update_facts key c.in-Some.update) c.key.ensures
-    ∙ c.in-Some.ensures.facts c.args.sender in
-    rw (told, ← update) c.in_ok-join_update.ensures.ok
-
-pub returns-clause-number : goal.returns-clause-number
-returns-clause-number g c =
+pub returns-in-Ok-join_update-clause-number : goal.returns-in-Ok-join_update-clause-number
+returns-in-Ok-join_update-clause-number g c =
     let told = facts-Spells c.args.sender c.args.datagram.now c.in-Ok.packet
     c.in-Ok.ensures.spelled in
     let update = ap (λ key. update_facts key c.in-Some.update) c.key.ensures
     ∙ c.in-Some.ensures.facts c.args.sender in
     rw (told, ← update) (c.count-facts.ensures c.key.result)
 
-pub returns-clause-full : goal.returns-clause-full
-returns-clause-full g c =
+pub returns-in-Ok-join_update-clause-full : goal.returns-in-Ok-join_update-clause-full
+returns-in-Ok-join_update-clause-full g c =
     let told = facts-Spells c.args.sender c.args.datagram.now c.in-Ok.packet
     c.in-Ok.ensures.spelled in
     let update = ap (λ key. update_facts key c.in-Some.update) c.key.ensures
     ∙ c.in-Some.ensures.facts c.args.sender in
-    rw (told, ← update) (not_full _ _ _ _ _ c.in_ok-join_update.ensures.full)
+    rw (told, ← update) (not_full _ _ _ _ _ c.in-Ok-join_update.ensures.full)
+
+pub returns-in-Err-Full-clause-full : goal.returns-in-Err-Full-clause-full
+returns-in-Err-Full-clause-full g c =
+    let told = facts-Spells c.args.sender c.args.datagram.now c.in-Ok.packet
+    c.in-Ok.ensures.spelled in
+    let update = ap (λ key. update_facts key c.in-Some.update) c.key.ensures
+    ∙ c.in-Some.ensures.facts c.args.sender in
+    let full = c.in-Err-Full.ensures.full.0 (ap Err c.in-Err-Full.field-0-is) in
+    rw (told, ← update) (λ e. full, λ over. refl)
+
+pub returns-in-Err-OutOfMemory-clause-full : goal.returns-in-Err-OutOfMemory-clause-full
+returns-in-Err-OutOfMemory-clause-full g c =
+    let told = facts-Spells c.args.sender c.args.datagram.now c.in-Ok.packet
+    c.in-Ok.ensures.spelled in
+    let update = ap (λ key. update_facts key c.in-Some.update) c.key.ensures
+    ∙ c.in-Some.ensures.facts c.args.sender in
+    rw (told, ← update)
+    (λ e. cc, λ over. let full = c.in-Err-OutOfMemory.ensures.full.1 over in cc)
+
+pub returns-in-Err-Full-clause-held : goal.returns-in-Err-Full-clause-held
+returns-in-Err-Full-clause-held g c =
+    let told = facts-Spells c.args.sender c.args.datagram.now c.in-Ok.packet
+    c.in-Ok.ensures.spelled in
+    let update = ap (λ key. update_facts key c.in-Some.update) c.key.ensures
+    ∙ c.in-Some.ensures.facts c.args.sender in
+    rw (told, ← update) (λ p s h. let e = c.in-Err-Full.ensures.held h in cc)
+
+pub returns-in-Err-OutOfMemory-clause-held : goal.returns-in-Err-OutOfMemory-clause-held
+returns-in-Err-OutOfMemory-clause-held g c =
+    let told = facts-Spells c.args.sender c.args.datagram.now c.in-Ok.packet
+    c.in-Ok.ensures.spelled in
+    let update = ap (λ key. update_facts key c.in-Some.update) c.key.ensures
+    ∙ c.in-Some.ensures.facts c.args.sender in
+    rw (told, ← update) (λ p s h. let e = c.in-Err-OutOfMemory.ensures.held h in cc)

@@ -3,7 +3,11 @@ use Rattle.std.proofs.Common.{◌≡◌, ◌∙◌, List, ℕ, Option, Ok, Err, 
 use Rattle.std.proofs.lemmas.Result.{err_from_is_err_and}
 use Rattle.flutejoin.specs.Gaps.{ReadsWithin}
 use Rattle.flutejoin.specs.Load.{LoadFails}
-use Rattle.flutejoin.specs.ExtractAll.{ExtractsAll, picked_facts}
+use Rattle.std.proofs.Common.{true, false}
+use Rattle.flute_parts.specs.Addresses.{address}
+use Rattle.flute_parts.specs.declared.address.Address.{Address}
+use Rattle.flutejoin.specs.ExtractAll.{ExtractsAll, is_picked, picked_facts}
+use Rattle.flutejoin.proofs.extract_lemmas.FilesRead.{one_picked, none_picked, picked_rises}
 use Rattle.flutejoin.specs.declared.command_fault.CommandFault.TheVariants.{Input}
 use Rattle.flutejoin.specs.Limits.{at_most}
 use Rattle.flutejoin.proofs.extract_lemmas.FolderSteps.{stays_on}
@@ -15,6 +19,7 @@ use Rattle.flutejoin.proofs.extract_lemmas.FilesRead.{more_read, full_read, faul
 use Rattle.flutejoin.proofs.extract_lemmas.FilesRead.{read_rises}
 use Rattle.flutejoin.proofs.extract_lemmas.FilesRead.{known_some, few_files, can_pick}
 use Rattle.flutejoin.proofs.extract.extract_all.extract_all_to.Goals as goal
+use Rattle.flutejoin.proofs.extract.extract_all.extract_all_to.Goals.{then-has+in_ok-add, else-has}
 
 pub returns-in_err-fact-clause-failed : goal.returns-in_err-fact-clause-failed
 returns-in_err-fact-clause-failed g c =
@@ -52,8 +57,8 @@ returns-then-not-count-clause-failed g c =
     (c.count.ensures.over h.read.entries f (sym c.address.ensures) rises h.read.counts
     c.if-not-count.true)
 
-pub take_picked-requires-clause-next : goal.take_picked-requires-clause-next
-take_picked-requires-clause-next g c =
+pub add-requires-clause-next : goal.add-requires-clause-next
+add-requires-clause-next g c =
     let v = g.R.Source.unread c.loop-fact.reader.source.now in
     let w = g.R.Source.unread c.next_with.new.self.source.now in
     let from = c.loop-fact.reader.state in
@@ -62,13 +67,17 @@ take_picked-requires-clause-next g c =
     let r = read_done c.next_with.result c.at_input.result 1 c.in_ok-fact.field-0
     c.at_input.ensures c.in_ok-fact.was ∙ ap Ok c.in-Some.is in
     let gave = entry_given from to v w c.next_with.ensures.gives h.limit r in
-    can_pick h.read gave
+    let p = c.args.picked.now in
+    let f = c.in-Some.fact in
+    let e : is_picked p (address f).key ≡ true = ap (λ (a : Address). is_picked p a.key)
+    (sym c.address-in-Some.ensures) ∙ sym c.has.ensures ∙ c.if-has.true in
+    can_pick h.read gave e
 
-pub take_picked-requires-clause-few : goal.take_picked-requires-clause-few
-take_picked-requires-clause-few g c = few_files c.loop-fact.invariant.read
+pub add-requires-clause-few : goal.add-requires-clause-few
+add-requires-clause-few g c = few_files c.loop-fact.invariant.read
 
-pub returns-in_err-take_picked-clause-failed : goal.returns-in_err-take_picked-clause-failed
-returns-in_err-take_picked-clause-failed g c =
+pub returns-in_err-add-clause-failed : goal.returns-in_err-add-clause-failed
+returns-in_err-add-clause-failed g c =
     let u = g.R.Source.unread c.args.source.now in
     let v = g.R.Source.unread c.loop-fact.reader.source.now in
     let w = g.R.Source.unread c.next_with.new.self.source.now in
@@ -76,8 +85,8 @@ returns-in_err-take_picked-clause-failed g c =
     let to = c.next_with.new.self.state in
     let h = c.loop-fact.invariant in
     let f = c.in-Some.fact in
-    let e = err_from_is_err_and c.from_residual-in_err-take_picked.result
-    c.from_residual-in_err-take_picked.ensures.1 in
+    let e = err_from_is_err_and c.from_residual-in_err-add.result
+    c.from_residual-in_err-add.ensures.1 in
     let r = read_done c.next_with.result c.at_input.result 1 c.in_ok-fact.field-0
     c.at_input.ensures c.in_ok-fact.was ∙ ap Ok c.in-Some.is in
     let gave = entry_given from to v w c.next_with.ensures.gives h.limit r in
@@ -90,7 +99,7 @@ returns-in_err-take_picked-clause-failed g c =
     (g.R.Source.unread x) = λ x same. subst (λ (y : g.row.R.Denot). ReadsWithin
     (at_most g.row.SESSIONS g.row.OBJECTS g.row.SYMBOLS) u
     (g.R.Source.unread y)) same here in
-    rw (e.1 ∙ ap Err (e.2 ∙ c.in_err-take_picked.ensures.fault)) (at _ (search rules))
+    rw (e.1 ∙ ap Err e.2) (at _ (search rules))
 
 pub loop-fact-preserved : goal.loop-fact-preserved
 loop-fact-preserved g c =
@@ -104,27 +113,53 @@ loop-fact-preserved g c =
     c.at_input.ensures c.in_ok-fact.was ∙ ap Ok c.in-Some.is in
     let gave = entry_given from to v w c.next_with.ensures.gives h.limit r in
     let rises = entry_rises h.read gave in
+    let p = c.args.picked.now in
+    let F = h.read.entries in
     record {
       read =
           more_read h.read gave
           (c.count.ensures.within h.read.entries f (sym c.address.ensures) rises h.read.counts
           c.if-not-count.false)
-          (c.in_ok-take_picked.ensures.taken h.read.entries _ _ rises h.read.takes)
-          c.take_picked.ensures.few;
+          (elim c.if-has.branch [
+            | then-has+in_ok-add w ↦
+                let e : is_picked p (address f).key ≡ true =
+                ap (λ (a : Address). is_picked p a.key) (sym c.address-in-Some.ensures)
+                ∙ sym c.has.ensures ∙ w.if-has.true in
+                rw (w.files-is, w.folder-is, w.lines-is, one_picked p F f e)
+                (w.in_ok-add.ensures.taken (picked_facts p F) _ _ (picked_rises p F f e rises)
+                h.read.takes)
+            | else-has w ↦
+                let e : is_picked p (address f).key ≡ false =
+                ap (λ (a : Address). is_picked p a.key) (sym c.address-in-Some.ensures)
+                ∙ sym c.has.ensures ∙ w.if-has.false in
+                rw (w.files-is, w.folder-is, w.lines-is, none_picked p F f e) h.read.takes
+          ])
+          (elim c.if-has.branch [
+            | then-has+in_ok-add w ↦ rw w.files-is w.add.ensures.few
+            | else-has w ↦ rw w.files-is (omega arith)
+          ]);
       limit = c.next_with.ensures.limit ∙ h.limit;
       source = c.next_with.ensures.source ∙ h.source;
       reads = no_read_failure c.next_with.result _ r c.next_with.ensures.failures h.reads;
-      stays = stays_on _ _ _ h.stays c.take_picked.ensures.stays;
-      failures = let e = c.in_ok-take_picked.ensures.failures in let i = h.failures in omega
-          (arith, e, i);
+      stays = elim c.if-has.branch [
+        | then-has+in_ok-add w ↦ rw w.folder-is (stays_on _ _ _ h.stays w.add.ensures.stays)
+        | else-has w ↦ rw w.folder-is h.stays
+      ];
+      failures = elim c.if-has.branch [
+        | then-has+in_ok-add w ↦
+            let e = w.in_ok-add.ensures.failures in
+            let i = h.failures in
+            rw (w.folder-is, w.lines-is) (omega (arith, e, i))
+        | else-has w ↦ rw (w.folder-is, w.lines-is) h.failures
+      ];
     }
 
 pub finish-requires-clause-known : goal.finish-requires-clause-known
 finish-requires-clause-known g c =
     known_some c.loop-fact.invariant.read
 
-pub returns-in-Ok-clause-extracted : goal.returns-in-Ok-clause-extracted
-returns-in-Ok-clause-extracted g c =
+pub returns-clause-extracted : goal.returns-clause-extracted
+returns-clause-extracted g c =
     let u = g.R.Source.unread c.args.source.now in
     let v = g.R.Source.unread c.loop-fact.reader.source.now in
     let w = g.R.Source.unread c.next_with.new.self.source.now in
@@ -136,7 +171,7 @@ returns-in-Ok-clause-extracted g c =
     c.at_input.ensures c.in_ok-fact.was ∙ ap Ok c.in_default.is in
     let gave = end_given c.loop-fact.reader.max_entries from to v w
     c.next_with.ensures.gives r in
-    let all = c.in-Ok.ensures.finished (picked_facts picked h.read.entries)
+    let all = c.in_ok-finish.ensures.finished (picked_facts picked h.read.entries)
     (g.D.NewFolder.places c.args.folder.now) (g.W.Sink.written c.args.lines.now)
     (read_rises h.read)
     h.read.takes in
@@ -144,14 +179,16 @@ returns-in-Ok-clause-extracted g c =
     ExtractsAll (at_most g.row.SESSIONS g.row.OBJECTS g.row.SYMBOLS) u left
     picked (g.D.NewFolder.places c.args.folder.now)
     (g.D.NewFolder.places c.finish.new.folder) (g.W.Sink.written c.args.lines.now)
-    (g.W.Sink.written c.finish.new.lines) c.in-Ok.count in
+    (g.W.Sink.written c.finish.new.lines) c.in_ok-finish.field-0 in
     let here : P w = all_read h.read gave all in
     let at : (x : g.row.R.Denot) → c.next_with.new.self.source.now ≡ x → P (g.R.Source.unread x) =
     λ x same. subst (λ (y : g.row.R.Denot). P (g.R.Source.unread y)) same here in
     at _ (search rules)
 
-pub returns-in-Err-clause-failed : goal.returns-in-Err-clause-failed
-returns-in-Err-clause-failed g c =
+pub returns-in_err-finish-clause-failed : goal.returns-in_err-finish-clause-failed
+returns-in_err-finish-clause-failed g c =
+    let e = err_from_is_err_and c.from_residual-in_err-finish.result
+    c.from_residual-in_err-finish.ensures.1 in
     let u = g.R.Source.unread c.args.source.now in
     let v = g.R.Source.unread c.loop-fact.reader.source.now in
     let w = g.R.Source.unread c.next_with.new.self.source.now in
@@ -168,4 +205,4 @@ returns-in-Err-clause-failed g c =
     let here : P w = within in
     let at : (x : g.row.R.Denot) → c.next_with.new.self.source.now ≡ x → P (g.R.Source.unread x) =
     λ x same. subst (λ (y : g.row.R.Denot). P (g.R.Source.unread y)) same here in
-    at _ (search rules)
+    rw (e.1 ∙ ap Err e.2) (at _ (search rules))

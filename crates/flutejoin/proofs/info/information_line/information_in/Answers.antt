@@ -1,5 +1,5 @@
 -- information_in: the three numbers of information, and when a text has none.
-use Rattle.std.proofs.Common.{[], refl, ◌∙◌, arith}
+use Rattle.std.proofs.Common.{[], ◌++◌, codes, ap, refl, ◌∙◌, arith}
 use Rattle.flutejoin.proofs.info_lemmas.LinePieces.{from_block, from_symbol, information_chain}
 use Rattle.flutejoin.proofs.info_lemmas.LinePieces.{same_numbers}
 use Rattle.flutejoin.proofs.info.information_line.information_in.Goals as goal
@@ -11,14 +11,14 @@ pub returns-in_default : goal.returns-in_default
 returns-in_default c = record {
   finds = λ info fields is. c.in_default.ensures.finds
       info.transfer_length (from_symbol info) (omega (arith, fields.0)) refl
-      (is ∙ information_chain info);
+      (is ∙ ap (λ x. codes " " ++ x) (information_chain info));
 }
 
 pub returns-in_default-number_after : goal.returns-in_default-number_after
 returns-in_default-number_after c = record {
   finds = λ info fields is.
       let a = c.in-Some.ensures.finds info.transfer_length (from_symbol info)
-      (omega (arith, fields.0)) refl (is ∙ information_chain info) in
+      (omega (arith, fields.0)) refl (is ∙ ap (λ x. codes " " ++ x) (information_chain info)) in
       c.in_default-number_after.ensures.finds info.symbol_length (from_block info)
       (omega (arith, fields.1.0)) refl a.1;
 }
@@ -27,7 +27,7 @@ pub returns-in_default-number_after-2 : goal.returns-in_default-number_after-2
 returns-in_default-number_after-2 c = record {
   finds = λ info fields is.
       let a = c.in-Some.ensures.finds info.transfer_length (from_symbol info)
-      (omega (arith, fields.0)) refl (is ∙ information_chain info) in
+      (omega (arith, fields.0)) refl (is ∙ ap (λ x. codes " " ++ x) (information_chain info)) in
       let b = c.in-Some-number_after.ensures.finds info.symbol_length (from_block info)
       (omega (arith, fields.1.0)) refl a.1 in
       c.in_default-number_after-2.ensures.finds info.max_block_length []
@@ -38,7 +38,7 @@ pub returns-then-block : goal.returns-then-block
 returns-then-block c = record {
   finds = λ info fields is.
       let a = c.in-Some.ensures.finds info.transfer_length (from_symbol info)
-      (omega (arith, fields.0)) refl (is ∙ information_chain info) in
+      (omega (arith, fields.0)) refl (is ∙ ap (λ x. codes " " ++ x) (information_chain info)) in
       let b = c.in-Some-number_after.ensures.finds info.symbol_length (from_block info)
       (omega (arith, fields.1.0)) refl a.1 in
       let d = c.in-Some-number_after-2.ensures.finds info.max_block_length []
@@ -50,7 +50,7 @@ pub returns-else-length : goal.returns-else-length
 returns-else-length c = record {
   finds = λ info fields is.
       let a = c.in-Some.ensures.finds info.transfer_length (from_symbol info)
-      (omega (arith, fields.0)) refl (is ∙ information_chain info) in
+      (omega (arith, fields.0)) refl (is ∙ ap (λ x. codes " " ++ x) (information_chain info)) in
       let b = c.in-Some-number_after.ensures.finds info.symbol_length (from_block info)
       (omega (arith, fields.1.0)) refl a.1 in
       let d = c.in-Some-number_after-2.ensures.finds info.max_block_length []

@@ -16,19 +16,19 @@ returns-then-is_all-clause-taken c = λ e. all_chosen (takes_key c.args.scope.no
 pub returns-in-Ok-clause-others : goal.returns-in-Ok-clause-others
 returns-in-Ok-clause-others c = λ e.
     packet_passed (takes_key c.args.scope.now) c.args.sender c.in-Ok.packet _
-    (c.computed_reading.ensures.facts c.args.sender c.args.datagram.now c.in-Ok.packet
+    (c.one_reading.ensures.facts c.args.sender c.args.datagram.now c.in-Ok.packet
     c.in-Ok.ensures.spelled)
     (ap (takes_key c.args.scope.now) (sym c.key.ensures) ∙ sym c.takes.ensures ∙
     passed_if c.takes.result e)
 
 pub returns-in-Ok-clause-packet : goal.returns-in-Ok-clause-packet
-returns-in-Ok-clause-packet c = λ e. ap is_none ((c.computed_reading.ensures.packet
+returns-in-Ok-clause-packet c = λ e. ap is_none ((c.one_reading.ensures.packet
     c.args.datagram.now c.in-Ok.packet).1 c.in-Ok.ensures.spelled)
 
 pub returns-in-Ok-clause-taken : goal.returns-in-Ok-clause-taken
 returns-in-Ok-clause-taken c = λ e.
     packet_taken (takes_key c.args.scope.now) c.args.sender c.in-Ok.packet _
-    (c.computed_reading.ensures.facts c.args.sender c.args.datagram.now c.in-Ok.packet
+    (c.one_reading.ensures.facts c.args.sender c.args.datagram.now c.in-Ok.packet
     c.in-Ok.ensures.spelled)
     (ap (takes_key c.args.scope.now) (sym c.key.ensures) ∙ sym c.takes.ensures ∙
     taken_if c.takes.result e)
@@ -42,11 +42,11 @@ pub returns-in-Ok-clause-exact : goal.returns-in-Ok-clause-exact
 returns-in-Ok-clause-exact c = λ most.
     ap not (c.takes.ensures ∙ ap (takes_key c.args.scope.now) c.key.ensures)
     ∙ sym (ap (is_other_packet (choice_of most c.args.sender c.args.scope.now))
-    ((c.computed_reading.ensures.packet c.args.datagram.now c.in-Ok.packet).1
+    ((c.one_reading.ensures.packet c.args.datagram.now c.in-Ok.packet).1
     c.in-Ok.ensures.spelled))
 
 pub returns-in-Err-clause-exact : goal.returns-in-Err-clause-exact
 returns-in-Err-clause-exact c = λ most.
     refused_no_other (choice_of most c.args.sender c.args.scope.now) (packet c.args.datagram.now)
-    (λ p e. let ok = (c.in-Err.ensures.packet p).1 ((c.computed_reading.ensures.packet
+    (λ p e. let ok = (c.in-Err.ensures.packet p).1 ((c.one_reading.ensures.packet
     c.args.datagram.now p).0 e) in cc)

@@ -16,7 +16,7 @@ pub loop-alloc-preserved : goal.loop-alloc-preserved
 loop-alloc-preserved g c = (
   c.loop-alloc.invariant.0,
   counts_other g.C.Choice.takes c.args.self.now.choice g.S.Stream.behaviour c.loop-alloc.invariant.1
-      (answered g.C.Choice.takes _ c.is_other.ensures
+      (answered g.C.Choice.takes _ c.passes_over.ensures
       c.loop-alloc.invariant.0 c.loop-alloc-test.true) c.in_ok-advance-2.ensures.goes_on
       c.saturating_add-self.ensures,
 )
@@ -25,5 +25,5 @@ pub returns-clause-goes_on : goal.returns-clause-goes_on
 returns-clause-goes_on g c = chosen_goes_on g.C.Choice.takes c.args.self.now.choice
     g.S.Stream.behaviour c.args.self.now c.loop-alloc.self refl c.loop-alloc.invariant.0
     c.loop-alloc.invariant.1
-    (answered g.C.Choice.takes _ c.is_other.ensures
+    (answered g.C.Choice.takes _ c.passes_over.ensures
     c.loop-alloc.invariant.0 c.loop-alloc-test.false)

@@ -6,7 +6,11 @@ use Rattle.flute_parts.specs.declared.symbol_id.SymbolId.{SymbolId}
 use Rattle.flute_parts.proofs.Public.{rising-front}
 use Rattle.flute_store.specs.Scan.{next_fact}
 use Rattle.flutejoin.specs.Listing.{IsFirstOf}
-use Rattle.flutejoin.specs.ObjectFiles.{HasTaken, Takes, KnowsSome}
+use Rattle.std.proofs.Common.{inl, inr, refl}
+use Rattle.flutejoin.specs.ObjectFiles.{FileStateIs, HasTaken, Takes, KnowsSome}
+use Rattle.flutejoin.specs.declared.extract.file_scan.FileState.{FileState}
+use Rattle.flutejoin.specs.declared.extract.file_scan.FileState.TheVariants.{OneInformation}
+use Rattle.flutejoin.proofs.extract_lemmas.FileObjects.{passes_none, passes_conflict}
 use Rattle.flutejoin.specs.declared.extract.object_files.ObjectFile.{ObjectFile}
 use Rattle.flutejoin.specs.declared.extract.object_files.ObjectFiles.{ObjectFiles}
 use Rattle.flutejoin.proofs.extract_lemmas.FileObjects.{begins_symbol, first_of_others, mine_rising}
@@ -31,11 +35,12 @@ pass-requires g c =
       h.mine,
       k.2,
       mine_rising (next_fact object.key n) h r,
-      h.state_is,
+      subst (λ (x : FileState). FileStateIs object.key h.mine x k.2) c.in-OneInformation.is
+          h.state_is,
     )
 
-pub returns-in-Some-clause-taken : goal.returns-in-Some-clause-taken
-returns-in-Some-clause-taken g c = λ F p0 w0 r t.
+pub returns-in-OneInformation-clause-taken : goal.returns-in-OneInformation-clause-taken
+returns-in-OneInformation-clause-taken g c = λ F p0 w0 r t.
     let n : SymbolId × Option (Bor (List ℕ)) = (c.args.id, c.args.value) in
     let key = c.args.key.now in
     let object = c.in-Some.object in
@@ -43,16 +48,64 @@ returns-in-Some-clause-taken g c = λ F p0 w0 r t.
     let h = subst (λ (x : Option ObjectFile). HasTaken F t.files t.told x t.open_file) c.in-Some.is
     t.taken in
     let r' = subst (λ (x : Key). IsRising (F ++ next_fact x n ∷ [])) (sym same) r in
+    let new : ObjectFile = record { key = object.key; state = OneInformation c.pass.new.self } in
     on_ok c.pass.result
     (λ s.
     subst (λ (x : Key). Takes (F ++ next_fact x n ∷ [])
-    (record c.args.self.now { last = Some c.pass.new.self }) p0
+    (record c.args.self.now { last = Some new }) p0
     (g.D.NewFolder.places c.pass.new.folder) w0 (g.W.Sink.written c.args.lines.now)) same
-    (takes_more (next_fact object.key n) c.pass.new.self t h c.pass.ensures.key
-    (told_key object.key n) s))
+    (takes_more (next_fact object.key n) new t h refl (told_key object.key n) s))
     (c.pass.ensures.passed h.mine object.key t.files p0
-    (mine_rising (next_fact object.key n) h r')
-    (t.open_file, h.state_is, t.filled))
+    (mine_rising (next_fact object.key n) h r') (
+      t.open_file,
+      subst (λ (x : FileState). FileStateIs object.key h.mine x t.open_file)
+          c.in-OneInformation.is h.state_is,
+      t.filled,
+    ))
+
+pub returns-in-NoInformation-clause-taken : goal.returns-in-NoInformation-clause-taken
+returns-in-NoInformation-clause-taken g c = λ F p0 w0 r t.
+    let n : SymbolId × Option (Bor (List ℕ)) = (c.args.id, c.args.value) in
+    let key = c.args.key.now in
+    let object = c.in-Some.object in
+    let same : object.key ≡ key = equal_keys object.key key c.if-eq.ensures in
+    let h = subst (λ (x : Option ObjectFile). HasTaken F t.files t.told x t.open_file) c.in-Some.is
+    t.taken in
+    let P : FileState → Type 0 =
+    λ x. FileStateIs object.key (h.mine ++ next_fact object.key n ∷ []) x t.open_file in
+    let state_is : P object.state = elim c.in-NoInformation.is [
+      | inl e ↦ subst P (sym e) (passes_none h.mine n object.key t.open_file
+          (subst (λ (x : FileState). FileStateIs object.key h.mine x t.open_file) e h.state_is))
+      | inr e ↦ subst P (sym e) (passes_conflict h.mine n object.key t.open_file
+          (subst (λ (x : FileState). FileStateIs object.key h.mine x t.open_file) e h.state_is))
+    ] in
+    subst (λ (x : Key). Takes (F ++ next_fact x n ∷ [])
+    (record c.args.self.now { last = Some object }) p0
+    (g.D.NewFolder.places c.args.folder.now) w0 (g.W.Sink.written c.args.lines.now)) same
+    (takes_more (next_fact object.key n) object t h refl (told_key object.key n)
+    (t.open_file, state_is, t.filled))
+
+pub returns-in-NoInformation-2-clause-taken : goal.returns-in-NoInformation-2-clause-taken
+returns-in-NoInformation-2-clause-taken g c = λ F p0 w0 r t.
+    let n : SymbolId × Option (Bor (List ℕ)) = (c.args.id, c.args.value) in
+    let key = c.args.key.now in
+    let object = c.in-Some.object in
+    let same : object.key ≡ key = equal_keys object.key key c.if-eq.ensures in
+    let h = subst (λ (x : Option ObjectFile). HasTaken F t.files t.told x t.open_file) c.in-Some.is
+    t.taken in
+    let P : FileState → Type 0 =
+    λ x. FileStateIs object.key (h.mine ++ next_fact object.key n ∷ []) x t.open_file in
+    let state_is : P object.state = elim c.in-NoInformation.is [
+      | inl e ↦ subst P (sym e) (passes_none h.mine n object.key t.open_file
+          (subst (λ (x : FileState). FileStateIs object.key h.mine x t.open_file) e h.state_is))
+      | inr e ↦ subst P (sym e) (passes_conflict h.mine n object.key t.open_file
+          (subst (λ (x : FileState). FileStateIs object.key h.mine x t.open_file) e h.state_is))
+    ] in
+    subst (λ (x : Key). Takes (F ++ next_fact x n ∷ [])
+    (record c.args.self.now { last = Some object }) p0
+    (g.D.NewFolder.places c.args.folder.now) w0 (g.W.Sink.written c.args.lines.now)) same
+    (takes_more (next_fact object.key n) object t h refl (told_key object.key n)
+    (t.open_file, state_is, t.filled))
 
 pub begin-requires-clause-known : goal.begin-requires-clause-known
 begin-requires-clause-known g c =

@@ -1,5 +1,5 @@
 -- InformationList::end_line: the line is ended, and the next begins.
-use Rattle.std.proofs.Common.{◌+◌, refl, ap}
+use Rattle.std.proofs.Common.{◌+◌, ap}
 use Rattle.std.proofs.lemmas.Result.{err_from_is_err_and}
 use Rattle.flutejoin.specs.Limits.{at_most}
 use Rattle.flutejoin.proofs.info_lemmas.ListLines.{line_ended, line_failed}
@@ -15,5 +15,5 @@ returns-in_err-take_line-clause-failed g c =
 
 pub returns-clause-taken : goal.returns-clause-taken
 returns-clause-taken g c = λ bytes h.
-    line_ended c.args.self.now _ bytes c.new-self.ensures refl
+    line_ended c.args.self.now _ bytes c.new-self.ensures
     (ap (λ n. n + 1) c.take_line.ensures.number) c.in_ok-take_line.ensures.taken h

@@ -1,11 +1,14 @@
 -- InformationList::take: a byte more.
-use Rattle.std.proofs.Common.{[], ◌∷◌, ◌++◌, take, sym, subst, append-nil, arith}
+use Rattle.std.proofs.Common.{[], ◌∷◌, ◌++◌, ap, get_or, length, refl, take, sym, subst}
+use Rattle.std.proofs.Common.{append-nil, arith}
 use Rattle.std.proofs.lemmas.Result.{err_from_is_err_and}
 use Rattle.flutejoin.specs.InformationLines.{HoldsList, ListFails}
 use Rattle.flutejoin.specs.Limits.{at_most}
-use Rattle.flutejoin.proofs.info_lemmas.ListLines.{piece_more, piece_fails}
+use Rattle.flutejoin.proofs.info_lemmas.ListLines.{byte_kept, byte_left, piece_more, piece_fails}
 use Rattle.flutejoin.proofs.info.information_list.InformationList.take.Goals as goal
-use Rattle.flutejoin.proofs.info.information_list.InformationList.take.Goals.{then-byte-eq10+in_ok-end_line, else-byte-eq10}
+use Rattle.flutejoin.proofs.info.information_list.InformationList.take.Goals.{then-byte-eq10+in_ok-end_line}
+use Rattle.flutejoin.proofs.info.information_list.InformationList.take.Goals.{else-byte-eq10+then-as_slice-lt-ROOM}
+use Rattle.flutejoin.proofs.info.information_list.InformationList.take.Goals.{else-byte-eq10+else-as_slice-lt-ROOM}
 
 pub loop-byte-init : goal.loop-byte-init
 loop-byte-init g c = record {
@@ -22,7 +25,8 @@ loop-byte-preserved g c =
       number = elim c.if-byte-eq10.branch [
         | then-byte-eq10+in_ok-end_line w ↦
             rw w.self-is (omega (arith, w.in_ok-end_line.ensures.number, so.number))
-        | else-byte-eq10 w ↦ rw w.self-is (omega (arith, w.push.ensures.number, so.number))
+        | else-byte-eq10+then-as_slice-lt-ROOM w ↦ rw w.self-is (omega (arith, so.number))
+        | else-byte-eq10+else-as_slice-lt-ROOM w ↦ rw w.self-is (omega (arith, so.number))
       ];
       holds = λ bytes h. elim c.if-byte-eq10.branch [
         | then-byte-eq10+in_ok-end_line w ↦
@@ -31,9 +35,18 @@ loop-byte-preserved g c =
             (subst (λ b. HoldsList new ((bytes ++ take k piece) ++ b ∷ []))
             (sym w.if-byte-eq10.true)
             (w.in_ok-end_line.ensures.taken (bytes ++ take k piece) (so.holds bytes h))))
-        | else-byte-eq10 w ↦
-            rw w.self-is (piece_more w.push.new.self bytes piece k (omega arith)
-            (w.push.ensures.taken (bytes ++ take k piece) (so.holds bytes h)))
+        | else-byte-eq10+then-as_slice-lt-ROOM w ↦
+            rw w.self-is (piece_more _ bytes piece k (omega arith)
+            (byte_kept c.loop-byte.self _ (bytes ++ take k piece) (get_or piece k 0) refl refl
+            w.if-byte-eq10.false
+            (omega (arith, ap length w.as_slice.ensures, w.if-as_slice-lt-ROOM.true))
+            w.push_bytes.ensures.text (so.holds bytes h)))
+        | else-byte-eq10+else-as_slice-lt-ROOM w ↦
+            rw w.self-is (piece_more _ bytes piece k (omega arith)
+            (byte_left c.loop-byte.self _ (bytes ++ take k piece) (get_or piece k 0) refl refl
+            w.if-byte-eq10.false
+            (omega (arith, ap length w.as_slice.ensures, w.if-as_slice-lt-ROOM.false))
+            refl (so.holds bytes h)))
       ];
     }
 
