@@ -245,7 +245,9 @@ def owner_name(head: str) -> str:
     """The name that a check has for the owner of methods, from the head of its impl or trait."""
     if head.startswith("trait"):
         return bare(head[len("trait") :])
-    head = without_parameters(head[len("impl") :].strip())
+    whole = head[len("impl") :].strip()
+    head = without_parameters(whole)
+    own = re.findall(r"\w+", whole[: len(whole) - len(head)])
     trait, _, of = head.partition(" for ")
     if not of:
         trait, of = "", trait
@@ -254,7 +256,10 @@ def owner_name(head: str) -> str:
     trait = bare(typed[1]) + bare(typed[2]) if typed else bare(trait)
     # A reference to a type parameter, or to a slice of one, is named as such.
     lent = re.match(r"&mut (\[?)", of)
+    # It also contains the types that a type is of, if they are no parameters of the impl.
+    parts = re.findall(r"(?<!')\b[A-Z]\w*", of.partition("<")[2])
     of = f"RefMut{'Slice' if lent[1] else ''}" if lent else bare(of)
+    of += "".join(part for part in parts if part not in own)
     return of[:1].upper() + of[1:] + trait
 
 

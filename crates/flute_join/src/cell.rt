@@ -11,7 +11,7 @@ use crate::value::Value;
 use std::alloc::Global;
 
 /// What is known at one place. A conflict stays one, whatever comes after it.
-#[derive(Debug, Drop, PartialEq, Eq)]
+#[derive(Drop, PartialEq, Eq)]
 pub enum Cell<T: Value> {
     /// No value came.
     Absent,

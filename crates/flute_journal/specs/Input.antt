@@ -24,11 +24,6 @@ pub record ReadsUpTo (old new : Option (List ℕ)) (n : ℕ) (failed : Bool)
   pub fewer : length bytes < n → failed ≡ false → IsAtEnd new
   pub short : failed ≡ true → length bytes < n
 
--- the fault of too few bytes
-abbrev pub shortage : Bool → ReadFault
-shortage true = faults.Read
-shortage false = faults.Cut
-
 -- a fault that a failing source leaves: the bytes before it may have one, but are not cut there
 abbrev pub left_by : ReadFault → ReadFault
 left_by faults.Cut = faults.Read

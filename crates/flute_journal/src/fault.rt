@@ -50,7 +50,7 @@ pub enum ReadFault {
 }
 
 /// Why a journal could not be written.
-#[derive(Clone, Copy, Debug, PartialEq, Eq, Error)]
+#[derive(Clone, Copy, Debug, Error)]
 pub enum SaveFault {
     /// The sink failed. A proper prefix of the journal was written.
     #[error("Write")]

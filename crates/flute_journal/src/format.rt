@@ -12,7 +12,7 @@ mod version;
 pub use decode::{
     check_end, check_header, check_opening, names_file, next_symbol_in, parse, symbol_in,
 };
-pub use encode::{HeadBytes, end_of, put_head, symbol_value};
+pub use encode::{HeadBytes, put_head};
 use flute_parts::{Fact, Key, SymbolId};
 pub use version::Version;
 

@@ -1,5 +1,5 @@
 //! Laws of the definitions: each is the contract of a function that does nothing.
-ghost use Rattle.std.specs.Prelude.{◌≡◌, ◌≢◌, ℕ, ◌+◌, ◌<◌, ◌≤◌};
+ghost use Rattle.std.specs.Prelude.{◌≡◌, ℕ, ◌+◌, ◌<◌};
 ghost use Rattle.std.specs.Prelude.{◌^◌, ◌↔◌, ◌⊎◌, List, [], ◌∷◌, ◌++◌};
 ghost use Rattle.std.specs.Prelude.{length, Option, IfSome};
 ghost use Rattle.std.specs.List.{AllByRecursion};
@@ -23,21 +23,12 @@ ghost use Rattle.flute_journal.specs.FileFraming.{file_framing};
 ghost use Rattle.flute_journal.specs.declared.readers.reader_state.ReaderState.{ReaderState};
 ghost use Rattle.flute_journal.specs.declared.readers.reader_state.ReaderState.TheVariants as states;
 
-/// Entries and facts, one for the other.
+/// A fact has one entry in a version, and a content one journal; an entry has one fact, and a
+/// journal one content.
 ///
 /// - `one_reading`: what an entry spells is read in one way, whatever follows it, in each version.
 /// - `written`: every fact is spelled in the version that is written.
 /// - `old`: and in version 1 exactly if its sender is 0.
-pub fn entries_are_facts()
-    ensures one_reading { (v : Version) (f g : Fact) (x y : List ℕ) → IsFactIn v f
-        → IsFactIn v g → entry_in v f ++ x ≡ entry_in v g ++ y → (f ≡ g) × (x ≡ y) }
-    ensures written { (f : Fact) → IsFact f → IsFactIn Two f }
-    ensures old { (f : Fact) → IsFact f
-        → IsFactIn One f ↔ ((address f).key.session.sender ≡ 0) }
-{}
-
-/// A content has one journal in a version, and a journal one content.
-///
 /// - `equal`: journals of one version are equal exactly if their facts have the same value at each
 ///   address.
 /// - `content`: lists with one journal have the same value at each address.
@@ -47,6 +38,11 @@ pub fn entries_are_facts()
 /// - `begun`: a journal that begins with these entries contains their facts.
 /// - `spelling`: rising facts with the same value at each address are spelled alike.
 pub fn a_journal_is_its_content()
+    ensures one_reading { (v : Version) (f g : Fact) (x y : List ℕ) → IsFactIn v f
+        → IsFactIn v g → entry_in v f ++ x ≡ entry_in v g ++ y → (f ≡ g) × (x ≡ y) }
+    ensures written { (f : Fact) → IsFact f → IsFactIn Two f }
+    ensures old { (f : Fact) → IsFact f
+        → IsFactIn One f ↔ ((address f).key.session.sender ≡ 0) }
     ensures equal { (v : Version) (bs cs : List ℕ) (F G : List Fact) → JournalIn v bs F
         → JournalIn v cs G → (bs ≡ cs) ↔ Same F G }
     ensures content { (bs : List ℕ) (F G : List Fact) → IsJournal bs F → IsJournal bs G

@@ -54,11 +54,8 @@ impl Bytes {
             (λ fault. (size_fault octets.now ≡ Some fault)
             ⊎ ((size_fault octets.now ≡ None) × (fault ≡ BytesFault.OutOfMemory))) }
     {
-        if octets.is_empty() {
-            return Err(BytesFault::Empty);
-        }
-        if octets.len() > MAX_LEN {
-            return Err(BytesFault::TooLong);
+        if let Some(fault) = fault_of(octets) {
+            return Err(fault);
         }
         match octets.to_vec(alloc) {
             Ok(octets) => Ok(Bytes { octets }),
@@ -76,11 +73,8 @@ impl Bytes {
             (λ bytes. (bytes ≡ octets.items) × (size_fault octets.items ≡ None))
             (λ fault. size_fault octets.items ≡ Some fault) }
     {
-        if octets.is_empty() {
-            return Err(BytesFault::Empty);
-        }
-        if octets.len() > MAX_LEN {
-            return Err(BytesFault::TooLong);
+        if let Some(fault) = fault_of(&octets) {
+            return Err(fault);
         }
         Ok(Bytes { octets })
     }
@@ -101,6 +95,19 @@ impl Bytes {
         let Bytes { octets } = self;
         octets
     }
+}
+
+// Why the bytes are refused for their number, if they are.
+fn fault_of(octets: &[u8]) -> Option<BytesFault>
+    ensures { result ≡ size_fault octets.now }
+{
+    if octets.is_empty() {
+        return Some(BytesFault::Empty);
+    }
+    if octets.len() > MAX_LEN {
+        return Some(BytesFault::TooLong);
+    }
+    None
 }
 
 impl PartialEq for Bytes {

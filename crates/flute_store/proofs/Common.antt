@@ -75,9 +75,8 @@ pub use Store.Update.{IsHeldSession, IsUpdate, update_cell, update_facts, update
 pub use Store.declared.gap.Reason.{Reason, TheVariants.{Conflicting, Misfit, Missing}}
 pub use Store.declared.partition_scan.Upcoming.TheVariants.{BlockEnd, End, Fitting, NotHeld, Passed}
 pub use Store.declared.partition_scan.{PartitionScan.{PartitionScan}, Upcoming.TheVariants.{Wanted}}
-pub use Store.declared.update.SymbolUpdate.TheVariants.{Borrowed as BorrowedUpdate}
 pub use Store.declared.update.SymbolUpdate.TheVariants.{Conflict as ConflictUpdate}
-pub use Store.declared.update.SymbolUpdate.{SymbolUpdate, TheVariants.{Owned as OwnedUpdate}}
+pub use Store.declared.update.SymbolUpdate.{SymbolUpdate, TheVariants.{Bytes as BytesUpdate}}
 pub use Store.declared.{partition_scan.Upcoming.{Upcoming}, status.Wanted.{Wanted as Counted}}
 pub use Store.{Beyond.{AnyValue, ObjectBeyond, SessionBeyond, StoreBeyond}, Update.{update_symbols}}
 pub use Store.{BytesLeft.{GivesFirst, KeepsBytes, cell_bytes, found_bytes}, declared.gap.Gap.{Gap}}

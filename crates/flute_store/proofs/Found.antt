@@ -13,7 +13,7 @@ use Common.{Info, InfoConflict, Symbol, SymbolConflict, session_cmp, object_cmp,
 use Common.{info_address, symbol_address, fact_at, fact_at-nil, Object, info_cell_facts}
 use Common.{symbol_cell_facts, symbols_facts, content, IsObject, IsSession, IsStore, update_symbols}
 use Common.{update_facts, IsHeldSession, HoldsObject, HasCell, AllByRecursion, SymbolUpdate}
-use Common.{BorrowedUpdate, OwnedUpdate, ConflictUpdate, MatchOption, Bor, option_copied, IsUnheard}
+use Common.{BytesUpdate, ConflictUpdate, MatchOption, Bor, option_copied, IsUnheard}
 use Common.{cell_fact, symbol_fact, IsTold}
 
 -- a cell that holds a value or a conflict
@@ -107,8 +107,7 @@ module _ {n s o : ℕ} {m : List (Session × List (ObjectName × Object n))} (p 
       → AllByRecursion (HasCell (content m))
       (F ++ symbols_facts key (update_symbols (Some (id, told))))
       → fact_at (content m) (symbol_address key id) ≢ None
-  of_told key id (BorrowedUpdate bytes) [] h = h.0
-  of_told key id (OwnedUpdate bytes) [] h = h.0
+  of_told key id (BytesUpdate bytes) [] h = h.0
   of_told key id ConflictUpdate [] h = h.0
   of_told key id told (f ∷ F) h = of_told key id told F h.1
 

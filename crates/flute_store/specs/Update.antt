@@ -13,15 +13,13 @@ use Rattle.flute_parts.specs.declared.fact.Fact.{Fact}
 use Rattle.flute_store.specs.ObjectJoin.{session_join, store_join}
 use Rattle.flute_store.specs.Content.{info_cell_facts, symbols_facts}
 use Rattle.flute_store.specs.declared.update.SymbolUpdate.{SymbolUpdate}
-use Rattle.flute_store.specs.declared.update.SymbolUpdate.TheVariants.{Borrowed as BorrowedUpdate}
-use Rattle.flute_store.specs.declared.update.SymbolUpdate.TheVariants.{Owned as OwnedUpdate}
+use Rattle.flute_store.specs.declared.update.SymbolUpdate.TheVariants.{Bytes as BytesUpdate}
 use Rattle.flute_store.specs.declared.update.SymbolUpdate.TheVariants.{Conflict as ConflictUpdate}
 use Rattle.flute_store.specs.declared.update.Update.{Update}
 use Rattle.flute_store.specs.declared.object.Object.{Object}
 
 abbrev pub update_cell : SymbolUpdate → Cell (List ℕ)
-update_cell (BorrowedUpdate bytes) = One bytes.now
-update_cell (OwnedUpdate bytes) = One bytes
+update_cell (BytesUpdate bytes) = One bytes.now
 update_cell ConflictUpdate = Conflict
 
 abbrev pub update_symbols : Option (SymbolId × SymbolUpdate) → List (SymbolId × Cell (List ℕ))
@@ -34,8 +32,7 @@ update_object update = record { info = update.info; symbols = update_symbols upd
 
 -- the bytes of the update are a symbol's
 abbrev pub HasSize : SymbolUpdate → Type 0
-HasSize (BorrowedUpdate bytes) = HasSymbolSize bytes.now
-HasSize (OwnedUpdate bytes) = HasSymbolSize bytes
+HasSize (BytesUpdate bytes) = HasSymbolSize bytes.now
 HasSize ConflictUpdate = Unit {0}
 
 abbrev pub HasSizes : Option (SymbolId × SymbolUpdate) → Type 0

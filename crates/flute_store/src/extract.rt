@@ -15,7 +15,7 @@ use flute_parts::{DeviceFault, Key, Sink, SymbolId};
 use thiserror::Error;
 
 /// Why an object is not written. The first that applies is returned.
-#[derive(Clone, Copy, Debug, PartialEq, Eq, Error)]
+#[derive(Clone, Copy, Debug, Error)]
 pub enum ExtractFault {
     /// Nothing of the object is held.
     #[error("no object")]

@@ -6,7 +6,6 @@ ghost use Rattle.flute_store.specs.ObjectJoin.{cells};
 
 use crate::update::SymbolUpdate;
 use flute_join::{Cell, Join, JoinInto, JoinRefusal};
-use flute_parts::Bytes;
 use std::alloc::Global;
 use std::marker::Model;
 
@@ -92,8 +91,7 @@ impl JoinInto<HeldSymbol> for SymbolUpdate<'_> {
 
     fn join_into(&self, held: &mut HeldSymbol) {
         let differs = match (self, held.value()) {
-            (SymbolUpdate::Borrowed(bytes), Some(value)) => value != *bytes,
-            (SymbolUpdate::Owned(bytes), Some(value)) => value != bytes.as_slice(),
+            (SymbolUpdate::Bytes(bytes), Some(value)) => value != *bytes,
             _ => true,
         };
         if differs {
@@ -101,19 +99,13 @@ impl JoinInto<HeldSymbol> for SymbolUpdate<'_> {
         }
     }
 
-    /// What is held of the symbol then. Borrowed bytes are copied; they are as many as a symbol's,
-    /// so the one refusal is `OutOfMemory`. Owned bytes are moved.
+    /// What is held of the symbol then: a copy of the bytes.
     fn into_value(self, alloc: Global) -> Result<HeldSymbol, JoinRefusal> {
         match self {
-            SymbolUpdate::Borrowed(bytes) => match Bytes::new(alloc, bytes) {
-                Ok(bytes) => Ok(HeldSymbol {
-                    octets: bytes.into_vec(),
-                }),
+            SymbolUpdate::Bytes(bytes) => match bytes.to_vec(alloc) {
+                Ok(octets) => Ok(HeldSymbol { octets }),
                 Err(_) => Err(JoinRefusal::OutOfMemory),
             },
-            SymbolUpdate::Owned(bytes) => Ok(HeldSymbol {
-                octets: bytes.into_vec(),
-            }),
             SymbolUpdate::Conflict => Ok(HeldSymbol {
                 octets: Vec::new(alloc),
             }),

@@ -79,20 +79,19 @@ impl<const SYMBOLS: u32> Object<SYMBOLS> {
 
     /// Joins an update of the object. After a refusal it is unchanged.
     #[inline(always)]
-    pub fn join_update(&mut self, alloc: Global, update: Update<'_>) -> Result<(), JoinRefusal>
+    pub fn join_update(&mut self, alloc: Global, update: &Update<'_>) -> Result<(), JoinRefusal>
         requires symbols { AreSymbols SYMBOLS self.old.symbols }
-        requires update { IsUpdate update }
-        ensures ok { OnOk result (self.new ≡ object_join self.old (update_object update.entry)) }
+        requires update { IsUpdate update.now }
+        ensures ok { OnOk result (self.new ≡ object_join self.old (update_object update.now)) }
         ensures err { OnErr result (self.new ≡ self.old) }
         ensures full { result ≡ Err JoinRefusal.Full
-            → SYMBOLS < length (object_join self.old (update_object update.entry)).symbols }
-        ensures held { IsHeldSymbol self.old.symbols update.entry.symbol → IsOk result }
+            → SYMBOLS < length (object_join self.old (update_object update.now)).symbols }
+        ensures held { IsHeldSymbol self.old.symbols update.now.symbol → IsOk result }
         ensures room { (result ≡ Err JoinRefusal.Full → ⊥)
-            → IsObject (object_join self.old (update_object update.entry)) }
+            → IsObject (object_join self.old (update_object update.now)) }
     {
-        let Update { info, symbol } = update;
-        join_symbols(&mut self.symbols, alloc, symbol)?;
-        match info {
+        join_symbols(&mut self.symbols, alloc, update.symbol)?;
+        match update.info {
             Cell::Absent => {}
             Cell::One(info) => self.info.put(info),
             Cell::Conflict => self.info = Cell::Conflict,

@@ -124,14 +124,14 @@ impl<const SESSIONS: u32, const OBJECTS: u32, const SYMBOLS: u32> Store<
         &mut self,
         alloc: Global,
         key: &Key,
-        update: Update<'_>,
+        update: &Update<'_>,
     ) -> Result<(), JoinRefusal>
-        requires { IsUpdate update }
-        ensures ok { OnOk result (Same self.new (self.old ++ update_facts key.now update.entry)) }
+        requires { IsUpdate update.now }
+        ensures ok { OnOk result (Same self.new (self.old ++ update_facts key.now update.now)) }
         ensures err { OnErr result (self.new ≡ self.old) }
         ensures full { (result ≡ Err JoinRefusal.Full)
-            ↔ Over (self.old ++ update_facts key.now update.entry) SESSIONS OBJECTS SYMBOLS }
-        ensures held { AllByRecursion (HasCell self.old) (update_facts key.now update.entry)
+            ↔ Over (self.old ++ update_facts key.now update.now) SESSIONS OBJECTS SYMBOLS }
+        ensures held { AllByRecursion (HasCell self.old) (update_facts key.now update.now)
             → IsOk result }
     {
         join_session(&mut self.sessions, alloc, key, update)
@@ -152,26 +152,7 @@ impl<const SESSIONS: u32, const OBJECTS: u32, const SYMBOLS: u32> Store<
             ↔ Over (self.old ++ fact.now ∷ []) SESSIONS OBJECTS SYMBOLS }
         ensures held { HasCell self.old fact.now → IsOk result }
     {
-        self.join_update(alloc, &fact.address().key, Update::of_fact(fact))
-    }
-
-    /// As [`add`](Store::add), but the fact is handed over: none of its bytes is copied. If it
-    /// isn't kept, it is dropped.
-    ///
-    /// # Errors
-    ///
-    /// `Full` exactly if the fact needs a new session, object or symbol beyond the limits,
-    /// before any memory is asked for, and else `OutOfMemory`. Neither comes at a held address.
-    /// After each the store is unchanged.
-    pub fn put(&mut self, alloc: Global, fact: Fact) -> Result<(), JoinRefusal>
-        ensures ok { OnOk result (Same self.new (self.old ++ fact ∷ [])) }
-        ensures err { OnErr result (self.new ≡ self.old) }
-        ensures full { (result ≡ Err JoinRefusal.Full)
-            ↔ Over (self.old ++ fact ∷ []) SESSIONS OBJECTS SYMBOLS }
-        ensures held { HasCell self.old fact → IsOk result }
-    {
-        let key = fact.address().key;
-        self.join_update(alloc, &key, Update::of_owned(fact))
+        self.join_update(alloc, &fact.address().key, &Update::of_fact(fact))
     }
 
     /// Adds the facts of a datagram that this sender sent: the transmission information of its
@@ -215,7 +196,7 @@ impl<const SESSIONS: u32, const OBJECTS: u32, const SYMBOLS: u32> Store<
             return Ok(Taken { facts: 0 });
         };
         let facts = update.count();
-        match self.join_update(alloc, &packet.key(sender), update) {
+        match self.join_update(alloc, &packet.key(sender), &update) {
             Ok(()) => Ok(Taken { facts }),
             Err(JoinRefusal::Full) => Err(TakeFault::Full),
             Err(JoinRefusal::OutOfMemory) => Err(TakeFault::OutOfMemory),

@@ -7,14 +7,13 @@ ghost use Rattle.flute_wire.specs.Facts.{key_of, facts_of};
 ghost use Rattle.flute_store.specs.Update.{update_facts, IsUpdate};
 
 use flute_join::Cell;
-use flute_parts::{Bytes, Fact, Info, SymbolId};
+use flute_parts::{Fact, Info, SymbolId};
 use flute_wire::Packet;
 
 /// An update of a symbol: its bytes, or that there were two values.
-#[derive(Drop)]
+#[derive(Clone, Copy)]
 pub enum SymbolUpdate<'a> {
-    Borrowed(&'a [u8]),
-    Owned(Bytes),
+    Bytes(&'a [u8]),
     Conflict,
 }
 
@@ -42,36 +41,11 @@ impl<'a> Update<'a> {
             },
             Fact::Symbol { id, bytes, .. } => Update {
                 info: Cell::Absent,
-                symbol: Some((*id, SymbolUpdate::Borrowed(bytes.as_slice()))),
+                symbol: Some((*id, SymbolUpdate::Bytes(bytes.as_slice()))),
             },
             Fact::SymbolConflict { id, .. } => Update {
                 info: Cell::Absent,
                 symbol: Some((*id, SymbolUpdate::Conflict)),
-            },
-        }
-    }
-
-    /// The update of a fact that is handed over: none of its bytes is copied.
-    pub fn of_owned(fact: Fact) -> Self
-        ensures update { IsUpdate result }
-        ensures facts { update_facts (address fact).key result ≡ fact ∷ [] }
-    {
-        match fact {
-            Fact::Info { info, .. } => Update {
-                info: Cell::One(info),
-                symbol: None,
-            },
-            Fact::InfoConflict { .. } => Update {
-                info: Cell::Conflict,
-                symbol: None,
-            },
-            Fact::Symbol { id, bytes, .. } => Update {
-                info: Cell::Absent,
-                symbol: Some((id, SymbolUpdate::Owned(bytes))),
-            },
-            Fact::SymbolConflict { id, .. } => Update {
-                info: Cell::Absent,
-                symbol: Some((id, SymbolUpdate::Conflict)),
             },
         }
     }
@@ -91,7 +65,7 @@ impl<'a> Update<'a> {
         match packet.symbol() {
             Some((id, bytes)) => Some(Update {
                 info,
-                symbol: Some((id, SymbolUpdate::Borrowed(bytes))),
+                symbol: Some((id, SymbolUpdate::Bytes(bytes))),
             }),
             None if matches!(info, Cell::Absent) => None,
             None => Some(Update { info, symbol: None }),

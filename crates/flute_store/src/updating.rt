@@ -34,17 +34,17 @@ pub fn join_object<const OBJECTS: u32, const SYMBOLS: u32>(
     objects: &mut Objects<OBJECTS, SYMBOLS>,
     alloc: Global,
     key: ObjectKey,
-    update: Update<'_>,
+    update: &Update<'_>,
 ) -> Result<(), JoinRefusal>
     requires each { EachValue IsObject objects.old }
-    requires update { IsUpdate update }
-    ensures ok { OnOk result (objects.new ≡ with_object objects.old key update.entry) }
+    requires update { IsUpdate update.now }
+    ensures ok { OnOk result (objects.new ≡ with_object objects.old key update.now) }
     ensures err { OnErr result (objects.new ≡ objects.old) }
     ensures full { result ≡ Err JoinRefusal.Full
-        → SessionBeyond OBJECTS (with_object objects.old key update.entry) }
-    ensures held { IsHeldObject objects.old key update.entry → IsOk result }
+        → SessionBeyond OBJECTS (with_object objects.old key update.now) }
+    ensures held { IsHeldObject objects.old key update.now → IsOk result }
     ensures room { (result ≡ Err JoinRefusal.Full → ⊥)
-        → IsSession OBJECTS (with_object objects.old key update.entry) }
+        → IsSession OBJECTS (with_object objects.old key update.now) }
 {
     if let Some(held) = objects.get_mut(&key) {
         return held.join_update(alloc, update);
@@ -67,18 +67,18 @@ pub fn join_session<const SESSIONS: u32, const OBJECTS: u32, const SYMBOLS: u32>
     sessions: &mut Sessions<SESSIONS, OBJECTS, SYMBOLS>,
     alloc: Global,
     key: &Key,
-    update: Update<'_>,
+    update: &Update<'_>,
 ) -> Result<(), JoinRefusal>
     requires each { EachValue (IsSession OBJECTS) sessions.old }
-    requires update { IsUpdate update }
-    ensures ok { OnOk result (sessions.new ≡ with_session sessions.old key.now update.entry) }
+    requires update { IsUpdate update.now }
+    ensures ok { OnOk result (sessions.new ≡ with_session sessions.old key.now update.now) }
     ensures err { OnErr result (sessions.new ≡ sessions.old) }
     ensures full { result ≡ Err JoinRefusal.Full
-        → StoreBeyond SESSIONS OBJECTS (with_session sessions.old key.now update.entry) }
-    ensures held { IsHeldSession sessions.old key.now update.entry → IsOk result }
+        → StoreBeyond SESSIONS OBJECTS (with_session sessions.old key.now update.now) }
+    ensures held { IsHeldSession sessions.old key.now update.now → IsOk result }
     ensures room { (result ≡ Err JoinRefusal.Full → ⊥)
         → IsSound session_cmp SESSIONS (IsSession OBJECTS)
-        (with_session sessions.old key.now update.entry) }
+        (with_session sessions.old key.now update.now) }
 {
     if let Some(held) = sessions.get_mut(&key.session) {
         return join_object(held, alloc, key.object, update);

@@ -27,7 +27,6 @@ fn file() -> Option<Key> {
 
 #[test]
 fn laws_can_be_called() {
-    laws::entries_are_facts();
     laws::a_journal_is_its_content();
     laws::bytes_are_a_journal_or_stop();
     laws::bytes_are_a_file_or_stop();

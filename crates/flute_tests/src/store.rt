@@ -64,7 +64,7 @@ fn facts_are_added_and_put(rt: HostRuntime) -> Result<(), Fail> {
     let key = &file().ok_or("a key")?;
     let mut store = Shelf::new(rt.alloc());
     store.add(rt.alloc(), &information(key).ok_or("information")?)?;
-    store.put(rt.alloc(), symbol(rt.alloc(), key)?)?;
+    store.add(rt.alloc(), &symbol(rt.alloc(), key)?)?;
     let mut sink = MemorySink::new(rt.alloc());
     assert!(rt; store.extract(key, &mut sink)? == 4);
     assert!(rt; sink.as_slice() == b"hell".as_slice());

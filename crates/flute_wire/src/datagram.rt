@@ -19,7 +19,7 @@ pub enum DatagramFault {
 }
 
 /// A datagram: 0 to 65,535 bytes, whatever they contain. [`read`](crate::read) reads them.
-#[derive(Debug, Drop)]
+#[derive(Drop)]
 pub struct Datagram {
     pub(crate) bytes: Vec<u8>,
 }

@@ -5,7 +5,7 @@ use std::marker::Model;
 
 /// What a datagram contains. [`read`](crate::read) makes it. The symbol's bytes are those of the
 /// datagram: nothing is copied, and no call takes memory.
-#[derive(Debug, Drop)]
+#[derive(Drop)]
 pub struct Packet<'a> {
     pub(crate) tsi: u64,
     pub(crate) toi: u128,

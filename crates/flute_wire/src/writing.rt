@@ -14,7 +14,7 @@ use thiserror::Error;
 
 /// What a datagram is to contain: an object, its transmission information if that is to be sent,
 /// and one symbol with its bytes if there is one.
-#[derive(Clone, Copy, Debug)]
+#[derive(Clone, Copy)]
 pub struct Outgoing<'a> {
     /// The session and the object in it.
     pub key: Key,
@@ -27,7 +27,7 @@ pub struct Outgoing<'a> {
 
 /// Why no datagram is written, in the order of the checks: the first that applies is returned.
 /// Shown by its name.
-#[derive(Clone, Copy, Debug, PartialEq, Eq, Error)]
+#[derive(Clone, Copy, Debug, Error)]
 pub enum WriteFault {
     /// The Transport Session Identifier is 2^32 or more.
     #[error("Tsi")]

@@ -10,7 +10,7 @@ use Rattle.flute_parts.specs.Facts.{IsRising}
 use Rattle.flute_parts.specs.declared.key.Key.{Key}
 use Rattle.flute_parts.specs.declared.symbol_id.SymbolId.{SymbolId}
 use Rattle.flute_parts.specs.declared.fact.Fact.{Fact}
-use Rattle.flute_parts.specs.declared.fact.Fact.TheVariants.{Info}
+use Rattle.flute_parts.specs.declared.fact.Fact.TheVariants.{Info, InfoConflict}
 use Rattle.flute_store.specs.Objects.{Whole, object as object_of}
 use Rattle.flute_store.specs.GapAnswers.{LacksInformation, HasConflict}
 use Rattle.flute_store.specs.Extract.{IsNotWhole}
@@ -40,6 +40,11 @@ Settled P X = (F rest : List Fact) → F ≡ P ++ rest → IsRising F → X F
 -- the fact is of another object
 abbrev pub IsOther : Key → Fact → Type 0
 IsOther key f = (address f).key ≡ key → ⊥
+
+-- the object has this information, or two values of it
+abbrev pub information_fact : Key → Option Information → Fact
+information_fact key (Some info) = Info key info
+information_fact key None = InfoConflict key
 
 -- a prefix of the symbols that are held was written, whatever follows
 pub record WroteFirst (P : List Fact) (key : Key) (start now : Option (List ℕ)) : Type 0 where

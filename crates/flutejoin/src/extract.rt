@@ -1,5 +1,5 @@
 //! The command `extract`: an object that is whole, written as its journal is read.
-ghost use Rattle.std.specs.Prelude.{◌≡◌, ◌+◌, ℕ, false, List, [], Option, IfErr, take};
+ghost use Rattle.std.specs.Prelude.{◌≡◌, ◌+◌, ℕ, false, List, [], Option, IfErr};
 ghost use Rattle.flute_parts.specs.Facts.{Same};
 ghost use Rattle.flute_parts.specs.declared.fact.Fact.{Fact as Known};
 ghost use Rattle.flute_parts.specs.Devices.{times_failed};
@@ -105,16 +105,4 @@ fn read_into<const SESSIONS: u32, const OBJECTS: u32, const SYMBOLS: u32, R: Sou
         spare = fact.into_vec(alloc);
     }
     Ok(())
-}
-
-// The first `len` of the bytes, or all of them if there are no more.
-#[inline(always)]
-pub(crate) fn up_to(bytes: &[u8], len: u64) -> &[u8]
-    ensures { result.now ≡ take len bytes.now }
-{
-    if len < bytes.len() as u64 {
-        &bytes[..len as usize]
-    } else {
-        bytes
-    }
 }

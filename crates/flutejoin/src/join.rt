@@ -19,7 +19,6 @@ ghost use Rattle.flutejoin.specs.JoinFaults.{JoinToFails, NamesOneOf, WantsAside
 ghost use Rattle.flutejoin.specs.JoinParts.{AreInspected, IsReady, JoinsInspected};
 ghost use Rattle.flutejoin.specs.JoinParts.{IsHeld, Ends, NeverStops};
 ghost use Rattle.flutejoin.specs.Limits.{IsCountable, at_most};
-ghost use Rattle.flutejoin.specs.Status.{of_stop};
 
 pub(crate) mod held_files;
 pub(crate) mod inspecting;
@@ -39,7 +38,7 @@ use crate::nothing::Nothing;
 use flute_parts::{Sender, Sink, Source};
 use flute_store::Store;
 use flute_streams::{
-    Chained, InputFault, MergedJournal, OwnedJournalStream, Scope, Stream, WalkStream, join_streams,
+    Chained, MergedJournal, OwnedJournalStream, Scope, Stream, WalkStream, join_streams,
 };
 use std::alloc::Global;
 
@@ -140,7 +139,9 @@ fn others_of<R>(of_files: u64, inputs: &[JoinInput<R>]) -> u64
 {
     let mut others = of_files;
     for input in inputs {
-        others = others.saturating_add(input.passed_over());
+        if let JoinInput::Journal(journal) = input {
+            others = others.saturating_add(journal.others);
+        }
     }
     others
 }
@@ -249,17 +250,11 @@ fn join_held<
     };
     match join_streams::<SESSIONS, OBJECTS, SYMBOLS, _, _>(alloc, &mut streams, sink) {
         Ok(joined) => Ok(joined),
-        Err(fault) => Err(stop_fault(&fault)),
-    }
-}
-
-// Why a join stopped at a stream: the first is that of what is held.
-fn stop_fault(stopped: &InputFault) -> CommandFault
-    ensures { result ≡ of_stop stopped.now.number stopped.now.fault }
-{
-    if stopped.number == 0 {
-        CommandFault::CannotPutAside
-    } else {
-        load_fault(stopped.number, stopped.fault)
+        // the first stream is that of what is held
+        Err(fault) => Err(if fault.number == 0 {
+            CommandFault::CannotPutAside
+        } else {
+            load_fault(fault.number, fault.fault)
+        }),
     }
 }

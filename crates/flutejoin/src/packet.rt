@@ -5,7 +5,7 @@ ghost use Rattle.flutejoin.specs.Pieces.{packet_head, payload};
 ghost use Rattle.flutejoin.specs.Packet.{HasLines, FailsWith, write_failures};
 
 use crate::command_fault::CommandFault;
-use crate::lines::fact_lines::{push_info, push_object, push_symbol};
+use crate::lines::fact_lines::{push_numbers, push_object, push_symbol};
 use crate::lines::hex_digits::HexDigits;
 use crate::lines::text::Text;
 use flute_parts::{Sender, Sink};
@@ -56,7 +56,10 @@ fn pieces_of<'a>(packet: &Packet<'a>) -> (Text, &'a [u8])
     text.push("\n");
     push_object(&mut text, &key.object);
     text.push("\n");
-    push_info(&mut text, packet.info());
+    match packet.info() {
+        Some(info) => push_numbers(&mut text, info.length(), info.symbol(), info.block()),
+        None => text.push("info none"),
+    }
     text.push("\n");
     match packet.symbol() {
         Some((id, bytes)) => {

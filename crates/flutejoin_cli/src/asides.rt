@@ -5,8 +5,7 @@ use crate::input::{Input, input_of};
 use flute_parts::Failures;
 use flutejoin::{Asides, CommandFault};
 use std::alloc::AllocError;
-use std::env;
-use std::io;
+use std::{env, io};
 
 /// How the name of a file begins that is put aside in the folder for temporary files.
 const NAME: &str = "flutejoin.";

@@ -1,5 +1,4 @@
 //! The command `info`.
-ghost use Rattle.std.specs.Prelude.{true};
 ghost use Rattle.flutejoin.specs.Limits.{limits_of};
 ghost use Rattle.flutejoin.specs.Lines.{entries_line};
 ghost use Rattle.flutejoin_commands.specs.Works.{AddsInformation, AddFails};
@@ -25,10 +24,6 @@ pub struct InfoWork<R> {
 
 impl<R: Source + Drop> Work for InfoWork<R> {
     type Answer = u64;
-
-    const IS_TRIED: bool = true;
-
-    ghost IS_TRIED = { true };
 
     ghost writes = { λ w. AddsInformation (R.unread w.source) w.key w.info };
 

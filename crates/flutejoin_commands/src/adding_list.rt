@@ -1,5 +1,4 @@
 //! The command `info --list`.
-ghost use Rattle.std.specs.Prelude.{true};
 ghost use Rattle.flutejoin.specs.Limits.{limits_of};
 ghost use Rattle.flutejoin.specs.Lines.{entries_line};
 ghost use Rattle.flutejoin_commands.specs.Works.{AddListReadFails, AddsListRead};
@@ -26,10 +25,6 @@ pub struct InfoListWork<R> {
 
 impl<R: Source + Drop> Work for InfoListWork<R> {
     type Answer = u64;
-
-    const IS_TRIED: bool = true;
-
-    ghost IS_TRIED = { true };
 
     ghost writes = { λ w. AddsListRead (R.unread w.source) (R.unread w.list) };
 

@@ -83,7 +83,7 @@ pub fn join<W: World, O: Outlet, E: Sink>(
         scope,
         inputs,
     };
-    leave(world, out, work, output, errors)
+    leave(world, out, work, true, output, errors)
 }
 
 /// Merges the journals of two names into the output of this name, and prints the number of entries.
@@ -123,7 +123,7 @@ pub fn merge<W: World, O: Outlet, E: Sink>(
         first,
         second,
     };
-    leave(world, out, work, output, errors)
+    leave(world, out, work, false, output, errors)
 }
 
 /// Adds information to the journal of this name, and prints the number of entries.
@@ -167,7 +167,7 @@ pub fn info<W: World, O: Outlet, E: Sink>(
         info,
         source,
     };
-    leave(world, out, work, output, errors)
+    leave(world, out, work, true, output, errors)
 }
 
 /// Adds the information in a list to a journal, both of these names, and prints the number
@@ -211,7 +211,7 @@ pub fn info_list<W: World, O: Outlet, E: Sink>(
         source,
         list,
     };
-    leave(world, out, work, output, errors)
+    leave(world, out, work, true, output, errors)
 }
 
 /// Takes the entries that are selected out of the journal of this name, and prints how many were
@@ -248,7 +248,14 @@ pub fn forget<W: World, O: Outlet, E: Sink>(
 {
     let source = begin(world, out, overwrites, j)?;
     let input = forget_input(source, selection);
-    leave(world, out, ForgetWork { alloc, input }, output, errors)
+    leave(
+        world,
+        out,
+        ForgetWork { alloc, input },
+        true,
+        output,
+        errors,
+    )
 }
 
 /// Writes the object that the journal of this name makes whole, and prints the number of its bytes.
@@ -340,7 +347,7 @@ pub fn carousel<W: World, O: Outlet, E: Sink>(
         size,
         source,
     };
-    leave(world, out, work, output, errors)
+    leave(world, out, work, true, output, errors)
 }
 
 // An input of these bytes, and how many they are: if that is not known, they are put aside.

@@ -1,5 +1,5 @@
 //! The command `extract`.
-ghost use Rattle.std.specs.Prelude.{◌≡◌, ◌+◌, true, OnOk, IfOk, IfErr};
+ghost use Rattle.std.specs.Prelude.{◌≡◌, ◌+◌, OnOk, IfOk, IfErr};
 ghost use Rattle.flutejoin.specs.declared.command_fault.CommandFault.TheVariants.{CannotWrite};
 ghost use Rattle.flutejoin.specs.Limits.{limits_of};
 ghost use Rattle.flutejoin_commands.specs.Works.{WritesObject, ExtractFails, bytes_line};
@@ -48,10 +48,6 @@ impl<R: Source + Drop> ExtractWork<R> {
 
 impl<R: Source + Drop> Work for ExtractWork<R> {
     type Answer = u64;
-
-    const IS_TRIED: bool = true;
-
-    ghost IS_TRIED = { true };
 
     ghost writes = { λ w. WritesObject (limits_of w.any_size) (R.unread w.source) w.key };
 

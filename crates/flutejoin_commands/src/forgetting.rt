@@ -1,5 +1,4 @@
 //! The command `forget`.
-ghost use Rattle.std.specs.Prelude.{true};
 ghost use Rattle.flutejoin.specs.Forget.{ForgetFails};
 ghost use Rattle.flutejoin_commands.specs.Works.{ForgetsIn, forget_lines};
 
@@ -17,10 +16,6 @@ pub struct ForgetWork<R> {
 
 impl<R: Source + Drop> Work for ForgetWork<R> {
     type Answer = ForgetCounts;
-
-    const IS_TRIED: bool = true;
-
-    ghost IS_TRIED = { true };
 
     ghost writes = { λ w. ForgetsIn (R.unread w.input.stream.source) w.input.choice.0 };
 

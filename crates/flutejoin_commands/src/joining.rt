@@ -79,10 +79,6 @@ impl<R: Source + Drop, A: Asides<Input = R>> JoinWork<R, A> {
 impl<R: Source + Drop, A: Asides<Input = R>> Work for JoinWork<R, A> {
     type Answer = JoinCounts;
 
-    const IS_TRIED: bool = true;
-
-    ghost IS_TRIED = { true };
-
     ghost writes = { λ w. JoinsAll R.unread (A.tells w.asides) (limits_of w.any_size) w.sender
         w.scope w.inputs.items };
 

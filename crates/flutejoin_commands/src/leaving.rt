@@ -17,7 +17,8 @@ use flutejoin::CommandFault;
 use std::alloc::Global;
 
 /// Does the work, leaves what it writes at the name of an output, and hands on its lines: they go
-/// to standard output, and to standard error if the name means standard output.
+/// to standard output, and to standard error if the name means standard output. If there is no
+/// output, the work is only done if `is_tried`: its faults come before that of the output then.
 ///
 /// # Errors
 ///
@@ -27,6 +28,7 @@ pub fn leave<W: World, K: Work + Drop, O: Outlet, E: Sink>(
     world: &mut W,
     out: &str,
     work: K,
+    is_tried: bool,
     output: &mut O,
     errors: &mut E,
 ) -> Result<(), CommandFault>
@@ -40,7 +42,7 @@ pub fn leave<W: World, K: Work + Drop, O: Outlet, E: Sink>(
     ensures any_moment { ClosesWhole out.now (W.files world.old)
         (W.closed world.old) (W.closed world.new) }
 {
-    let done = put(world, out, work, output, errors);
+    let done = put(world, out, work, is_tried, output, errors);
     hand_on(output, done)
 }
 
@@ -79,6 +81,7 @@ fn put<W: World, K: Work + Drop, O: Outlet, E: Sink>(
     world: &mut W,
     out: &str,
     mut work: K,
+    is_tried: bool,
     output: &mut O,
     errors: &mut E,
 ) -> Result<(), CommandFault>
@@ -93,13 +96,13 @@ fn put<W: World, K: Work + Drop, O: Outlet, E: Sink>(
 {
     match world.place(out) {
         Ok(Place::File(folder)) => {
-            let (done, folder) = write_into(folder, work, output);
+            let (done, folder) = write_into(folder, work, is_tried, output);
             world.close(out, folder);
             done
         }
-        Ok(Place::Device(mut device)) => write_through(&mut device, work, output),
-        Ok(Place::StandardOutput) => write_through(output, work, errors),
-        Err(fault) => Err(without_output(&mut work, fault)),
+        Ok(Place::Device(mut device)) => write_through(&mut device, work, is_tried, output),
+        Ok(Place::StandardOutput) => write_through(output, work, is_tried, errors),
+        Err(fault) => Err(without_output(&mut work, is_tried, fault)),
     }
 }
 
@@ -124,12 +127,12 @@ fn put_held<W: World, K: Work + Drop, O: Outlet, E: Sink>(
 {
     match world.place(out) {
         Ok(Place::File(folder)) => {
-            let (done, folder) = write_into(folder, work, output);
+            let (done, folder) = write_into(folder, work, true, output);
             world.close(out, folder);
             done
         }
         Ok(Place::Device(mut device)) => write_held(alloc, &mut device, work, output),
         Ok(Place::StandardOutput) => write_held(alloc, output, work, errors),
-        Err(fault) => Err(without_output(&mut work, fault)),
+        Err(fault) => Err(without_output(&mut work, true, fault)),
     }
 }

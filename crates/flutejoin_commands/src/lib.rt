@@ -18,7 +18,7 @@
 //!     first,
 //!     second,
 //! };
-//! leave(world, out, work, output, errors)
+//! leave(world, out, work, false, output, errors)
 //! ```
 #![tactic(auto)]
 

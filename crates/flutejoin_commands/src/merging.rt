@@ -1,5 +1,4 @@
 //! The command `merge`.
-ghost use Rattle.std.specs.Prelude.{false};
 ghost use Rattle.flutejoin.specs.Lines.{entries_line};
 ghost use Rattle.flutejoin_commands.specs.Works.{MergeReadFails, MergesRead};
 
@@ -20,10 +19,6 @@ impl<A: Source + Drop, B: Source + Drop> Work for MergeWork<A, B> {
     type Answer = u64;
 
     // Its journals are not read if there is no output.
-    const IS_TRIED: bool = false;
-
-    ghost IS_TRIED = { false };
-
     ghost writes = { λ w. MergesRead (A.unread w.first) (B.unread w.second) };
 
     ghost fails = { λ w. MergeReadFails (A.unread w.first) (B.unread w.second) };

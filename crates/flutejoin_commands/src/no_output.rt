@@ -8,12 +8,12 @@ use flutejoin::{CommandFault, Nothing};
 
 /// The fault of a work that has no output, for this reason: its own, if it is tried and fails, or
 /// else the reason.
-pub fn without_output<K: Work>(work: &mut K, reason: CommandFault) -> CommandFault
+pub fn without_output<K: Work>(work: &mut K, is_tried: bool, reason: CommandFault) -> CommandFault
     ensures first { K.fails work.old result
-        ⊎ ((result ≡ reason) × (K.IS_TRIED ≡ true → CouldBeDone (K.writes work.old))) }
+        ⊎ ((result ≡ reason) × (is_tried ≡ true → CouldBeDone (K.writes work.old))) }
     ensures nothing_failed { result ≡ CannotWrite → reason ≡ CannotWrite }
 {
-    if !K::IS_TRIED {
+    if !is_tried {
         return reason;
     }
     match work.write(&mut Nothing) {

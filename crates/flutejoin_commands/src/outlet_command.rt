@@ -22,6 +22,7 @@ use std::alloc::Global;
 pub fn write_through<O: Outlet, K: Work + Drop, P: Sink>(
     output: &mut O,
     mut work: K,
+    is_tried: bool,
     report: &mut P,
 ) -> Result<(), CommandFault>
     ensures written { OnOk result (PutsOut (K.writes work) (K.tells work)
@@ -31,14 +32,15 @@ pub fn write_through<O: Outlet, K: Work + Drop, P: Sink>(
         (P.written report.new) (P.failures report.new))) }
     ensures handed_on { OnOk result (O.handed_on output.new ≡ O.written output.new) }
     ensures failed { IfErr result (FailsOut (K.writes work) (K.fails work) (K.tells work)
-        (K.IS_TRIED ≡ true → CouldBeDone (K.writes work)) (CouldBeDone (K.writes work))
+        (is_tried ≡ true → CouldBeDone (K.writes work)) (CouldBeDone (K.writes work))
         (outlets (O.written output.old) (O.failures output.old)
         (P.written report.old) (P.failures report.old))
         (outlets (O.written output.new) (O.failures output.new)
         (P.written report.new) (P.failures report.new))) }
 {
     if output.open().is_err() {
-        return Err(without_output(&mut work, CommandFault::CannotCreate));
+        let fault = without_output(&mut work, is_tried, CommandFault::CannotCreate);
+        return Err(fault);
     }
     let (_answer, lines) = work.write(output)?;
     if output.flush().is_err() {

@@ -27,6 +27,7 @@ use std::marker::{Brand, PhantomData};
 pub fn write_into<F: Folder + Drop, K: Work + Drop, P: Sink>(
     folder: F,
     mut work: K,
+    is_tried: bool,
     report: &mut P,
 ) -> (Result<(), CommandFault>, F)
     ensures succeeded { OnOk result.0 (Succeeds (K.writes work) (K.tells work)
@@ -35,7 +36,7 @@ pub fn write_into<F: Folder + Drop, K: Work + Drop, P: Sink>(
         (devices (F.entries result.1) (F.failures result.1)
         (P.written report.new) (P.failures report.new))) }
     ensures failed { IfErr result.0 (Fails (K.writes work) (K.fails work) (K.tells work)
-        (K.IS_TRIED ≡ true → CouldBeDone (K.writes work))
+        (is_tried ≡ true → CouldBeDone (K.writes work))
         (devices (F.entries folder) (F.failures folder)
         (P.written report.old) (P.failures report.old))
         (devices (F.entries result.1) (F.failures result.1)
@@ -44,10 +45,10 @@ pub fn write_into<F: Folder + Drop, K: Work + Drop, P: Sink>(
 {
     match Output::create(folder) {
         Ok(output) => write_created::<F, K, P, Brand>(output, work, report),
-        Err(folder) => (
-            Err(without_output(&mut work, CommandFault::CannotCreate)),
-            folder,
-        ),
+        Err(folder) => {
+            let fault = without_output(&mut work, is_tried, CommandFault::CannotCreate);
+            (Err(fault), folder)
+        }
     }
 }
 

@@ -1,5 +1,4 @@
 //! The command `carousel`.
-ghost use Rattle.std.specs.Prelude.{true};
 ghost use Rattle.flutejoin_commands.specs.Works.{SendReadFails, SendsRead, datagrams_line};
 
 use crate::work::Work;
@@ -21,10 +20,6 @@ pub struct SendWork<R> {
 
 impl<R: Source + Drop> Work for SendWork<R> {
     type Answer = u64;
-
-    const IS_TRIED: bool = true;
-
-    ghost IS_TRIED = { true };
 
     ghost writes = { λ w. SendsRead (R.unread w.source) w.key w.symbol w.block };
 

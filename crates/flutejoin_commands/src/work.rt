@@ -1,5 +1,5 @@
 //! The work of a command that writes an output.
-ghost use Rattle.std.specs.Prelude.{◌≡◌, ◌+◌, Bool, List, ℕ, Option, OnOk, IfOk, IfErr};
+ghost use Rattle.std.specs.Prelude.{◌≡◌, ◌+◌, List, ℕ, Option, OnOk, IfOk, IfErr};
 ghost use Rattle.flutejoin.specs.declared.command_fault.CommandFault.TheVariants.{CannotWrite};
 ghost use Rattle.flutejoin.specs.declared.command_fault.CommandFault.{CommandFault as Fault};
 
@@ -9,11 +9,6 @@ use flutejoin::{CommandFault, Text};
 /// What a command does with its inputs: it writes an output, and reports its answer in some lines.
 pub trait Work {
     type Answer: Drop;
-
-    /// Whether it is tried if there is no output, since a fault of its inputs comes before that.
-    const IS_TRIED: bool;
-
-    ghost IS_TRIED: { Bool };
 
     // What it writes, from what its sink had taken to what it has, if it returns this.
     ghost writes: { Self → Self.Answer → Option (List ℕ) → Option (List ℕ) → Type 0 };

@@ -2,7 +2,7 @@
 use Rattle.std.proofs.Common.{◌≡◌, ◌<◌, ◌≤◌, ◌^◌, ℕ, Bool, true, false, ◌&&◌, List, [], length, map}
 use Rattle.std.proofs.Common.{Option, Some, None, option_map, unwrap_or, nat_lt, nat_le, Result, Ok}
 use Rattle.std.proofs.Common.{Err, Bor, refl, sym, ap, ap₂, ◌∙◌, rules, true≢false}
-use Rattle.std.proofs.Common.{◌≢◌, ◌∷◌, ◌++◌, inl, inr}
+use Rattle.std.proofs.Common.{◌≢◌, ◌∷◌, ◌++◌, get_or, inl, inr}
 use Rattle.std.specs.Prelude.{Box}
 use Rattle.std.specs.Box.{box_value}
 use Rattle.std.specs.Char.{is_ascii_digit}
@@ -14,7 +14,7 @@ use Rattle.std.proofs.lemmas.Bool.Decides.{Decides-eqb}
 use Rattle.std.proofs.Math.Bool.{and-false}
 use Rattle.std.proofs.lemmas.List.{length-map}
 use Rattle.std.proofs.lemmas.Slice.Eq.{ends_is}
-use Rattle.std.proofs.lemmas.Str.Parse.{IsNumeralModel, numerals_by_value, parse_digits}
+use Rattle.std.proofs.lemmas.Str.Parse.{IsNumeralModel, numerals_by_value, parse_plain}
 use Rattle.clap.specs.Matches.{found_of, matched_of, raw_values}
 use Rattle.clap.specs.Simple.{subcommand_rows}
 use Rattle.clap.specs.Walk.{Row, Text, rows_of}
@@ -70,20 +70,22 @@ both : (a b : Bool) → (a && b) ≡ true → (a ≡ true) × (b ≡ true)
 both true b e = (refl, e)
 both false b e = absurd (true≢false (sym e))
 
+-- a text that begins with no plus is read as its digits say
 pub number_read : {E : Type 0} (text : List ℕ) (r : Result ℕ E) → ParsesUnsigned 128 10 text r →
-    length text ≤ 39 → list_all is_ascii_digit text ≡ true → result_ok r ≡ number_in text
+    length text ≤ 39 → get_or text 0 0 ≢ 43 → result_ok r ≡ number_in text
 unfolding number_in
-number_read {E} text (Ok n) h short all =
-    let read : ((0 < length text) × (digits_value 10 text < 2 ^ 128)) × (n ≡ digits_value 10 text)
-    = parse_digits own {E = E} 128 text (Ok n) h all in
+number_read {E} text (Ok n) h short none =
+    let read : ((list_all is_ascii_digit text ≡ true) × (0 < length text)
+    × (digits_value 10 text < 2 ^ 128)) × (n ≡ digits_value 10 text)
+    = parse_plain own {E = E} 128 text (Ok n) h none in
     rw (
-      lt-ltb 0 (length text) read.0.0,
+      lt-ltb 0 (length text) read.0.1,
       le-leb (length text) 39 short,
-      all,
+      read.0.0,
       lt-ltb
-          (digits_value 10 text) (2 ^ 128) read.0.1,
+          (digits_value 10 text) (2 ^ 128) read.0.2,
     ) (ap Some read.1)
-number_read {E} text (Err e) h short all = go (is_numeral text && nat_lt (digits_value 10 text)
+number_read {E} text (Err e) h short none = go (is_numeral text && nat_lt (digits_value 10 text)
     (2 ^ 128)) refl
   where
     go : (b : Bool) → (is_numeral text && nat_lt (digits_value 10 text) (2 ^ 128)) ≡ b → None ≡
@@ -92,14 +94,21 @@ number_read {E} text (Err e) h short all = go (is_numeral text && nat_lt (digits
     go true is =
         let outer = both _ _ is in
         let inner = both _ _ outer.0 in
-        absurd (parse_digits own {E = E} 128 text (Err e) h all
-        (ltb-true _ _ inner.0, ltb-true _ _ outer.1))
+        let digits = both _ _ inner.1 in
+        absurd (parse_plain own {E = E} 128 text (Err e) h none
+        (digits.1, ltb-true _ _ inner.0, ltb-true _ _ outer.1))
 
 pub long_text : (text : List ℕ) → 39 < length text → is_numeral text ≡ false
 long_text text long = rw (lt-leb (length text) 39 long) (and-false _)
 
-pub not_digits : (text : List ℕ) → list_all is_ascii_digit text ≡ false → is_numeral text ≡ false
+not_digits : (text : List ℕ) → list_all is_ascii_digit text ≡ false
+    → is_numeral text ≡ false
 not_digits text is = rw (is, and-false (nat_le (length text) 39)) (and-false _)
+
+pub begun_with_plus : (text : List ℕ) → get_or text 0 0 ≡ 43 → is_numeral text ≡ false
+begun_with_plus [] is = refl
+begun_with_plus (c ∷ cs) is =
+    not_digits (c ∷ cs) (ap (λ x. is_ascii_digit x && list_all is_ascii_digit cs) is)
 
 -- no other text is read
 pub no_number : (text : List ℕ) → is_numeral text ≡ false → None ≡ number_in text

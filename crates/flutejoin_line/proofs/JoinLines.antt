@@ -1,20 +1,24 @@
 -- join_of: the line of a join, and why there is none (specs/CommandLine).
-use Rattle.std.proofs.Common.{◌≡◌, ℕ, List, length, map, Bor, None, false, inl, inr, sym, ap, ◌∙◌}
-use Rattle.std.proofs.Common.{codes}
+use Rattle.std.proofs.Common.{◌≡◌, ℕ, List, length, map, Bor, Option, None, false, inl, inr, sym, ap, ◌∙◌}
+use Rattle.std.proofs.Common.{codes, Bool}
 use Rattle.std.specs.Prelude.{Some, is_some}
 use Rattle.std.proofs.lemmas.List.{length-map}
 use Rattle.clap.specs.Walk.{Row}
+use Rattle.flute_parts.specs.declared.object_key.ObjectName.{ObjectName}
+use Rattle.flute_streams.specs.Sessions.{listed_tsis}
 use Rattle.flute_streams.specs.declared.choice.scope.Scope.{Scope}
+use Rattle.flute_streams.specs.declared.choice.sessions.Sessions.{Sessions}
 use Rattle.flutejoin_line.specs.CommandLine.{AreJoinNumbers, IsJoinFault, IsManyInputs}
-use Rattle.flutejoin_line.specs.Options.{HasSessions, HasSource, IsBadNumber, are_sessions, words}
+use Rattle.flutejoin_line.specs.Options.{HasSessions, HasSource, IsBadNumber, IsFlag, IsInstance}
+use Rattle.flutejoin_line.specs.Options.{IsToi}
+use Rattle.flutejoin_line.specs.Options.{are_sessions, words}
 use Rattle.flutejoin_line.specs.Scoping.{AreScopeNumbers, IsScope}
-use Rattle.flutejoin_line.specs.Selecting.{AreNumbersOf, IsNumbersFault, object_of}
+use Rattle.flutejoin_line.specs.Selecting.{object_of}
 use Rattle.flutejoin_line.specs.Sizes.{memory_in}
 use Rattle.flutejoin.specs.declared.command_fault.CommandFault.{CommandFault}
 use Rattle.flutejoin.specs.declared.command_fault.CommandFault.TheVariants.{BadNumber, BadSource}
 use Rattle.flutejoin.specs.declared.command_fault.CommandFault.TheVariants.{BadKey}
-use Rattle.flutejoin_line.specs.declared.object_numbers.ObjectNumbers.{ObjectNumbers}
-use Rattle.flutejoin_line.proofs.Selecting.{right_numbers}
+use Rattle.flutejoin_line.proofs.Selecting.{IsNumbersFault, right_numbers}
 
 module _ (rows : List Row) where
   pub wrong_sessions : (fault : CommandFault) → IsBadNumber (codes "tsi") fault
@@ -27,9 +31,10 @@ module _ (rows : List Row) where
     wrong_object (BadNumber name) wrong = inl (inr (sessions, wrong))
     wrong_object _ wrong = absurd wrong
 
-    module _ {numbers : ObjectNumbers} (are : AreNumbersOf rows numbers) where
+    module _ (toi instance : Option ℕ) (is_toi : IsToi rows toi)
+        (is_instance : IsInstance rows instance) where
       chosen : AreScopeNumbers rows
-      chosen = (sessions, right_numbers rows numbers are)
+      chosen = (sessions, right_numbers rows toi instance is_toi is_instance)
 
       right : {memory : ℕ} → memory_in rows ≡ Some memory → AreJoinNumbers rows
       right held = (chosen, ap is_some held)
@@ -45,12 +50,24 @@ module _ (rows : List Row) where
 
       pub wrong_key : {memory : ℕ} → memory_in rows ≡ Some memory
           → ((sender : ℕ) × HasSource rows sender)
-          → object_of numbers.toi numbers.instance ≡ None → IsJoinFault rows BadKey
+          → object_of toi instance ≡ None → IsJoinFault rows BadKey
       wrong_key held from none = (
         right held,
         from,
-        (numbers.toi, (numbers.instance, (are.toi, (are.instance, none)))),
+        (toi, (instance, (is_toi, (is_instance, none)))),
       )
+
+  module _ (toi instance : Option ℕ) (is_toi : IsToi rows toi)
+      (is_instance : IsInstance rows instance) where
+    pub right_scope : (sessions : Sessions) (object : Option ObjectName) (files : Bool)
+        → HasSessions rows (listed_tsis sessions) → object_of toi instance ≡ Some object
+        → IsFlag (codes "no-fdt") rows files
+        → IsScope rows (record { sessions = sessions; object = object; files = files })
+    right_scope sessions object files are named is = record {
+      sessions = are;
+      object = (toi, (instance, (is_toi, (is_instance, named))));
+      files = is;
+    }
 
 module _ (rows : List Row) (inputs : List (Bor (List ℕ))) (are : map (λ (w : Bor (List ℕ)). w.now)
     inputs ≡ words (codes "INPUT") rows) where

@@ -1,39 +1,18 @@
 -- Options of the command line, and their faults (specs/Options).
-use Rattle.std.proofs.Common.{◌≡◌, ◌<◌, ◌+◌, ℕ, Bool, true, false, List, Option, Some, None}
-use Rattle.std.proofs.Common.{Result, Ok, Err, Bor, length, drop, get_or, refl, ap, ◌∙◌}
+use Rattle.std.proofs.Common.{◌≡◌, ◌<◌, ◌+◌, ℕ, Bool, true, false, List, Option, Some}
+use Rattle.std.proofs.Common.{Result, Ok, Err, Bor, length, drop, get_or, ap, ◌∙◌}
 use Rattle.std.proofs.Common.{if◌then◌else◌}
 use Rattle.std.proofs.lemmas.Bool.{lt-ltb}
 use Rattle.std.proofs.lemmas.List.{at_drop_more}
-use Rattle.std.specs.Prelude.{◌==◌, IsErrAnd, MatchOption, MatchResult, ok_or}
+use Rattle.std.specs.Prelude.{◌==◌, IsErrAnd, MatchResult}
 use Rattle.clap.specs.Walk.{Row}
-use Rattle.flutejoin.specs.Sender.{NamesSender}
-use Rattle.flutejoin_line.specs.Options.{IsNumber, IsSource}
+use Rattle.flutejoin_line.specs.Options.{IsNumber}
 use Rattle.flutejoin_line.specs.Options.{first_unfit, form_of, has_number, is_below, times_of}
 use Rattle.flutejoin.specs.declared.command_fault.CommandFault.{CommandFault}
-use Rattle.flutejoin.specs.declared.command_fault.CommandFault.TheVariants.{BadSource}
 
 pub number_there : (option : List ℕ) (limit : ℕ) (rows : List Row) (n : ℕ)
     → IsNumber option limit rows n → has_number option limit rows ≡ true
 number_there option limit rows n is = ap (is_below limit) is.0 ∙ lt-ltb n limit is.1
-
-pub no_source : (given : Option (List ℕ)) (sender : ℕ) → given ≡ None → sender ≡ 0
-    → IsSource given sender
-no_source given sender none is = rw none is
-
-pub source_named : (given : Option (List ℕ)) (text : List ℕ) (found : Option ℕ)
-    (read : Result ℕ CommandFault) → given ≡ Some text
-    → MatchOption found ((sender : ℕ) → NamesSender text sender → ⊥) (NamesSender text)
-    → read ≡ ok_or found BadSource
-    → MatchResult read (IsSource given) (λ fault. (fault ≡ BadSource)
-    × ((sender : ℕ) → IsSource given sender → ⊥))
-source_named given text found read some names is = rw (is, some) (go found names)
-  where
-    go : (f : Option ℕ) → MatchOption f ((sender : ℕ) → NamesSender text sender
-        → ⊥) (NamesSender text)
-        → MatchResult (ok_or f BadSource) (NamesSender text) (λ fault. (fault ≡ BadSource)
-        × ((sender : ℕ) → NamesSender text sender → ⊥))
-    go None h = (refl, h)
-    go (Some s) h = h
 
 -- what `?` hands on
 pub handed_on : {A : Type 0} (read : Result A CommandFault) (fault : CommandFault) (P : A

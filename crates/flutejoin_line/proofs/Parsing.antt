@@ -1,25 +1,22 @@
 -- Adding commands and arguments to the parser, and that its clauses hold of what was added.
-use Rattle.std.proofs.Common.{◌≡◌, List, [], ◌∷◌, ◌++◌, true, ◌||◌, Result, Ok, Err, IfOk}
-use Rattle.std.proofs.Common.{MatchResult, inl, inr, refl, ap, ap₂, ◌∙◌}
+use Rattle.std.proofs.Common.{◌≡◌, List, [], ◌∷◌, ◌++◌, true, ◌||◌, Result, Ok, Err}
+use Rattle.std.proofs.Common.{inl, inr, refl, ap, ap₂, ◌∙◌}
 use Rattle.std.proofs.lemmas.List.{append-nil, append_assoc}
 use Rattle.std.specs.List.{AllZip}
-use Rattle.std.specs.Prelude.{IsErrAnd}
 use Rattle.clap.specs.Built.{AddsArg, AddsInTurn, AddsSubcommand}
 use Rattle.clap.specs.Faults.{fault_of, is_simple_and_free}
-use Rattle.clap.specs.Kinds.{FailsBy, HasKind}
+use Rattle.clap.specs.Kinds.{FailsBy, IsAmong}
 use Rattle.clap.specs.Simple.{App, HasMatchesOf, Shape, app_of, is_simple, subcommand_of}
 use Rattle.clap.specs.Simple.{subcommand_rows_of, with_subcommand}
+use Rattle.clap.specs.Values.{kind_of}
 use Rattle.clap.specs.Walk.{Rule, Text}
 use Rattle.clap.specs.declared.builder.arg.Arg.{Arg}
 use Rattle.clap.specs.declared.builder.command.Command.{Command}
 use Rattle.clap.specs.declared.error.Error.{Error}
+use Rattle.clap.specs.declared.error.kind.ErrorKind.TheVariants as kind
 use Rattle.clap.specs.declared.parser.matches.ArgMatches.{ArgMatches}
-use Rattle.flutejoin_line.specs.CommandLine.{IsParserFault, IsRefusal}
 use Rattle.flutejoin_line.specs.Parser.{IsArgument, IsCommand, command_in, command_with, program}
 use Rattle.flutejoin_line.specs.Parser.{refusals_of}
-use Rattle.flutejoin.specs.declared.command_fault.CommandFault.{CommandFault}
-use Rattle.flutejoin.specs.declared.command_fault.CommandFault.TheVariants.{CommandLine}
-use Rattle.flutejoin.specs.declared.command_fault.CommandFault.TheVariants.{OutOfMemory}
 
 -- one argument more
 argument_added : {name : Text} {rules : List Rule} {rule : Rule} {old new : Command}
@@ -79,27 +76,21 @@ refused : (app : App) (words : List Text) (read : Result ArgMatches Error) → a
 unfolding refusals_of
 refused app words read is has = rw (← is) (has (ap is_simple_and_free is ∙ is_free_program))
 
--- the fault that is returned for an error of the parser
-told_of : (words : List Text) (error : Error) (fault : CommandFault) → HasKind (refusals_of words)
-    error → IsParserFault error fault → IsRefusal words fault
-told_of words error (CommandLine told) has is = rw is.0
-    (elim has [ inl short ↦ absurd (is.1 short) | inr among ↦ among ])
-told_of words error OutOfMemory has is = tt
-told_of words error _ has is = absurd is
-
-pub words_read : (app : App) (words : List Text) (read : Result ArgMatches Error)
-    (told : Result ArgMatches CommandFault) → app ≡ program
-    → IfOk read (HasMatchesOf app words) → (is_simple_and_free app ≡ true → FailsBy
-    (fault_of app words) read)
-    → MatchResult read (λ m. told ≡ Ok m) (λ e. IsErrAnd told (IsParserFault e))
-    → MatchResult told (λ m. (refusals_of words ≡ []) × (subcommand_rows_of m ≡ command_in words))
-    (IsRefusal words)
-words_read app words (Ok m) told is has kinds hands = rw hands
+-- the words are taken
+pub words_taken : (app : App) (words : List Text) (m : ArgMatches) → app ≡ program
+    → HasMatchesOf app words m
+    → (is_simple_and_free app ≡ true → FailsBy (fault_of app words) (Ok m))
+    → (refusals_of words ≡ []) × (subcommand_rows_of m ≡ command_in words)
+words_taken app words m is has kinds =
     (refused app words (Ok m) is kinds, found app words m is has)
-words_read app words (Err e) told is has kinds hands = go told hands
-  where
-    go : (t : Result ArgMatches CommandFault) → IsErrAnd t (IsParserFault e) → MatchResult t
-        (λ m. (refusals_of words ≡ []) × (subcommand_rows_of m ≡ command_in words))
-        (IsRefusal words)
-    go (Ok m) h = absurd h
-    go (Err fault) h = told_of words e fault (refused app words (Err e) is kinds) h
+
+-- they are refused, and not for want of memory
+pub words_refused : (app : App) (words : List Text) (error : Error) → app ≡ program
+    → (is_simple_and_free app ≡ true
+    → FailsBy {T = ArgMatches} (fault_of app words) (Err error))
+    → (kind_of error ≡ kind.OutOfMemory → ⊥) → IsAmong (kind_of error) (refusals_of words)
+words_refused app words error is kinds other =
+    elim (refused app words (Err error) is kinds) [
+      | inl short ↦ absurd (other short)
+      | inr among ↦ among
+    ]

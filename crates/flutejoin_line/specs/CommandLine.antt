@@ -8,8 +8,6 @@ use Rattle.std.specs.Borrow.{Bor}
 use Rattle.clap.specs.Kinds.{IsAmong}
 use Rattle.clap.specs.Values.{kind_of}
 use Rattle.clap.specs.Walk.{Row, first_of}
-use Rattle.clap.specs.declared.error.Error.{Error}
-use Rattle.clap.specs.declared.error.kind.ErrorKind.TheVariants as kind
 use Rattle.flute_streams.specs.Selections.{is_everything}
 use Rattle.flute_streams.specs.Sessions.{listed_tsis}
 use Rattle.flute_streams.specs.declared.choice.scope.Scope.{Scope}
@@ -218,13 +216,6 @@ IsFaultOf None fault = ⊥
 IsFaultOf (Some found) fault = IsFault found.0 found.1 fault
 
 -- ---- words
-
--- what is returned for the parser's error
-abbrev pub IsParserFault : Error → CommandFault → Type 0
-IsParserFault error (CommandLine told) =
-    (told ≡ error) × (kind_of error ≡ kind.OutOfMemory → ⊥)
-IsParserFault error OutOfMemory = kind_of error ≡ kind.OutOfMemory
-IsParserFault error _ = ⊥
 
 -- the parser refuses the words, by its own reasons, or for want of memory
 abbrev pub IsRefusal : List (List ℕ) → CommandFault → Type 0

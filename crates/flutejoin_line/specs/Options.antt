@@ -16,7 +16,6 @@ use Rattle.flutejoin.specs.Sender.{NamesSender}
 use Rattle.flutejoin.specs.declared.command_fault.CommandFault.{CommandFault}
 use Rattle.flutejoin.specs.declared.command_fault.CommandFault.TheVariants.{BadNumber}
 use Rattle.flutejoin.specs.declared.command_fault.CommandFault.TheVariants.{BadOption}
-use Rattle.flutejoin_line.specs.declared.key_numbers.KeyNumbers.{KeyNumbers}
 
 -- ---- words
 
@@ -138,20 +137,18 @@ abbrev pub carousel_options : List Row → List (List ℕ × ℕ)
 carousel_options rows =
     key_options rows ++ (codes "symbol", 2 ^ 16) ∷ (codes "block", 2 ^ 32) ∷ []
 
--- the number of `--toi`, if there is that option
+-- the number of an option, or none if it is left out
+abbrev pub IsNumberIf : List ℕ → ℕ → List Row → Option ℕ → Type 0
+IsNumberIf option limit rows None = first_of option rows ≡ None
+IsNumberIf option limit rows (Some n) = IsNumber option limit rows n
+
+-- that of `--toi`
 abbrev pub IsToi : List Row → Option ℕ → Type 0
-IsToi rows None = first_of (codes "toi") rows ≡ None
-IsToi rows (Some toi) = IsNumber (codes "toi") (2 ^ 112) rows toi
+IsToi rows toi = IsNumberIf (codes "toi") (2 ^ 112) rows toi
 
--- the number of `--fdt`, if there is that option
+-- that of `--fdt`
 abbrev pub IsInstance : List Row → Option ℕ → Type 0
-IsInstance rows None = first_of (codes "fdt") rows ≡ None
-IsInstance rows (Some instance) = IsNumber (codes "fdt") (2 ^ 20) rows instance
-
-pub record AreKeyNumbers (rows : List Row) (numbers : KeyNumbers) : Type 0 where
-  pub tsi : IsNumber (codes "tsi") (2 ^ 48) rows numbers.tsi
-  pub toi : IsNumber (codes "toi") (2 ^ 112) rows numbers.toi
-  pub instance : IsInstance rows numbers.instance
+IsInstance rows instance = IsNumberIf (codes "fdt") (2 ^ 20) rows instance
 
 -- up to 64 words that spell a session each (RFC 5651, 5.1)
 abbrev pub are_sessions : List (List ℕ) → Bool

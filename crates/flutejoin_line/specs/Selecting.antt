@@ -15,7 +15,6 @@ use Rattle.flutejoin_line.specs.Options.{word, words}
 use Rattle.flutejoin.specs.declared.command_fault.CommandFault.{CommandFault}
 use Rattle.flutejoin.specs.declared.command_fault.CommandFault.TheVariants.{BadNumber, BadSource}
 use Rattle.flutejoin.specs.declared.command_fault.CommandFault.TheVariants.{BadKey, BadOption}
-use Rattle.flutejoin_line.specs.declared.object_numbers.ObjectNumbers.{ObjectNumbers}
 
 -- ---- symbols
 
@@ -51,19 +50,11 @@ has_symbol rows = is_symbol_or_none (first_of (codes "symbol") rows)
 
 -- ---- objects
 
-pub record AreNumbersOf (rows : List Row) (numbers : ObjectNumbers) : Type 0 where
-  pub toi : IsToi rows numbers.toi
-  pub instance : IsInstance rows numbers.instance
-
 -- those of the two options that are given, with what their numbers are below
 abbrev pub object_options : List Row → List (List ℕ × ℕ)
 object_options rows =
     (if is_some (first_of (codes "toi") rows) then (codes "toi", 2 ^ 112) ∷ [] else [])
     ++ (if is_some (first_of (codes "fdt") rows) then (codes "fdt", 2 ^ 20) ∷ [] else [])
-
-abbrev pub IsNumbersFault : List Row → CommandFault → Type 0
-IsNumbersFault rows (BadNumber name) = first_wrong (object_options rows) rows ≡ Some name.now
-IsNumbersFault rows _ = ⊥
 
 -- the object that the two numbers name, or any if there are none; an FDT Instance goes with the
 -- TOI 0 alone

@@ -1,8 +1,7 @@
 //! The arguments of the program's commands.
 ghost use Rattle.std.specs.Prelude.{codes};
-ghost use Rattle.clap.specs.Walk.{Rule};
-ghost use Rattle.flutejoin_line.specs.Parser.{IsArgument, force_flag, input_list, long_flag};
-ghost use Rattle.flutejoin_line.specs.Parser.{needed, option, out, place, session_list};
+ghost use Rattle.flutejoin_line.specs.Parser.{IsArgument, force_flag, long_flag, option, out};
+ghost use Rattle.flutejoin_line.specs.Parser.{place, session_list};
 
 use clap::{Arg, ArgAction};
 use std::alloc::Global;
@@ -58,15 +57,6 @@ pub fn input<'a>(alloc: Global, name: &'a str, help: &'a str) -> Arg<'a>
         .help(help)
 }
 
-/// The inputs of a join.
-pub fn inputs<'a>(alloc: Global) -> Arg<'a>
-    ensures { IsArgument input_list result }
-{
-    input(alloc, "INPUT", "Journals and datagram files, at most 64")
-        .action(ArgAction::Append)
-        .num_args(1..)
-}
-
 /// The file that is written.
 pub fn output<'a>(alloc: Global) -> Arg<'a>
     ensures { IsArgument out result }
@@ -111,13 +101,6 @@ pub fn sessions<'a>(alloc: Global) -> Arg<'a>
         "A session that is taken; up to 64 times; left out, all are",
     )
     .action(ArgAction::Append)
-}
-
-/// An option that has to be given.
-pub fn required<'a>(arg: Arg<'a>) -> Arg<'a>
-    ensures { (rule : Rule) → IsArgument rule arg.entry → IsArgument (needed rule) result }
-{
-    arg.required(true)
 }
 
 /// An option with one value, which the help names so.

@@ -5,11 +5,12 @@ ghost use Rattle.flutejoin_line.specs.CommandLine.{IsOneFault};
 ghost use Rattle.flutejoin_line.specs.Options.{HasSource, IsFlag, IsFormFault, extract_form};
 ghost use Rattle.flutejoin_line.specs.Options.{first_unfit, found_rows, key_options};
 
-use crate::key_numbers::KeyNumbers;
 use crate::line::Line;
-use crate::numbers::{sessions, source, source_if};
+use crate::numbers::{number_below, number_if, sessions, source};
+use crate::objects::key;
 use crate::words::{flag, given, text};
 use clap::ArgMatches;
+use flute_parts::Sender;
 use flutejoin::CommandFault;
 
 /// The line of `extract --all`.
@@ -28,7 +29,7 @@ pub fn extract_all<'a>(matches: &ArgMatches<'a>) -> Result<Line<'a>, CommandFaul
         return Err(CommandFault::BadOption("force"));
     }
     let sessions = sessions(matches)?;
-    let sender = source_if(matches)?;
+    let sender = source(matches)?;
     Ok(Line::ExtractAll {
         out: text(matches, "OUT"),
         any_size: flag(matches, "any-size"),
@@ -50,9 +51,11 @@ pub fn extract_one<'a>(matches: &ArgMatches<'a>) -> Result<Line<'a>, CommandFaul
         MatchResult result (IsLine (codes "extract") rows) (IsOneFault rows) }
 {
     given(matches, &[("tsi", 1), ("toi", 1)])?;
-    let numbers = KeyNumbers::of(matches)?;
-    let sender = source(matches)?;
-    let key = numbers.key(sender)?;
+    let tsi = number_below(matches, "tsi", 1 << 48)? as u64;
+    let toi = number_below(matches, "toi", 1 << 112)?;
+    let instance = number_if(matches, "fdt", 1 << 20)?;
+    let sender = source(matches)?.unwrap_or(Sender::new(0));
+    let key = key(sender, tsi, toi, instance)?;
     Ok(Line::Extract {
         out: text(matches, "OUT"),
         force: flag(matches, "force"),

@@ -6,11 +6,12 @@ ghost use Rattle.flutejoin_line.specs.CommandLine.{IsNumbersFault};
 ghost use Rattle.flutejoin_line.specs.Options.{HasSource, IsFormFault, first_unfit, found_rows};
 ghost use Rattle.flutejoin_line.specs.Options.{info_form, info_options, list_form};
 
-use crate::key_numbers::KeyNumbers;
 use crate::line::Line;
-use crate::numbers::{number_below, source};
+use crate::numbers::{number_below, number_if, source};
+use crate::objects::key;
 use crate::words::{flag, given, text};
 use clap::ArgMatches;
+use flute_parts::Sender;
 use flutejoin::CommandFault;
 
 /// The line of `info` of a list.
@@ -61,12 +62,14 @@ pub fn info_one<'a>(matches: &ArgMatches<'a>) -> Result<Line<'a>, CommandFault>
         ("block", 1),
     ];
     given(matches, &with_numbers)?;
-    let numbers = KeyNumbers::of(matches)?;
+    let tsi = number_below(matches, "tsi", 1 << 48)? as u64;
+    let toi = number_below(matches, "toi", 1 << 112)?;
+    let instance = number_if(matches, "fdt", 1 << 20)?;
     let length = number_below(matches, "length", 1 << 64)? as u64;
     let symbol = number_below(matches, "symbol", 1 << 16)? as u16;
     let block = number_below(matches, "block", 1 << 32)? as u32;
-    let sender = source(matches)?;
-    let key = numbers.key(sender)?;
+    let sender = source(matches)?.unwrap_or(Sender::new(0));
+    let key = key(sender, tsi, toi, instance)?;
     Ok(Line::Info {
         out: text(matches, "OUT"),
         force: flag(matches, "force"),

@@ -1,11 +1,10 @@
 //! The command line.
-ghost use Rattle.std.specs.Prelude.{◌≡◌, ◌≤◌, [], IsSomeAnd, MatchResult, codes, length, map};
+ghost use Rattle.std.specs.Prelude.{◌≡◌, [], IsSomeAnd, MatchResult, codes, map};
 ghost use Rattle.std.specs.Prelude.{string_bytes, true};
 ghost use Rattle.clap.specs.Simple.{subcommand_rows_of};
 ghost use Rattle.flutejoin_line.specs.CommandLine.{IsFault, IsFaultIn, IsFaultOf, IsJoinFault};
 ghost use Rattle.flutejoin_line.specs.CommandLine.{IsKeyFault, IsLine, IsLineIn, IsLineOf};
-ghost use Rattle.flutejoin_line.specs.CommandLine.{IsManyInputs, IsMergeFault, IsParserFault};
-ghost use Rattle.flutejoin_line.specs.CommandLine.{IsRefusal, is_command};
+ghost use Rattle.flutejoin_line.specs.CommandLine.{IsMergeFault, IsRefusal, is_command};
 ghost use Rattle.flutejoin_line.specs.Options.{IsZero, carousel_options, found_rows};
 ghost use Rattle.flutejoin_line.specs.Parser.{command_in, refusals_of};
 ghost use Rattle.flutejoin_line.specs.Selecting.{IsSelectionFault};
@@ -13,9 +12,8 @@ ghost use Rattle.flutejoin_line.specs.Selecting.{IsSelectionFault};
 use crate::extract_line::{extract_all, extract_one};
 use crate::forget_line::forget_of;
 use crate::info_line::{info_list, info_one};
-use crate::key_numbers::KeyNumbers;
-use crate::numbers::{number_below, sessions, source};
-use crate::object_numbers::ObjectNumbers;
+use crate::numbers::{number_below, number_if, sessions, source};
+use crate::objects::{key, object};
 use crate::parser::command;
 use crate::selection_options::selection;
 use crate::sizes::memory;
@@ -144,7 +142,13 @@ pub fn line_of(alloc: Global, words: &[String]) -> Result<Line<'_>, CommandFault
         MatchResult result (IsLineIn texts) (IsFaultIn texts) }
 {
     let command = command(alloc)?;
-    let matches = command.try_get_matches_from(words).map_err(parser_fault)?;
+    let matches = match command.try_get_matches_from(words) {
+        Ok(matches) => matches,
+        Err(error) => match error.kind() {
+            ErrorKind::OutOfMemory => return Err(CommandFault::OutOfMemory),
+            _ => return Err(CommandFault::CommandLine(error)),
+        },
+    };
     match matches.subcommand() {
         Some((name, matches)) => line_by_name(alloc, name, matches),
         None => unreachable!(),
@@ -211,16 +215,20 @@ fn join_of<'a>(alloc: Global, matches: &ArgMatches<'a>) -> Result<Line<'a>, Comm
         MatchResult result (IsLine (codes "join") rows) (IsJoinFault rows) }
 {
     let sessions = sessions(matches)?;
-    let numbers = ObjectNumbers::of(matches)?;
+    let toi = number_if(matches, "toi", 1 << 112)?;
+    let instance = number_if(matches, "fdt", 1 << 20)?;
     let memory = memory(matches)?;
-    let sender = source(matches)?;
-    let object = numbers.object()?;
+    let sender = source(matches)?.unwrap_or(Sender::new(0));
+    let object = object(toi, instance)?;
     let scope = Scope {
         sessions,
         object,
         files: flag(matches, "no-fdt"),
     };
-    let inputs = inputs_of(alloc, matches.get_strs("INPUT").unwrap_or(&[]))?;
+    let inputs = matches.get_strs("INPUT").unwrap_or(&[]);
+    if inputs.len() > MAX_INPUTS {
+        return Err(CommandFault::TooManyInputs);
+    }
     Ok(Line::Join {
         out: text(matches, "OUT"),
         force: flag(matches, "force"),
@@ -228,20 +236,8 @@ fn join_of<'a>(alloc: Global, matches: &ArgMatches<'a>) -> Result<Line<'a>, Comm
         memory,
         sender,
         scope,
-        inputs,
+        inputs: inputs.to_vec(alloc)?,
     })
-}
-
-// The inputs of a join, at most 64.
-fn inputs_of<'a>(alloc: Global, inputs: &[&'a str]) -> Result<Vec<&'a str>, CommandFault>
-    ensures { MatchResult result (λ taken. (taken.items ≡ inputs.now)
-        × (length taken.items ≤ 64))
-        (IsManyInputs (length inputs.now)) }
-{
-    if inputs.len() > MAX_INPUTS {
-        return Err(CommandFault::TooManyInputs);
-    }
-    Ok(inputs.to_vec(alloc)?)
 }
 
 fn merge_of<'a>(matches: &ArgMatches<'a>) -> Result<Line<'a>, CommandFault>
@@ -263,10 +259,12 @@ fn carousel_of<'a>(matches: &ArgMatches<'a>) -> Result<Line<'a>, CommandFault>
         MatchResult result (IsLine (codes "carousel") rows)
         (IsKeyFault (carousel_options rows) IsZero rows) }
 {
-    let numbers = KeyNumbers::of(matches)?;
+    let tsi = number_below(matches, "tsi", 1 << 48)? as u64;
+    let toi = number_below(matches, "toi", 1 << 112)?;
+    let instance = number_if(matches, "fdt", 1 << 20)?;
     let symbol = number_below(matches, "symbol", 1 << 16)? as u16;
     let block = number_below(matches, "block", 1 << 32)? as u32;
-    let key = numbers.key(Sender::new(0))?;
+    let key = key(Sender::new(0), tsi, toi, instance)?;
     Ok(Line::Carousel {
         out: text(matches, "OUT"),
         force: flag(matches, "force"),
@@ -275,13 +273,4 @@ fn carousel_of<'a>(matches: &ArgMatches<'a>) -> Result<Line<'a>, CommandFault>
         block,
         file: text(matches, "FILE"),
     })
-}
-
-fn parser_fault(error: clap::Error) -> CommandFault
-    ensures { IsParserFault error result }
-{
-    match error.kind() {
-        ErrorKind::OutOfMemory => CommandFault::OutOfMemory,
-        _ => CommandFault::CommandLine(error),
-    }
 }

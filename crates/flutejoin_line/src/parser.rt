@@ -10,13 +10,13 @@ ghost use Rattle.flutejoin_line.specs.Parser.{show_rules};
 
 use crate::arguments::{
     ANY_SIZE, BLOCK, CONFLICTS, FORCE, FORCE_ALL, INSTANCE, JOURNAL, MEMORY, OBJECT, SESSION,
-    SOURCE, SYMBOL, force, input, inputs, long_flag, option, output, required, sessions,
+    SOURCE, SYMBOL, force, input, long_flag, option, output, sessions,
 };
 use crate::help_texts::{
     CAROUSEL_HELP, EXTRACT_HELP, FORGET_HELP, GAPS_HELP, INFO_HELP, JOIN_HELP, MERGE_HELP,
     PACKET_HELP, PROGRAM_HELP, SHOW_HELP,
 };
-use clap::{Arg, Command};
+use clap::{Arg, ArgAction, Command};
 use std::alloc::{AllocError, Global};
 
 /// What `--version` prints after the number: which journals are read and written.
@@ -217,7 +217,9 @@ fn join_command<'a>(alloc: Global) -> Result<Command<'a>, AllocError>
         option(alloc, "toi", "N", OBJECT),
         option(alloc, "fdt", "N", INSTANCE),
         long_flag(alloc, "no-fdt", "No FDT Instances, which have the TOI 0"),
-        inputs(alloc),
+        input(alloc, "INPUT", "Journals and datagram files, at most 64")
+            .action(ArgAction::Append)
+            .num_args(1..),
     ]?;
     command_with(
         alloc,
@@ -281,11 +283,11 @@ fn carousel_command<'a>(alloc: Global) -> Result<Command<'a>, AllocError>
     let arguments = vec![in alloc;
         output(alloc),
         force(alloc, FORCE_ALL),
-        required(option(alloc, "tsi", "N", SESSION)),
-        required(option(alloc, "toi", "N", OBJECT)),
+        option(alloc, "tsi", "N", SESSION).required(true),
+        option(alloc, "toi", "N", OBJECT).required(true),
         option(alloc, "fdt", "N", INSTANCE),
-        required(option(alloc, "symbol", "N", SYMBOL)),
-        required(option(alloc, "block", "N", BLOCK)),
+        option(alloc, "symbol", "N", SYMBOL).required(true),
+        option(alloc, "block", "N", BLOCK).required(true),
         input(alloc, "FILE", "The content of the object"),
     ]?;
     command_with(

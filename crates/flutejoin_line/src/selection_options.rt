@@ -3,10 +3,9 @@ ghost use Rattle.std.specs.Prelude.{◌≡◌, MatchResult, codes, false};
 ghost use Rattle.flutejoin_line.specs.Options.{IsBadNumber, found_rows};
 ghost use Rattle.flutejoin_line.specs.Selecting.{IsSelection, IsSelectionFault, IsSymbolIf};
 ghost use Rattle.flutejoin_line.specs.Selecting.{has_symbol};
-ghost use Rattle.flutejoin_line.specs.Selecting.{symbol_by, symbol_in};
 
-use crate::numbers::{decimal, sessions, source_if};
-use crate::object_numbers::ObjectNumbers;
+use crate::numbers::{decimal_below, number_if, sessions, source};
+use crate::objects::object;
 use crate::words::{flag, word};
 use clap::ArgMatches;
 use flute_parts::SymbolId;
@@ -25,10 +24,11 @@ pub fn selection(matches: &ArgMatches<'_>) -> Result<Selection, CommandFault>
         MatchResult result (IsSelection rows) (IsSelectionFault rows) }
 {
     let sessions = sessions(matches)?;
-    let numbers = ObjectNumbers::of(matches)?;
+    let toi = number_if(matches, "toi", 1 << 112)?;
+    let instance = number_if(matches, "fdt", 1 << 20)?;
     let symbol = symbol(matches)?;
-    let sender = source_if(matches)?;
-    let object = numbers.object()?;
+    let sender = source(matches)?;
+    let object = object(toi, instance)?;
     let scope = Scope {
         sessions,
         object,
@@ -43,39 +43,20 @@ pub fn selection(matches: &ArgMatches<'_>) -> Result<Selection, CommandFault>
     })
 }
 
-// The symbol of `--symbol`, or none if it is left out.
+// The symbol that the `BLOCK/SYMBOL` of `--symbol` names, each 1 to 39 decimal digits, and below
+// 2^16; or none if it is left out.
 fn symbol(matches: &ArgMatches<'_>) -> Result<Option<SymbolId>, CommandFault>
     ensures { let rows = found_rows matches.now in
         MatchResult result (IsSymbolIf rows)
         (λ fault. IsBadNumber (codes "symbol") fault × (has_symbol rows ≡ false)) }
 {
-    match word(matches, "symbol") {
-        Some(text) => match symbol_in(text) {
-            Some(id) => Ok(Some(id)),
-            None => Err(CommandFault::BadNumber("symbol")),
-        },
-        None => Ok(None),
-    }
-}
-
-// The symbol that `BLOCK/SYMBOL` names, each 1 to 39 decimal digits, and below 2^16.
-fn symbol_in(text: &str) -> Option<SymbolId>
-    ensures { result ≡ symbol_in text.now }
-{
-    match text.split_once('/') {
-        Some((block, symbol)) => symbol_by(decimal(block), decimal(symbol)),
-        None => None,
-    }
-}
-
-fn symbol_by(block: Option<u128>, symbol: Option<u128>) -> Option<SymbolId>
-    ensures { result ≡ symbol_by block symbol }
-{
-    match (block, symbol) {
-        (Some(sbn), Some(esi)) if sbn < 1 << 16 && esi < 1 << 16 => Some(SymbolId {
-            sbn: sbn as u16,
-            esi: esi as u16,
-        }),
-        _ => None,
-    }
+    let Some(text) = word(matches, "symbol") else {
+        return Ok(None);
+    };
+    let Some((block, symbol)) = text.split_once('/') else {
+        return Err(CommandFault::BadNumber("symbol"));
+    };
+    let sbn = decimal_below(block, "symbol", 1 << 16)? as u16;
+    let esi = decimal_below(symbol, "symbol", 1 << 16)? as u16;
+    Ok(Some(SymbolId { sbn, esi }))
 }

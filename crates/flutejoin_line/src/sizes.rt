@@ -1,9 +1,9 @@
 //! How many bytes, on the command line.
-ghost use Rattle.std.specs.Prelude.{◌≡◌, MatchResult, None, Some, codes};
+ghost use Rattle.std.specs.Prelude.{◌≡◌, ◌≤◌, ◌^◌, MatchResult, None, Some, codes};
 ghost use Rattle.flutejoin_line.specs.Options.{IsBadNumber, found_rows};
-ghost use Rattle.flutejoin_line.specs.Sizes.{bytes_of, memory_in, number_and_unit, size_of};
+ghost use Rattle.flutejoin_line.specs.Sizes.{memory_in, number_and_unit, size_of};
 
-use crate::numbers::decimal;
+use crate::numbers::decimal_below;
 use crate::words::word;
 use clap::ArgMatches;
 use flutejoin::{CommandFault, DEFAULT_MEMORY, MAX_MEMORY};
@@ -20,21 +20,21 @@ pub fn memory(matches: &ArgMatches<'_>) -> Result<u64, CommandFault>
         MatchResult result (λ memory. memory_in rows ≡ Some memory)
         (λ fault. IsBadNumber (codes "memory") fault × (memory_in rows ≡ None)) }
 {
-    match word(matches, "memory") {
-        Some(text) => {
-            let (number, unit) = number_and_unit(text);
-            match bytes_of(decimal(number), unit) {
-                Some(bytes) => Ok(bytes),
-                None => Err(CommandFault::BadNumber("memory")),
-            }
-        }
-        None => Ok(DEFAULT_MEMORY),
+    let Some(text) = word(matches, "memory") else {
+        return Ok(DEFAULT_MEMORY);
+    };
+    let (number, unit) = number_and_unit(text);
+    let bytes = decimal_below(number, "memory", MAX_MEMORY as u128 + 1)? * unit;
+    if bytes == 0 || bytes > MAX_MEMORY as u128 {
+        return Err(CommandFault::BadNumber("memory"));
     }
+    Ok(bytes as u64)
 }
 
 // The number in a size, and how many bytes it counts.
 fn number_and_unit(text: &str) -> (&str, u128)
-    ensures { (result.0.now, result.1) ≡ number_and_unit text.now }
+    ensures parts { (result.0.now, result.1) ≡ number_and_unit text.now }
+    ensures unit { (1 ≤ result.1) × (result.1 ≤ 2 ^ 30) }
 {
     if let Some(number) = text.strip_suffix('K') {
         return (number, 1 << 10);
@@ -46,15 +46,4 @@ fn number_and_unit(text: &str) -> (&str, u128)
         return (number, 1 << 30);
     }
     (text, 1)
-}
-
-// So many units, if they are within the limit.
-fn bytes_of(number: Option<u128>, unit: u128) -> Option<u64>
-    ensures { result ≡ bytes_of number unit }
-{
-    let bytes = number?.checked_mul(unit)?;
-    if bytes == 0 || bytes > MAX_MEMORY as u128 {
-        return None;
-    }
-    Some(bytes as u64)
 }

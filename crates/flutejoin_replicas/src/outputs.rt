@@ -15,7 +15,7 @@ use std::alloc::Global;
 use thiserror::Error;
 
 /// Why nothing, or not all, was written of a replica after a run.
-#[derive(Clone, Copy, Debug, PartialEq, Eq, Error)]
+#[derive(Clone, Copy, Debug, Error)]
 pub enum OutputFault {
     /// The run stopped. Nothing was written.
     #[error("{0}")]

@@ -8,7 +8,7 @@ use flute_wire::Datagram;
 use thiserror::Error;
 
 /// One thing that is done to replicas. Replicas are numbered from 0.
-#[derive(Debug, Drop)]
+#[derive(Drop)]
 pub enum Step {
     /// The replica takes a datagram that this sender sent. One that is refused gives nothing,
     /// and is counted.

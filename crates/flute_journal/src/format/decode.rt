@@ -6,14 +6,11 @@ ghost use Rattle.flute_parts.specs.Information.{info_fault};
 ghost use Rattle.flute_journal.specs.Numbers.{in_bytes};
 ghost use Rattle.flute_parts.specs.BigEndian.{big_endian};
 ghost use Rattle.flute_journal.specs.Format.{header_in, sender_size, id_bytes, key_bytes};
-ghost use Rattle.flute_journal.specs.Format.{name_bytes};
 ghost use Rattle.flute_journal.specs.Faults.{is_after, is_name, is_key, key_size, named_in};
 ghost use Rattle.flute_journal.specs.Faults.{key_in as key_of_bytes, info_in as info_of_bytes};
 ghost use Rattle.flute_journal.specs.Faults.{opening_fault, header_fault};
 ghost use Rattle.flute_journal.specs.Journal.{IsKeyIn};
 ghost use Rattle.flute_parts.specs.Ranges.{IsKey, IsId, IsInfo};
-ghost use Rattle.flute_parts.specs.Session.{IsTsi};
-ghost use Rattle.flute_parts.specs.ObjectName.{IsObjectName};
 ghost use Rattle.flute_journal.specs.Parsing.{HeadIn, RestIs, Parses, StopsReading, head_bytes};
 ghost use Rattle.flute_journal.specs.Parsing.{head_size, rest_size, body_fault, rest_fault};
 ghost use Rattle.flute_journal.specs.Parsing.{bytes_fault, end_fault};
@@ -163,7 +160,7 @@ pub fn next_symbol_in(last: &Address, bytes: &[u8]) -> Option<(SymbolId, u16)>
 }
 
 /// Whether these are the bytes of this key in version 2, and it names a file.
-#[tactic(auto, using(crate::proofs::Cited::key_named, crate::proofs::Cited::octets))]
+#[tactic(auto, using(crate::proofs::Cited::octets))]
 #[inline(always)]
 pub fn names_file(bytes: &[u8], key: &Key) -> bool
     requires { length bytes.now ≡ key_size Two }
@@ -171,32 +168,19 @@ pub fn names_file(bytes: &[u8], key: &Key) -> bool
     ensures valid { IsKey key.now }
 {
     let own = key.session.sender().number();
-    let (sender, name) = bytes.split_at(Version::Two.sender_size());
-    let is_named = is_file_in(name, key);
-    is_named && sender_in(Version::Two, sender).number() == own
-}
-
-// Whether these are the bytes that name the file with this key, but for its sender.
-#[tactic(auto, using(crate::proofs::Cited::file_named, crate::proofs::Cited::octets))]
-#[inline(always)]
-fn is_file_in(bytes: &[u8], key: &Key) -> bool
-    requires { length bytes.now ≡ 21 }
-    ensures spelled { result ≡ true → name_bytes key.now ≡ bytes.now }
-    ensures session { IsTsi key.now.session.tsi }
-    ensures object { IsObjectName key.now.object }
-{
     let toi = key.object.toi();
     let tsi = key.session.tsi();
-    if bytes[6] != 1 {
+    let (sender, name) = bytes.split_at(Version::Two.sender_size());
+    if name[6] != 1 {
         return false;
     }
-    if number(&bytes[..6]) != u128::from(tsi) {
+    if number(&name[..6]) != u128::from(tsi) {
         return false;
     }
-    if number_of_14(&bytes[7..]) != toi {
+    if toi == 0 || number_of_14(&name[7..]) != toi {
         return false;
     }
-    toi != 0
+    BigEndian::read_u128(sender) == own
 }
 
 // The key of which these are the bytes.
@@ -207,20 +191,12 @@ fn key_in(version: Version, bytes: &[u8]) -> Option<Key>
         (λ key. (is_key version bytes.now ≡ true) × (key ≡ key_of_bytes version bytes.now)
         × IsKeyIn version key) }
 {
-    let (sender, name) = bytes.split_at(version.sender_size());
-    named_in(sender_in(version, sender), name)
-}
-
-// The sender of which these are the bytes.
-#[inline(always)]
-fn sender_in(version: Version, bytes: &[u8]) -> Sender
-    requires { length bytes.now ≡ sender_size version }
-    ensures { result ≡ big_endian bytes.now }
-{
-    match version {
+    let (field, name) = bytes.split_at(version.sender_size());
+    let sender = match version {
         Version::One => Sender::new(0),
-        Version::Two => Sender::new(BigEndian::read_u128(bytes)),
-    }
+        Version::Two => Sender::new(BigEndian::read_u128(field)),
+    };
+    named_in(sender, name)
 }
 
 // The key of an object of this sender, of which these are the other bytes.

@@ -1,24 +1,24 @@
 //! From facts to their bytes.
-ghost use Rattle.std.specs.Prelude.{◌≡◌, ℕ, ◌+◌, ◌/◌, ◌%◌, ◌<◌, ◌≤◌, ◌^◌, ◌++◌, [], length};
+ghost use Rattle.std.specs.Prelude.{◌≡◌, ◌+◌, ◌/◌, ◌%◌, ◌<◌, ◌≤◌, ◌^◌, ◌++◌, [], length};
 ghost use Rattle.arrayvec.specs.ArrayVec.{array_vec_len};
 ghost use Rattle.flute_parts.specs.Addresses.{fact_of};
 ghost use Rattle.flute_store.specs.Walk.{IsSized};
-ghost use Rattle.flute_journal.specs.Format.{key_bytes, id_bytes, info_bytes, entry, end};
+ghost use Rattle.flute_journal.specs.Format.{key_bytes, entry};
 ghost use Rattle.flute_journal.specs.declared.format.version.Version.TheVariants.{Two};
-ghost use Rattle.flute_parts.specs.Ranges.{IsKey, IsId, IsInfo, IsFact};
+ghost use Rattle.flute_parts.specs.Ranges.{IsKey, IsFact};
 ghost use Rattle.flute_journal.specs.Writing.{symbol_value};
 
-use super::END;
 use super::decode::names_file;
 use super::number::length_field;
 use arrayvec::ArrayVec;
-use flute_parts::{FactRef, Info, Key, SymbolId};
+use flute_parts::{FactRef, Key};
 
 /// The front of an entry, up to the bytes of a symbol.
 pub type HeadBytes = ArrayVec<u8, 50>;
 
 /// Puts the front of an entry into `head`, which is empty. `last` are the bytes of the key of a
 /// symbol before it, in whose place those of its key are put if it is of a symbol.
+#[tactic(auto, using(crate::proofs::format_lemmas::SameFile::key_size_two))]
 #[inline(always)]
 pub fn put_head(head: &mut HeadBytes, last: &mut [u8; 37], fact: &FactRef<'_>)
     requires empty { head.old.items ≡ [] }
@@ -31,45 +31,32 @@ pub fn put_head(head: &mut HeadBytes, last: &mut [u8; 37], fact: &FactRef<'_>)
         FactRef::Info { key, info } => {
             put(head, &[1]);
             put_key(head, key);
-            put_info(head, info);
+            put(head, &info.length().to_be_bytes()[2..]);
+            put(head, &info.symbol().to_be_bytes());
+            put(head, &info.block().to_be_bytes());
         }
         FactRef::InfoConflict { key } => {
             put(head, &[2]);
             put_key(head, key);
         }
         FactRef::Symbol { key, id, bytes } => {
+            // Most symbols are of the object of the one before.
+            if !names_file(last.as_slice(), key) {
+                spell_key(last, key);
+            }
             put(head, &[3]);
-            set_key(last, key);
             put(head, last.as_slice());
-            put_id(head, *id);
+            put(head, &id.sbn.to_be_bytes());
+            put(head, &id.esi.to_be_bytes());
             put(head, &length_field(bytes));
         }
         FactRef::SymbolConflict { key, id } => {
             put(head, &[4]);
             put_key(head, key);
-            put_id(head, *id);
+            put(head, &id.sbn.to_be_bytes());
+            put(head, &id.esi.to_be_bytes());
         }
     }
-}
-
-/// The bytes of the symbol, which end its entry: none of another fact.
-pub fn symbol_value<'a>(fact: &FactRef<'a>) -> &'a [u8]
-    ensures { result.now ≡ symbol_value (fact_of fact.now) }
-{
-    match *fact {
-        FactRef::Symbol { bytes, .. } => bytes,
-        _ => &[],
-    }
-}
-
-/// The end of a journal of so many entries.
-pub fn end_of(count: u64) -> ArrayVec<u8, 9>
-    ensures { result.items ≡ end count }
-{
-    let mut bytes = ArrayVec::new();
-    bytes.push(END);
-    let _fits = bytes.try_extend_from_slice(&count.to_be_bytes());
-    bytes
 }
 
 // Appends bytes for which there is room.
@@ -102,20 +89,6 @@ fn put_key(head: &mut HeadBytes, key: &Key)
     put(head, &lower.to_be_bytes());
 }
 
-// Puts the bytes of a key in place of those of another, unless they are there. Most symbols are of
-// the object of the one before.
-#[tactic(auto, using(crate::proofs::format_lemmas::SameFile::key_size_two))]
-#[inline(always)]
-fn set_key(bytes: &mut [u8; 37], key: &Key)
-    ensures spelled { bytes.new ≡ key_bytes Two key.now }
-    ensures valid { IsKey key.now }
-{
-    if names_file(bytes.as_slice(), key) {
-        return;
-    }
-    spell_key(bytes, key);
-}
-
 // Puts down the bytes of a key.
 #[inline(never)]
 fn spell_key(bytes: &mut [u8; 37], key: &Key)
@@ -134,25 +107,4 @@ fn halves(number: u128) -> (u64, u64)
     ensures low { result.1 ≡ number % 2 ^ 64 }
 {
     ((number >> 64) as u64, (number % (1 << 64)) as u64)
-}
-
-fn put_id(head: &mut HeadBytes, id: SymbolId)
-    requires { array_vec_len head.old ≤ 38 }
-    ensures items { head.new.items ≡ head.old.items ++ id_bytes id }
-    ensures len { array_vec_len head.new ≡ array_vec_len head.old + 4 }
-    ensures valid { IsId id }
-{
-    put(head, &id.sbn.to_be_bytes());
-    put(head, &id.esi.to_be_bytes());
-}
-
-fn put_info(head: &mut HeadBytes, info: &Info)
-    requires { array_vec_len head.old ≤ 38 }
-    ensures items { head.new.items ≡ head.old.items ++ info_bytes info.now }
-    ensures len { array_vec_len head.new ≡ array_vec_len head.old + 12 }
-    ensures valid { IsInfo info.now }
-{
-    put(head, &info.length().to_be_bytes()[2..]);
-    put(head, &info.symbol().to_be_bytes());
-    put(head, &info.block().to_be_bytes());
 }

@@ -19,7 +19,7 @@ ghost use Rattle.flute_journal.specs.declared.readers.reader_state.ReaderState.T
 use crate::fault::ReadFault;
 use crate::format::check_opening;
 use crate::format::number::length_in;
-use crate::readers::input::{read_exact, read_up_to, shortage};
+use crate::readers::input::{read_exact, read_up_to};
 use crate::readers::lent::take_record;
 use crate::readers::reader_state::ReaderState;
 use flute_parts::Source;
@@ -197,7 +197,7 @@ fn read_fields<R: Source>(
         return Err(ReadFault::TooMany);
     }
     if read.bytes.len() < 2 {
-        return Err(shortage(read.failed));
+        return read.or_failed(Err(ReadFault::Cut));
     }
     let length = length_in(read.bytes);
     let Ok(datagram) = Datagram::from_vec(read_exact(alloc, source, length)?) else {

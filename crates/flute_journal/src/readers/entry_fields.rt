@@ -16,7 +16,7 @@ ghost use Rattle.flute_journal.specs.declared.fault.ReadFault.TheVariants.{OutOf
 
 use crate::fault::ReadFault;
 use crate::format::{END, EntryHead, Kind, LONGEST, Version, check_end, check_header, parse};
-use crate::readers::input::{read_exact, read_up_to, shortage};
+use crate::readers::input::{read_exact, read_up_to};
 use flute_parts::{Address, Bytes, Fact, Source};
 use std::alloc::Global;
 
@@ -63,7 +63,7 @@ pub fn read_entry<R: Source>(
     let mut buffer = [0; 1];
     let read = read_up_to(source, &mut buffer);
     let Some(&byte) = read.bytes.first() else {
-        return Err(shortage(read.failed));
+        return read.or_failed(Err(ReadFault::Cut));
     };
     if byte == END {
         let mut buffer = [0; 9];

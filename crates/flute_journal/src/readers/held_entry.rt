@@ -1,5 +1,5 @@
 //! The entry of a journal that is held until the next is read.
-ghost use Rattle.std.specs.Prelude.{◌≡◌, ℕ, List, drop, take, option_copied};
+ghost use Rattle.std.specs.Prelude.{◌≡◌, ℕ, List, drop, option_copied};
 ghost use Rattle.std.specs.Io.KnownBytes.{Consumes};
 ghost use Rattle.flute_parts.specs.Addresses.{fact_of};
 ghost use Rattle.flute_parts.specs.declared.fact.Fact.{Fact};
@@ -75,10 +75,10 @@ impl HeldEntry {
                 id,
                 bytes: bytes.as_slice(),
             },
-            (Part::Symbol(id), HeldValue::InBuffer(size)) => FactRef::Symbol {
+            (Part::Symbol(id), HeldValue::InBuffer(_)) => FactRef::Symbol {
                 key,
                 id,
-                bytes: behind(front(buffer, *size), HEAD_LEN),
+                bytes: behind(self.spelled(buffer), HEAD_LEN),
             },
             (Part::Symbol(id), _) => FactRef::SymbolConflict { key, id },
         })
@@ -106,7 +106,7 @@ impl HeldEntry {
             HeldEntry::Entry {
                 value: HeldValue::InBuffer(size),
                 ..
-            } => front(buffer, *size),
+            } => &buffer[..(*size).min(buffer.len())],
             _ => &[],
         }
     }
@@ -131,17 +131,9 @@ impl HeldEntry {
     }
 }
 
-// The first bytes, as many as there are of so many.
+// What follows so many bytes.
 #[inline(always)]
-fn front(bytes: &[u8], count: usize) -> &[u8]
-    ensures { result.now ≡ take count bytes.now }
-{
-    &bytes[..count.min(bytes.len())]
-}
-
-/// What follows so many bytes.
-#[inline(always)]
-pub fn behind(bytes: &[u8], count: usize) -> &[u8]
+fn behind(bytes: &[u8], count: usize) -> &[u8]
     ensures { result.now ≡ drop count bytes.now }
 {
     &bytes[count.min(bytes.len())..]

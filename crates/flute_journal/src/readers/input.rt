@@ -2,7 +2,7 @@
 ghost use Rattle.std.specs.Prelude.{◌≡◌, ℕ, ◌+◌, ◌<◌, ◌≤◌, IfOk, IfErr};
 ghost use Rattle.std.specs.Prelude.{length, length as length_of, take, slice_index};
 ghost use Rattle.std.specs.List.{AllByRecursion};
-ghost use Rattle.flute_journal.specs.Input.{Advances, Fails, Fills, ReadsUpTo, Reads, shortage};
+ghost use Rattle.flute_journal.specs.Input.{Advances, Fails, Fills, ReadsUpTo, Reads};
 ghost use Rattle.flute_journal.specs.Input.{or_failed};
 ghost use Rattle.flute_parts.specs.Devices.{times_failed};
 ghost use Rattle.flute_parts.specs.Ranges.{IsByte};
@@ -37,17 +37,6 @@ impl ReadUpTo<'_> {
             Ok(_) | Err(ReadFault::Cut) => Err(ReadFault::Read),
             Err(fault) => Err(fault),
         }
-    }
-}
-
-/// The fault if bytes are too few, and whether the source failed after them.
-pub fn shortage(failed: bool) -> ReadFault
-    ensures { result ≡ shortage failed }
-{
-    if failed {
-        ReadFault::Read
-    } else {
-        ReadFault::Cut
     }
 }
 
@@ -122,9 +111,9 @@ pub fn read_exact<R: Source>(
     let Ok(mut octets) = vec![in alloc; 0; usize::from(length)] else {
         return Err(ReadFault::OutOfMemory);
     };
-    let (count, failed) = fill_up_to(source, &mut octets);
-    if count < usize::from(length) {
-        return Err(shortage(failed));
+    match fill_up_to(source, &mut octets) {
+        (count, _) if count == usize::from(length) => Ok(octets),
+        (_, true) => Err(ReadFault::Read),
+        (_, false) => Err(ReadFault::Cut),
     }
-    Ok(octets)
 }

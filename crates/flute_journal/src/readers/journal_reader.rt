@@ -1,7 +1,7 @@
 //! Reading a journal, entry by entry.
 ghost use Rattle.std.specs.Prelude.{◌≡◌, ℕ, ◌+◌, ◌<◌, ◌^◌, IfOk, IfSome, OnErr};
 ghost use Rattle.std.specs.Prelude.{Ok, Some};
-ghost use Rattle.std.specs.Prelude.{None, true, false};
+ghost use Rattle.std.specs.Prelude.{None};
 ghost use Rattle.flute_journal.specs.Input.{Fails, FailsIf};
 ghost use Rattle.std.specs.Io.KnownBytes.{Consumes};
 ghost use Rattle.flute_journal.specs.HeldEntries.{HoldsNext, reading, spelled_in};
@@ -163,8 +163,20 @@ pub fn read_into<R: Source>(
     ensures { HoldsNext R.unread R.buffered R.failures max_entries
         (reading source.old state.old held.old) (reading source.new state.new held.new) result }
 {
-    if hold_in_place(source, max_entries, state, held) {
-        return Ok(());
+    // The next entry may lie in the source's buffer, and be of a symbol of the same file as the
+    // entry before it.
+    match state {
+        ReaderState::Items(before)
+            if matches!(before.version, Version::Two) && before.count < max_entries => {
+            if let Some(last) = &mut before.last {
+                if let Some(id) = hold_next(source, last, held) {
+                    before.count += 1;
+                    last.part = Part::Symbol(id);
+                    return Ok(());
+                }
+            }
+        }
+        _ => {}
     }
     hold_anew(alloc, source, max_entries, state, held)
 }
@@ -187,38 +199,6 @@ fn hold_anew<R: Source>(
         *held = HeldEntry::of(fact);
     }
     Ok(())
-}
-
-// Holds the next entry of a journal whose reader has this state where it lies in the source's
-// buffer, if it is whole there and of a symbol of the same file as the entry before it. False if
-// not, and nothing was read then.
-#[inline(always)]
-fn hold_in_place<R: Source>(
-    source: &mut R,
-    max_entries: u64,
-    state: &mut ReaderState<Before>,
-    held: &mut HeldEntry,
-) -> bool
-    ensures holds { result ≡ true → HoldsNext R.unread R.buffered R.failures max_entries
-        (reading source.old state.old held.old) (reading source.new state.new held.new) (Ok tt) }
-    ensures nothing { result ≡ false → (source.new ≡ source.old) × (state.new ≡ state.old)
-        × (held.new ≡ held.old) }
-{
-    let ReaderState::Items(before) = state else {
-        return false;
-    };
-    if !matches!(before.version, Version::Two) || before.count >= max_entries {
-        return false;
-    }
-    let Some(last) = &mut before.last else {
-        return false;
-    };
-    let Some(id) = hold_next(source, last, held) else {
-        return false;
-    };
-    before.count += 1;
-    last.part = Part::Symbol(id);
-    true
 }
 
 // The next entry of a journal whose reader has this state, and its state afterwards.

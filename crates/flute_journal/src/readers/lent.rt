@@ -11,7 +11,7 @@ ghost use Rattle.flute_journal.specs.declared.fault.ReadFault.TheVariants.{OutOf
 use crate::fault::ReadFault;
 use crate::format::number::length_in;
 use crate::format::{Kind, Version, next_symbol_in, symbol_in};
-use crate::readers::held_entry::{HeldEntry, HeldValue, behind};
+use crate::readers::held_entry::{HeldEntry, HeldValue};
 use flute_parts::{Address, Bytes, Fact, Key, Part, Source, SymbolId};
 use flute_wire::Datagram;
 
@@ -66,7 +66,8 @@ pub fn hold_next<R: Source>(
 {
     let buffer = source.buffer();
     let taken = held.spelled(buffer).len();
-    let (id, _, size) = next_in(behind(buffer, taken), last)?;
+    let (_, next) = buffer.split_at(taken);
+    let (id, _, size) = next_in(next, last)?;
     source.consume(taken);
     *held = HeldEntry::Entry {
         address: Address {

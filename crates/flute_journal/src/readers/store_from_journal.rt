@@ -13,8 +13,7 @@ use std::alloc::Global;
 /// Reads the journal that the source holds, which may have at most `max_entries`
 /// entries, into a new store.
 ///
-/// It reads entry by entry, and hands each to the store without a copy of its bytes. The whole
-/// source is read if it succeeds.
+/// It reads entry by entry, and the whole source if it succeeds.
 ///
 /// # Errors
 ///
@@ -44,8 +43,10 @@ pub fn read_store<const SESSIONS: u32, const OBJECTS: u32, const SYMBOLS: u32, R
 {
     let mut store = Store::new(alloc);
     let mut reader = JournalReader::new(source, max_entries);
-    while let Some(fact) = reader.next(alloc)? {
-        store.put(alloc, fact)?;
+    let mut spare = Vec::new(alloc);
+    while let Some(fact) = reader.next_with(alloc, spare)? {
+        store.add(alloc, &fact)?;
+        spare = fact.into_vec(alloc);
     }
     Ok(store)
 }

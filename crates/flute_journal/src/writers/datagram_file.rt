@@ -1,5 +1,5 @@
 //! `write_datagrams`: datagrams, written as a datagram file.
-ghost use Rattle.std.specs.Prelude.{◌≡◌, ◌+◌, ◌≤◌, ◌++◌, length, flat_map};
+ghost use Rattle.std.specs.Prelude.{◌≡◌, ◌+◌, ◌<◌, ◌≤◌, ◌^◌, ◌++◌, length, flat_map};
 ghost use Rattle.std.specs.Prelude.{IfOk, if◌then◌else◌, is_ok};
 ghost use Rattle.flute_parts.specs.Devices.{Writes};
 ghost use Rattle.std.specs.List.{AllByRecursion};
@@ -32,19 +32,25 @@ pub fn write_datagrams<W: Sink>(datagrams: &[Datagram], sink: &mut W) -> Result<
     sink.write_all(&FILE_HEADER)?;
     let mut place = 0;
     while let Some(datagram) = datagrams.get(place) {
-        write_record(sink, datagram)?;
+        write_record(datagram.as_slice(), sink)?;
         place += 1;
     }
     Ok(count as u64)
 }
 
-fn write_record<W: Sink>(sink: &mut W, datagram: &Datagram) -> Result<(), DeviceFault>
-    ensures valid { IsDatagram datagram.now }
+/// Writes the record of a datagram of these bytes, at most 65,535, as it stands in a datagram file
+/// behind the header and the records before it. It takes no memory of its own.
+///
+/// # Errors
+///
+/// `DeviceFault` if the sink failed. A proper prefix of the record was then written.
+pub fn write_record<W: Sink>(bytes: &[u8], sink: &mut W) -> Result<(), DeviceFault>
+    requires { length bytes.now < 2 ^ 16 }
+    ensures valid { IsDatagram bytes.now }
     ensures bytes { Writes (W.written sink.old) (W.written sink.new)
-        (record_of datagram.now) result }
+        (record_of bytes.now) result }
     ensures failures { W.failures sink.new ≡ W.failures sink.old + (if is_ok result then 0 else 1) }
 {
-    let bytes = datagram.as_slice();
     sink.write_all(&length_field(bytes))?;
     sink.write_all(bytes)
 }

@@ -7,7 +7,8 @@ ghost use Rattle.flute_parts.specs.Ranges.{IsFact};
 ghost use Rattle.flute_parts.specs.declared.fact.Fact.{Fact};
 ghost use Rattle.flute_journal.specs.JournalWriters.{Puts};
 
-use crate::format::{HEADER, HeadBytes, end_of, put_head, symbol_value};
+use crate::format::{END, HEADER, HeadBytes, put_head};
+use arrayvec::ArrayVec;
 use flute_parts::{FactRef, Sink};
 
 /// Writes a journal into a sink, until that fails. What is written after a failure is dropped.
@@ -60,14 +61,19 @@ impl<'a, W: Sink> JournalWriter<'a, W> {
         let mut head = HeadBytes::new();
         put_head(&mut head, &mut self.key, fact);
         self.put(head.as_slice());
-        self.put(symbol_value(fact));
+        if let FactRef::Symbol { bytes, .. } = *fact {
+            self.put(bytes);
+        }
     }
 
     /// Writes the end of a journal of so many entries, which the caller counts.
     pub fn end(&mut self, count: u64)
         ensures { Puts W.written W.failures (end count) self.old self.new }
     {
-        self.put(end_of(count).as_slice());
+        let mut bytes = ArrayVec::<u8, 9>::new();
+        bytes.push(END);
+        let _fits = bytes.try_extend_from_slice(&count.to_be_bytes());
+        self.put(bytes.as_slice());
     }
 
     // Writes bytes, unless the sink has failed.

@@ -54,7 +54,10 @@ impl Lead {
     {
         if self.known {
             return match streams.address(self.number) {
-                Some(_) => Some(LowestValue::first(self.number)),
+                Some(_) => Some(LowestValue {
+                    number: self.number,
+                    conflict: false,
+                }),
                 None => None,
             };
         }

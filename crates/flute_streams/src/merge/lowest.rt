@@ -32,17 +32,6 @@ pub struct LowestValue {
 }
 
 impl LowestValue {
-    /// What the stream with this number holds, which is the first there.
-    #[inline(always)]
-    pub fn first(number: usize) -> LowestValue
-        ensures { result ≡ first_at number }
-    {
-        LowestValue {
-            number,
-            conflict: false,
-        }
-    }
-
     /// The value, with what one stream more holds at that address. `spelled` are the bytes of the
     /// first one's entry, or none. If the bytes of both entries lie in memory, only these are
     /// compared.
@@ -103,11 +92,15 @@ fn with_more<G: Streams>(streams: &G, lowest: Option<LowestValue>, number: usize
         (value_at G.behaviour (G.streams streams.now) result) }
     ensures stands { Stands G.behaviour (G.streams streams.now) result }
 {
+    let first = LowestValue {
+        number,
+        conflict: false,
+    };
     let Some(lowest) = lowest else {
-        return LowestValue::first(number);
+        return first;
     };
     match order_of(streams.address(number), streams.address(lowest.number)) {
-        Ordering::Less => LowestValue::first(number),
+        Ordering::Less => first,
         Ordering::Greater => lowest,
         Ordering::Equal => lowest.joined(streams, streams.spelled(lowest.number), number),
     }

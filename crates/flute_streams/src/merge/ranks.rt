@@ -118,14 +118,17 @@ impl Ranks {
     {
         self.key?;
         let all = streams.count();
-        let rank = lowest_of(&self.lows, all);
+        let rank = lowest_in(&self.lows, 0, (all + BLOCK - 1) / BLOCK);
         // no part has a rank above this
         if rank > 1 << 32 {
             return None;
         }
         let first = self.next_at(0, all, rank)?;
         let spelled = streams.spelled(first);
-        let mut lowest = LowestValue::first(first);
+        let mut lowest = LowestValue {
+            number: first,
+            conflict: false,
+        };
         let mut next = first + 1;
         while let Some(number) = self.next_at(next, all, rank) {
             lowest = lowest.joined(streams, spelled, number);
@@ -175,7 +178,7 @@ impl Ranks {
             }
             next = number + 1;
         }
-        self.lows[block] = lowest_in(&self.ranks, block);
+        self.lows[block] = lowest_in(&self.ranks, BLOCK * block, BLOCK * block + BLOCK);
         if !known {
             self.key = None;
         }
@@ -223,7 +226,7 @@ impl Ranks {
         ensures key { self.new.key ≡ self.old.key }
     {
         if number / BLOCK != block {
-            self.lows[block] = lowest_in(&self.ranks, block);
+            self.lows[block] = lowest_in(&self.ranks, BLOCK * block, BLOCK * block + BLOCK);
         }
         let Some(rank) = rank_of(key, place) else {
             return false;
@@ -239,33 +242,20 @@ fn lows_of(ranks: &[u64; MOST]) -> [u64; BLOCKS]
 {
     let mut lows = [BEHIND; BLOCKS];
     for block in 0..BLOCKS {
-        lows[block] = lowest_in(ranks, block);
+        lows[block] = lowest_in(ranks, BLOCK * block, BLOCK * block + BLOCK);
     }
     lows
 }
 
-// The lowest rank in a block.
+// The lowest rank from this place on, up to another.
 #[inline(always)]
-fn lowest_in(ranks: &[u64; MOST], block: usize) -> u64
-    requires { block < 16 }
-    ensures { (k : ℕ) → k / 8 ≡ block → result ≤ slice_index ranks.now k }
+fn lowest_in(ranks: &[u64], from: usize, to: usize) -> u64
+    requires { to ≤ length ranks.now }
+    ensures { (k : ℕ) → from ≤ k → k < to → result ≤ slice_index ranks.now k }
 {
     let mut lowest = BEHIND;
-    for number in BLOCK * block..BLOCK * block + BLOCK {
-        lowest = lowest.min(ranks[number]);
-    }
-    lowest
-}
-
-// The lowest rank of so many streams.
-#[inline(always)]
-fn lowest_of(lows: &[u64; BLOCKS], all: usize) -> u64
-    requires { all ≤ 128 }
-    ensures { (k : ℕ) → k < all → result ≤ slice_index lows.now (k / 8) }
-{
-    let mut lowest = BEHIND;
-    for block in 0..(all + BLOCK - 1) / BLOCK {
-        lowest = lowest.min(lows[block]);
+    for place in from..to {
+        lowest = lowest.min(ranks[place]);
     }
     lowest
 }

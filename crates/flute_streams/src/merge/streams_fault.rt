@@ -4,7 +4,7 @@ use flute_journal::LoadFault;
 use thiserror::Error;
 
 /// The fault of one of several inputs.
-#[derive(Clone, Copy, Debug, PartialEq, Eq, Error)]
+#[derive(Clone, Copy, Debug, Error)]
 #[error("{number} {fault}")]
 pub struct InputFault {
     /// The number of the input, from 0.

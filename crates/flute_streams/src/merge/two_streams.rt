@@ -26,7 +26,7 @@ use std::alloc::Global;
 use thiserror::Error;
 
 /// Why two journals could not be merged.
-#[derive(Clone, Copy, Debug, PartialEq, Eq, Error)]
+#[derive(Clone, Copy, Debug, Error)]
 pub enum MergeFault {
     /// The first input is no journal, or it could not be read.
     #[error("First {0}")]

@@ -1,6 +1,5 @@
 //! One fact as a stream.
-ghost use Rattle.std.specs.Prelude.{◌≡◌, ◌∷◌, [], ℕ, List};
-ghost use Rattle.flute_journal.specs.HeldEntries.{fact_held};
+ghost use Rattle.std.specs.Prelude.{◌≡◌, ◌∷◌, []};
 ghost use Rattle.flute_store.specs.Walk.{IsSized};
 ghost use Rattle.flute_streams.specs.Streams.{option_list, IsNew};
 ghost use Rattle.flute_streams.specs.FactStreams.{fact_behaviour};
@@ -49,17 +48,11 @@ impl Stream for FactStream {
     }
 
     fn advance(&mut self, _alloc: Global) -> Result<(), LoadFault> {
-        self.held = held_of(self.next.take());
+        let held = match self.next.take() {
+            Some(fact) => HeldEntry::of(fact),
+            None => HeldEntry::Nothing,
+        };
+        self.held = held;
         Ok(())
-    }
-}
-
-// The entry of a fact, if there is one.
-fn held_of(fact: Option<Fact>) -> HeldEntry
-    ensures { (buffer : List ℕ) → fact_held buffer result ≡ fact }
-{
-    match fact {
-        Some(fact) => HeldEntry::of(fact),
-        None => HeldEntry::Nothing,
     }
 }

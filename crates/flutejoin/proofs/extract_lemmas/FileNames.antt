@@ -1,9 +1,12 @@
 -- extract --all: the file name of an object, piece by piece (specs/FileNames).
-use Rattle.std.proofs.Common.{◌≡◌, ℕ, List, ◌++◌, codes, decimal, ap, ◌∙◌}
+use Rattle.std.proofs.Common.{◌≡◌, ℕ, List, ◌++◌, codes, decimal, Some, ap, ◌∙◌}
 use Rattle.std.proofs.Common.{append_assoc}
 use Rattle.std.specs.Int.{bytes_high_first}
 use Rattle.hex.specs.Hex.{encode_lower}
+use Rattle.flute_parts.specs.ObjectName.{instance_of}
 use Rattle.flute_parts.specs.declared.key.Key.{Key}
+use Rattle.flute_parts.specs.declared.object_key.ObjectName.{ObjectName}
+use Rattle.flute_parts.specs.declared.object_key.ObjectName.TheVariants.{File, Instance}
 use Rattle.flutejoin.specs.FileNames.{file_name, object_name}
 
 four : (d a b e n : List ℕ) → (((d ++ a) ++ b) ++ e) ++ n ≡ d ++ (a ++ (b ++ (e ++ n)))
@@ -24,3 +27,9 @@ name_pieces key {digits = digits} {tsi = tsi} d s e1 e2 e3 e4 e5 =
     ∙ ap (λ x. x ++ (codes "-" ++ (decimal tsi ++ (codes "-" ++ object_name key.object)))) d
     ∙ ap (λ x. encode_lower (bytes_high_first 16 key.session.sender) ++
     (codes "-" ++ (decimal x ++ (codes "-" ++ object_name key.object)))) s
+
+-- the words of an FDT Instance
+pub instance_name : (name : ObjectName) {i : ℕ} → instance_of name ≡ Some i
+    → object_name name ≡ codes "fdt" ++ decimal i
+instance_name (Instance n) e = ap (λ x. codes "fdt" ++ decimal x) cc
+instance_name (File t) e = absurd cc

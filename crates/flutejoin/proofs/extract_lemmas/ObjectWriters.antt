@@ -12,12 +12,13 @@ use Rattle.std.proofs.lemmas.List.{length-append, take-append-drop}
 use Rattle.std.proofs.lemmas.List.Elements.{Contains-append_left}
 use Rattle.flute_parts.specs.Addresses.{address, info_address, symbol_address}
 use Rattle.flute_parts.specs.Facts.{IsRising}
-use Rattle.flute_parts.specs.Information.{IsValid}
+use Rattle.flute_parts.specs.Information.{Information, IsValid}
 use Rattle.flute_parts.specs.declared.address.Address.{Address}
 use Rattle.flute_parts.specs.declared.fact.Fact.{Fact}
 use Rattle.flute_parts.specs.declared.fact.Fact.TheVariants.{Info}
 use Rattle.flute_parts.specs.declared.key.Key.{Key}
 use Rattle.flute_parts.specs.declared.symbol_id.SymbolId.{SymbolId}
+use Rattle.flute_parts.specs.Partition.{ids}
 use Rattle.flute_parts.proofs.Public.{rising_tells}
 use Rattle.flute_store.specs.Extract.{IsNotWhole, WritesWhole}
 use Rattle.flute_store.specs.Objects.{Whole, object}
@@ -26,18 +27,19 @@ use Rattle.flute_store.specs.declared.gap.Gap.{Gap}
 use Rattle.flute_store.specs.declared.turn.Turn.{Turn}
 use Rattle.flute_store.specs.declared.turn.Turn.TheVariants as turns
 use Rattle.flute_store.specs.Scan.{Scanned, Turned, next_fact, value_of, IsFirstPart, Follows}
-use Rattle.flute_store.specs.Scan.{CanCome, coming_fact, PassedNext, PartOf, GaveAll}
+use Rattle.flute_store.specs.Scan.{CanCome, coming_fact, PassedNext, PartOf, GaveAll, at_begin}
 use Rattle.flute_store.specs.Scans.{Scans}
 use Rattle.flute_journal.specs.JournalWriters.{Written, PutsBytes}
 use Rattle.flute_journal.proofs.Public.{all_more, written-more}
 use Rattle.flutejoin.specs.Extract.{HoldsFirst}
 use Rattle.flutejoin.specs.ObjectWriters.{Settled, IsOther, WroteFirst, Scanning, HasFound}
-use Rattle.flutejoin.specs.ObjectWriters.{EndsScan, WritesNothing}
+use Rattle.flutejoin.specs.ObjectWriters.{EndsScan, WritesNothing, NoneWritten, information_fact}
 use Rattle.flutejoin.specs.declared.extract.object_writer.WholeSoFar.{WholeSoFar}
 use Rattle.flutejoin.specs.declared.extract.object_writer.Found.{Found}
 use Rattle.flutejoin.specs.declared.extract.object_writer.Found.TheVariants as found
 use Rattle.flutejoin.proofs.extract_lemmas.ObjectFacts.{rising-back, here, settled-more, together}
 use Rattle.flutejoin.proofs.extract_lemmas.ObjectFacts.{information-once}
+use Rattle.flutejoin.proofs.gaps_lemmas.ObjectsListed.{in_nothing}
 
 pub take-append : (n : ℕ) (xs ys : List ℕ) → take n (xs ++ ys) ≡ take n xs ++ take (n - length xs)
     ys
@@ -366,6 +368,48 @@ wanted-turn s t n turn (inr e) h = absurd (subst (λ x. Turned s (Some n) x t) e
 pub record IsInformation (P : List Fact) (f : Fact) (key : Key) : Type 0 where
   pub at : address f ≡ info_address key
   pub rising : IsRising (P ++ f ∷ [])
+
+-- so is a fact of its information
+pub of_information : {P : List Fact} {key : Key} (info : Option Information)
+    → IsRising (P ++ information_fact key info ∷ [])
+    → IsInformation P (information_fact key info) key
+of_information (Some info) r = record { at = refl; rising = r }
+of_information None r = record { at = refl; rising = r }
+
+-- the object may be whole, of which its information came
+pub whole-begins : (P : List Fact) {key : Key} {failed : Bool} {start now : Option (List ℕ)}
+    {info : Information} (part : WholeSoFar) → NoneWritten failed start now
+    → Scans part.scan (at_begin key info) → IsValid info → part.size ≡ info.transfer_length
+    → part.left ≡ info.transfer_length
+    → Scanning (P ++ Info key info ∷ []) key failed start now part
+whole-begins P {key = key} {start = start} {now = now} {info = info} part none scans valid size
+    left = record {
+      scanned = at_begin key info;
+      scans = scans;
+      free = refl;
+      part = λ F before rest all r. record {
+        first = [];
+        others = ids info;
+        all = refl;
+        held = λ id some. absurd (in_nothing id some);
+        values = refl;
+      };
+      of_key = refl;
+      valid = valid;
+      symbols = [];
+      begins = refl;
+      before = P;
+      after = [];
+      all = refl;
+      others = tt;
+      bytes = [];
+      values = refl;
+      size = size;
+      left = omega (arith, size, left);
+      written = subst (λ b. Written b start now (take part.size [])) (sym none.good)
+          (subst (λ w. Appends start w (take part.size [])) (sym none.same)
+          (subst (Appends start start) (sym (take-nil part.size)) (Appends-nil start)));
+    }
 
 -- its information is read at most once
 pub information-passes : {P : List Fact} {f : Fact} {key : Key} (failed : Bool)

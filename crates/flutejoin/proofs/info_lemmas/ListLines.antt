@@ -4,7 +4,7 @@ use Rattle.std.proofs.Common.{Option, Some, None, Bool, true, false, List, [], �
 use Rattle.std.proofs.Common.{codes, decimal, take, drop, get_or, add-one, drop-cons, Result, Ok}
 use Rattle.std.proofs.Common.{Err, inr, refl, sym, ap, subst, ◌∙◌, arith, append_assoc, append-nil}
 use Rattle.std.proofs.Common.{length-append}
-use Rattle.std.specs.Prelude.{IfSome, IfOk, IfErr, ◌⊎◌}
+use Rattle.std.specs.Prelude.{IfSome, IfErr, ◌⊎◌}
 use Rattle.std.specs.Io.KnownBytes.{Consumes, IsAtEnd}
 use Rattle.std.specs.List.{flat_map}
 use Rattle.std.proofs.KnownBytes.{Consumes-trans}
@@ -453,18 +453,6 @@ pub too_many : {most : Limits} (bytes piece more : List ℕ) (number : ℕ) → 
 too_many bytes piece more number many = too_long number refl
     (omega (arith, length-append bytes (piece ++ more), length-append piece more))
 
-pub ends_told : {s o y : ℕ} (u v : Option (List ℕ)) (r : Result (List Fact) CommandFault)
-    {list : InformationList s o y} {bytes : List ℕ} → Consumes u v bytes → IsAtEnd v
-    → HoldsList list bytes
-    → IfOk r (λ shelf. (all : List ℕ) → HoldsList list all
-    → (facts : List Fact) × ListTells all facts × Same shelf facts)
-    → IfOk r (λ shelf. IfSome u (λ all.
-    (facts : List Fact) × ListTells all facts × Same shelf facts))
-ends_told u v (Ok shelf) {bytes = bytes} read end holds h =
-    at_end u v bytes (λ all. (facts : List Fact) × ListTells all facts × Same shelf facts)
-    read end (h bytes holds)
-ends_told u v (Err fault) read end holds h = tt
-
 pub ends_failed : {s o y : ℕ} (most : Limits) (u v : Option (List ℕ))
     (r : Result (List Fact) CommandFault) {list : InformationList s o y} {bytes : List ℕ}
     → Consumes u v bytes → IsAtEnd v → HoldsList list bytes
@@ -491,14 +479,6 @@ quiet_fails {most} old new bytes fault h same = go h
     go (over e x) = subst P (sym e) same
     go (no_memory e) = subst P (sym e) same
 
-pub ends_quiet : {s o y : ℕ} (most : Limits) {old new : ℕ} (r : Result (List Fact) CommandFault)
-    {list : InformationList s o y} {bytes : List ℕ} → new ≡ old → HoldsList list bytes
-    → IfErr r (λ fault. (all : List ℕ) → HoldsList list all → ListFails most all fault)
-    → FailsToRead old new r
-ends_quiet most (Ok shelf) same holds h = same
-ends_quiet most {old = old} {new = new} (Err fault) {bytes = bytes} same holds h =
-    quiet_fails old new bytes fault (h bytes holds) same
-
 -- Only the second input is reported.
 
 pub names_fails : {most : Limits} (bytes : List ℕ) (fault : CommandFault)
@@ -510,11 +490,3 @@ names_fails bytes fault (too_long number e x) = subst (NamesOnly 2) (sym e) tt
 names_fails bytes fault (invalid number why e x) = subst (NamesOnly 2) (sym e) tt
 names_fails bytes fault (over e x) = subst (NamesOnly 2) (sym e) tt
 names_fails bytes fault (no_memory e) = subst (NamesOnly 2) (sym e) tt
-
-pub ends_names : {s o y : ℕ} (most : Limits) (r : Result (List Fact) CommandFault)
-    (list : InformationList s o y)
-    (bytes : List ℕ) → HoldsList list bytes
-    → IfErr r (λ fault. (all : List ℕ) → HoldsList list all → ListFails most all fault)
-    → IfErr r (NamesOnly 2)
-ends_names most (Ok shelf) list bytes holds h = tt
-ends_names most (Err fault) list bytes holds h = names_fails bytes fault (h bytes holds)

@@ -1,12 +1,12 @@
 //! An object that is sent symbol after symbol, as its content is read.
-ghost use Rattle.std.specs.Prelude.{◌≡◌, ◌+◌, ◌*◌, ◌<◌, ◌^◌, length, take, drop, min, max};
+ghost use Rattle.std.specs.Prelude.{◌≡◌, ◌+◌, ◌<◌, ◌^◌, length, take, drop, min, max};
 ghost use Rattle.std.specs.Prelude.{Some, OnOk, IfErr, if◌then◌else◌, is_ok};
 ghost use Rattle.std.specs.Io.KnownBytes.{Consumes};
 ghost use Rattle.std.specs.Option.{option_map};
 ghost use Rattle.flute_parts.specs.Devices.{Writes, times_failed};
 ghost use Rattle.flute_wire.specs.Carousel.{packets_of};
 ghost use Rattle.flute_wire.specs.Outgoing.{said};
-ghost use Rattle.flute_journal.specs.Records.{IsDatagram, record_of};
+ghost use Rattle.flute_journal.specs.Records.{IsDatagram};
 ghost use Rattle.flutejoin.specs.Extract.{SinkFails};
 ghost use Rattle.flutejoin.specs.Sending.{ReadsOf, UnlessRead, OfSize, IsReadFault, IsPacketFault};
 ghost use Rattle.flutejoin.specs.Sending.{Makes, symbol_with, packet_with, IsNextFault};
@@ -17,13 +17,10 @@ ghost use Rattle.flutejoin.specs.Sending.{GrowsOn, record_at};
 ghost use Rattle.flutejoin.specs.declared.command_fault.CommandFault.TheVariants.{OutOfMemory};
 
 use crate::command_fault::CommandFault;
-use flute_journal::{ReadFault, fill};
+use flute_journal::{FILE_HEADER, ReadFault, fill, write_record};
 use flute_parts::{DeviceFault, Info, Key, Partition, Sink, Source, SymbolId};
 use flute_wire::{Datagram, Outgoing, WriteFault, write};
 use std::alloc::Global;
-
-/// The bytes that begin a datagram file.
-const FILE_HEADER: [u8; 6] = *b"FLDG\x00\x01";
 
 /// The most bytes of a symbol, as 16 bits count them.
 const MAX_SYMBOL: usize = 65_535;
@@ -191,14 +188,4 @@ fn write_at<W: Sink>(place: u64, bytes: &[u8], sink: &mut W) -> Result<(), Devic
     }
     sink.write_all(&FILE_HEADER)?;
     write_record(bytes, sink)
-}
-
-fn write_record<W: Sink>(bytes: &[u8], sink: &mut W) -> Result<(), DeviceFault>
-    requires { length bytes.now < 2 ^ 16 }
-    ensures bytes { Writes (W.written sink.old) (W.written sink.new) (record_of bytes.now) result }
-    ensures failures { W.failures sink.new ≡ W.failures sink.old
-        + (if is_ok result then 0 else 1) }
-{
-    sink.write_all(&(bytes.len() as u16).to_be_bytes())?;
-    sink.write_all(bytes)
 }

@@ -53,7 +53,10 @@ pub fn extract_all_to<
     ensures failures { D.failures folder.new + W.failures lines.new
         ≡ D.failures folder.old + W.failures lines.old + write_failures result }
 {
-    let mut files = ObjectFiles::new();
+    let mut files = ObjectFiles {
+        written: 0,
+        last: None,
+    };
     let mut tally = Tally::<SESSIONS, OBJECTS, SYMBOLS>::new();
     let mut reader = JournalReader::new(source, MAX_ENTRIES);
     let mut spare = Vec::new(alloc);

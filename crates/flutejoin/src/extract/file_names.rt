@@ -1,10 +1,10 @@
 //! The name of an object as a file.
-ghost use Rattle.std.specs.Prelude.{◌≡◌, ◌+◌, ◌≤◌, ◌++◌, length};
+ghost use Rattle.std.specs.Prelude.{◌≡◌, ◌≤◌, length};
 ghost use Rattle.flute_parts.specs.declared.key.Key.{Key as Name};
-ghost use Rattle.flutejoin.specs.FileNames.{file_name, object_name, IsKey};
+ghost use Rattle.flutejoin.specs.FileNames.{file_name, IsKey};
 
 use crate::lines::text::Text;
-use flute_parts::{Key, ObjectKey};
+use flute_parts::Key;
 
 /// The name of an object as a file: 32 digits of the sender's address, the TSI, and the TOI or
 /// `fdt` and an FDT Instance's ID, with `-` between them.
@@ -20,7 +20,13 @@ pub fn file_name(key: &Key) -> Text
     text.push("-");
     text.push_number(key.session.tsi());
     text.push("-");
-    push_name(&mut text, &key.object);
+    match key.object.instance() {
+        Some(instance) => {
+            text.push("fdt");
+            text.push_number(instance);
+        }
+        None => text.push_number(key.object.toi()),
+    }
     text
 }
 
@@ -28,17 +34,3 @@ pub fn file_name(key: &Key) -> Text
 pub fn different_objects_have_different_names()
     ensures { (a b : Name) → IsKey a → IsKey b → file_name a ≡ file_name b → a ≡ b }
 {}
-
-fn push_name(text: &mut Text, object: &ObjectKey)
-    requires { length text.old + 60 ≤ 512 }
-    ensures text { text.new ≡ text.old ++ object_name object.now }
-    ensures len { length text.new ≤ length text.old + 60 }
-{
-    match object.instance() {
-        Some(instance) => {
-            text.push("fdt");
-            text.push_number(instance);
-        }
-        None => text.push_number(object.toi()),
-    }
-}

@@ -12,7 +12,6 @@ ghost use Rattle.flute_store.specs.Scans.{Scans};
 ghost use Rattle.flutejoin.specs.Listing.{Passes};
 ghost use Rattle.flutejoin.specs.ObjectFiles.{PassedAs, ScansInto, CanPass, HasPassed, Ends};
 
-use crate::extract::up_to;
 use flute_output::NewFolder;
 use flute_parts::{DeviceFault, SymbolId};
 use flute_store::{ObjectScan, Status, Turn};
@@ -72,7 +71,7 @@ impl FileScan {
         }
         match (passed, value) {
             (Passed::Fitting, Some(bytes)) => {
-                let first = up_to(bytes, self.left);
+                let first = &bytes[..self.left.min(bytes.len() as u64) as usize];
                 self.left -= first.len() as u64;
                 folder.put(first)
             }

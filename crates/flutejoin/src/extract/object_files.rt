@@ -1,16 +1,16 @@
 //! Whole objects as files, written as their facts come in the order of their addresses.
 ghost use Rattle.std.specs.Prelude.{◌≡◌, ◌+◌, ◌<◌, ◌≤◌, ◌^◌, ◌∷◌};
-ghost use Rattle.std.specs.Prelude.{◌++◌, [], List, ℕ, Some, None, IfSome, OnOk, IfOk};
+ghost use Rattle.std.specs.Prelude.{◌++◌, [], List, ℕ, Some, None, OnOk, IfOk};
 ghost use Rattle.std.specs.Prelude.{Option, if◌then◌else◌, is_ok};
 ghost use Rattle.flute_parts.specs.declared.fact.Fact.{Fact as Known};
 ghost use Rattle.flute_parts.specs.declared.fact.Fact.TheVariants.{Info as InfoFact};
 ghost use Rattle.flute_parts.specs.declared.key.Key.{Key as Name};
 ghost use Rattle.flute_parts.specs.Addresses.{address};
 ghost use Rattle.flute_parts.specs.Facts.{IsRising};
-ghost use Rattle.flute_output.specs.NewFolders.{NamedFile, Places, LeadsTo, FolderStays, IsReady};
+ghost use Rattle.flute_output.specs.NewFolders.{NamedFile, Places, LeadsTo, FolderStays};
 ghost use Rattle.flute_store.specs.Scan.{next_fact};
 ghost use Rattle.flutejoin.specs.Listing.{IsFirstOf};
-ghost use Rattle.flutejoin.specs.ObjectFiles.{Takes, TakesAll, Knows, KnowsSome, CanAdd};
+ghost use Rattle.flutejoin.specs.ObjectFiles.{Takes, TakesAll, KnowsSome, CanAdd};
 ghost use Rattle.flutejoin.specs.ObjectFiles.{HasPassedAt, StandsInto, FileStateIs, Ends};
 ghost use Rattle.flute_store.specs.Held.{HoldsObject};
 
@@ -40,19 +40,6 @@ pub struct ObjectFile {
 }
 
 impl ObjectFiles {
-    /// No file yet.
-    pub fn new() -> ObjectFiles
-        ensures none { Knows [] result }
-        ensures few { result.written ≡ 0 }
-        ensures taken { (p : Option Places) (w : Option (List ℕ)) → IfSome p IsReady
-            → Takes [] result p p w w }
-    {
-        ObjectFiles {
-            written: 0,
-            last: None,
-        }
-    }
-
     /// Takes the next fact, which is after those that came before.
     ///
     /// # Errors

@@ -1,20 +1,17 @@
 //! An object that is written as what is known of it passes, in the order of a journal.
-ghost use Rattle.std.specs.Prelude.{◌≡◌, ◌+◌, ◌-◌, ℕ, false, List, []};
-ghost use Rattle.std.specs.Prelude.{◌∷◌, ◌++◌, length, take, Option, IfErr};
+ghost use Rattle.std.specs.Prelude.{◌≡◌, ◌+◌, ℕ, false, List, []};
+ghost use Rattle.std.specs.Prelude.{◌∷◌, ◌++◌, Option, IfErr};
 ghost use Rattle.flute_parts.specs.Addresses.{address};
 ghost use Rattle.flute_parts.specs.Facts.{IsRising};
 ghost use Rattle.flute_parts.specs.declared.fact.Fact.{Fact as Known};
-ghost use Rattle.flute_parts.specs.declared.fact.Fact.TheVariants.{Info as InfoFact, InfoConflict};
 ghost use Rattle.flute_parts.specs.declared.key.Key.{Key as Name};
-ghost use Rattle.flute_journal.specs.JournalWriters.{PutsBytes};
 ghost use Rattle.flute_parts.specs.Devices.{times_failed};
 ghost use Rattle.flute_store.specs.Scan.{next_fact};
 ghost use Rattle.flutejoin.specs.Extract.{Extracts};
 ghost use Rattle.flutejoin.specs.ObjectWriters.{WritesNothing, Stands, Scanning, ScansOn};
-ghost use Rattle.flutejoin.specs.ObjectWriters.{TellsUntouched, FailedBy};
+ghost use Rattle.flutejoin.specs.ObjectWriters.{TellsUntouched, FailedBy, information_fact};
 
 use crate::command_fault::CommandFault;
-use crate::extract::up_to;
 use flute_parts::{Fact, Info, Key, Sink, SymbolId};
 use flute_store::{ObjectScan, Turn};
 
@@ -81,46 +78,34 @@ impl ObjectWriter {
     {
         if fact.address().key == self.key {
             match fact {
-                Fact::Info { info, .. } => self.information(info),
-                Fact::InfoConflict { .. } => self.conflict(),
+                Fact::Info { info, .. } => self.information(Some(*info)),
+                Fact::InfoConflict { .. } => self.information(None),
                 Fact::Symbol { id, bytes, .. } => self.symbol(*id, Some(bytes.as_slice()), sink),
                 Fact::SymbolConflict { id, .. } => self.symbol(*id, None, sink),
             }
         }
     }
 
-    // Takes its information.
+    // Takes its information, or None if that has two values.
     #[inline(never)]
-    fn information(&mut self, info: &Info)
+    fn information(&mut self, info: Option<Info>)
         ensures passed { (P : List Known) (start now : Option (List ℕ))
-            → IsRising (P ++ InfoFact self.old.key info.now ∷ [])
+            → IsRising (P ++ information_fact self.old.key info ∷ [])
             → Stands P self.old start now
-            → Stands (P ++ InfoFact self.old.key info.now ∷ []) self.new start now }
+            → Stands (P ++ information_fact self.old.key info ∷ []) self.new start now }
         ensures key { self.new.key ≡ self.old.key }
         ensures untouched { WritesNothing self.new.found → WritesNothing self.old.found }
         ensures failed { self.new.failed ≡ self.old.failed }
     {
         if let Found::Nothing = self.found {
-            self.found = Found::Whole(WholeSoFar {
-                scan: ObjectScan::new(self.key, info),
-                size: info.length(),
-                left: info.length(),
-            });
-        }
-    }
-
-    // Takes that its information has two values.
-    #[inline(never)]
-    fn conflict(&mut self)
-        ensures passed { (P : List Known) (start now : Option (List ℕ))
-            → IsRising (P ++ InfoConflict self.old.key ∷ []) → Stands P self.old start now
-            → Stands (P ++ InfoConflict self.old.key ∷ []) self.new start now }
-        ensures key { self.new.key ≡ self.old.key }
-        ensures untouched { WritesNothing self.new.found → WritesNothing self.old.found }
-        ensures failed { self.new.failed ≡ self.old.failed }
-    {
-        if let Found::Nothing = self.found {
-            self.found = Found::Conflict;
+            self.found = match info {
+                Some(info) => Found::Whole(WholeSoFar {
+                    scan: ObjectScan::new(self.key, &info),
+                    size: info.length(),
+                    left: info.length(),
+                }),
+                None => Found::Conflict,
+            };
         }
     }
 
@@ -183,8 +168,9 @@ impl ObjectWriter {
 }
 
 impl WholeSoFar {
-    // Takes the next symbol, and writes it if it is the next of the partition. The first symbol
-    // that is not held as one fitting value, if that is known now.
+    // Takes the next symbol. If it is the next of the partition, it is written, as far as it is of
+    // the object, unless the sink has failed. The first symbol that is not held as one fitting
+    // value, if that is known now.
     #[inline(always)]
     fn symbol<W: Sink>(
         &mut self,
@@ -204,7 +190,11 @@ impl WholeSoFar {
         match self.scan.next(Some((id, value))) {
             Turn::Fitting => {
                 if let Some(bytes) = value {
-                    write_first(bytes, &mut self.left, failed, sink);
+                    let first = &bytes[..self.left.min(bytes.len() as u64) as usize];
+                    self.left -= first.len() as u64;
+                    if !*failed {
+                        *failed = sink.write_all(first).is_err();
+                    }
                 }
                 None
             }
@@ -215,22 +205,5 @@ impl WholeSoFar {
             }),
             Turn::Wanted | Turn::End => Some(id),
         }
-    }
-}
-
-// Writes the first `left` of the bytes, or all of them if there are no more, unless the sink has
-// failed.
-#[inline(always)]
-fn write_first<W: Sink>(bytes: &[u8], left: &mut u64, failed: &mut bool, sink: &mut W)
-    ensures written { PutsBytes failed.old failed.new (W.written sink.old) (W.written sink.new)
-        (take left.old bytes.now) }
-    ensures left { left.new ≡ left.old - length bytes.now }
-    ensures failures { W.failures sink.new + times_failed failed.old
-        ≡ W.failures sink.old + times_failed failed.new }
-{
-    let first = up_to(bytes, *left);
-    *left -= first.len() as u64;
-    if !*failed {
-        *failed = sink.write_all(first).is_err();
     }
 }

@@ -4,7 +4,7 @@ ghost use Rattle.std.specs.Prelude.{None};
 ghost use Rattle.std.specs.Prelude.{if◌then◌else◌, is_ok};
 ghost use Rattle.std.specs.List.{flat_map};
 ghost use Rattle.std.specs.Io.KnownBytes.{Appends};
-ghost use Rattle.flutejoin.specs.Listing.{AreClosed, AreFew, ArePut, AreSummed, AreSummedUp};
+ghost use Rattle.flutejoin.specs.Listing.{AreClosed, AreFew, ArePut};
 ghost use Rattle.flutejoin.specs.Listing.{CanClose, Knows, last_line};
 ghost use Rattle.flutejoin.specs.Styles.{HasNoStray, shown_gap};
 ghost use Rattle.flutejoin.specs.Told.{Told};
@@ -13,8 +13,8 @@ use crate::aside::Aside;
 use crate::gaps::held_lines::status_text;
 use crate::gaps::session_sums::SessionSums;
 use crate::lines::report_lines::write_words;
-use crate::lines::style::{Style, is_whole};
-use flute_parts::{DeviceFault, Key, SessionKey};
+use crate::lines::style::Style;
+use flute_parts::{DeviceFault, Key};
 use flute_store::Status;
 
 /// What is remembered of the objects of which all facts came. Their lines were put aside.
@@ -54,42 +54,22 @@ impl ClosedObjects {
         if !style.tells(status) {
             return Ok(());
         }
-        self.all_whole &= is_whole(status);
-        if style.summary {
-            sum_up(&mut self.sums, key.session, status, lines)
-        } else {
-            write_words(lines, status_text(key, status))
+        self.all_whole &= matches!(status, Status::Whole { .. });
+        if !style.summary {
+            return write_words(lines, status_text(key, status));
         }
-    }
-}
-
-// Adds an object to the sums of its session. Those of the session before are put aside.
-fn sum_up<A: Aside>(
-    sums: &mut Option<SessionSums>,
-    session: SessionKey,
-    status: Status,
-    lines: &mut A,
-) -> Result<(), DeviceFault>
-    requires { CanClose sums.old }
-    ensures summed { (known : Bool) (objects : List Told) (bytes : List ℕ) (t : Told)
-        → t.key.session ≡ session → t.status ≡ status → AreSummed objects bytes sums.old
-        → Knows known (A.written lines.old) bytes
-        → OnOk result (AreSummedUp known (objects ++ t ∷ []) (A.written lines.new) sums.new) }
-    ensures few { (n : ℕ) → AreFew n sums.old → OnOk result (AreFew (n + 1) sums.new) }
-    ensures failures { A.failures lines.new
-        ≡ A.failures lines.old + (if is_ok result then 0 else 1) }
-{
-    match sums {
-        Some(last) if last.session == session => {
-            last.add(status);
-            Ok(())
-        }
-        _ => {
-            end_session(sums, lines)?;
-            let mut next = SessionSums::new(session);
-            next.add(status);
-            *sums = Some(next);
-            Ok(())
+        match &mut self.sums {
+            Some(last) if last.session == key.session => {
+                last.add(status);
+                Ok(())
+            }
+            _ => {
+                end_session(&self.sums, lines)?;
+                let mut next = SessionSums::new(key.session);
+                next.add(status);
+                self.sums = Some(next);
+                Ok(())
+            }
         }
     }
 }

@@ -1,5 +1,5 @@
 //! How much is held of the objects of a session together.
-ghost use Rattle.std.specs.Prelude.{◌≡◌, ◌≤◌, ◌+◌, ◌++◌, length, decimal, ℕ};
+ghost use Rattle.std.specs.Prelude.{◌≡◌, ◌≤◌, ◌+◌, length, ℕ};
 ghost use Rattle.flutejoin.specs.Lines.{line};
 ghost use Rattle.flutejoin.specs.Sums.{AddsObject, AreWithin, CanAddObject, IsNone, sums_line};
 
@@ -79,23 +79,20 @@ impl SessionSums {
         push_source(&mut text, self.session.sender());
         text.push("session ");
         text.push_number(self.session.tsi());
-        push_sum(&mut text, " objects ", self.objects);
-        push_sum(&mut text, " whole ", self.whole);
-        push_sum(&mut text, " partial ", self.partial);
-        push_sum(&mut text, " missing ", self.missing);
-        push_sum(&mut text, " conflicting ", self.conflicting);
-        push_sum(&mut text, " misfit ", self.misfit);
-        push_sum(&mut text, " unknown ", self.unknown);
+        text.push(" objects ");
+        text.push_number(self.objects);
+        text.push(" whole ");
+        text.push_number(self.whole);
+        text.push(" partial ");
+        text.push_number(self.partial);
+        text.push(" missing ");
+        text.push_number(self.missing);
+        text.push(" conflicting ");
+        text.push_number(self.conflicting);
+        text.push(" misfit ");
+        text.push_number(self.misfit);
+        text.push(" unknown ");
+        text.push_number(self.unknown);
         text
     }
-}
-
-// Appends a word and a sum.
-fn push_sum(text: &mut Text, word: &str, sum: u128)
-    requires { (length text.old + 60 ≤ 512) × (length word.now ≤ 20) }
-    ensures text { text.new ≡ text.old ++ (word.now ++ decimal sum) }
-    ensures len { length text.new ≤ length text.old + 60 }
-{
-    text.push(word);
-    text.push_number(sum);
 }

@@ -1,13 +1,9 @@
 //! The command `info --list`: information of many objects.
-ghost use Rattle.std.specs.Prelude.{◌≡◌, ◌+◌, List, OnOk, IfOk, IfErr};
-ghost use Rattle.flute_parts.specs.Facts.{Same};
-ghost use Rattle.flute_parts.specs.declared.fact.Fact.{Fact as FactValue};
+ghost use Rattle.std.specs.Prelude.{◌≡◌, ◌+◌, OnOk, IfOk, IfErr};
 ghost use Rattle.flute_streams.specs.StreamMerges.{AppendsNoJournal};
 ghost use Rattle.flute_journal.specs.declared.fault.ReadFault.TheVariants.{Read};
-ghost use Rattle.flutejoin.specs.Info.{AddsFacts, InfoFails};
 ghost use Rattle.flutejoin.specs.InfoLists.{AddsList, AddListFails};
 ghost use Rattle.flutejoin.specs.Limits.{IsCountable, at_most};
-ghost use Rattle.flutejoin.specs.Show.{FailsToRead};
 ghost use Rattle.flutejoin.specs.declared.command_fault.CommandFault.TheVariants.{CannotWrite};
 ghost use Rattle.flutejoin.specs.declared.command_fault.CommandFault.TheVariants.{Input};
 
@@ -61,29 +57,7 @@ pub fn info_list_to<
         (λ fault. fault ≡ CannotWrite → W.failures sink.new ≡ W.failures sink.old + 1) }
 {
     let told: Store<SESSIONS, OBJECTS, SYMBOLS> = read_list(alloc, list)?;
-    add_store(alloc, source, &told, sink)
-}
-
-// Adds what a store holds to a journal.
-fn add_store<const SESSIONS: u32, const OBJECTS: u32, const SYMBOLS: u32, R: Source, W: Sink>(
-    alloc: Global,
-    source: &mut R,
-    store: &Store<SESSIONS, OBJECTS, SYMBOLS>,
-    sink: &mut W,
-) -> Result<u64, CommandFault>
-    requires countable { IsCountable SESSIONS OBJECTS SYMBOLS }
-    ensures added { (told : List FactValue) → Same store.now told → IfOk result
-        (AddsFacts (R.unread source.old) told (W.written sink.old) (W.written sink.new)) }
-    ensures failed { (told : List FactValue) → Same store.now told → IfErr result
-        (InfoFails (at_most SESSIONS OBJECTS SYMBOLS) (R.unread source.old) told) }
-    ensures short { IfErr result
-        (λ _. AppendsNoJournal (W.written sink.old) (W.written sink.new)) }
-    ensures failures { FailsToRead (R.failures source.old) (R.failures source.new) result }
-    ensures sink_failures { OnOk result (W.failures sink.new ≡ W.failures sink.old) }
-    ensures write_failed { IfErr result
-        (λ fault. fault ≡ CannotWrite → W.failures sink.new ≡ W.failures sink.old + 1) }
-{
     let mut journal = JournalReader::new(source, MAX_ENTRIES);
-    let mut facts = WalkStream::new(store.walk());
+    let mut facts = WalkStream::new(told.walk());
     add_facts::<SESSIONS, OBJECTS, SYMBOLS, _, _, _>(alloc, &mut journal, &mut facts, sink)
 }

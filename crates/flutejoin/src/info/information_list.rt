@@ -1,5 +1,5 @@
 //! A list of information: a text of lines, each with that of an object.
-ghost use Rattle.std.specs.Prelude.{◌≡◌, ◌↔◌, ◌≤◌, ◌<◌, ◌+◌, ◌^◌, ◌⊎◌, true, List, ℕ, [], ◌∷◌, ◌++◌};
+ghost use Rattle.std.specs.Prelude.{◌≡◌, ◌↔◌, ◌≤◌, ◌<◌, ◌+◌, ◌^◌, ◌⊎◌, true, List, ℕ, ◌++◌};
 ghost use Rattle.std.specs.Prelude.{length, OnOk, IfOk, IfErr, IfSome};
 ghost use Rattle.flute_parts.specs.Facts.{Same};
 ghost use Rattle.flute_parts.specs.declared.fact.Fact.{Fact as FactValue};
@@ -43,18 +43,6 @@ impl<const SESSIONS: u32, const OBJECTS: u32, const SYMBOLS: u32> InformationLis
     OBJECTS,
     SYMBOLS,
 > {
-    // A list of which nothing was read.
-    fn new(alloc: Global) -> Self
-        ensures holds { HoldsList result [] }
-        ensures number { result.number ≡ 1 }
-    {
-        InformationList {
-            told: Store::new(alloc),
-            line: Text::new(),
-            number: 1,
-        }
-    }
-
     // Takes the fact of the line, of which all was read.
     fn take_line(&mut self, alloc: Global) -> Result<(), CommandFault>
         ensures line { self.new.line ≡ self.old.line }
@@ -77,27 +65,11 @@ impl<const SESSIONS: u32, const OBJECTS: u32, const SYMBOLS: u32> InformationLis
             Ok(info) => info,
             Err(fault) => return Err(CommandFault::ListInformation(self.number, fault)),
         };
-        match self.told.put(alloc, Fact::Info { key, info }) {
+        match self.told.add(alloc, &Fact::Info { key, info }) {
             Ok(()) => Ok(()),
             Err(JoinRefusal::Full) => Err(CommandFault::Full),
             Err(JoinRefusal::OutOfMemory) => Err(CommandFault::OutOfMemory),
         }
-    }
-
-    // Ends the line.
-    fn end_line(&mut self, alloc: Global) -> Result<(), CommandFault>
-        requires number { self.old.number + 1 < 2 ^ 64 }
-        ensures number { OnOk result (self.new.number ≡ self.old.number + 1) }
-        ensures taken { OnOk result ((bytes : List ℕ) → HoldsList self.old bytes
-            → HoldsList self.new (bytes ++ 10 ∷ [])) }
-        ensures failed { IfErr result (λ fault. (bytes more : List ℕ)
-            → HoldsList self.old bytes
-            → ListFails (at_most SESSIONS OBJECTS SYMBOLS) (bytes ++ 10 ∷ more) fault) }
-    {
-        self.take_line(alloc)?;
-        self.line = Text::new();
-        self.number += 1;
-        Ok(())
     }
 
     // Takes the next bytes of the list.
@@ -112,26 +84,14 @@ impl<const SESSIONS: u32, const OBJECTS: u32, const SYMBOLS: u32> InformationLis
     {
         for byte in piece {
             if *byte == b'\n' {
-                self.end_line(alloc)?;
+                self.take_line(alloc)?;
+                self.line = Text::new();
+                self.number += 1;
             } else if self.line.as_slice().len() < ROOM {
                 self.line.push_bytes(&[*byte]);
             }
         }
         Ok(())
-    }
-
-    // The facts of all lines, if the list ends here.
-    fn finish(self) -> Result<Store<SESSIONS, OBJECTS, SYMBOLS>, CommandFault>
-        ensures told { IfOk result (λ shelf. (bytes : List ℕ) → HoldsList self.entry bytes
-            → (facts : List FactValue) × ListTells bytes facts × Same shelf facts) }
-        ensures failed { IfErr result (λ fault. (bytes : List ℕ) → HoldsList self.entry bytes
-            → ListFails (at_most SESSIONS OBJECTS SYMBOLS) bytes fault) }
-    {
-        if self.line.as_slice().is_empty() {
-            Ok(self.told)
-        } else {
-            Err(CommandFault::ListLine(self.number))
-        }
     }
 }
 
@@ -167,7 +127,11 @@ pub(crate) fn read_list<const SESSIONS: u32, const OBJECTS: u32, const SYMBOLS: 
     ensures names { IfErr result (NamesOnly 2) }
     ensures failures { FailsToRead (R.failures source.old) (R.failures source.new) result }
 {
-    let mut list = InformationList::<SESSIONS, OBJECTS, SYMBOLS>::new(alloc);
+    let mut list = InformationList::<SESSIONS, OBJECTS, SYMBOLS> {
+        told: Store::new(alloc),
+        line: Text::new(),
+        number: 1,
+    };
     let mut piece = [0; PIECE];
     let mut taken: u64 = 0;
     loop {
@@ -175,7 +139,11 @@ pub(crate) fn read_list<const SESSIONS: u32, const OBJECTS: u32, const SYMBOLS: 
             return Err(CommandFault::Input(2, ReadFault::Read));
         };
         if count == 0 {
-            return list.finish();
+            return if list.line.as_slice().is_empty() {
+                Ok(list.told)
+            } else {
+                Err(CommandFault::ListLine(list.number))
+            };
         }
         if count as u64 > u64::MAX - 1 - taken {
             return Err(CommandFault::ListLine(list.number));

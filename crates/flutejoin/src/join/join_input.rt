@@ -2,7 +2,6 @@
 ghost use Rattle.std.specs.Prelude.{◌≡◌, IfSome, IfOk, IfErr};
 ghost use Rattle.flute_journal.specs.declared.fault.ReadFault.TheVariants.{Read};
 ghost use Rattle.flutejoin.specs.JoinInputs.{IsInput};
-ghost use Rattle.flutejoin.specs.InputStreams.{passed_over};
 
 use crate::join::peeked_source::PeekedSource;
 use crate::limits::MAX_ENTRIES;
@@ -44,18 +43,6 @@ impl<R: Source + Drop> JoinInput<R> {
             }
             Some(Kind::Datagrams) => Ok(JoinInput::Datagrams(source)),
             None => Ok(JoinInput::Unknown),
-        }
-    }
-}
-
-impl<R> JoinInput<R> {
-    // How many entries were passed over.
-    pub(crate) fn passed_over(&self) -> u64
-        ensures { result ≡ passed_over self.now }
-    {
-        match self {
-            JoinInput::Journal(journal) => journal.others,
-            _ => 0,
         }
     }
 }

@@ -1,5 +1,5 @@
 //! A source of which the first bytes were read ahead.
-ghost use Rattle.std.specs.Prelude.{◌≡◌, ◌≤◌, length, take, drop, nat_le, IfOk, IfErr};
+ghost use Rattle.std.specs.Prelude.{◌≡◌, ◌≤◌, length, take, IfOk, IfErr};
 ghost use Rattle.flute_journal.specs.declared.fault.ReadFault.TheVariants.{Read};
 ghost use Rattle.flutejoin.specs.Begins.{Begins};
 
@@ -26,14 +26,6 @@ impl<R> PeekedSource<R> {
         ensures few { length result.now ≤ 4 }
     {
         &self.first[..self.count.min(4)]
-    }
-
-    // Those of them that were not given.
-    fn left(&self) -> &[u8]
-        ensures { result.now ≡ drop self.now.given (take self.now.count self.now.first) }
-    {
-        let front = self.first();
-        &front[self.given.min(front.len())..]
     }
 }
 
@@ -75,7 +67,8 @@ impl<R: Source> Source for PeekedSource<R> {
     ghost buffered = { λ s. if nat_le s.count s.given then R.buffered s.source else [] };
 
     fn read(&mut self, buffer: &mut [u8]) -> Result<usize, DeviceFault> {
-        let front = self.left();
+        let first = self.first();
+        let (_, front) = first.split_at(self.given.min(first.len()));
         if front.is_empty() {
             return self.source.read(buffer);
         }

@@ -2,11 +2,11 @@
 ghost use Rattle.std.specs.Prelude.{◌≡◌, ◌+◌, ◌≤◌, ◌++◌, length};
 ghost use Rattle.flute_parts.specs.Information.{information};
 ghost use Rattle.flutejoin.specs.Lines.{key_words, object_words, information_words, id_words};
-ghost use Rattle.flutejoin.specs.Lines.{symbol_words, info_or_none};
+ghost use Rattle.flutejoin.specs.Lines.{symbol_words};
 
 use crate::lines::text::Text;
 use crate::sender::push_source;
-use flute_parts::{Info, Key, ObjectKey, SymbolId};
+use flute_parts::{Key, ObjectKey, SymbolId};
 
 /// Appends `object` and a file's TOI, or `object fdt` and an FDT Instance's ID.
 pub fn push_object(text: &mut Text, object: &ObjectKey)
@@ -38,18 +38,6 @@ pub fn push_numbers(text: &mut Text, len: u64, symbol: u16, block: u32)
     text.push_number(symbol);
     text.push(" block ");
     text.push_number(block);
-}
-
-/// Appends what there is of the information.
-pub fn push_info(text: &mut Text, info: Option<Info>)
-    requires { length text.old + 160 ≤ 512 }
-    ensures text { text.new ≡ text.old ++ info_or_none info }
-    ensures len { length text.new ≤ length text.old + 160 }
-{
-    match info {
-        Some(info) => push_numbers(text, info.length(), info.symbol(), info.block()),
-        None => text.push("info none"),
-    }
 }
 
 /// Appends the session's sender, if it is not 0, its TSI and the name of the object.

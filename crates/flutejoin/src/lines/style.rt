@@ -1,6 +1,6 @@
 //! What `gaps` prints of the objects of a journal.
 ghost use Rattle.std.specs.Prelude.{◌≡◌};
-ghost use Rattle.flutejoin.specs.Styles.{is_shown, is_told, is_whole};
+ghost use Rattle.flutejoin.specs.Styles.{is_shown, is_told};
 
 use flute_store::{Reason, Status};
 
@@ -39,15 +39,5 @@ impl Style {
             Reason::Conflicting => !self.summary,
             Reason::Missing | Reason::Misfit => !self.summary && !self.conflicts,
         }
-    }
-}
-
-/// Whether an object is whole.
-pub fn is_whole(status: Status) -> bool
-    ensures { result ≡ is_whole status }
-{
-    match status {
-        Status::Whole { .. } => true,
-        Status::NoInformation | Status::ConflictingInformation | Status::Partial { .. } => false,
     }
 }

@@ -22,13 +22,13 @@ returns-in-Ok-clause-failed g c =
     let old = outside files (g.O.Sink.written a.output.now) (g.E.Sink.written a.errors.now) in
     let new = outside (g.W.Inputs.files c.info.new.world) (g.O.Sink.written c.info.new.output)
     (g.E.Sink.written c.info.new.errors) in
+    let numbers = information i.length i.symbol i.block in
     let named = subst (λ (x : Information). IfErr c.info.result (FailsToLeave {A = ℕ}
     (AddsToName files i.j.now i.key x) (AddToNameFails files (limits_of i.any_size) i.j.now i.key
     x) i.out.now old
-    new)) c.in-Ok.ensures.0 c.info.ensures.failed in
-    let numbers = information i.length i.symbol i.block in
+    new)) {y = numbers} c.in-Ok.ensures.0 c.info.ensures.failed in
     let fails = FailsToDo (g.W.Inputs.folders a.world.now) in
-    subst (λ l. IfErr c.info.result (fails l old new)) (sym i.is)
+    subst (λ l. IfErr c.info.result (fails l old new)) {y = a.line} (sym i.is)
     (or_fails (λ (fault : CommandFault).
     (new ≡ old) × IsBadInformation i.length i.symbol i.block fault)
     (FailsToLeave {A = ℕ} (AddsToName files i.j.now i.key numbers)

@@ -1,11 +1,24 @@
 use Rattle.flute_journal.proofs.Common.{arith, sym, ap, ◌∙◌, ◌++◌, subst, JournalIn, spelling_in}
-use Rattle.flute_journal.proofs.Common.{rising_unique}
-use Rattle.flute_journal.proofs.format_lemmas.Entries.{facts_of}
+use Rattle.flute_journal.proofs.Common.{fact_key, rising_unique}
+use Rattle.flute_journal.proofs.format_lemmas.Entries.{entry_injective, fact_two, facts_of}
+use Rattle.flute_journal.proofs.format_lemmas.Entries.{one_room, room_one}
 use Rattle.flute_journal.proofs.format_lemmas.Prefixes.{BeginsWithJournal, begins_with_journal}
 use Rattle.flute_journal.proofs.format_lemmas.Prefixes.{journal_parts, parts_journal, same_journal}
 use Rattle.flute_journal.proofs.format_lemmas.Prefixes.{spelling-injective}
 use Rattle.flute_journal.proofs.framing_lemmas.Passes.{without_end-below}
 use Rattle.flute_journal.proofs.laws.a_journal_is_its_content.Goals as goal
+
+pub returns-clause-one_reading : goal.returns-clause-one_reading
+returns-clause-one_reading c = entry_injective
+
+pub returns-clause-written : goal.returns-clause-written
+returns-clause-written c = fact_two
+
+pub returns-clause-old : goal.returns-clause-old
+returns-clause-old c f valid = (
+  λ p. room_one (fact_key f) p.1,
+  λ e. (valid, one_room (fact_key f) e),
+)
 
 pub returns-clause-equal : goal.returns-clause-equal
 returns-clause-equal c v bs cs F G first second = (

@@ -34,14 +34,14 @@ returns-in-Some-clause-ok g c =
     on_ok_weaker c.join_update.result
     (λ p. ap (set_value (is_at (object_cmp c.args.key)) es) p
     ∙ sym (single_held object_total (object_join_laws g.row.SYMBOLS) es c.args.key
-    c.in-Some.held.now (update_object c.args.update) c.in-Some.ensures.ordered
+    c.in-Some.held.now (update_object c.args.update.now) c.in-Some.ensures.ordered
     (sym c.in-Some.ensures.value)))
     c.join_update.ensures.ok
 
 pub returns-in-Some-clause-full : goal.returns-in-Some-clause-full
 returns-in-Some-clause-full g c =
     λ e. inr (held-beyond (objects_joined g.row.SYMBOLS) c.args.objects.now c.args.key
-    (update_object c.args.update) ObjectBeyond c.in-Some.ensures.ordered
+    (update_object c.args.update.now) ObjectBeyond c.in-Some.ensures.ordered
     (sym c.in-Some.ensures.value) (c.join_update.ensures.full e))
 
 pub returns-in-Some-clause-room : goal.returns-in-Some-clause-room
@@ -51,13 +51,13 @@ returns-in-Some-clause-room g c =
       within = c.in-Some.ensures.within;
       each = c.requires.each;
     }
-    ) c.args.key (update_object c.args.update) (sym c.in-Some.ensures.value)
+    ) c.args.key (update_object c.args.update.now) (sym c.in-Some.ensures.value)
     (c.join_update.ensures.room n)
 
 pub returns-then-len-clause-full : goal.returns-then-len-clause-full
 returns-then-len-clause-full g c =
     λ _. inl (full-beyond (objects_joined g.row.SYMBOLS) c.args.objects.now c.args.key
-    (update_object c.args.update) g.row.OBJECTS (sym c.in_default.ensures.value)
+    (update_object c.args.update.now) g.row.OBJECTS (sym c.in_default.ensures.value)
     (sym c.len.ensures.value ∙ c.if-len.true))
 
 made : (n : ℕ) (x : Object n) (w : Object n) → x.info ≡ Absent → x.symbols ≡ []
@@ -75,7 +75,7 @@ pub returns-in_err-join_update-clause-full : goal.returns-in_err-join_update-cla
 returns-in_err-join_update-clause-full g c =
     let refused = err_from_is_err_and c.from_residual.result c.from_residual.ensures.1 in
     let is =
-    made g.row.SYMBOLS _ (update_object c.args.update) (λ _. Absent) c.new.ensures in
+    made g.row.SYMBOLS _ (update_object c.args.update.now) (λ _. Absent) c.new.ensures in
     rw (refused.1, refused.2)
     (λ e. inr (new-beyond (objects_joined g.row.SYMBOLS) _ _ _
     ObjectBeyond c.in_default.ensures.ordered (sym c.in_default.ensures.value)
@@ -85,7 +85,7 @@ pub returns-in_err-join_update-clause-room : goal.returns-in_err-join_update-cla
 returns-in_err-join_update-clause-room g c =
     let refused = err_from_is_err_and c.from_residual.result c.from_residual.ensures.1 in
     let is =
-    made g.row.SYMBOLS _ (update_object c.args.update) (λ _. Absent) c.new.ensures in
+    made g.row.SYMBOLS _ (update_object c.args.update.now) (λ _. Absent) c.new.ensures in
     let room : length c.args.objects.now < g.row.OBJECTS = omega arith in
     rw (refused.1, refused.2)
     (λ n. new-sound (objects_joined g.row.SYMBOLS)
@@ -95,7 +95,7 @@ returns-in_err-join_update-clause-room g c =
 pub returns-clause-ok : goal.returns-clause-ok
 returns-clause-ok g c =
     let is =
-    made g.row.SYMBOLS _ (update_object c.args.update) (λ _. Absent) c.new.ensures in
+    made g.row.SYMBOLS _ (update_object c.args.update.now) (λ _. Absent) c.new.ensures in
     let added = rw (c.in_ok-join_update.ensures.ok ∙ is) at c.add_new.ensures.ok in
     added_joins object_total (object_join_laws g.row.SYMBOLS) _ _ _ _
     (sym c.in_default.ensures.value) c.add_new.result added
@@ -103,7 +103,7 @@ returns-clause-ok g c =
 pub returns-clause-room : goal.returns-clause-room
 returns-clause-room g c =
     let is =
-    made g.row.SYMBOLS _ (update_object c.args.update) (λ _. Absent) c.new.ensures in
+    made g.row.SYMBOLS _ (update_object c.args.update.now) (λ _. Absent) c.new.ensures in
     let room : length c.args.objects.now < g.row.OBJECTS = omega arith in
     λ n. new-sound (objects_joined g.row.SYMBOLS)
     (has-room c.args.objects.now c.in_default.ensures.ordered c.requires.each room) _ _

@@ -32,14 +32,14 @@ returns-in-Some-clause-ok g c =
     on_ok_weaker c.join_object.result
     (λ p. ap (set_value (is_at (session_cmp c.args.key.now.session)) es) p
     ∙ sym (single_held session_total (session_laws g.row.SYMBOLS) es c.args.key.now.session
-    c.in-Some.held.now ((c.args.key.now.object, update_object {n = g.row.SYMBOLS} c.args.update)
+    c.in-Some.held.now ((c.args.key.now.object, update_object {n = g.row.SYMBOLS} c.args.update.now)
     ∷ []) c.in-Some.ensures.ordered (sym c.in-Some.ensures.value)))
     c.join_object.ensures.ok
 
 pub returns-in-Some-clause-full : goal.returns-in-Some-clause-full
 returns-in-Some-clause-full g c =
     λ e. inr (held-beyond (sessions_joined g.row.SYMBOLS) c.args.sessions.now c.args.key.now.session
-    ((c.args.key.now.object, update_object {n = g.row.SYMBOLS} c.args.update) ∷ [])
+    ((c.args.key.now.object, update_object {n = g.row.SYMBOLS} c.args.update.now) ∷ [])
     (SessionBeyond g.row.OBJECTS) c.in-Some.ensures.ordered (sym c.in-Some.ensures.value)
     (c.join_object.ensures.full e))
 
@@ -52,14 +52,15 @@ returns-in-Some-clause-room g c =
     }
     ) c.args.key.now.session ((
       c.args.key.now.object,
-      update_object {n = g.row.SYMBOLS} c.args.update,
+      update_object {n = g.row.SYMBOLS} c.args.update.now,
     ) ∷ []) (sym c.in-Some.ensures.value)
     (c.join_object.ensures.room n)
 
 pub returns-then-len-clause-full : goal.returns-then-len-clause-full
 returns-then-len-clause-full g c =
     λ _. inl (full-beyond (sessions_joined g.row.SYMBOLS) c.args.sessions.now c.args.key.now.session
-    ((c.args.key.now.object, update_object {n = g.row.SYMBOLS} c.args.update) ∷ []) g.row.SESSIONS
+    ((c.args.key.now.object, update_object {n = g.row.SYMBOLS} c.args.update.now) ∷ [])
+    g.row.SESSIONS
     (sym c.in_default.ensures.value) (sym c.len.ensures.value ∙ c.if-len.true))
 
 made : (n : ℕ) (m w : List (ObjectName × Object n)) → m ≡ [] → session_join m w ≡ w

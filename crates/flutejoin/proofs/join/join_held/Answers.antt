@@ -1,15 +1,19 @@
 -- join_held: each exit is a lemma on the streams, of which the inputs are those that were lent.
-use Rattle.std.proofs.Common.{◌≡◌, Err, List, [], ◌∷◌, subst, sym}
+use Rattle.std.proofs.Common.{◌≡◌, ◌∙◌, ℕ, zero, suc, Err, List, [], ◌∷◌, refl, subst, sym}
 use Rattle.flute_streams.specs.Chains.{chained, taken}
 use Rattle.flute_streams.specs.FirstFaults.{FirstFault}
 use Rattle.flute_streams.specs.StreamMerges.{EndsMerged, NoneFails}
 use Rattle.flute_streams.specs.declared.merge.all_streams.MergedJournal.{MergedJournal}
 use Rattle.flutejoin.specs.declared.join.join_input.JoinInput.{JoinInput}
+use Rattle.flute_journal.specs.declared.fault.LoadFault.{LoadFault}
+use Rattle.flutejoin.specs.Status.{of_load, of_stop}
 use Rattle.flutejoin.specs.JoinParts.{joined_behaviour}
 use Rattle.flutejoin.proofs.join_lemmas.JoinStreams.{all_new, all_few, joins_inspected}
 use Rattle.flutejoin.proofs.join_lemmas.JoinStops.{no_journal_of_part, none_failed, read_failed}
 use Rattle.flutejoin.proofs.join_lemmas.JoinStops.{stopped}
+use Rattle.flutejoin.proofs.join.join_held.Given as given
 use Rattle.flutejoin.proofs.join.join_held.Goals as goal
+use Rattle.flutejoin.proofs.join.join_held.Goals.{then-fault-eq0, else-fault-eq0}
 
 pub join_streams-requires-clause-new : goal.join_streams-requires-clause-new
 join_streams-requires-clause-new g c =
@@ -57,57 +61,72 @@ returns-in-Ok-clause-none_failed g c =
     (subst P (sym (c.inputs-1.given.1.1 (second_is c.join_streams.ensures.names)))
     c.in-Ok.ensures.failures)
 
-pub returns-in-Err-clause-short : goal.returns-in-Err-clause-short
-returns-in-Err-clause-short g c =
+pub returns-after-fault-eq0-clause-short : goal.returns-after-fault-eq0-clause-short
+returns-after-fault-eq0-clause-short g c =
     no_journal_of_part {A = MergedJournal}
     (joined_behaviour g.R.Source.unread g.R.Source.buffered g.R.Source.failures
     g.S.Stream.behaviour) (Err c.in-Err.fault) _ _ _ c.in-Err.ensures.short
 
-pub returns-in-Err-clause-failed : goal.returns-in-Err-clause-failed
-returns-in-Err-clause-failed g c = λ choice contents datagrams inspected why.
-    rw c.stop_fault.ensures
+later_fault : (number : ℕ) (fault : LoadFault) → (number ≡ 0 → ⊥)
+    → of_load number fault ≡ of_stop number fault
+later_fault zero fault later = absurd (later refl)
+later_fault (suc number) fault later = refl
+
+-- why a join stopped at a stream
+stopped_by : (g : given.Over) (c : goal.Joined-fault-eq0 g)
+    → c.if-fault-eq0.result ≡ of_stop c.in-Err.fault.number c.in-Err.fault.fault
+stopped_by g c = elim c.if-fault-eq0.branch [
+  | then-fault-eq0 w ↦ rw w.if-fault-eq0.true w.result-is
+  | else-fault-eq0 w ↦
+      w.result-is ∙ w.load_fault.ensures
+      ∙ later_fault c.in-Err.fault.number c.in-Err.fault.fault w.if-fault-eq0.false
+]
+
+pub returns-after-fault-eq0-clause-failed : goal.returns-after-fault-eq0-clause-failed
+returns-after-fault-eq0-clause-failed g c = λ choice contents datagrams inspected why.
+    rw (stopped_by g c)
     ((stopped g.R.Source.unread g.R.Source.buffered g.R.Source.failures g.S.Stream.behaviour
     c.args.inputs.now
     c.requires.few c.in-Err.fault c.in-Err.ensures.first).fails choice contents datagrams
     c.requires.ready inspected why)
 
-pub returns-in-Err-clause-names : goal.returns-in-Err-clause-names
-returns-in-Err-clause-names g c =
-    rw c.stop_fault.ensures
+pub returns-after-fault-eq0-clause-names : goal.returns-after-fault-eq0-clause-names
+returns-after-fault-eq0-clause-names g c =
+    rw (stopped_by g c)
     (stopped g.R.Source.unread g.R.Source.buffered g.R.Source.failures g.S.Stream.behaviour
     c.args.inputs.now
     c.requires.few c.in-Err.fault c.in-Err.ensures.first).names
 
-pub returns-in-Err-clause-no_memory : goal.returns-in-Err-clause-no_memory
-returns-in-Err-clause-no_memory g c =
-    rw c.stop_fault.ensures
+pub returns-after-fault-eq0-clause-no_memory : goal.returns-after-fault-eq0-clause-no_memory
+returns-after-fault-eq0-clause-no_memory g c =
+    rw (stopped_by g c)
     (stopped g.R.Source.unread g.R.Source.buffered g.R.Source.failures g.S.Stream.behaviour
     c.args.inputs.now
     c.requires.few c.in-Err.fault c.in-Err.ensures.first).no_memory
 
-pub returns-in-Err-clause-no_sink : goal.returns-in-Err-clause-no_sink
-returns-in-Err-clause-no_sink g c =
-    rw c.stop_fault.ensures
+pub returns-after-fault-eq0-clause-no_sink : goal.returns-after-fault-eq0-clause-no_sink
+returns-after-fault-eq0-clause-no_sink g c =
+    rw (stopped_by g c)
     (stopped g.R.Source.unread g.R.Source.buffered g.R.Source.failures g.S.Stream.behaviour
     c.args.inputs.now
     c.requires.few c.in-Err.fault c.in-Err.ensures.first).no_sink
 
-pub returns-in-Err-clause-no_aside : goal.returns-in-Err-clause-no_aside
-returns-in-Err-clause-no_aside g c =
-    rw c.stop_fault.ensures
+pub returns-after-fault-eq0-clause-no_aside : goal.returns-after-fault-eq0-clause-no_aside
+returns-after-fault-eq0-clause-no_aside g c =
+    rw (stopped_by g c)
     (stopped g.R.Source.unread g.R.Source.buffered g.R.Source.failures g.S.Stream.behaviour
     c.args.inputs.now
     c.requires.few c.in-Err.fault c.in-Err.ensures.first).no_aside
 
-pub returns-in-Err-clause-read_failed : goal.returns-in-Err-clause-read_failed
-returns-in-Err-clause-read_failed g c =
+pub returns-after-fault-eq0-clause-read_failed : goal.returns-after-fault-eq0-clause-read_failed
+returns-after-fault-eq0-clause-read_failed g c =
     let b = g.S.Stream.behaviour in
     let joins =
     joined_behaviour g.R.Source.unread g.R.Source.buffered g.R.Source.failures b in
     let P = λ (xs : List (JoinInput g.row.R.Denot)).
     FirstFault joins (chained c.args.held.now (taken c.args.inputs.now))
     (chained c.join_streams.new.streams.first.now (taken xs)) c.in-Err.fault in
-    rw c.stop_fault.ensures
+    rw (stopped_by g c)
     (read_failed g.R.Source.unread g.R.Source.buffered g.R.Source.failures b c.requires.few
     c.inputs-1.given.1.0
     (subst P (sym (c.inputs-1.given.1.1 (second_is c.join_streams.ensures.names)))

@@ -17,15 +17,18 @@ returns-clause-sent g c =
     let e = g.E.Sink.written a.errors.now in
     let new = outside (g.W.Inputs.files c.leave.new.world) (g.O.Sink.written c.leave.new.output)
     (g.E.Sink.written c.leave.new.errors) in
-    let same = c.measured.ensures.same_files ∙ c.begin.ensures.same_files in
+    let now = g.W.Inputs.files c.measured.new.world in
+    let same = ◌∙◌ {a = now} c.measured.ensures.same_files c.begin.ensures.same_files in
     let h = again_has files a.file.now (unread c.in_ok-source.source) x
     c.in_ok-source.ensures.opened
-    (subst (λ f. IsAgain f (unread c.in_ok-source.source) x) c.begin.ensures.same_files
+    (subst (λ f. IsAgain f (unread c.in_ok-source.source) x)
+    {x = g.W.Inputs.files c.begin.new.world} {y = files} c.begin.ensures.same_files
     c.in_ok-source-2.ensures.same) in
     sent files a.file.now x h a.key.now a.symbol a.block a.out.now (outside files o e) new
     c.leave.result
     (subst (λ f. OnOk c.leave.result (Leaves (SendsRead x a.key.now a.symbol a.block)
-    (SendsRead x a.key.now a.symbol a.block) datagrams_line a.out.now (outside f o e) new)) same
+    (SendsRead x a.key.now a.symbol a.block) datagrams_line a.out.now (outside f o e) new))
+    {x = now} {y = files} same
     c.leave.ensures.left)
 
 pub returns-clause-failed : goal.returns-clause-failed
@@ -38,13 +41,16 @@ returns-clause-failed g c =
     let e = g.E.Sink.written a.errors.now in
     let new = outside (g.W.Inputs.files c.leave.new.world) (g.O.Sink.written c.leave.new.output)
     (g.E.Sink.written c.leave.new.errors) in
-    let same = c.measured.ensures.same_files ∙ c.begin.ensures.same_files in
+    let now = g.W.Inputs.files c.measured.new.world in
+    let same = ◌∙◌ {a = now} c.measured.ensures.same_files c.begin.ensures.same_files in
     let h = again_has files a.file.now (unread c.in_ok-source.source) x
     c.in_ok-source.ensures.opened
-    (subst (λ f. IsAgain f (unread c.in_ok-source.source) x) c.begin.ensures.same_files
+    (subst (λ f. IsAgain f (unread c.in_ok-source.source) x)
+    {x = g.W.Inputs.files c.begin.new.world} {y = files} c.begin.ensures.same_files
     c.in_ok-source-2.ensures.same) in
     not_sent files a.file.now x h a.key.now a.symbol a.block a.out.now (outside files o e) new
     c.leave.result
     (subst (λ f. IfErr c.leave.result (FailsToLeave (SendsRead x a.key.now a.symbol a.block)
-    (SendReadFails x a.key.now a.symbol a.block) a.out.now (outside f o e) new)) same
+    (SendReadFails x a.key.now a.symbol a.block) a.out.now (outside f o e) new))
+    {x = now} {y = files} same
     c.leave.ensures.failed)

@@ -27,7 +27,7 @@ returns-clause-extracted g c =
     (Held (WritesObject (limits_of a.any_size) (unread c.in_ok-source.source) a.key)) bytes_line
     a.out.now
     (outside f (g.O.Sink.written a.output.now) (g.E.Sink.written a.errors.now)) new))
-    c.begin.ensures.same_files
+    {x = g.W.Inputs.files c.begin.new.world} {y = files} c.begin.ensures.same_files
     c.leave_held.ensures.left)
 
 pub returns-clause-failed : goal.returns-clause-failed
@@ -48,5 +48,5 @@ returns-clause-failed g c =
     (FailsToLeave (WritesObject (limits_of a.any_size) (unread c.in_ok-source.source) a.key)
     (FailsHeld (ExtractFails (limits_of a.any_size) (unread c.in_ok-source.source) a.key)) a.out.now
     (outside f (g.O.Sink.written a.output.now) (g.E.Sink.written a.errors.now)) new))
-    c.begin.ensures.same_files
+    {x = g.W.Inputs.files c.begin.new.world} {y = files} c.begin.ensures.same_files
     c.leave_held.ensures.failed)

@@ -32,7 +32,7 @@ returns-clause-forgot g c =
     a.out.now (outside files o e) new forget_lines c.leave.result
     (subst (λ f. OnOk c.leave.result (Leaves (ForgetsIn x input.choice.0)
     (ForgetsIn x input.choice.0) forget_lines a.out.now (outside f o e) new))
-    c.begin.ensures.same_files
+    {x = g.W.Inputs.files c.begin.new.world} {y = files} c.begin.ensures.same_files
     c.leave.ensures.left))
 
 pub returns-clause-failed : goal.returns-clause-failed
@@ -57,5 +57,5 @@ returns-clause-failed g c =
     a.out.now (outside files o e) new c.leave.result
     (subst (λ f. IfErr c.leave.result (FailsToLeave (ForgetsIn x input.choice.0)
     (ForgetFails x) a.out.now (outside f o e) new))
-    c.begin.ensures.same_files
+    {x = g.W.Inputs.files c.begin.new.world} {y = files} c.begin.ensures.same_files
     c.leave.ensures.failed))

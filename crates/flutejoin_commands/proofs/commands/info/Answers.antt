@@ -26,7 +26,7 @@ returns-clause-added g c =
     (Leaves (AddsInformation (unread c.in_ok-source.source) a.key a.info)
     (AddsInformation (unread c.in_ok-source.source) a.key a.info) entries_line a.out.now
     (outside f (g.O.Sink.written a.output.now) (g.E.Sink.written a.errors.now)) new))
-    c.begin.ensures.same_files
+    {x = g.W.Inputs.files c.begin.new.world} {y = files} c.begin.ensures.same_files
     c.leave.ensures.left)
 
 pub returns-clause-failed : goal.returns-clause-failed
@@ -47,5 +47,5 @@ returns-clause-failed g c =
     (FailsToLeave (AddsInformation (unread c.in_ok-source.source) a.key a.info)
     (AddFails (limits_of a.any_size) (unread c.in_ok-source.source) a.key a.info) a.out.now
     (outside f (g.O.Sink.written a.output.now) (g.E.Sink.written a.errors.now)) new))
-    c.begin.ensures.same_files
+    {x = g.W.Inputs.files c.begin.new.world} {y = files} c.begin.ensures.same_files
     c.leave.ensures.failed)

@@ -25,6 +25,7 @@ returns-clause-added g c =
     (subst (λ f. OnOk c.leave.result (Leaves (AddsListRead x y) (AddsListRead x y)
     entries_line a.out.now (outside f (g.O.Sink.written a.output.now)
     (g.E.Sink.written a.errors.now)) new))
+    {x = g.W.Inputs.files c.begin_with_two.new.world} {y = files}
     c.begin_with_two.ensures.same_files
     c.leave.ensures.left)
 
@@ -46,5 +47,6 @@ returns-clause-failed g c =
     (subst (λ f. IfErr c.leave.result (FailsToLeave (AddsListRead x y)
     (AddListReadFails (limits_of a.any_size) x y)
     a.out.now (outside f (g.O.Sink.written a.output.now) (g.E.Sink.written a.errors.now)) new))
+    {x = g.W.Inputs.files c.begin_with_two.new.world} {y = files}
     c.begin_with_two.ensures.same_files
     c.leave.ensures.failed)

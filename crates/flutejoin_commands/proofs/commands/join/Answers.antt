@@ -16,9 +16,11 @@ returns-clause-joined g c =
     let tells = g.W.Asides.Asides.tells c.asides.result in
     let all = JoinsAll unread tells (limits_of a.any_size) a.sender a.scope
     c.in_ok-inputs.inputs.items in
-    let same = c.asides.ensures.same_files ∙ c.begin_join.ensures.same_files in
+    let now = g.W.Inputs.files c.asides.new.self in
+    let same = ◌∙◌ {a = now} c.asides.ensures.same_files c.begin_join.ensures.same_files in
     let told =
-    subst (λ f. TellsAsides f tells) c.begin_join.ensures.same_files c.asides.ensures.tells in
+    subst (λ f. TellsAsides f tells) {x = g.W.Inputs.files c.begin_join.new.world}
+    {y = files} c.begin_join.ensures.same_files c.asides.ensures.tells in
     let new = outside (g.W.Inputs.files c.leave.new.world) (g.O.Sink.written c.leave.new.output)
     (g.E.Sink.written c.leave.new.errors) in
     joined unread tells (limits_of a.any_size) a.sender a.scope names
@@ -27,7 +29,7 @@ returns-clause-joined g c =
     (join_lines a.scope) c.leave.result
     (subst (λ f. OnOk c.leave.result (Leaves all all (join_lines a.scope)
     a.out.now (outside f (g.O.Sink.written a.output.now) (g.E.Sink.written a.errors.now)) new))
-    same
+    {x = now} {y = files} same
     c.leave.ensures.left)
 
 pub returns-clause-failed : goal.returns-clause-failed
@@ -39,9 +41,11 @@ returns-clause-failed g c =
     let tells = g.W.Asides.Asides.tells c.asides.result in
     let all = JoinsAll unread tells (limits_of a.any_size) a.sender a.scope
     c.in_ok-inputs.inputs.items in
-    let same = c.asides.ensures.same_files ∙ c.begin_join.ensures.same_files in
+    let now = g.W.Inputs.files c.asides.new.self in
+    let same = ◌∙◌ {a = now} c.asides.ensures.same_files c.begin_join.ensures.same_files in
     let told =
-    subst (λ f. TellsAsides f tells) c.begin_join.ensures.same_files c.asides.ensures.tells in
+    subst (λ f. TellsAsides f tells) {x = g.W.Inputs.files c.begin_join.new.world}
+    {y = files} c.begin_join.ensures.same_files c.asides.ensures.tells in
     let fails = JoinAllFails unread tells (limits_of a.any_size) a.sender a.scope
     c.in_ok-inputs.inputs.items in
     let new = outside (g.W.Inputs.files c.leave.new.world) (g.O.Sink.written c.leave.new.output)
@@ -53,5 +57,5 @@ returns-clause-failed g c =
     (subst (λ f. IfErr c.leave.result
     (FailsToLeave all fails a.out.now (outside f (g.O.Sink.written a.output.now)
     (g.E.Sink.written a.errors.now)) new))
-    same
+    {x = now} {y = files} same
     c.leave.ensures.failed)

@@ -24,6 +24,7 @@ returns-clause-merged g c =
     (subst (λ f. OnOk c.leave.result (Leaves (MergesRead x y) (MergesRead x y)
     entries_line a.out.now (outside f (g.O.Sink.written a.output.now)
     (g.E.Sink.written a.errors.now)) new))
+    {x = g.W.Inputs.files c.begin_with_two.new.world} {y = files}
     c.begin_with_two.ensures.same_files
     c.leave.ensures.left)
 
@@ -44,5 +45,6 @@ returns-clause-failed g c =
     (subst (λ f. IfErr c.leave.result (FailsToLeave (MergesRead x y) (MergeReadFails x y)
     a.out.now (outside f (g.O.Sink.written a.output.now)
     (g.E.Sink.written a.errors.now)) new))
+    {x = g.W.Inputs.files c.begin_with_two.new.world} {y = files}
     c.begin_with_two.ensures.same_files
     c.leave.ensures.failed)

@@ -1,6 +1,7 @@
 -- put_held: what is left, by what the name of the output leads to.
 use Rattle.std.proofs.Common.{subst}
 use Rattle.flutejoin_commands.specs.Closings.{ClosesWhole}
+use Rattle.flutejoin_commands.specs.Outlets.{outlets}
 use Rattle.flutejoin_commands.specs.Worlds.{IsPlaced}
 use Rattle.flutejoin_commands.proofs.Closed.{closed_whole}
 use Rattle.flutejoin_commands.proofs.FolderSteps.{if_err, on_ok}
@@ -11,14 +12,18 @@ use Rattle.flutejoin_commands.proofs.leaving.put_held.Goals as goal
 pub returns-in-Ok-File-clause-left : goal.returns-in-Ok-File-clause-left
 returns-in-Ok-File-clause-left g c =
     on_ok c.write_into-done.result.0
-    (left_file (closed_file g.W.Folder.Folder.entries c.in-Ok-File.field-0-is
+    (left_file (closed_file g.W.Folder.Folder.entries
+    {old = g.W.Inputs.files c.args.world.now} {new = g.W.Inputs.files c.close.new.self}
+    {name = c.args.out.now} {place = c.in-Ok-File.field-0} c.in-Ok-File.field-0-is
     c.in-Ok-File.ensures.placed c.place.ensures.same_files c.close.ensures.closed))
     c.write_into-done.ensures.succeeded
 
 pub returns-in-Ok-File-clause-failed : goal.returns-in-Ok-File-clause-failed
 returns-in-Ok-File-clause-failed g c =
     if_err c.write_into-done.result.0
-    (λ fault f. failed_held (closed_file g.W.Folder.Folder.entries c.in-Ok-File.field-0-is
+    (λ fault f. failed_held (closed_file g.W.Folder.Folder.entries
+    {old = g.W.Inputs.files c.args.world.now} {new = g.W.Inputs.files c.close.new.self}
+    {name = c.args.out.now} {place = c.in-Ok-File.field-0} c.in-Ok-File.field-0-is
     c.in-Ok-File.ensures.placed c.place.ensures.same_files c.close.ensures.closed) f)
     c.write_into-done.ensures.failed
 
@@ -31,7 +36,14 @@ returns-in-Ok-Device-clause-left g c =
 pub returns-in-Ok-StandardOutput-clause-left : goal.returns-in-Ok-StandardOutput-clause-left
 returns-in-Ok-StandardOutput-clause-left g c =
     let t = c.write_held-in-Ok-StandardOutput in
-    on_ok t.result (left_output (subst (λ p. IsPlaced g.W.Folder.Folder.entries
+    let o = c.args.output.now in
+    let e = c.args.errors.now in
+    let old = outlets (g.O.Sink.written o) (g.O.Sink.failures o) (g.E.Sink.written e)
+    (g.E.Sink.failures e) in
+    let new = outlets (g.O.Sink.written t.new.output) (g.O.Sink.failures t.new.output)
+    (g.E.Sink.written t.new.report) (g.E.Sink.failures t.new.report) in
+    on_ok t.result (left_output {d = old} {d' = new}
+    (subst (λ p. IsPlaced g.W.Folder.Folder.entries
     (g.W.Inputs.files c.args.world.now) c.args.out.now p) c.in-Ok-StandardOutput.field-0-is
     c.in-Ok-StandardOutput.ensures.placed) c.place.ensures.same_files) t.ensures.written
 
@@ -39,10 +51,14 @@ pub returns-in-Ok-File-clause-any_moment : goal.returns-in-Ok-File-clause-any_mo
 returns-in-Ok-File-clause-any_moment g c =
     let files = g.W.Inputs.files c.args.world.now in
     let entries = g.W.Folder.Folder.entries in
-    let closed = closed_file entries c.in-Ok-File.field-0-is c.in-Ok-File.ensures.placed
+    let closed = closed_file entries {old = files} {new = g.W.Inputs.files c.close.new.self}
+    {name = c.args.out.now} {place = c.in-Ok-File.field-0} c.in-Ok-File.field-0-is
+    c.in-Ok-File.ensures.placed
     c.place.ensures.same_files c.close.ensures.closed in
-    subst (λ k. ClosesWhole c.args.out.now files k (g.W.Inputs.closed c.close.new.self))
+    let new = g.W.Inputs.closed c.close.new.self in
+    subst (λ k. ClosesWhole c.args.out.now files k new) {y = g.W.Inputs.closed c.args.world.now}
     c.place.ensures.same_closed
-    (closed_whole (g.W.Inputs.closed c.place.new.self) (entries c.in-Ok-File.folder)
+    (closed_whole {name = c.args.out.now} {files = files} (g.W.Inputs.closed c.place.new.self)
+    {new = new} (entries c.in-Ok-File.folder)
     (entries c.write_into-done.result.1) closed.had c.write_into-done.ensures.any_moment
     c.close.ensures.noted)

@@ -1,15 +1,10 @@
-use Rattle.std.proofs.Common.{sym, ap, ◌∙◌, option_map, Bor, List, ℕ}
-use Rattle.flutejoin_line.proofs.Options.{no_source, source_named}
+use Rattle.std.proofs.Common.{refl, subst, sym}
+use Rattle.flutejoin_line.specs.Options.{IsSource}
 use Rattle.flutejoin_line.proofs.numbers.source.Goals as goal
 
-pub returns-in-Some : goal.returns-in-Some
-returns-in-Some c =
-    source_named _ _ c.sender_in.result c.ok_or.result
-    (sym c.word.ensures ∙ ap (option_map (λ (text : Bor (List ℕ)). text.now)) c.in-Some.is)
-    c.sender_in.ensures c.ok_or.ensures.value
-
-pub returns-in-None : goal.returns-in-None
-returns-in-None c =
-    no_source _ _
-    (sym c.word.ensures ∙ ap (option_map (λ (text : Bor (List ℕ)). text.now)) c.in-None.is)
-    c.new.ensures
+pub returns-in-None-clause-sender : goal.returns-in-None-clause-sender
+returns-in-None-clause-sender c = (
+  refl,
+  λ sender is. c.in-None.ensures sender
+      (subst (λ given. IsSource given sender) (sym c.in-Some.ensures) is),
+)

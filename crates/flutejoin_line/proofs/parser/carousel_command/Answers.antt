@@ -2,11 +2,4 @@ use Rattle.std.proofs.Common.{rules}
 use Rattle.flutejoin_line.proofs.parser.carousel_command.Goals as goal
 
 pub returns : goal.returns
-returns c =
-    c.command_with.ensures _ (rw c.in_ok-arguments.ensures.items (search (
-      rules,
-      c.required.ensures,
-      c.required-2.ensures,
-      c.required-3.ensures,
-      c.required-4.ensures,
-    )))
+returns c = c.command_with.ensures _ (rw c.in_ok-arguments.ensures.items (search rules))

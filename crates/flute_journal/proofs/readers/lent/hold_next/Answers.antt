@@ -10,6 +10,6 @@ returns-clause-holds g c =
       lent = c.buffer-buffer.ensures.buffered;
       held = c.spelled-taken.ensures;
       front = c.buffer-buffer.ensures.front;
-      begins = rw c.behind.ensures at c.in_ok-id.ensures;
+      begins = rw c.split_at.ensures.back at c.in_ok-id.ensures;
     }) c.consume.ensures.buffered c.consume.ensures.bytes in
     (refl, inr (h.valid.0, h.spelled), (h.valid, h.in_order, h.consumes))

@@ -13,7 +13,7 @@ returns-in_err-fact-clause-fault g c =
     let f = c.in_err-fact.field-0.0 in
     let stops = loaded-stops c.loop-store.invariant.0
     c.loop-store.invariant.1 c.in_err-fact.ensures.gives in
-    let at : (x : g.row.R.Denot) → c.next.new.self.source.now ≡ x
+    let at : (x : g.row.R.Denot) → c.next_with.new.self.source.now ≡ x
     → IsLoadFault g.row.SESSIONS g.row.OBJECTS g.row.SYMBOLS c.args.max_entries
     (g.R.Source.unread c.args.source.now) (g.R.Source.unread x) (Read f) =
     λ x same. subst (λ (z : g.row.R.Denot).
@@ -27,7 +27,7 @@ returns-in_err-fact-clause-reads g c =
     let f = c.in_err-fact.field-0.0 in
     let read = fault-part c.loop-store.invariant.0 c.loop-store.invariant.1
     c.in_err-fact.ensures.gives in
-    let reads : (x : g.row.R.Denot) → c.next.new.self.source.now ≡ x
+    let reads : (x : g.row.R.Denot) → c.next_with.new.self.source.now ≡ x
     → ReadsNoMore g.row.SESSIONS g.row.OBJECTS g.row.SYMBOLS c.args.max_entries
     (g.R.Source.unread c.args.source.now) (g.R.Source.unread x) (Read f) =
     λ x same. subst (λ (z : g.row.R.Denot).
@@ -35,16 +35,16 @@ returns-in_err-fact-clause-reads g c =
     (g.R.Source.unread c.args.source.now) (g.R.Source.unread z) (Read f)) same read in
     rw (e.1 ∙ ap Err e.2) (reads _ (search rules))
 
-pub returns-in_err-put-clause-reads : goal.returns-in_err-put-clause-reads
-returns-in_err-put-clause-reads g c =
-    let e = err_from_is_err_and c.from_residual-in_err-put.result
-    c.from_residual-in_err-put.ensures.1 in
-    let why = c.in_err-put.field-0.0 in
+pub returns-in_err-add-clause-reads : goal.returns-in_err-add-clause-reads
+returns-in_err-add-clause-reads g c =
+    let e = err_from_is_err_and c.from_residual-in_err-add.result
+    c.from_residual-in_err-add.ensures.1 in
+    let why = c.in_err-add.field-0.0 in
     let given = given-entry _ _ _ _ c.loop-store.invariant.1 c.in-Some.is
     c.in_ok-fact.ensures.gives in
     let read = refused-part c.loop-store.invariant.0 given why
-    (λ full. c.in_err-put.ensures.full.0 (ap Err full)) in
-    let reads : (x : g.row.R.Denot) → c.next.new.self.source.now ≡ x
+    (λ full. c.in_err-add.ensures.full.0 (ap Err full)) in
+    let reads : (x : g.row.R.Denot) → c.next_with.new.self.source.now ≡ x
     → ReadsNoMore g.row.SESSIONS g.row.OBJECTS g.row.SYMBOLS c.args.max_entries
     (g.R.Source.unread c.args.source.now) (g.R.Source.unread x) (refused why) =
     λ x same. subst (λ (z : g.row.R.Denot).
@@ -52,22 +52,22 @@ returns-in_err-put-clause-reads g c =
     (g.R.Source.unread c.args.source.now) (g.R.Source.unread z) (refused why)) same read in
     rw (e.1 ∙ ap Err e.2) (reads _ (search rules))
 
-pub returns-in_err-put-clause-fault : goal.returns-in_err-put-clause-fault
-returns-in_err-put-clause-fault g c =
-    let e = err_from_is_err_and c.from_residual-in_err-put.result
-    c.from_residual-in_err-put.ensures.1 in
+pub returns-in_err-add-clause-fault : goal.returns-in_err-add-clause-fault
+returns-in_err-add-clause-fault g c =
+    let e = err_from_is_err_and c.from_residual-in_err-add.result
+    c.from_residual-in_err-add.ensures.1 in
     rw (e.1 ∙ ap Err e.2) (loaded-full _ _ c.loop-store.invariant.0
     (given-entry _ _ _ _ c.loop-store.invariant.1 c.in-Some.is c.in_ok-fact.ensures.gives)
-    (λ full. c.in_err-put.ensures.full.0 (ap Err full)))
+    (λ full. c.in_err-add.ensures.full.0 (ap Err full)))
 
 pub loop-store-preserved : goal.loop-store-preserved
 loop-store-preserved g c = (
   loaded-given _ c.loop-store.invariant.0
       (given-entry _ _ _ _ c.loop-store.invariant.1 c.in-Some.is c.in_ok-fact.ensures.gives)
-      c.in_ok-put.ensures.ok
-      c.in_ok-put.ensures.full.1,
-  c.next.ensures.limit ∙ c.loop-store.invariant.1,
-  c.next.ensures.source ∙ c.loop-store.invariant.2,
+      c.in_ok-add.ensures.ok
+      c.in_ok-add.ensures.full.1,
+  c.next_with.ensures.limit ∙ c.loop-store.invariant.1,
+  c.next_with.ensures.source ∙ c.loop-store.invariant.2,
   loaded-read (is_open c.loop-store.reader.state) _ _ _ c.loop-store.invariant.3
       c.in_ok-fact.ensures.failures,
 )

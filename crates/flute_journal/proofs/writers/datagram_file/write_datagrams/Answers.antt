@@ -1,4 +1,4 @@
-use Rattle.flute_journal.proofs.Common.{◌≡◌, Some, refl, slice_get, flat_map}
+use Rattle.flute_journal.proofs.Common.{◌≡◌, ◌∙◌, Some, ap, refl, slice_get, sym, flat_map}
 use Rattle.std.proofs.lemmas.Option.{slice_get_read, slice_get_past}
 use Rattle.flute_journal.proofs.Common.{err_from_is_err_and, AppendsPart-first, file_header}
 use Rattle.flute_journal.proofs.Common.{record_of}
@@ -17,9 +17,10 @@ returns-in_err-write_record-clause-bytes g c =
     let e = err_from_is_err_and c.from_residual-in_err-write_record.result
     c.from_residual-in_err-write_record.ensures.1 in
     let here : slice_get c.args.datagrams.now c.loop-datagram.place
-    ≡ Some c.in-Some.datagram.now =
+    ≡ Some c.as_slice.result.now =
     slice_get_read c.args.datagrams.now _ c.loop-datagram.place c.in-Some.datagram.now refl
-    c.in-Some.ensures.lookup.3.0 c.in-Some.ensures.lookup.1 in
+    c.in-Some.ensures.lookup.3.0 c.in-Some.ensures.lookup.1
+    ∙ ap Some (sym c.as_slice.ensures.bytes) in
     rw e.1 (sent-part (g.W.Sink.written c.write_record.new.sink) c.loop-datagram.invariant.0 here
     c.in_err-write_record.ensures.bytes)
 

@@ -4,7 +4,7 @@ use Rattle.flute_journal.proofs.writers.datagram_file.write_record.Goals as goal
 
 pub returns-in_err-write_all-clause-bytes : goal.returns-in_err-write_all-clause-bytes
 returns-in_err-write_all-clause-bytes g c =
-    let bytes = c.args.datagram.now in
+    let bytes = c.args.bytes.now in
     let u = g.W.Sink.written c.args.sink.now in
     let v = g.W.Sink.written c.write_all.new.self in
     let e = err_from_is_err_and c.from_residual.result c.from_residual.ensures.1 in
@@ -14,5 +14,5 @@ pub returns-clause-bytes : goal.returns-clause-bytes
 returns-clause-bytes g c =
     Writes-behind (g.W.Sink.written c.args.sink.now) (g.W.Sink.written c.write_all.new.self)
     (g.W.Sink.written c.write_all-2.new.self)
-    (in_bytes 2 (length c.args.datagram.now)) c.args.datagram.now c.write_all-2.result
+    (in_bytes 2 (length c.args.bytes.now)) c.args.bytes.now c.write_all-2.result
     (search rules) (search rules)

@@ -10,12 +10,12 @@ use Rattle.flute_store.proofs.store.Store.join_update.Goals as goal
 
 pub returns-clause-ok : goal.returns-clause-ok
 returns-clause-ok g c =
-    let one = one-ordered g.row.SYMBOLS c.args.key.now c.args.update in
+    let one = one-ordered g.row.SYMBOLS c.args.key.now c.args.update.now in
     let join = content-join _ _ (ordered-store _ _ _ c.self.invariant) one in
     let both =
     content c.self.inside.sessions ++ content
-    (one_object g.row.SYMBOLS c.args.key.now c.args.update) in
-    rw (← c.self.view_is, ← one-content g.row.SYMBOLS c.args.key.now c.args.update)
+    (one_object g.row.SYMBOLS c.args.key.now c.args.update.now) in
+    rw (← c.self.view_is, ← one-content g.row.SYMBOLS c.args.key.now c.args.update.now)
     (on_ok_weaker c.join_session.result (λ p. subst (λ m. Same (content m) both) (sym p) join)
     c.join_session.ensures.ok)
 
@@ -27,11 +27,11 @@ is_full (Err OutOfMemory) h = absurd (h (λ e. cc))
 pub returns-clause-full : goal.returns-clause-full
 returns-clause-full g c =
     let old = c.self.inside.sessions in
-    let one = one_object g.row.SYMBOLS c.args.key.now c.args.update in
-    let ordered = one-ordered g.row.SYMBOLS c.args.key.now c.args.update in
+    let one = one_object g.row.SYMBOLS c.args.key.now c.args.update.now in
+    let ordered = one-ordered g.row.SYMBOLS c.args.key.now c.args.update.now in
     let join = content-join old one (ordered-store _ _ _ c.self.invariant) ordered in
-    let solid = solid-one g.row.SYMBOLS c.args.key.now c.args.update c.requires in
-    rw (← c.self.view_is, ← one-content g.row.SYMBOLS c.args.key.now c.args.update) (
+    let solid = solid-one g.row.SYMBOLS c.args.key.now c.args.update.now c.requires in
+    rw (← c.self.view_is, ← one-content g.row.SYMBOLS c.args.key.now c.args.update.now) (
       λ e. beyond-joined _ _ _ _ (solid-store _ _ _ c.self.invariant) solid
           (c.join_session.ensures.full e),
       λ over. is_full c.join_session.result (λ h.
@@ -47,6 +47,6 @@ returns-clause-full g c =
 pub returns-clause-held : goal.returns-clause-held
 returns-clause-held g c =
     let news =
-    news_held c.self.invariant c.args.key.now c.args.update.info c.args.update.symbol
+    news_held c.self.invariant c.args.key.now c.args.update.now.info c.args.update.now.symbol
     c.requires.some in
     rw (← c.self.view_is) (λ h. c.join_session.ensures.held (news h))

@@ -11,9 +11,8 @@ returns-in_default-clause-lowest g c = λ facts h.
     let b = g.G.Streams.behaviour in
     let xs = g.G.Streams.streams c.args.streams.now in
     let f = place-some (held_at b xs c.args.number) c.requires.here.0 c.requires.here.1 in
-    rw c.first.ensures
-    (lowest-first b xs facts c.args.number f.1
-    (subst (λ o. IsLowest facts (value_of b xs o)) c.in_default.is h))
+    lowest-first b xs facts c.args.number f.1
+    (subst (λ o. IsLowest facts (value_of b xs o)) c.in_default.is h)
 
 pub joined-requires-clause-here : goal.joined-requires-clause-here
 joined-requires-clause-here g c =
@@ -37,8 +36,7 @@ returns-in-Less-clause-lowest g c = λ facts h.
     (subst (λ o. IfSome o (Stands b xs)) c.in-Some.is c.requires.stands) c.requires.here
     c.address.ensures c.address-2.ensures c.order_of.ensures in
     let low = subst (λ o. IsLowest facts (value_of b xs o)) c.in-Some.is h in
-    rw c.first-in-Less.ensures
-    (lowest-below b xs facts c.args.number v.here l v.value.is low (v.is ∙ c.in-Less.is))
+    lowest-below b xs facts c.args.number v.here l v.value.is low (v.is ∙ c.in-Less.is)
 
 pub returns-in-Greater-clause-lowest : goal.returns-in-Greater-clause-lowest
 returns-in-Greater-clause-lowest g c = λ facts h.

@@ -1,10 +1,8 @@
--- It is the lowest of the first ones of the block.
-use Rattle.flute_streams.proofs.Common.{◌≡◌, ℕ, ◌+◌, ◌*◌, ◌<◌, ◌≤◌}
+-- It is the lowest of the first ones.
+use Rattle.flute_streams.proofs.Common.{ℕ, ◌<◌, ◌≤◌}
 use Rattle.std.proofs.Common.{slice_index}
 use Rattle.flute_streams.proofs.merge.ranks.lowest_in.Given as goal
 
-abbrev pub invariant-loop-number : goal.invariant-loop-number
-invariant-loop-number l = record {
-  low : (k : ℕ) → 8 * l.block ≤ k → k < l.number → l.lowest ≤ slice_index l.ranks k;
-  end : l.number-end ≡ 8 * l.block + 8;
-}
+abbrev pub invariant-loop-place : goal.invariant-loop-place
+invariant-loop-place l =
+    (k : ℕ) → l.fn.from ≤ k → k < l.place → l.lowest ≤ slice_index l.ranks k

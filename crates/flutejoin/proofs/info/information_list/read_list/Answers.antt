@@ -1,46 +1,38 @@
 -- read_list: a piece more was read, or there is none.
-use Rattle.std.proofs.Common.{[], ◌++◌, take, ap, ◌∙◌, inr, arith}
+use Rattle.std.proofs.Common.{[], ◌++◌, take, ap, ◌∙◌, Err, inr, refl, arith}
 use Rattle.std.proofs.Common.{length-append}
-use Rattle.std.proofs.KnownBytes.{Consumes-trans}
+use Rattle.std.proofs.KnownBytes.{Consumes-nil, Consumes-trans}
 use Rattle.std.proofs.lemmas.List.{length-take-le}
 use Rattle.std.proofs.lemmas.Result.{err_from_is_err_and}
 use Rattle.flutejoin.specs.InformationLines.{ListFails}
 use Rattle.flutejoin.specs.declared.command_fault.CommandFault.TheVariants.{ListLine}
 use Rattle.flutejoin.specs.Limits.{at_most}
-use Rattle.flutejoin.proofs.info_lemmas.ListLines.{ends_failed, ends_names, names_fails, ends_quiet}
-use Rattle.flutejoin.proofs.info_lemmas.ListLines.{ends_told}
+use Rattle.flutejoin.proofs.info_lemmas.ListLines.{ends_failed, names_fails, not_ended}
+use Rattle.flutejoin.proofs.info_lemmas.ListLines.{holds_nothing}
 use Rattle.flutejoin.proofs.info_lemmas.ListLines.{quiet_fails, read_end, too_many, within}
 use Rattle.flutejoin.proofs.info.information_list.read_list.Goals as goal
 
-pub returns-then-count-eq0-clause-told : goal.returns-then-count-eq0-clause-told
-returns-then-count-eq0-clause-told g c =
-    let so = c.loop-count.invariant.so_far in
-    ends_told _ (g.R.Source.unread c.read.new.self) c.finish.result
-    (read_end _ _ _ so.0 (take c.in-Ok.count c.read.new.buffer) so.1
-    c.in-Ok.ensures.bytes.0
-    (ap (λ n. take n c.read.new.buffer) c.if-count-eq0.true))
-    (c.in-Ok.ensures.bytes.1 c.if-count-eq0.true
-    (omega (arith, c.read.auto.buffer, c.loop-count.invariant.room))) so.2
-    c.finish.ensures.told
+pub loop-count-init : goal.loop-count-init
+loop-count-init g c = record {
+  so_far = ([], Consumes-nil _, holds_nothing _ c.new.ensures c.new-2.ensures refl, refl);
+  number = omega arith;
+  few = omega arith;
+  room = refl;
+  failures = refl;
+}
 
-pub returns-then-count-eq0-clause-failed : goal.returns-then-count-eq0-clause-failed
-returns-then-count-eq0-clause-failed g c =
+pub returns-else-is_empty-clause-failed : goal.returns-else-is_empty-clause-failed
+returns-else-is_empty-clause-failed g c =
     let so = c.loop-count.invariant.so_far in
     ends_failed (at_most g.row.SESSIONS g.row.OBJECTS g.row.SYMBOLS) _ (g.R.Source.unread
-    c.read.new.self) c.finish.result
+    c.read.new.self) (Err (ListLine c.loop-count.list.number))
     (read_end _ _ _ so.0 (take c.in-Ok.count c.read.new.buffer) so.1
     c.in-Ok.ensures.bytes.0
     (ap (λ n. take n c.read.new.buffer) c.if-count-eq0.true))
     (c.in-Ok.ensures.bytes.1 c.if-count-eq0.true
     (omega (arith, c.read.auto.buffer, c.loop-count.invariant.room))) so.2
-    c.finish.ensures.failed
-
-pub returns-then-count-eq0-clause-failures : goal.returns-then-count-eq0-clause-failures
-returns-then-count-eq0-clause-failures g c =
-    let so = c.loop-count.invariant.so_far in
-    ends_quiet (at_most g.row.SESSIONS g.row.OBJECTS g.row.SYMBOLS) c.finish.result
-    (omega (arith, c.in-Ok.ensures.failures, c.loop-count.invariant.failures)) so.2
-    c.finish.ensures.failed
+    (λ bytes h. not_ended c.loop-count.list c.as_slice.result.now c.is_empty.result bytes
+    c.as_slice.ensures c.is_empty.ensures c.if-is_empty.false h)
 
 pub returns-then-count-taken-clause-failed : goal.returns-then-count-taken-clause-failed
 returns-then-count-taken-clause-failed g c =
@@ -93,12 +85,6 @@ loop-count-preserved g c =
       room = c.read.auto.buffer ∙ c.loop-count.invariant.room;
       failures = omega (arith, c.in-Ok.ensures.failures, c.loop-count.invariant.failures);
     }
-
-pub returns-then-count-eq0-clause-names : goal.returns-then-count-eq0-clause-names
-returns-then-count-eq0-clause-names g c =
-    let so = c.loop-count.invariant.so_far in
-    ends_names (at_most g.row.SESSIONS g.row.OBJECTS g.row.SYMBOLS)
-    c.finish.result c.loop-count.list so.0 so.2 c.finish.ensures.failed
 
 pub returns-in_err-take-clause-names : goal.returns-in_err-take-clause-names
 returns-in_err-take-clause-names g c =

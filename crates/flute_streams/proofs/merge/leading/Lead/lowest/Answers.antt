@@ -9,17 +9,15 @@ returns-in-Some-clause-lowest g c =
     let b = g.G.Streams.behaviour in
     let xs = g.G.Streams.streams c.args.streams.now in
     let l = c.requires.led.leads c.if-self.true in
-    rw c.first.ensures
-    (lead-lowest b xs c.args.self.now.number c.args.self.now.next
-    (held_at b xs c.args.self.now.number) l (ap (held_in b) l.is))
+    lead-lowest b xs c.args.self.now.number c.args.self.now.next
+    (held_at b xs c.args.self.now.number) l (ap (held_in b) l.is)
 
 pub returns-in-Some-clause-stands : goal.returns-in-Some-clause-stands
 returns-in-Some-clause-stands g c =
     let b = g.G.Streams.behaviour in
     let xs = g.G.Streams.streams c.args.streams.now in
     let l = c.requires.led.leads c.if-self.true in
-    let k = c.args.self.now.number in
-    rw c.first.ensures (
+    let k = c.args.self.now.number in (
       c.in-Some.field-0.now,
       sym (read-at b xs k address_of (slice_get_within xs k l.stream l.is) c.address.ensures)
           ∙ ap option_copied c.in-Some.is,

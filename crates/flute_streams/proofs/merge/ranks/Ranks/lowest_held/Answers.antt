@@ -1,6 +1,6 @@
 -- One stream more: those before it are passed over, and what it holds is joined.
 use Rattle.flute_streams.proofs.Common.{IfSome, IsLowest, Key, Lowest, Some, arith, heads, length}
-use Rattle.flute_streams.proofs.Common.{refl, subst, sym, take, take_all, ◌<◌, ◌∙◌, ◌≡◌, ◌≤◌}
+use Rattle.flute_streams.proofs.Common.{refl, subst, sym, take, take_all, ◌<◌, ◌∙◌, ◌≡◌, ◌≤◌, ◌/◌}
 use Rattle.flute_streams.proofs.merge_lemmas.Places.{comes-alone, comes-joined, has_value}
 use Rattle.flute_streams.proofs.merge_lemmas.Places.{place-joined, some-of}
 use Rattle.flute_streams.proofs.merge_lemmas.RankFacts.{comes-lowest, comes-none}
@@ -16,14 +16,14 @@ loop-number-init g c =
     let streams = g.G.Streams.streams c.args.streams.now in
     let k = c.in_ok-first.first in
     let found = c.in_ok-first.ensures.next in
-    let rank = c.lowest_of-rank.result in
+    let rank = c.lowest_in-rank.result in
     let within : k < length streams = omega (arith, found.1, c.count-all.ensures) in
     let on : (key : Key) → c.args.self.now.key ≡ Some key
     → StandsOn b (place_at_rank key rank) streams (first_at k) =
     λ key is. stands-ranked b key k within
     (ranked_of b streams c.args.self.now key is c.requires.ranking) found.2
-    (c.lowest_of-rank.ensures k found.1) (omega arith) in
-    rw c.first-lowest.ensures (record {
+    (c.lowest_in-rank.ensures (k / 8) (omega arith) (omega (arith, found.1))) (omega arith) in
+    record {
       comes = λ key is.
           let place = place_at_rank key rank in
           let ranked = ranked_of b streams c.args.self.now key is c.requires.ranking in
@@ -34,7 +34,7 @@ loop-number-init g c =
       stands = on;
       number = refl;
       next = omega (arith, found.1);
-    })
+    }
 
 -- The stream that was found stands at the lowest rank.
 
@@ -47,7 +47,7 @@ joined-lowest-requires-clause-here g c =
     let key = c.in_ok-self.field-0 in
     let ranked = ranked_of b streams c.args.self.now key c.in_ok-self.was c.requires.ranking in
     stands-ranked b key k (omega (arith, found.1, c.count-all.ensures)) ranked found.2
-    (c.lowest_of-rank.ensures k found.1) (omega arith)
+    (c.lowest_in-rank.ensures (k / 8) (omega arith) (omega (arith, found.1))) (omega arith)
     ∙ sym (c.loop-number.invariant.stands key c.in_ok-self.was)
 
 pub loop-number-preserved : goal.loop-number-preserved
@@ -58,13 +58,13 @@ loop-number-preserved g c =
     let l = c.loop-number.lowest in
     let k = c.in-Some.number in
     let found = c.in-Some.ensures.next in
-    let rank = c.lowest_of-rank.result in
+    let rank = c.lowest_in-rank.result in
     let within : k < length streams = omega (arith, found.1, c.count-all.ensures) in
     let on : (key : Key) → c.args.self.now.key ≡ Some key
     → StandsOn b (place_at_rank key rank) streams (first_at k) =
     λ key is. stands-ranked b key k within
     (ranked_of b streams c.args.self.now key is c.requires.ranking) found.2
-    (c.lowest_of-rank.ensures k found.1) (omega arith) in
+    (c.lowest_in-rank.ensures (k / 8) (omega arith) (omega (arith, found.1))) (omega arith) in
     record {
       comes = λ key is.
           let place = place_at_rank key rank in
@@ -88,7 +88,7 @@ returns-clause-lowest g c =
     let i = c.loop-number.invariant in
     let l = c.loop-number.lowest in
     let key = c.in_ok-self.field-0 in
-    let place = place_at_rank key c.lowest_of-rank.result in
+    let place = place_at_rank key c.lowest_in-rank.result in
     let ranked = ranked_of b streams c.args.self.now key c.in_ok-self.was c.requires.ranking in
     let all = c.count-all.result in
     let within : all ≤ length streams = omega (arith, c.count-all.ensures) in

@@ -1,7 +1,7 @@
 -- FileScan::pass: the scan and the file after each kind of next symbol.
 use Rattle.std.proofs.Common.{ℕ, List, Bor, Option, Some, None, false, ◌++◌, take, refl, ap, arith}
 use Rattle.std.proofs.Common.{◌≡◌, ◌-◌, length}
-use Rattle.std.proofs.lemmas.List.{length-take}
+use Rattle.std.proofs.lemmas.List.{length-take, take_min}
 use Rattle.std.specs.Prelude.{OnOk}
 use Rattle.std.proofs.Common.{◌∙◌, subst}
 use Rattle.std.specs.Prelude.{option_map}
@@ -55,7 +55,7 @@ returns-in-Fitting-Some-clause-passed g c = λ mine key files p0 r q.
     (told_rising h.scanned key mine n h.of_key h.facts_are r) h.free in
     let new : FileScan = record {
       scan = c.pass_next-passed.new.scan;
-      left = self.left - length c.up_to-first.result.now;
+      left = self.left - length (take c.min.result bytes);
       whole = self.whole;
     } in
     let how = subst (λ (x : Passed). PassedAs h.scanned (Some n) x t.0) c.in-Fitting-Some.is-0 t.3
@@ -64,7 +64,8 @@ returns-in-Fitting-Some-clause-passed g c = λ mine key files p0 r q.
     h.scanned.bytes) c.in-Fitting-Some.is-1 in
     let came : HasMore h.scanned t.0 bytes =
     record { key = t.1.0; info = how.0; bytes = value } in
-    let cut = c.up_to-first.ensures in
+    let cut : take c.min.result bytes ≡ take self.left bytes =
+    ap (λ k. take k bytes) c.min.ensures ∙ take_min self.left bytes in
     let left : new.left ≡ self.left - length bytes =
     ap (λ (l : List ℕ). self.left - length l) cut ∙ left_of self.left bytes in
     let f = fits_on h new came c.if-not-self.false c.if-not-self.false left in

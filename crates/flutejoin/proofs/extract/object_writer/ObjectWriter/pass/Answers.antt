@@ -39,8 +39,8 @@ returns-in-InfoConflict-clause-passed g c = λ P start.
     (ap (λ f. (address f).key) (sym c.in-InfoConflict.is) ∙ same) in
     let Q : Fact → Type 0 =
     λ f. IsRising (P ++ f ∷ []) → Stands P c.args.self.now start w
-    → Stands (P ++ f ∷ []) c.conflict.new.self start w in
-    subst Q (sym is) (c.conflict.ensures.passed P start w)
+    → Stands (P ++ f ∷ []) c.information-in-InfoConflict.new.self start w in
+    subst Q (sym is) (c.information-in-InfoConflict.ensures.passed P start w)
 
 pub returns-in-Symbol-clause-passed : goal.returns-in-Symbol-clause-passed
 returns-in-Symbol-clause-passed g c = λ P start.

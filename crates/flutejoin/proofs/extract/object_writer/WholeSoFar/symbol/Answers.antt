@@ -1,21 +1,51 @@
 -- WholeSoFar::symbol: the object so far, after each kind of turn of its scan.
-use Rattle.std.proofs.Common.{ℕ, List, Option, refl, ap}
+use Rattle.std.proofs.Common.{◌≡◌, ◌∙◌, ℕ, Bool, List, Option, Result, Ok, Err, take, refl, sym, ap, arith}
+use Rattle.std.proofs.lemmas.List.{length-take, take_min}
+use Rattle.std.proofs.KnownBytes.{Appends-nil}
+use Rattle.std.specs.Prelude.{is_err}
 use Rattle.std.specs.Borrow.{Bor}
+use Rattle.flute_parts.specs.Devices.{Writes}
 use Rattle.flute_parts.specs.declared.symbol_id.SymbolId.{SymbolId}
 use Rattle.flute_store.specs.Scan.{value_of}
+use Rattle.flute_journal.specs.JournalWriters.{Written}
 use Rattle.flutejoin.proofs.extract_lemmas.ObjectWriters.{next-rises, can-come, settled-next}
 use Rattle.flutejoin.proofs.extract_lemmas.ObjectWriters.{wrote-next, passed-next, fits-next}
 use Rattle.flutejoin.proofs.extract_lemmas.ObjectWriters.{idle-next, idle-fits, wanted-turn}
 use Rattle.flutejoin.proofs.extract.object_writer.WholeSoFar.symbol.Goals as goal
 
-pub returns-in-Some-clause-passed : goal.returns-in-Some-clause-passed
-returns-in-Some-clause-passed g c = λ P key start r h.
+-- what a sink took is all, unless it has failed
+writes_written : {T E : Type 0} (old new : Option (List ℕ)) (bytes : List ℕ)
+    (result : Result T E) (failed : Bool) → failed ≡ is_err result
+    → Writes old new bytes result
+    → Written failed old new bytes
+writes_written old new bytes (Ok x) failed e h = rw e h
+writes_written old new bytes (Err x) failed e h = rw e h
+
+pub returns-then-not-failed-clause-passed : goal.returns-then-not-failed-clause-passed
+returns-then-not-failed-clause-passed g c = λ P key start r h.
     let n : SymbolId × Option (Bor (List ℕ)) = (c.args.id, c.args.value) in
     let t = c.in-Fitting.ensures.turned h.scanned h.scans (next-rises h n r) (can-come h n r) in
     let bytes = c.in-Some.bytes.now in
     passed-next h n r bytes (fits-next h n r t.0 bytes t.1
     (ap (λ v. value_of (c.args.id, v)) c.in-Some.is)) t.2
-    (c.next.ensures.part t.0 t.2) refl c.write_first.ensures.left c.write_first.ensures.written
+    (c.next.ensures.part t.0 t.2) refl
+    (omega (arith, c.min.ensures, length-take c.min.result bytes))
+    (rw (
+      c.if-not-failed.true,
+      sym (ap (λ k. take k bytes) c.min.ensures ∙ take_min c.args.self.now.left bytes),
+    )
+    (writes_written _ _ _ _ _ c.is_err.ensures.value c.write_all.ensures.bytes))
+
+pub returns-else-not-failed-clause-passed : goal.returns-else-not-failed-clause-passed
+returns-else-not-failed-clause-passed g c = λ P key start r h.
+    let n : SymbolId × Option (Bor (List ℕ)) = (c.args.id, c.args.value) in
+    let t = c.in-Fitting.ensures.turned h.scanned h.scans (next-rises h n r) (can-come h n r) in
+    let bytes = c.in-Some.bytes.now in
+    passed-next h n r bytes (fits-next h n r t.0 bytes t.1
+    (ap (λ v. value_of (c.args.id, v)) c.in-Some.is)) t.2
+    (c.next.ensures.part t.0 t.2) refl
+    (omega (arith, c.min.ensures, length-take c.min.result bytes))
+    (rw c.if-not-failed.false (Appends-nil _))
 
 pub returns-in_default-clause-passed : goal.returns-in_default-clause-passed
 returns-in_default-clause-passed g c = λ P key start r h.

@@ -1,12 +1,13 @@
 -- InformationList::take: a byte more.
-use Rattle.std.proofs.Common.{[], ◌∷◌, ◌++◌, ap, get_or, length, refl, take, sym, subst}
+use Rattle.std.proofs.Common.{◌∷◌, ◌+◌, ◌++◌, ap, get_or, length, refl, take, sym, subst}
 use Rattle.std.proofs.Common.{append-nil, arith}
 use Rattle.std.proofs.lemmas.Result.{err_from_is_err_and}
 use Rattle.flutejoin.specs.InformationLines.{HoldsList, ListFails}
 use Rattle.flutejoin.specs.Limits.{at_most}
 use Rattle.flutejoin.proofs.info_lemmas.ListLines.{byte_kept, byte_left, piece_more, piece_fails}
+use Rattle.flutejoin.proofs.info_lemmas.ListLines.{line_ended, line_failed}
 use Rattle.flutejoin.proofs.info.information_list.InformationList.take.Goals as goal
-use Rattle.flutejoin.proofs.info.information_list.InformationList.take.Goals.{then-byte-eq10+in_ok-end_line}
+use Rattle.flutejoin.proofs.info.information_list.InformationList.take.Goals.{then-byte-eq10+in_ok-take_line}
 use Rattle.flutejoin.proofs.info.information_list.InformationList.take.Goals.{else-byte-eq10+then-as_slice-lt-ROOM}
 use Rattle.flutejoin.proofs.info.information_list.InformationList.take.Goals.{else-byte-eq10+else-as_slice-lt-ROOM}
 
@@ -23,18 +24,18 @@ loop-byte-preserved g c =
     let so = c.loop-byte.invariant in
     record {
       number = elim c.if-byte-eq10.branch [
-        | then-byte-eq10+in_ok-end_line w ↦
-            rw w.self-is (omega (arith, w.in_ok-end_line.ensures.number, so.number))
+        | then-byte-eq10+in_ok-take_line w ↦
+            rw w.self-is (omega (arith, w.take_line.ensures.number, so.number))
         | else-byte-eq10+then-as_slice-lt-ROOM w ↦ rw w.self-is (omega (arith, so.number))
         | else-byte-eq10+else-as_slice-lt-ROOM w ↦ rw w.self-is (omega (arith, so.number))
       ];
       holds = λ bytes h. elim c.if-byte-eq10.branch [
-        | then-byte-eq10+in_ok-end_line w ↦
-            let new = w.end_line.new.self in
-            rw w.self-is (piece_more new bytes piece k (omega arith)
-            (subst (λ b. HoldsList new ((bytes ++ take k piece) ++ b ∷ []))
-            (sym w.if-byte-eq10.true)
-            (w.in_ok-end_line.ensures.taken (bytes ++ take k piece) (so.holds bytes h))))
+        | then-byte-eq10+in_ok-take_line w ↦
+            rw w.self-is (piece_more _ bytes piece k (omega arith)
+            (rw w.if-byte-eq10.true
+            (line_ended c.loop-byte.self _ (bytes ++ take k piece) w.new-self.ensures
+            (ap (λ n. n + 1) w.take_line.ensures.number) w.in_ok-take_line.ensures.taken
+            (so.holds bytes h))))
         | else-byte-eq10+then-as_slice-lt-ROOM w ↦
             rw w.self-is (piece_more _ bytes piece k (omega arith)
             (byte_kept c.loop-byte.self _ (bytes ++ take k piece) (get_or piece k 0) refl refl
@@ -50,16 +51,16 @@ loop-byte-preserved g c =
       ];
     }
 
-pub returns-in_err-end_line-clause-failed : goal.returns-in_err-end_line-clause-failed
-returns-in_err-end_line-clause-failed g c =
+pub returns-in_err-take_line-clause-failed : goal.returns-in_err-take_line-clause-failed
+returns-in_err-take_line-clause-failed g c =
     let most = at_most g.row.SESSIONS g.row.OBJECTS g.row.SYMBOLS in
     let piece = c.args.piece.now in
     let k = c.loop-byte.byte-index in
-    let fault = c.in_err-end_line.field-0.0 in
+    let fault = c.in_err-take_line.field-0.0 in
     let e = err_from_is_err_and c.from_residual.result c.from_residual.ensures.1 in
     rw (e.1, e.2)
     (λ bytes more h. piece_fails most bytes piece more k fault (omega arith)
     (λ further. subst (λ b. ListFails most ((bytes ++ take k piece) ++ b ∷ further) fault)
     (sym c.if-byte-eq10.true)
-    (c.in_err-end_line.ensures.failed (bytes ++ take k piece) further
-    (c.loop-byte.invariant.holds bytes h))))
+    (line_failed most c.loop-byte.self (bytes ++ take k piece) further fault
+    c.in_err-take_line.ensures.failed (c.loop-byte.invariant.holds bytes h))))

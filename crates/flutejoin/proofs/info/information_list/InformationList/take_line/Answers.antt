@@ -1,4 +1,4 @@
--- take_line: the fact that the line contains is put into the store, or why it contains none.
+-- take_line: the fact that the line contains is added to the store, or why it contains none.
 use Rattle.std.proofs.Common.{rules, [], ◌∷◌, ◌∙◌, refl, sym, ap, subst, Err}
 use Rattle.std.proofs.lemmas.Bool.{true≢false}
 use Rattle.flute_parts.specs.declared.fact.Fact.TheVariants.{Info}
@@ -43,8 +43,8 @@ returns-in-Err-clause-failed g c = λ words h.
       invalid = c.in-Err.ensures;
     })
 
-pub returns-in-Ok-put-clause-taken : goal.returns-in-Ok-put-clause-taken
-returns-in-Ok-put-clause-taken g c = λ words h.
+pub returns-in-Ok-add-clause-taken : goal.returns-in-Ok-add-clause-taken
+returns-in-Ok-add-clause-taken g c = λ words h.
     let line = c.args.self.now.line in
     let key = c.in-Some.key in
     let n = numbers_of c.in-Some.numbers in
@@ -52,7 +52,7 @@ returns-in-Ok-put-clause-taken g c = λ words h.
     (sym c.as_slice-line.ensures ∙ c.in-Some.ensures.found) in
     let fact = Info key c.in-Ok.info in
     let tells = tells_shown words key c.in-Ok.info n shows c.in-Ok.ensures.0 c.in-Ok.ensures.1 in
-    (fact ∷ [], tells, c.in-Ok-put.ensures.ok)
+    (fact ∷ [], tells, c.in-Ok-add.ensures.ok)
 
 pub returns-in-Err-Full-clause-failed : goal.returns-in-Err-Full-clause-failed
 returns-in-Err-Full-clause-failed g c = λ words h.
@@ -64,4 +64,4 @@ returns-in-Err-Full-clause-failed g c = λ words h.
     let fact = Info key c.in-Ok.info in
     let tells = tells_shown words key c.in-Ok.info n shows c.in-Ok.ensures.0 c.in-Ok.ensures.1 in
     no_room (fact ∷ []) refl tells
-    (c.put.ensures.full.0 (c.in-Err-Full.is ∙ ap Err c.in-Err-Full.field-0-is))
+    (c.add.ensures.full.0 (c.in-Err-Full.is ∙ ap Err c.in-Err-Full.field-0-is))
