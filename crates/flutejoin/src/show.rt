@@ -43,8 +43,8 @@ pub fn show_to<R: Source, W: Sink>(
     let mut spare = Vec::new(alloc);
     while let Some(fact) = at_input(1, reader.next_with(alloc, spare))? {
         if selection.selects(&fact.as_ref()) {
-            let (head, bytes) = pieces_of(&fact);
-            digits.write_line(sink, &head, bytes)?;
+            let head = head_of(&fact);
+            digits.write_line(sink, &head, bytes_of(&fact))?;
             count += 1;
         }
         spare = fact.into_vec(alloc);
@@ -52,10 +52,9 @@ pub fn show_to<R: Source, W: Sink>(
     count_to("entries", count, sink)
 }
 
-// All of the line before a symbol's bytes, and these.
-fn pieces_of(fact: &Fact) -> (Text, &[u8])
-    ensures head { result.0 ≡ fact_head fact.now }
-    ensures bytes { result.1.now ≡ fact_bytes fact.now }
+// All of the line before a symbol's bytes.
+fn head_of(fact: &Fact) -> Text
+    ensures { result ≡ fact_head fact.now }
 {
     let mut text = Text::new();
     match fact {
@@ -63,25 +62,32 @@ fn pieces_of(fact: &Fact) -> (Text, &[u8])
             push_key(&mut text, key);
             text.push(" ");
             push_numbers(&mut text, info.length(), info.symbol(), info.block());
-            (text, &[])
         }
         Fact::InfoConflict { key } => {
             push_key(&mut text, key);
             text.push(" info conflict");
-            (text, &[])
         }
         Fact::Symbol { key, id, bytes } => {
             push_key(&mut text, key);
             text.push(" ");
             push_symbol(&mut text, *id, bytes.as_slice().len());
-            (text, bytes.as_slice())
         }
         Fact::SymbolConflict { key, id } => {
             push_key(&mut text, key);
             text.push(" ");
             push_symbol_id(&mut text, *id);
             text.push(" conflict");
-            (text, &[])
         }
+    }
+    text
+}
+
+// The bytes that a line ends with.
+fn bytes_of(fact: &Fact) -> &[u8]
+    ensures { result.now ≡ fact_bytes fact.now }
+{
+    match fact {
+        Fact::Symbol { bytes, .. } => bytes.as_slice(),
+        _ => &[],
     }
 }

@@ -75,8 +75,8 @@ returns-in_err-write_line-clause-failed g c =
     let chosen : selects choice f ≡ true =
     ap (selects choice) (sym c.as_ref.ensures) ∙ sym c.selects.ensures ∙ c.if-selects.true in
     let line = rw c.in_err-write_line.was at
-    (fact_written f t t' c.write_line.result c.pieces_of-head.ensures.head
-    c.pieces_of-head.ensures.bytes c.write_line.ensures.line) in
+    (fact_written f t t' c.write_line.result c.head_of-head.ensures
+    c.bytes_of.ensures c.write_line.ensures.line) in
     let here = shown-part h.shown gave
     (subst (λ (x : List ℕ). AppendsPart t t' x) (sym (just_line choice f chosen)) line) in
     let P : Option (List ℕ) → Type 0 = λ left. ShowsPart choice u left s t' in
@@ -105,8 +105,8 @@ loop-fact-preserved g c =
             ap (selects choice) (sym c.as_ref.ensures) ∙ sym c.selects.ensures
             ∙ w.if-selects.true in
             let line = rw w.in_ok-write_line.was at
-            (fact_written f t t' w.write_line.result w.pieces_of-head.ensures.head
-            w.pieces_of-head.ensures.bytes w.write_line.ensures.line) in
+            (fact_written f t t' w.write_line.result w.head_of-head.ensures
+            w.bytes_of.ensures w.write_line.ensures.line) in
             rw (w.sink-is, w.count-is) (shown-line h.shown gave chosen line)
         | else-selects w ↦
             let other : selects choice f ≡ false =

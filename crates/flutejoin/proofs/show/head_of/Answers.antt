@@ -1,11 +1,11 @@
--- pieces_of: the words before a symbol's bytes, for each kind of fact (specs/Lines).
+-- head_of: the words before a symbol's bytes, for each kind of fact (specs/Lines).
 use Rattle.std.proofs.Common.{refl}
 use Rattle.flutejoin.specs.Pieces.{fact_head}
-use Rattle.flutejoin.proofs.show.pieces_of.Goals as goal
+use Rattle.flutejoin.proofs.show.head_of.Goals as goal
 
-pub returns-in-Info-clause-head : goal.returns-in-Info-clause-head
+pub returns-in-Info : goal.returns-in-Info
 unfolding fact_head
-returns-in-Info-clause-head c =
+returns-in-Info c =
     rw (
       c.in-Info.is,
       c.push_numbers.ensures.text,
@@ -17,9 +17,9 @@ returns-in-Info-clause-head c =
       c.block.ensures.value,
     ) refl
 
-pub returns-in-InfoConflict-clause-head : goal.returns-in-InfoConflict-clause-head
+pub returns-in-InfoConflict : goal.returns-in-InfoConflict
 unfolding fact_head
-returns-in-InfoConflict-clause-head c =
+returns-in-InfoConflict c =
     rw (
       c.in-InfoConflict.is,
       c.push-in-InfoConflict.ensures.text,
@@ -27,9 +27,9 @@ returns-in-InfoConflict-clause-head c =
       c.new-text.ensures,
     ) refl
 
-pub returns-in-Symbol-clause-head : goal.returns-in-Symbol-clause-head
+pub returns-in-Symbol : goal.returns-in-Symbol
 unfolding fact_head
-returns-in-Symbol-clause-head c =
+returns-in-Symbol c =
     rw (
       c.in-Symbol.is,
       c.push_symbol.ensures.text,
@@ -39,9 +39,9 @@ returns-in-Symbol-clause-head c =
       c.as_slice.ensures.value,
     ) refl
 
-pub returns-in-SymbolConflict-clause-head : goal.returns-in-SymbolConflict-clause-head
+pub returns-in-SymbolConflict : goal.returns-in-SymbolConflict
 unfolding fact_head
-returns-in-SymbolConflict-clause-head c =
+returns-in-SymbolConflict c =
     rw (
       c.in-SymbolConflict.is,
       c.push-in-SymbolConflict-2.ensures.text,
