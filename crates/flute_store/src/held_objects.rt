@@ -16,6 +16,7 @@ pub trait HasObjects: Drop {
 
     ghost objects_of: { Self → List (ObjectName × Self.Object) };
 
+    /// The objects, each with its key, in rising order of the keys.
     fn objects(&self) -> Entries<'_, ObjectKey, Self::Object>
         ensures { result ≡ objects_of self.now };
 }
