@@ -10,12 +10,17 @@ if ! command -v rt > /dev/null; then
 fi
 mkdir -p bin
 echo "flutejoin: proving and building the program;" \
-    "the first time this takes 20 to 40 minutes (log: bin/build.log)" >&2
+    "the first time this takes 20 to 30 minutes (log: bin/build.log)" >&2
 
 # The crates of the program, the lowest first: in this order each is read once, and no pass over all
 # sources comes before.
 libraries='flute_join flute_parts flute_wire flute_store flute_journal flute_streams flute_output'
-libraries="$libraries flutejoin flutejoin_commands flutejoin_line flutejoin_run"
+libraries="$libraries flutejoin flutejoin_commands flutejoin_line"
+
+# Two jobs for each processor, since one job often waits for a proof of another. rattle itself takes
+# fewer where memory is short.
+jobs=$(($(nproc) * 2))
+[ "$jobs" -le 8 ] || jobs=8
 
 # build CRATE WORD..: builds a crate by these words of rt.
 build() {
@@ -32,11 +37,13 @@ build() {
     fi
 }
 
-# build_beside CRATE: builds a library in a copy of the crates, while others are built here: often
-# one of them has work for a single processor. rt takes there the libraries below it from here, and
-# here the library from there.
+# build_beside CRATE [WORD..]: builds a library in a copy of the crates (by `WORD.. rt`), while
+# others are built here: often one of them has work for a single processor. rt takes there the
+# libraries below it from here, and here the library from there.
 build_beside() {
-    (cd "bin/beside/crates/$1" && exec rt lib --jobs 1) >> bin/beside.log 2>&1 &
+    crate=$1
+    shift
+    (cd "bin/beside/crates/$crate" && exec "$@" rt lib --jobs 1) >> bin/beside.log 2>&1 &
     beside="$beside $!"
 }
 
@@ -52,13 +59,16 @@ rm -rf bin/beside
 mkdir bin/beside
 tar -cf - --exclude=out crates.txt HANDLES crates | tar -xf - -C bin/beside
 for library in $libraries; do
-    build "$library" lib
+    build "$library" lib --jobs "$jobs"
     case $library in
-    flute_parts) build_beside flute_output ;;
+    # Others wait for it late: it has what time they leave.
+    flute_parts) build_beside flute_output nice -n 19 ;;
     flutejoin) build_beside flutejoin_line ;;
     esac
 done
-build flutejoin_cli run -- --version
+# Its two functions are proved one after the other: a second job would only load all anew.
+build flutejoin_run lib --jobs 1
+build flutejoin_cli run --jobs "$jobs" -- --version
 cp crates/flutejoin_cli/out/flutejoin_cli bin/flutejoin.new
 mv bin/flutejoin.new bin/flutejoin
 echo "flutejoin: built bin/flutejoin" >&2

@@ -24,3 +24,4 @@ pub use Rattle.flute_parts.proofs.Division.{div_ceil-pos, div_ceil-zero, fault-n
 pub use Rattle.flute_parts.proofs.Split.{ids_counted, places-inverse}
 pub use Rattle.flute_parts.proofs.Fits.{fits-means}
 pub use Rattle.flute_parts.proofs.Sizes.{sizes-few, sizes-none, sizes-short, sizes-some}
+pub use Rattle.flute_parts.proofs.OfEqual.{of_equal}

@@ -1,5 +1,5 @@
 -- What became of an output that was closed (specs/Closings).
-use Rattle.std.proofs.Common.{◌≡◌, ℕ, List, Option, Some, None, inl, inr, refl}
+use Rattle.std.proofs.Common.{ℕ, List, Option, Some, None, inl, inr, refl}
 use Rattle.flute_output.specs.Entries.{Entries}
 use Rattle.flutejoin_commands.specs.Closings.{Closing, ClosesWhole, IsNoted}
 use Rattle.flutejoin_commands.specs.Commands.{IsWholeAlways}

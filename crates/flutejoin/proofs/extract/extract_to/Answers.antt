@@ -2,6 +2,7 @@
 use Rattle.std.proofs.Common.{◌≡◌, ℕ, List, Option, Result, Err, ◌∙◌, subst, rules}
 use Rattle.flute_parts.specs.Facts.{Same}
 use Rattle.flute_parts.specs.declared.fact.Fact.{Fact}
+use Rattle.flute_parts.proofs.Public.{of_equal}
 use Rattle.flutejoin.specs.Extract.{AnswersFrom, Extracts}
 use Rattle.flutejoin.specs.declared.command_fault.CommandFault.{CommandFault}
 use Rattle.flutejoin.specs.Show.{FailsToRead}
@@ -23,10 +24,7 @@ returns-in-Ok-clause-extracts g c =
     let P : Option (List ℕ) → Type 0 = λ left. AnswersFrom (at_most g.row.SESSIONS g.row.OBJECTS
     g.row.SYMBOLS) (g.R.Source.unread c.args.source.now) left (λ F. Extracts g.W.Sink.written F
     c.args.key.now old new r) r in
-    let at : (x : g.row.R.Denot) → c.read_into.new.reader.source.now ≡ x
-    → P (g.R.Source.unread x) =
-    λ x same. subst (λ (y : g.row.R.Denot). P (g.R.Source.unread y)) same a.extracts in
-    at _ (search rules)
+    of_equal g.R.Source.unread P a.extracts _ (search rules)
 
 pub returns-in-Ok-clause-as_others : goal.returns-in-Ok-clause-as_others
 returns-in-Ok-clause-as_others g c = λ others.
@@ -41,11 +39,7 @@ returns-in-Ok-clause-as_others g c = λ others.
     let P : Option (List ℕ) → Type 0 = λ left. AnswersFrom (at_most g.row.SESSIONS g.row.OBJECTS
     g.row.SYMBOLS) (g.R.Source.unread c.args.source.now) left (λ F. Same F others → Extracts
     g.W.Sink.written others c.args.key.now old new r) r in
-    let at : (x : g.row.R.Denot) → c.read_into.new.reader.source.now ≡ x
-    → P (g.R.Source.unread x) =
-    λ x same. subst (λ (y : g.row.R.Denot). P (g.R.Source.unread y)) same
-    (a.as_others others) in
-    at _ (search rules)
+    of_equal g.R.Source.unread P (a.as_others others) _ (search rules)
 
 pub returns-in-Ok-clause-short : goal.returns-in-Ok-clause-short
 returns-in-Ok-clause-short g c =
@@ -73,13 +67,10 @@ returns-in-Ok-clause-read_failures g c =
     (c.in-Ok.ensures.same_key ∙ c.new-writer.ensures.key) c.in-Ok.ensures.untouched
     c.end.ensures.extracts c.end.ensures.untouched in
     let P : ℕ → Type 0 = λ n. FailsToRead {T = ℕ} (g.R.Source.failures c.args.source.now) n r in
-    let at : (x : g.row.R.Denot) → c.read_into.new.reader.source.now ≡ x
-    → P (g.R.Source.failures x) =
-    λ x same. subst (λ (y : g.row.R.Denot). P (g.R.Source.failures y)) same
-    (a.reads _ _
+    of_equal g.R.Source.failures P (a.reads _ _
     (subst (λ (x : g.row.R.Denot). g.R.Source.failures c.read_into.new.reader.source.now
-    ≡ g.R.Source.failures x) c.new-reader.ensures.unread c.in-Ok.ensures.read_failures)) in
-    at _ (search rules)
+    ≡ g.R.Source.failures x) c.new-reader.ensures.unread c.in-Ok.ensures.read_failures)) _
+    (search rules)
 
 pub returns-in-Err-clause-extracts : goal.returns-in-Err-clause-extracts
 returns-in-Err-clause-extracts g c =
@@ -89,13 +80,9 @@ returns-in-Err-clause-extracts g c =
     let P : Option (List ℕ) → Type 0 = λ left. AnswersFrom (at_most g.row.SESSIONS g.row.OBJECTS
     g.row.SYMBOLS) (g.R.Source.unread c.args.source.now) left (λ F. Extracts g.W.Sink.written F
     c.args.key.now c.args.sink.now c.read_into.new.sink f) f in
-    let at : (x : g.row.R.Denot) → c.read_into.new.reader.source.now ≡ x
-    → P (g.R.Source.unread x) =
-    λ x same. subst (λ (y : g.row.R.Denot). P (g.R.Source.unread y)) same
-    (journal_fault c.load_fault.ensures
+    of_equal g.R.Source.unread P (journal_fault c.load_fault.ensures
     (λ F. Extracts g.W.Sink.written F c.args.key.now c.args.sink.now c.read_into.new.sink f)
-    p) in
-    at _ (search rules)
+    p) _ (search rules)
 
 pub returns-in-Err-clause-as_others : goal.returns-in-Err-clause-as_others
 returns-in-Err-clause-as_others g c = λ others.
@@ -108,8 +95,4 @@ returns-in-Err-clause-as_others g c = λ others.
     c.read_into.new.sink f in
     let P : Option (List ℕ) → Type 0 = λ left. AnswersFrom (at_most g.row.SESSIONS g.row.OBJECTS
     g.row.SYMBOLS) (g.R.Source.unread c.args.source.now) left Q f in
-    let at : (x : g.row.R.Denot) → c.read_into.new.reader.source.now ≡ x
-    → P (g.R.Source.unread x) =
-    λ x same. subst (λ (y : g.row.R.Denot). P (g.R.Source.unread y)) same
-    (journal_fault c.load_fault.ensures Q p) in
-    at _ (search rules)
+    of_equal g.R.Source.unread P (journal_fault c.load_fault.ensures Q p) _ (search rules)

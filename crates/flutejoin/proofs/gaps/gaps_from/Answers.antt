@@ -1,7 +1,8 @@
 -- gaps_from: its loop over the journal's facts, the lines at the end, and each fault.
 use Rattle.std.proofs.Common.{◌≡◌, ◌∙◌, List, ℕ, Option, Ok, Err, true, false, inr}
-use Rattle.std.proofs.Common.{ap, sym, subst, rules, refl, arith}
+use Rattle.std.proofs.Common.{ap, sym, rules, refl, arith}
 use Rattle.std.proofs.lemmas.Result.{err_from_is_err_and}
+use Rattle.flute_parts.proofs.Public.{of_equal}
 use Rattle.flutejoin.specs.Gaps.{ReadsWithin}
 use Rattle.flutejoin.specs.Load.{LoadFails}
 use Rattle.flutejoin.specs.Selected.{selected}
@@ -35,10 +36,7 @@ returns-in_err-fact-clause-failed g c =
     let P : Option (List ℕ) → Type 0 = λ left. LoadFails (at_most g.row.SESSIONS g.row.OBJECTS
     g.row.SYMBOLS) 1
     u left (Input 1 r.0) in
-    let at : (x : g.row.R.Denot) → c.next_with.new.self.source.now ≡ x
-    → P (g.R.Source.unread x) =
-    λ x same. subst (λ (y : g.row.R.Denot). P (g.R.Source.unread y)) same here in
-    rw (e.1 ∙ ap Err (e.2 ∙ r.2)) (at _ (search rules))
+    rw (e.1 ∙ ap Err (e.2 ∙ r.2)) (of_equal g.R.Source.unread P here _ (search rules))
 
 pub returns-then-not-count-clause-failed : goal.returns-then-not-count-clause-failed
 returns-then-not-count-clause-failed g c =
@@ -87,12 +85,8 @@ returns-in_err-add-clause-failed g c =
     let here = within_read h.read gave
     (c.count.ensures.within h.read.entries f (sym c.address.ensures)
     (entry_rises h.read gave) h.read.counts c.if-not-count.false) in
-    let at : (x : g.row.R.Denot) → c.next_with.new.self.source.now ≡ x → ReadsWithin
-    (at_most g.row.SESSIONS g.row.OBJECTS g.row.SYMBOLS) u
-    (g.R.Source.unread x) = λ x same. subst (λ (y : g.row.R.Denot). ReadsWithin
-    (at_most g.row.SESSIONS g.row.OBJECTS g.row.SYMBOLS) u
-    (g.R.Source.unread y)) same here in
-    rw (e.1 ∙ ap Err e.2) (at _ (search rules))
+    let P = ReadsWithin (at_most g.row.SESSIONS g.row.OBJECTS g.row.SYMBOLS) u in
+    rw (e.1 ∙ ap Err e.2) (of_equal g.R.Source.unread P here _ (search rules))
 
 pub returns-in_err-add-clause-failures : goal.returns-in_err-add-clause-failures
 returns-in_err-add-clause-failures g c =
@@ -180,12 +174,8 @@ returns-in_err-move_to-clause-failed g c =
     let gave = end_given c.loop-fact.reader.max_entries from to v w
     c.next_with.ensures.gives r in
     let here = whole_read h.read gave in
-    let at : (x : g.row.R.Denot) → c.next_with.new.self.source.now ≡ x → ReadsWithin
-    (at_most g.row.SESSIONS g.row.OBJECTS g.row.SYMBOLS) u
-    (g.R.Source.unread x) = λ x same. subst (λ (y : g.row.R.Denot). ReadsWithin
-    (at_most g.row.SESSIONS g.row.OBJECTS g.row.SYMBOLS) u
-    (g.R.Source.unread y)) same here in
-    rw (e.1 ∙ ap Err e.2) (at _ (search rules))
+    let P = ReadsWithin (at_most g.row.SESSIONS g.row.OBJECTS g.row.SYMBOLS) u in
+    rw (e.1 ∙ ap Err e.2) (of_equal g.R.Source.unread P here _ (search rules))
 
 pub returns-in_err-all_whole-clause-failed : goal.returns-in_err-all_whole-clause-failed
 returns-in_err-all_whole-clause-failed g c =
@@ -202,12 +192,8 @@ returns-in_err-all_whole-clause-failed g c =
     let gave = end_given c.loop-fact.reader.max_entries from to v w
     c.next_with.ensures.gives r in
     let here = whole_read h.read gave in
-    let at : (x : g.row.R.Denot) → c.next_with.new.self.source.now ≡ x → ReadsWithin
-    (at_most g.row.SESSIONS g.row.OBJECTS g.row.SYMBOLS) u
-    (g.R.Source.unread x) = λ x same. subst (λ (y : g.row.R.Denot). ReadsWithin
-    (at_most g.row.SESSIONS g.row.OBJECTS g.row.SYMBOLS) u
-    (g.R.Source.unread y)) same here in
-    rw (e.1 ∙ ap Err e.2) (at _ (search rules))
+    let P = ReadsWithin (at_most g.row.SESSIONS g.row.OBJECTS g.row.SYMBOLS) u in
+    rw (e.1 ∙ ap Err e.2) (of_equal g.R.Source.unread P here _ (search rules))
 
 pub returns-in_err-all_whole-clause-failures : goal.returns-in_err-all_whole-clause-failures
 returns-in_err-all_whole-clause-failures g c =

@@ -1,6 +1,7 @@
 -- show_to: its loop writes the lines of the selected entries; its end, and each fault.
 use Rattle.std.proofs.Common.{◌≡◌, ◌∙◌, ℕ, List, Option, ap, sym, subst, refl, rules, Ok, Err}
 use Rattle.std.proofs.Common.{arith}
+use Rattle.flute_parts.proofs.Public.{of_equal}
 use Rattle.flutejoin.specs.Show.{FailsToRead, ShowsPart, ShowsUntil}
 use Rattle.flutejoin.specs.declared.command_fault.CommandFault.TheVariants.{Input}
 use Rattle.std.proofs.lemmas.Result.{err_from_is_err_and}
@@ -35,9 +36,7 @@ returns-in_err-fact-clause-failed g c =
     let here = shown-fault h.shown
     (fault_given from to v w c.next_with.ensures.gives h.limit r.1) in
     let P : Option (List ℕ) → Type 0 = λ left. ShowsUntil c.args.selection.now u left s t r.0 in
-    let at : (x : g.row.R.Denot) → c.next_with.new.self.source.now ≡ x → P (g.R.Source.unread x) =
-    λ x same. subst (λ (y : g.row.R.Denot). P (g.R.Source.unread y)) same here in
-    rw (e.1 ∙ ap Err (e.2 ∙ r.2)) (refl, at _ (search rules))
+    rw (e.1 ∙ ap Err (e.2 ∙ r.2)) (refl, of_equal g.R.Source.unread P here _ (search rules))
 
 pub returns-in_err-fact-clause-read_failures : goal.returns-in_err-fact-clause-read_failures
 returns-in_err-fact-clause-read_failures g c =
@@ -49,10 +48,7 @@ returns-in_err-fact-clause-read_failures g c =
     h.shown.sofar r.1 c.next_with.ensures.failures h.reads in
     let P : ℕ → Type 0 = λ n. FailsToRead {T = Unit {0}} (g.R.Source.failures c.args.source.now) n
     (Err (Input 1 r.0)) in
-    let at : (x : g.row.R.Denot) → c.next_with.new.self.source.now ≡ x → P
-    (g.R.Source.failures x) =
-    λ x same. subst (λ (y : g.row.R.Denot). P (g.R.Source.failures y)) same here in
-    rw (e.1 ∙ ap Err (e.2 ∙ r.2)) (at _ (search rules))
+    rw (e.1 ∙ ap Err (e.2 ∙ r.2)) (of_equal g.R.Source.failures P here _ (search rules))
 
 pub returns-in_err-write_line-clause-failed : goal.returns-in_err-write_line-clause-failed
 returns-in_err-write_line-clause-failed g c =
@@ -80,9 +76,7 @@ returns-in_err-write_line-clause-failed g c =
     let here = shown-part h.shown gave
     (subst (λ (x : List ℕ). AppendsPart t t' x) (sym (just_line choice f chosen)) line) in
     let P : Option (List ℕ) → Type 0 = λ left. ShowsPart choice u left s t' in
-    let at : (x : g.row.R.Denot) → c.next_with.new.self.source.now ≡ x → P (g.R.Source.unread x) =
-    λ x same. subst (λ (y : g.row.R.Denot). P (g.R.Source.unread y)) same here in
-    rw (e.1 ∙ ap Err e.2) (at _ (search rules))
+    rw (e.1 ∙ ap Err e.2) (of_equal g.R.Source.unread P here _ (search rules))
 
 pub loop-fact-preserved : goal.loop-fact-preserved
 loop-fact-preserved g c =
@@ -142,9 +136,7 @@ returns-clause-failed g c =
     λ left. IfErr c.count_to.result (ShowFails c.args.selection.now u left s t') in
     let here : P w = cut_short c.args.selection.now u w s t' c.count_to.result
     (λ line. shown-cut h.shown gave line) c.count_to.ensures.failed in
-    let at : (x : g.row.R.Denot) → c.next_with.new.self.source.now ≡ x → P (g.R.Source.unread x) =
-    λ x same. subst (λ (y : g.row.R.Denot). P (g.R.Source.unread y)) same here in
-    at _ (search rules)
+    of_equal g.R.Source.unread P here _ (search rules)
 
 pub returns-clause-printed : goal.returns-clause-printed
 returns-clause-printed g c =
@@ -167,11 +159,8 @@ returns-clause-read_failures g c =
     c.at_input.ensures c.in_ok-fact.was ∙ ap Ok c.in_default.is in
     let quiet = no_read_failure c.next_with.result _ r c.next_with.ensures.failures h.reads in
     let P : ℕ → Type 0 = λ n. FailsToRead (g.R.Source.failures c.args.source.now) n result in
-    let at : (x : g.row.R.Denot) → c.next_with.new.self.source.now ≡ x
-    → P (g.R.Source.failures x) =
-    λ x same. subst (λ (y : g.row.R.Denot). P (g.R.Source.failures y)) same
-    (only_written _ _ _ result c.count_to.ensures.failed quiet) in
-    at _ (search rules)
+    of_equal g.R.Source.failures P (only_written _ _ _ result c.count_to.ensures.failed quiet) _
+    (search rules)
 
 pub overflow_add-count : goal.overflow_add-count
 overflow_add-count g c =

@@ -1,5 +1,6 @@
 -- read_store: its loop, its faults of the journal and of the store, and the store at the end.
-use Rattle.flute_journal.proofs.Common.{◌≡◌, rules, ap, ◌∙◌, subst, Err}
+use Rattle.flute_journal.proofs.Common.{ℕ, List, Option, rules, ap, ◌∙◌, Err}
+use Rattle.flute_parts.proofs.Public.{of_equal}
 use Rattle.flute_journal.proofs.Common.{err_from_is_err_and, is_open, IsLoadFault, Read}
 use Rattle.flute_journal.proofs.Common.{ReadsNoMore, refused}
 use Rattle.flute_journal.proofs.readers_lemmas.Loading.{loaded_all, loaded-given, loaded-fits}
@@ -13,13 +14,10 @@ returns-in_err-fact-clause-fault g c =
     let f = c.in_err-fact.field-0.0 in
     let stops = loaded-stops c.loop-store.invariant.0
     c.loop-store.invariant.1 c.in_err-fact.ensures.gives in
-    let at : (x : g.row.R.Denot) → c.next_with.new.self.source.now ≡ x
-    → IsLoadFault g.row.SESSIONS g.row.OBJECTS g.row.SYMBOLS c.args.max_entries
-    (g.R.Source.unread c.args.source.now) (g.R.Source.unread x) (Read f) =
-    λ x same. subst (λ (z : g.row.R.Denot).
-    IsLoadFault g.row.SESSIONS g.row.OBJECTS g.row.SYMBOLS c.args.max_entries
-    (g.R.Source.unread c.args.source.now) (g.R.Source.unread z) (Read f)) same stops in
-    rw (e.1 ∙ ap Err e.2) (at _ (search rules))
+    let P : Option (List ℕ) → Type 0 =
+    λ left. IsLoadFault g.row.SESSIONS g.row.OBJECTS g.row.SYMBOLS c.args.max_entries
+    (g.R.Source.unread c.args.source.now) left (Read f) in
+    rw (e.1 ∙ ap Err e.2) (of_equal g.R.Source.unread P stops _ (search rules))
 
 pub returns-in_err-fact-clause-reads : goal.returns-in_err-fact-clause-reads
 returns-in_err-fact-clause-reads g c =
@@ -27,13 +25,10 @@ returns-in_err-fact-clause-reads g c =
     let f = c.in_err-fact.field-0.0 in
     let read = fault-part c.loop-store.invariant.0 c.loop-store.invariant.1
     c.in_err-fact.ensures.gives in
-    let reads : (x : g.row.R.Denot) → c.next_with.new.self.source.now ≡ x
-    → ReadsNoMore g.row.SESSIONS g.row.OBJECTS g.row.SYMBOLS c.args.max_entries
-    (g.R.Source.unread c.args.source.now) (g.R.Source.unread x) (Read f) =
-    λ x same. subst (λ (z : g.row.R.Denot).
-    ReadsNoMore g.row.SESSIONS g.row.OBJECTS g.row.SYMBOLS c.args.max_entries
-    (g.R.Source.unread c.args.source.now) (g.R.Source.unread z) (Read f)) same read in
-    rw (e.1 ∙ ap Err e.2) (reads _ (search rules))
+    let P : Option (List ℕ) → Type 0 =
+    λ left. ReadsNoMore g.row.SESSIONS g.row.OBJECTS g.row.SYMBOLS c.args.max_entries
+    (g.R.Source.unread c.args.source.now) left (Read f) in
+    rw (e.1 ∙ ap Err e.2) (of_equal g.R.Source.unread P read _ (search rules))
 
 pub returns-in_err-add-clause-reads : goal.returns-in_err-add-clause-reads
 returns-in_err-add-clause-reads g c =
@@ -44,13 +39,10 @@ returns-in_err-add-clause-reads g c =
     c.in_ok-fact.ensures.gives in
     let read = refused-part c.loop-store.invariant.0 given why
     (λ full. c.in_err-add.ensures.full.0 (ap Err full)) in
-    let reads : (x : g.row.R.Denot) → c.next_with.new.self.source.now ≡ x
-    → ReadsNoMore g.row.SESSIONS g.row.OBJECTS g.row.SYMBOLS c.args.max_entries
-    (g.R.Source.unread c.args.source.now) (g.R.Source.unread x) (refused why) =
-    λ x same. subst (λ (z : g.row.R.Denot).
-    ReadsNoMore g.row.SESSIONS g.row.OBJECTS g.row.SYMBOLS c.args.max_entries
-    (g.R.Source.unread c.args.source.now) (g.R.Source.unread z) (refused why)) same read in
-    rw (e.1 ∙ ap Err e.2) (reads _ (search rules))
+    let P : Option (List ℕ) → Type 0 =
+    λ left. ReadsNoMore g.row.SESSIONS g.row.OBJECTS g.row.SYMBOLS c.args.max_entries
+    (g.R.Source.unread c.args.source.now) left (refused why) in
+    rw (e.1 ∙ ap Err e.2) (of_equal g.R.Source.unread P read _ (search rules))
 
 pub returns-in_err-add-clause-fault : goal.returns-in_err-add-clause-fault
 returns-in_err-add-clause-fault g c =

@@ -1,6 +1,7 @@
 -- join_streams: the first fault, and what was joined.
-use Rattle.flute_streams.proofs.Common.{◌≡◌, ℕ, EndsMerged, List, Option, rules}
+use Rattle.flute_streams.proofs.Common.{ℕ, EndsMerged, List, Option, rules}
 use Rattle.flute_streams.proofs.Common.{slice_get_within, subst}
+use Rattle.flute_parts.proofs.Public.{of_equal}
 use Rattle.flute_streams.proofs.merge_lemmas.Finished.{stopped_of}
 use Rattle.flute_streams.proofs.merge.all_streams.join_streams.Goals as goal
 
@@ -22,8 +23,4 @@ returns-in-Ok-clause-ended g c =
     let ends : E (g.W.Sink.written c.args.sink.now) (g.W.Sink.written sink) =
     subst (λ (x : g.row.W.Denot). E (g.W.Sink.written x) (g.W.Sink.written sink))
     c.new-writer.ensures.now c.in-Ok.ensures.ended in
-    let at : (x : g.row.W.Denot) → sink ≡ x
-    → E (g.W.Sink.written c.args.sink.now) (g.W.Sink.written x) =
-    λ x same. subst (λ (y : g.row.W.Denot).
-    E (g.W.Sink.written c.args.sink.now) (g.W.Sink.written y)) same ends in
-    at _ (search rules)
+    of_equal g.W.Sink.written (E (g.W.Sink.written c.args.sink.now)) ends _ (search rules)

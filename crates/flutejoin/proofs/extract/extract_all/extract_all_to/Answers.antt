@@ -1,6 +1,7 @@
 -- extract_all_to: its loop over the facts, the files and lines at the end, and each fault.
-use Rattle.std.proofs.Common.{◌≡◌, ◌∙◌, List, ℕ, Option, Ok, Err, ap, sym, subst, rules, arith}
+use Rattle.std.proofs.Common.{◌≡◌, ◌∙◌, List, ℕ, Option, Ok, Err, ap, sym, rules, arith}
 use Rattle.std.proofs.lemmas.Result.{err_from_is_err_and}
+use Rattle.flute_parts.proofs.Public.{of_equal}
 use Rattle.flutejoin.specs.Gaps.{ReadsWithin}
 use Rattle.flutejoin.specs.Load.{LoadFails}
 use Rattle.std.proofs.Common.{true, false}
@@ -37,9 +38,7 @@ returns-in_err-fact-clause-failed g c =
     let P : Option (List ℕ) → Type 0 = λ left. LoadFails (at_most g.row.SESSIONS g.row.OBJECTS
     g.row.SYMBOLS) 1
     u left (Input 1 r.0) in
-    let at : (x : g.row.R.Denot) → c.next_with.new.self.source.now ≡ x → P (g.R.Source.unread x) =
-    λ x same. subst (λ (y : g.row.R.Denot). P (g.R.Source.unread y)) same here in
-    rw (e.1 ∙ ap Err (e.2 ∙ r.2)) (at _ (search rules))
+    rw (e.1 ∙ ap Err (e.2 ∙ r.2)) (of_equal g.R.Source.unread P here _ (search rules))
 
 pub returns-then-not-count-clause-failed : goal.returns-then-not-count-clause-failed
 returns-then-not-count-clause-failed g c =
@@ -94,12 +93,8 @@ returns-in_err-add-clause-failed g c =
     let here = within_read h.read gave
     (c.count.ensures.within h.read.entries f (sym c.address.ensures) rises h.read.counts
     c.if-not-count.false) in
-    let at : (x : g.row.R.Denot) → c.next_with.new.self.source.now ≡ x → ReadsWithin
-    (at_most g.row.SESSIONS g.row.OBJECTS g.row.SYMBOLS) u
-    (g.R.Source.unread x) = λ x same. subst (λ (y : g.row.R.Denot). ReadsWithin
-    (at_most g.row.SESSIONS g.row.OBJECTS g.row.SYMBOLS) u
-    (g.R.Source.unread y)) same here in
-    rw (e.1 ∙ ap Err e.2) (at _ (search rules))
+    let P = ReadsWithin (at_most g.row.SESSIONS g.row.OBJECTS g.row.SYMBOLS) u in
+    rw (e.1 ∙ ap Err e.2) (of_equal g.R.Source.unread P here _ (search rules))
 
 pub loop-fact-preserved : goal.loop-fact-preserved
 loop-fact-preserved g c =
@@ -181,9 +176,7 @@ returns-clause-extracted g c =
     (g.D.NewFolder.places c.finish.new.folder) (g.W.Sink.written c.args.lines.now)
     (g.W.Sink.written c.finish.new.lines) c.in_ok-finish.field-0 in
     let here : P w = all_read h.read gave all in
-    let at : (x : g.row.R.Denot) → c.next_with.new.self.source.now ≡ x → P (g.R.Source.unread x) =
-    λ x same. subst (λ (y : g.row.R.Denot). P (g.R.Source.unread y)) same here in
-    at _ (search rules)
+    of_equal g.R.Source.unread P here _ (search rules)
 
 pub returns-in_err-finish-clause-failed : goal.returns-in_err-finish-clause-failed
 returns-in_err-finish-clause-failed g c =
@@ -203,6 +196,4 @@ returns-in_err-finish-clause-failed g c =
     let P : Option (List ℕ) → Type 0 = λ left. ReadsWithin (at_most
     g.row.SESSIONS g.row.OBJECTS g.row.SYMBOLS) u left in
     let here : P w = within in
-    let at : (x : g.row.R.Denot) → c.next_with.new.self.source.now ≡ x → P (g.R.Source.unread x) =
-    λ x same. subst (λ (y : g.row.R.Denot). P (g.R.Source.unread y)) same here in
-    rw (e.1 ∙ ap Err e.2) (at _ (search rules))
+    rw (e.1 ∙ ap Err e.2) (of_equal g.R.Source.unread P here _ (search rules))

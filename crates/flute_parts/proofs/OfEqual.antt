@@ -1,0 +1,6 @@
+-- What is said of a part of a value, said of an equal one.
+use Rattle.std.proofs.Common.{◌≡◌, subst}
+
+pub of_equal : {D V : Type 0} (part : D → V) (P : V → Type 0) {x : D} → P (part x)
+    → (y : D) → x ≡ y → P (part y)
+of_equal part P p y same = subst (λ z. P (part z)) same p
