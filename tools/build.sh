@@ -37,7 +37,7 @@ build() {
     fi
 }
 
-# build_beside CRATE [WORD..]: builds a library in a copy of the crates (by `WORD.. rt`), while
+# build_beside CRATE [nice -n N]: builds a library in a copy of the crates, at that priority, while
 # others are built here: often one of them has work for a single processor. rt takes there the
 # libraries below it from here, and here the library from there.
 build_beside() {
@@ -61,7 +61,7 @@ tar -cf - --exclude=out crates.txt HANDLES crates | tar -xf - -C bin/beside
 for library in $libraries; do
     build "$library" lib --jobs "$jobs"
     case $library in
-    # Others wait for it late: it has what time they leave.
+    # Nothing needs it before flutejoin_commands: it has the time that others leave.
     flute_parts) build_beside flute_output nice -n 19 ;;
     flutejoin) build_beside flutejoin_line ;;
     esac
