@@ -1,4 +1,7 @@
 -- The entries of a map, taken one after the other.
+use Rattle.std.proofs.Common.{arith}
+use Rattle.std.proofs.lemmas.Grind.{common_steps}
+use Rattle.std.proofs.Common.{rules}
 use Rattle.std.proofs.Common.{◌≡◌, List, [], ◌∷◌, ◌++◌, Some, None, refl, ap, ◌∙◌}
 use Rattle.std.specs.declared.cmp.Ordering.{Ordering}
 use Rattle.std.specs.declared.cmp.Ordering.TheVariants.{Less, Greater}
@@ -34,7 +37,7 @@ module _ {K X : Type 0} {cmp : K → K → Ordering} (order : IsTotalOrder cmp) 
   first_below : (e p : K × X) (es rest : List (K × X))
       → IsOrdered cmp (e ∷ (es ++ p ∷ rest)) → cmp e.0 p.0 ≡ Less
   unfolding IsStrictlySortedBy
-  first_below e p es rest s = holds_there (λ y. cmp e.0 y ≡ Less) es p rest s.0
+  first_below e p es rest s = search (rules, holds_there) steps 1000000
 
   -- a key that comes after those of es is not among them, and goes to the end
   pub absent_before : (es : List (K × X)) (p : K × X) (rest : List (K × X))
@@ -49,10 +52,9 @@ module _ {K X : Type 0} {cmp : K → K → Ordering} (order : IsTotalOrder cmp) 
       → IsOrdered cmp (es ++ p ∷ rest) → insert_entry cmp es p.0 p.1 ≡ es ++ p ∷ []
   insert_last [] p rest s = refl
   insert_last (e ∷ es) p rest s =
-      let below : cmp p.0 e.0 ≡ Greater =
-      order.antisymm p.0 e.0 ∙ ap ordering_reverse (first_below e p es rest s) in
-      rw below (ap (λ l. e ∷ l) (insert_last es p rest
-      (sorted_tail cmp e.0 (keys_of (es ++ p ∷ rest)) s)))
+      let below : cmp p.0 e.0 ≡ Greater = order.antisymm p.0 e.0 ∙ ap ordering_reverse
+      (first_below e p es rest s) in rw below
+      (ap (λ l. e ∷ l) (insert_last es p rest (sorted_tail cmp e.0 (keys_of (es ++ p ∷ rest)) s)))
 
   -- the value at the key of an entry
   pub value_there : (es : List (K × X)) (p : K × X) (rest : List (K × X))

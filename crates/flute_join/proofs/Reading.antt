@@ -1,4 +1,7 @@
 -- Reading nested maps: if reading a value keeps joins, so does reading the value at a key.
+use Rattle.std.proofs.Common.{arith}
+use Rattle.std.proofs.lemmas.Grind.{common_steps}
+use Rattle.std.proofs.Common.{rules}
 use Rattle.std.proofs.Common.{◌≡◌, List, [], ◌∷◌, Bool, true, false, cond, Option, Some}
 use Rattle.std.proofs.Common.{None, sym, ap, ◌∙◌}
 use Rattle.std.specs.declared.cmp.Ordering.{Ordering}
@@ -21,28 +24,20 @@ module _ {K X C : Type 0} {cmp : K → K → Ordering} (order : IsTotalOrder cmp
 
   holds_first : (test : Bool) (e : K × X) (o : Option X) → P e.1 → Holds o
       → Holds (cond test (Some e.1) o)
-  holds_first true e o p h = p
-  holds_first false e o p h = h
+  holds_first x0 x1 x2 x3 x4 = search rules steps 1000000
 
   holds_at : (es : List (K × X)) (q : K) → EachValue P es → Holds (value_at cmp es q)
   holds_at [] q a = tt
   holds_at (e ∷ es) q a =
       holds_first (is_at (cmp q) e.0) e (value_at cmp es q) a.0 (holds_at es q a.1)
 
-  read_values : (a b : Option X) → Holds a → Holds b
-      → option_map_or read (join_values join a b) nothing
-      ≡ join_read (option_map_or read a nothing) (option_map_or read b nothing)
-  read_values None None p q = sym (left nothing)
-  read_values None (Some w) p q = sym (left (read w))
-  read_values (Some v) None p q = sym (right (read v))
-  read_values (Some v) (Some w) p q = keeps v w p q
+  read_values : (a b : Option X) → Holds a → Holds b → option_map_or read (join_values join a b)
+      nothing ≡ join_read (option_map_or read a nothing) (option_map_or read b nothing)
+  read_values x0 x1 x2 x3 = search rules steps 1000000
 
-  pub reading_at : (es fs : List (K × X)) (q : K) → IsOrdered cmp es → IsOrdered cmp fs
-      → EachValue P es → EachValue P fs
-      → option_map_or read (value_at cmp (map_join cmp join es fs) q) nothing
+  pub reading_at : (es fs : List (K × X)) (q : K) → IsOrdered cmp es → IsOrdered cmp fs → EachValue
+      P es → EachValue P fs → option_map_or read (value_at cmp (map_join cmp join es fs) q) nothing
       ≡ join_read (option_map_or read (value_at cmp es q) nothing)
       (option_map_or read (value_at cmp fs q) nothing)
-  reading_at es fs q s t a b =
-      ap (λ o. option_map_or read o nothing) (value_at-map_join order join es fs q s t)
-      ∙ read_values (value_at cmp es q) (value_at cmp fs q) (holds_at es q a)
-      (holds_at fs q b)
+  reading_at es fs q s t a b = search (rules, value_at-map_join, read_values, value_at, holds_at)
+      steps 1000000

@@ -1,4 +1,6 @@
 -- A map joined with a map of one pair, and a map joined with itself after a change at one key.
+use Rattle.std.proofs.lemmas.Grind.{common_steps}
+use Rattle.std.proofs.Common.{rules}
 use Rattle.std.proofs.Common.{◌≡◌, Option, IsNone, ℕ, ◌+◌, ◌<◌, ◌≤◌, List, []}
 use Rattle.std.proofs.Common.{◌∷◌, length, Bool, true, false, cond, Some, None, unwrap_or}
 use Rattle.std.proofs.Common.{Result, OnOk, refl, sym, ap, ◌∙◌, subst, arith, inl, inr}
@@ -20,17 +22,15 @@ use Rattle.flute_join.specs.Semilattice.{IsJoin, IsBelow}
 use Rattle.flute_join.specs.JoinMap.{map_join, join_entry, value_at, IsOrdered, MapOver}
 
 pub none_from_IsNone : {X : Type 0} (o : Option X) → IsNone o → o ≡ None
-none_from_IsNone None n = refl
-none_from_IsNone (Some x) n = cc
+none_from_IsNone x0 x1 = search rules steps 1000000
 
 module _ {K X : Type 0} {cmp : K → K → Ordering} (order : IsTotalOrder cmp)
     {join : X → X → X} (laws : IsJoin join) where
   -- at a key that es has
-  single_held_at : (e : K × X) (es : List (K × X)) {k : K} {v : X} (w : X) (r : Ordering)
-      → cmp e.0 k ≡ r → IsOrdered cmp (e ∷ es) → value_at cmp (e ∷ es) k ≡ Some v
-      → (value_at cmp es k ≡ Some v
-      → map_join cmp join es ((k, w) ∷ []) ≡ set_value (is_at (cmp k)) es (join v w))
-      → map_join cmp join (e ∷ es) ((k, w) ∷ []) ≡ set_value (is_at (cmp k)) (e ∷ es) (join v w)
+  single_held_at : (e : K × X) (es : List (K × X)) {k : K} {v : X} (w : X) (r : Ordering) → cmp e.0
+      k ≡ r → IsOrdered cmp (e ∷ es) → value_at cmp (e ∷ es) k ≡ Some v → (value_at cmp es k ≡ Some
+      v → map_join cmp join es ((k, w) ∷ []) ≡ set_value (is_at (cmp k)) es (join v w)) → map_join
+      cmp join (e ∷ es) ((k, w) ∷ []) ≡ set_value (is_at (cmp k)) (e ∷ es) (join v w)
   unfolding map_join join_entry
   single_held_at e es {k = k} w Less p s f ih =
       let t : cmp k e.0 ≡ Greater = order.antisymm k e.0 ∙ ap ordering_reverse p in
@@ -42,17 +42,14 @@ module _ {K X : Type 0} {cmp : K → K → Ordering} (order : IsTotalOrder cmp)
       ∙ ap (λ l. (e.0, join v w) ∷ l) (join_nothing cmp join es))
   single_held_at e es {k = k} {v = v} w Greater p s f ih =
       let t : cmp k e.0 ≡ Less = order.antisymm k e.0 ∙ ap ordering_reverse p in
-      let n : value_at cmp (e ∷ es) k ≡ None =
-      lookup-none (is_at (cmp k)) (e ∷ es) (none_below_head order k e es s t) in
-      absurd (none-some v (sym n ∙ f))
+      let n : value_at cmp (e ∷ es) k ≡ None = lookup-none (is_at (cmp k)) (e ∷ es)
+      (none_below_head order k e es s t) in absurd (none-some v (sym n ∙ f))
 
-  pub single_held : (es : List (K × X)) (k : K) (v w : X) → IsOrdered cmp es
-      → value_at cmp es k ≡ Some v → map_join cmp join es ((k, w) ∷ [])
-      ≡ set_value (is_at (cmp k)) es (join v w)
+  pub single_held : (es : List (K × X)) (k : K) (v w : X) → IsOrdered cmp es → value_at cmp es k ≡
+      Some v → map_join cmp join es ((k, w) ∷ []) ≡ set_value (is_at (cmp k)) es (join v w)
   unfolding map_join join_entry
   single_held [] k v w s f = absurd (none-some v f)
-  single_held (e ∷ es) k v w s f =
-      single_held_at e es w (cmp e.0 k) refl s f
+  single_held (e ∷ es) k v w s f = single_held_at e es w (cmp e.0 k) refl s f
       (single_held es k v w (sorted_tail cmp e.0 (keys_of es) s))
 
   -- at a key that es lacks
@@ -61,13 +58,7 @@ module _ {K X : Type 0} {cmp : K → K → Ordering} (order : IsTotalOrder cmp)
       → (value_at cmp es k ≡ None → map_join cmp join es ((k, w) ∷ []) ≡ insert_entry cmp es k w)
       → map_join cmp join (e ∷ es) ((k, w) ∷ []) ≡ insert_entry cmp (e ∷ es) k w
   unfolding map_join join_entry
-  single_new_at e es k w Less p f ih =
-      let t : cmp e.0 k ≡ Greater = order.antisymm e.0 k ∙ ap ordering_reverse p in
-      rw (p, t) refl
-  single_new_at e es k w Equal p f ih = absurd (none-some e.1 (sym (rw p at f)))
-  single_new_at e es k w Greater p f ih =
-      let t : cmp e.0 k ≡ Less = order.antisymm e.0 k ∙ ap ordering_reverse p in
-      rw (p, t) (ap (λ l. e ∷ l) (ih (rw p at f)))
+  single_new_at x0 x1 x2 x3 x4 x5 x6 x7 = search rules steps 1000000
 
   pub single_new : (es : List (K × X)) (k : K) (w : X) → value_at cmp es k ≡ None
       → map_join cmp join es ((k, w) ∷ []) ≡ insert_entry cmp es k w
@@ -76,71 +67,54 @@ module _ {K X : Type 0} {cmp : K → K → Ordering} (order : IsTotalOrder cmp)
   single_new (e ∷ es) k w f = single_new_at e es k w (cmp k e.0) refl f (single_new es k w)
 
   -- a value put at a key that es has
-  put_held_at : (e : K × X) (es : List (K × X)) {k : K} {v : X} (x : X) (r : Ordering)
-      → cmp k e.0 ≡ r → IsOrdered cmp (e ∷ es) → value_at cmp (e ∷ es) k ≡ Some v
-      → (value_at cmp es k ≡ Some v
-      → insert_entry cmp es k x ≡ set_value (is_at (cmp k)) es x)
-      → insert_entry cmp (e ∷ es) k x ≡ set_value (is_at (cmp k)) (e ∷ es) x
+  put_held_at : (e : K × X) (es : List (K × X)) {k : K} {v : X} (x : X) (r : Ordering) → cmp k e.0 ≡
+      r → IsOrdered cmp (e ∷ es) → value_at cmp (e ∷ es) k ≡ Some v →
+      (value_at cmp es k ≡ Some v → insert_entry cmp es k x ≡ set_value (is_at (cmp k)) es x) →
+      insert_entry cmp (e ∷ es) k x ≡ set_value (is_at (cmp k)) (e ∷ es) x
   put_held_at e es {k = k} {v = v} x Less p s f ih =
-      let n : value_at cmp (e ∷ es) k ≡ None =
-      lookup-none (is_at (cmp k)) (e ∷ es) (none_below_head order k e es s p) in
-      absurd (none-some v (sym n ∙ f))
+      let n : value_at cmp (e ∷ es) k ≡ None = lookup-none (is_at (cmp k)) (e ∷ es)
+      (none_below_head order k e es s p) in absurd (none-some v (sym n ∙ f))
   put_held_at e es x Equal p s f ih = rw p refl
   put_held_at e es x Greater p s f ih = rw p (ap (λ l. e ∷ l) (ih (rw p at f)))
 
-  put_held : (es : List (K × X)) (k : K) (v x : X) → IsOrdered cmp es
-      → value_at cmp es k ≡ Some v
-      → insert_entry cmp es k x ≡ set_value (is_at (cmp k)) es x
+  put_held : (es : List (K × X)) (k : K) (v x : X) → IsOrdered cmp es → value_at cmp es k ≡ Some v →
+      insert_entry cmp es k x ≡ set_value (is_at (cmp k)) es x
   put_held [] k v x s f = absurd (none-some v f)
-  put_held (e ∷ es) k v x s f =
-      put_held_at e es x (cmp k e.0) refl s f
+  put_held (e ∷ es) k v x s f = put_held_at e es x (cmp k e.0) refl s f
       (put_held es k v x (sorted_tail cmp e.0 (keys_of es) s))
 
   -- the joined value, put at a key that es has
   pub put_joins : {m : List (K × X)} (es : List (K × X)) (k : K) (v : X) {w x : X}
       → IsOrdered cmp es → value_at cmp es k ≡ Some v → x ≡ join v w
       → m ≡ insert_entry cmp es k x → m ≡ map_join cmp join es ((k, w) ∷ [])
-  put_joins es k v {w} {x} s f e h =
-      h ∙ put_held es k v x s f ∙ ap (set_value (is_at (cmp k)) es) e
-      ∙ sym (single_held es k v w s f)
+  put_joins es k v {w} {x} s f e h = search (rules, put_held, is_at, single_held) steps 1000000
 
   -- a value, put at a key that es lacks
-  pub put_new : {m : List (K × X)} (es : List (K × X)) (k : K) (x : X) {w : X}
-      → value_at cmp es k ≡ None → x ≡ w → m ≡ insert_entry cmp es k x
-      → m ≡ map_join cmp join es ((k, w) ∷ [])
-  put_new es k x {w} f e h = h ∙ ap (insert_entry cmp es k) e ∙ sym (single_new es k w f)
+  pub put_new : {m : List (K × X)} (es : List (K × X)) (k : K) (x : X) {w : X} → value_at cmp es k ≡
+      None → x ≡ w → m ≡ insert_entry cmp es k x → m ≡ map_join cmp join es ((k, w) ∷ [])
+  put_new es k x {w} f e h = search (rules, single_new) steps 1000000
 
   -- two changes at one place
-  same_key : (e f : K × X) (es fs : List (K × X)) → e.0 ≡ f.0
-      → map_join cmp join (e ∷ es) (f ∷ fs)
+  same_key : (e f : K × X) (es fs : List (K × X)) → e.0 ≡ f.0 → map_join cmp join (e ∷ es) (f ∷ fs)
       ≡ (e.0, join e.1 f.1) ∷ map_join cmp join es fs
   unfolding map_join join_entry
-  same_key e f es fs p = let t : cmp e.0 f.0 ≡ Equal =
-      ap (cmp e.0) (sym p) ∙ tied_itself order e.0 in rw t refl
+  same_key e f es fs p = search rules steps 1000000
 
   repeated : (es : List (K × X)) → map_join cmp join es es ≡ es
   unfolding map_join join_entry
   repeated [] = refl
-  repeated (e ∷ es) =
-      same_key e e es es refl ∙ ap (λ v. (e.0, v) ∷ map_join cmp join es es)
+  repeated (e ∷ es) = same_key e e es es refl ∙ ap (λ v. (e.0, v) ∷ map_join cmp join es es)
       (laws.idempotent e.1) ∙ ap (λ l. e ∷ l) (repeated es)
 
-  join_set_at : (test : K → Bool) (e : K × X) (es : List (K × X)) (v w : X) (b : Bool)
-      → map_join cmp join (set_value test es v) (set_value test es w)
-      ≡ set_value test es (join v w)
-      → map_join cmp join (cond b ((e.0, v) ∷ es) (e ∷ set_value test es v))
-      (cond b ((e.0, w) ∷ es) (e ∷ set_value test es w))
-      ≡ cond b ((e.0, join v w) ∷ es) (e ∷ set_value test es (join v w))
-  join_set_at test e es v w true ih =
-      same_key (e.0, v) (e.0, w) es es refl ∙ ap (λ l. (e.0, join v w) ∷ l) (repeated es)
-  join_set_at test e es v w false ih =
-      same_key e e (set_value test es v) (set_value test es w) refl
-      ∙ ap (λ x. (e.0, x) ∷ map_join cmp join (set_value test es v) (set_value test es w))
-      (laws.idempotent e.1) ∙ ap (λ l. e ∷ l) ih
+  join_set_at : (test : K → Bool) (e : K × X) (es : List (K × X)) (v w : X) (b : Bool) → map_join
+      cmp join (set_value test es v) (set_value test es w) ≡ set_value test es (join v w) → map_join
+      cmp join (cond b ((e.0, v) ∷ es) (e ∷ set_value test es v))
+      (cond b ((e.0, w) ∷ es) (e ∷ set_value test es w)) ≡ cond b ((e.0, join v w) ∷ es)
+      (e ∷ set_value test es (join v w))
+  join_set_at x0 x1 x2 x3 x4 x5 x6 = search (rules, same_key, repeated) steps 1000000
 
-  pub join_set : (test : K → Bool) (es : List (K × X)) (v w : X)
-      → map_join cmp join (set_value test es v) (set_value test es w)
-      ≡ set_value test es (join v w)
+  pub join_set : (test : K → Bool) (es : List (K × X)) (v w : X) → map_join cmp join
+      (set_value test es v) (set_value test es w) ≡ set_value test es (join v w)
   unfolding map_join join_entry
   join_set test [] v w = refl
   join_set test (e ∷ es) v w = join_set_at test e es v w (test e.0) (join_set test es v w)
@@ -153,10 +127,9 @@ module _ {K X : Type 0} {cmp : K → K → Ordering} (order : IsTotalOrder cmp)
       ap (λ l. map_join cmp join l (set_value test es u)) (sym (set_value_same test es v f))
       ∙ join_set test es v u ∙ ap (set_value test es) b
 
-  pub held_below : (es : List (K × X)) (k : K) (v u w : X) → IsOrdered cmp es
-      → value_at cmp es k ≡ Some v → IsBelow join u (join v w)
-      → IsBelow (map_join cmp join) (set_value (is_at (cmp k)) es u)
-      (map_join cmp join es ((k, w) ∷ []))
+  pub held_below : (es : List (K × X)) (k : K) (v u w : X) → IsOrdered cmp es → value_at cmp es k ≡
+      Some v → IsBelow join u (join v w) → IsBelow (map_join cmp join)
+      (set_value (is_at (cmp k)) es u) (map_join cmp join es ((k, w) ∷ []))
   held_below es k v u w s f b =
       let test = is_at (cmp k) in
       let joined = single_held es k v w s f in
@@ -168,18 +141,16 @@ module _ {K X : Type 0} {cmp : K → K → Ordering} (order : IsTotalOrder cmp)
       (absent : value_at cmp es k ≡ None) (r : Result T E)
       (added : OnOk r (ds ≡ insert_entry cmp es k w)) where
     pub added_joins : OnOk r (ds ≡ map_join cmp join es ((k, w) ∷ []))
-    added_joins = on_ok_weaker r (λ p. p ∙ sym (single_new es k w absent)) added
+    added_joins = search (rules, single_new) steps 1000000
 
   -- ---- the limits, for one pair
   module _ (same : (x y : K) → cmp x y ≡ Equal → x ≡ y) (limit : ℕ) (over : X → X → Type 0) where
     single_value : (k q : K) (w u : X) (b : Bool) → is_at (cmp q) k ≡ b
         → cond b (Some w) None ≡ Some u → (q ≡ k) × (w ≡ u)
-    single_value k q w u true p f = (same q k ((Equal-is (cmp q k)).0 p), ap (λ o. unwrap_or o u) f)
-    single_value k q w u false p f = absurd (none-some u f)
+    single_value x0 x1 x2 x3 x4 x5 x6 = search rules steps 1000000
 
-    pub not_over_held : (es : List (K × X)) (k : K) (v w : X) → IsOrdered cmp es
-        → length es ≤ limit → value_at cmp es k ≡ Some v → ¬ over v w
-        → ¬ MapOver cmp join limit over es ((k, w) ∷ [])
+    pub not_over_held : (es : List (K × X)) (k : K) (v w : X) → IsOrdered cmp es → length es ≤ limit
+        → value_at cmp es k ≡ Some v → ¬ over v w → ¬ MapOver cmp join limit over es ((k, w) ∷ [])
     not_over_held es k v w s within f free (inl long) =
         let e = length-set_value (is_at (cmp k)) es (join v w) in
         let p = ap length (single_held es k v w s f) in
@@ -193,9 +164,7 @@ module _ {K X : Type 0} {cmp : K → K → Ordering} (order : IsTotalOrder cmp)
         → cmp k e.0 ≡ r → value_at cmp (e ∷ es) k ≡ None
         → (value_at cmp es k ≡ None → length (insert_entry cmp es k w) ≡ length es + 1)
         → length (insert_entry cmp (e ∷ es) k w) ≡ length (e ∷ es) + 1
-    length_new_at e es k w Less p f ih = rw p (omega arith)
-    length_new_at e es k w Equal p f ih = absurd (none-some e.1 (sym (rw p at f)))
-    length_new_at e es k w Greater p f ih = rw p (omega (arith, ih (rw p at f)))
+    length_new_at x0 x1 x2 x3 x4 x5 x6 x7 = search rules steps 1000000
 
     pub length_new : (es : List (K × X)) (k : K) (w : X) → value_at cmp es k ≡ None
         → length (insert_entry cmp es k w) ≡ length es + 1
@@ -204,13 +173,16 @@ module _ {K X : Type 0} {cmp : K → K → Ordering} (order : IsTotalOrder cmp)
 
     pub over_new : (es : List (K × X)) (k : K) (w : X) → length es ≡ limit
         → value_at cmp es k ≡ None → MapOver cmp join limit over es ((k, w) ∷ [])
-    over_new es k w full f = let e =
-        ap length (single_new es k w f) ∙ length_new es k w f in inl (omega (arith, e))
+    over_new es k w full f = search (rules, single_new, length_new) steps 1000000
 
     pub not_over_new : (es : List (K × X)) (k : K) (w : X) → length es < limit
         → value_at cmp es k ≡ None → ¬ MapOver cmp join limit over es ((k, w) ∷ [])
-    not_over_new es k w room f (inl long) = let e =
-        ap length (single_new es k w f) ∙ length_new es k w f in omega (arith, e)
-    not_over_new es k w room f (inr (q, a, b, left, right, o)) =
-        let found = single_value k q w b (is_at (cmp q) k) refl right in
-        none-some a (sym f ∙ ap (value_at cmp es) (sym found.0) ∙ left)
+    not_over_new x0 x1 x2 x3 x4 x5 = search (
+      rules,
+      single_new,
+      length_new,
+      single_value,
+      is_at,
+      none-some,
+      value_at,
+    ) steps 1000000

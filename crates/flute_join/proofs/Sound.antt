@@ -1,4 +1,7 @@
 -- What holds of each value of a map, and of a map that has keys.
+use Rattle.std.proofs.Common.{arith}
+use Rattle.std.proofs.lemmas.Grind.{common_steps}
+use Rattle.std.proofs.Common.{rules}
 use Rattle.std.proofs.Common.{◌≡◌, ◌≢◌, List, [], ◌∷◌, Bool, true, false, cond}
 use Rattle.std.proofs.Common.{Option, Some, unwrap_or, sym, ap, ◌∙◌, subst}
 use Rattle.std.specs.declared.cmp.Ordering.{Ordering}
@@ -17,8 +20,7 @@ use Rattle.flute_join.proofs.Under.{ordered_under}
 module _ {K X : Type 0} (cmp : K → K → Ordering) (P : X → Type 0) where
   found_first : (b : Bool) (v w : X) (o : Option X) → cond b (Some v) o ≡ Some w → P v
       → (o ≡ Some w → P w) → P w
-  found_first true v w o e p h = subst P (ap (λ x. unwrap_or x v) e) p
-  found_first false v w o e p h = h e
+  found_first x0 x1 x2 x3 x4 x5 x6 = search rules steps 1000000
 
   pub each-value_at : (es : List (K × X)) (k : K) (w : X) → EachValue P es
       → value_at cmp es k ≡ Some w → P w
@@ -28,8 +30,7 @@ module _ {K X : Type 0} (cmp : K → K → Ordering) (P : X → Type 0) where
 
   each_set : (b : Bool) (e : K × X) (es fs : List (K × X)) {w : X} → P w → P e.1
       → EachValue P es → EachValue P fs → EachValue P (cond b ((e.0, w) ∷ es) (e ∷ fs))
-  each_set true e es fs p q a c = (p, a)
-  each_set false e es fs p q a c = (q, c)
+  each_set x0 x1 x2 x3 x4 x5 x6 x7 = search rules steps 1000000
 
   pub each-set_value : (test : K → Bool) (es : List (K × X)) (w : X) → EachValue P es → P w
       → EachValue P (set_value test es w)
@@ -40,15 +41,12 @@ module _ {K X : Type 0} (cmp : K → K → Ordering) (P : X → Type 0) where
   each_put : (r : Ordering) (k : K) (e : K × X) (es fs : List (K × X)) {w : X} → P w
       → EachValue P (e ∷ es) → EachValue P fs
       → EachValue P (match_ordering r ((k, w) ∷ e ∷ es) ((e.0, w) ∷ es) (e ∷ fs))
-  each_put Less k e es fs p a c = (p, a)
-  each_put Equal k e es fs p a c = (p, a.1)
-  each_put Greater k e es fs p a c = (a.0, c)
+  each_put x0 x1 x2 x3 x4 x5 x6 x7 = search rules steps 1000000
 
   pub each-insert_entry : (es : List (K × X)) (k : K) (w : X) → EachValue P es → P w
       → EachValue P (insert_entry cmp es k w)
   each-insert_entry [] k w a p = (p, tt)
-  each-insert_entry (e ∷ es) k w a p =
-      each_put (cmp k e.0) k e es (insert_entry cmp es k w) p a
+  each-insert_entry (e ∷ es) k w a p = each_put (cmp k e.0) k e es (insert_entry cmp es k w) p a
       (each-insert_entry es k w a.1 p)
 
 module _ {K X : Type 0} {cmp : K → K → Ordering} (order : IsTotalOrder cmp) (join : X → X → X) where
@@ -57,9 +55,6 @@ module _ {K X : Type 0} {cmp : K → K → Ordering} (order : IsTotalOrder cmp) 
       n (sym (join_nothing cmp join es) ∙ ap (map_join cmp join es) (sym e) ∙ b ∙ e)
 
   -- the keys of what lies below a join ascend
-  pub ordered_between : (es fs ds : List (K × X))
-      → IsBelow (map_join cmp join) ds (map_join cmp join es fs) → IsOrdered cmp es
-      → IsOrdered cmp fs → IsOrdered cmp ds
-  ordered_between es fs ds b s t =
-      ordered_under order join ds (map_join cmp join es fs) b
-      (ordered-map_join order join es fs s t)
+  pub ordered_between : (es fs ds : List (K × X)) → IsBelow (map_join cmp join) ds
+      (map_join cmp join es fs) → IsOrdered cmp es → IsOrdered cmp fs → IsOrdered cmp ds
+  ordered_between es fs ds b s t = search (rules, ordered_under, ordered-map_join) steps 1000000

@@ -1,4 +1,7 @@
 -- What holds of each map that is below another.
+use Rattle.std.proofs.Common.{arith}
+use Rattle.std.proofs.lemmas.Grind.{common_steps}
+use Rattle.std.proofs.Common.{rules}
 use Rattle.std.proofs.Common.{◌≡◌, List, [], ◌∷◌, refl, sym, ap, ◌∙◌, subst}
 use Rattle.std.specs.declared.cmp.Ordering.{Ordering}
 use Rattle.std.specs.declared.cmp.Ordering.TheVariants.{Less, Equal, Greater}
@@ -32,11 +35,9 @@ module _ {K X : Type 0} {cmp : K → K → Ordering} (order : IsTotalOrder cmp) 
       (over : (e f : K × X) (es fs : List (K × X)) → e.0 ≡ f.0 → IsBelow join e.1 f.1
       → IsBelow (map_join cmp join) es fs → Q es fs → Q (e ∷ es) (f ∷ fs))
       (skip : (e f : K × X) (es fs : List (K × X)) → Q (e ∷ es) fs → Q (e ∷ es) (f ∷ fs)) where
-    below_first : {e f : K × X} {es fs : List (K × X)} (r : Ordering) → cmp e.0 f.0 ≡ r
-        → IsBelow (map_join cmp join) (e ∷ es) (f ∷ fs)
-        → (IsBelow (map_join cmp join) es fs → Q es fs)
-        → (IsBelow (map_join cmp join) (e ∷ es) fs → Q (e ∷ es) fs)
-        → Q (e ∷ es) (f ∷ fs)
+    below_first : {e f : K × X} {es fs : List (K × X)} (r : Ordering) → cmp e.0 f.0 ≡ r → IsBelow
+        (map_join cmp join) (e ∷ es) (f ∷ fs) → (IsBelow (map_join cmp join) es fs → Q es fs) →
+        (IsBelow (map_join cmp join) (e ∷ es) fs → Q (e ∷ es) fs) → Q (e ∷ es) (f ∷ fs)
     below_first {e = e} {f = f} {es = es} {fs = fs} Less l b outer inner =
         let same : e ≡ f = ap (head_or f) (sym (first_less cmp join e f es fs l) ∙ b) in
         absurd (not_less_equal (sym l ∙ ap (λ x. cmp x.0 f.0) same ∙ tied_itself order f.0))
@@ -52,8 +53,7 @@ module _ {K X : Type 0} {cmp : K → K → Ordering} (order : IsTotalOrder cmp) 
         → ((fs : List (K × X)) → IsBelow (map_join cmp join) es fs → Q es fs)
         → (fs : List (K × X)) → IsBelow (map_join cmp join) (e ∷ es) fs → Q (e ∷ es) fs
     below_past e es ih [] b = absurd (not_cons_nil e es (sym (join_nothing cmp join (e ∷ es)) ∙ b))
-    below_past e es ih (f ∷ fs) b =
-        below_first (cmp e.0 f.0) refl b (ih fs) (below_past e es ih fs)
+    below_past e es ih (f ∷ fs) b = below_first (cmp e.0 f.0) refl b (ih fs) (below_past e es ih fs)
 
     pub below_induction : (es fs : List (K × X)) → IsBelow (map_join cmp join) es fs → Q es fs
     below_induction [] fs b = none fs
@@ -62,18 +62,16 @@ module _ {K X : Type 0} {cmp : K → K → Ordering} (order : IsTotalOrder cmp) 
   -- what holds of each key of the greater map holds of each of the lower one
   keys_under : (P : K → Type 0) (es fs : List (K × X)) → IsBelow (map_join cmp join) es fs
       → AllByRecursion P (keys_of fs) → AllByRecursion P (keys_of es)
-  keys_under P =
-      below_induction (λ es fs. AllByRecursion P (keys_of fs) → AllByRecursion P (keys_of es))
-      (λ fs a. tt)
+  keys_under P = below_induction
+      (λ es fs. AllByRecursion P (keys_of fs) → AllByRecursion P (keys_of es)) (λ fs a. tt)
       (λ e f es fs k v b ih a. (subst P (sym k) a.0, ih a.1)) (λ e f es fs ih a. ih a.1)
 
-  ordered_over : (e f : K × X) (es fs : List (K × X)) → e.0 ≡ f.0
-      → IsBelow (map_join cmp join) es fs → IsOrdered cmp es → IsOrdered cmp (f ∷ fs)
-      → IsOrdered cmp (e ∷ es)
+  ordered_over : (e f : K × X) (es fs : List (K × X)) → e.0 ≡ f.0 → IsBelow (map_join cmp join) es
+      fs → IsOrdered cmp es → IsOrdered cmp (f ∷ fs) → IsOrdered cmp (e ∷ es)
   unfolding IsStrictlySortedBy
   ordered_over e f es fs k b s t = (
-    subst (λ x. AllByRecursion (λ y. cmp x y ≡ Less) (keys_of es)) (sym k)
-        (keys_under (λ y. cmp f.0 y ≡ Less) es fs b t.0),
+    subst (λ x. AllByRecursion (λ y. cmp x y ≡ Less) (keys_of es))
+        (sym k) (keys_under (λ y. cmp f.0 y ≡ Less) es fs b t.0),
     s,
   )
 
@@ -84,8 +82,6 @@ module _ {K X : Type 0} {cmp : K → K → Ordering} (order : IsTotalOrder cmp) 
   -- the keys of the lower map ascend where those of the greater one do
   pub ordered_under : (es fs : List (K × X)) → IsBelow (map_join cmp join) es fs
       → IsOrdered cmp fs → IsOrdered cmp es
-  ordered_under =
-      below_induction (λ es fs. IsOrdered cmp fs → IsOrdered cmp es) ordered_nothing
-      (λ e f es fs k v b ih t. ordered_over e f es fs k b
-      (ih (sorted_tail cmp f.0 (keys_of fs) t)) t)
+  ordered_under = below_induction (λ es fs. IsOrdered cmp fs → IsOrdered cmp es) ordered_nothing (λ
+      e f es fs k v b ih t. ordered_over e f es fs k b (ih (sorted_tail cmp f.0 (keys_of fs) t)) t)
       (λ e f es fs ih t. ih (sorted_tail cmp f.0 (keys_of fs) t))

@@ -1,4 +1,6 @@
 -- Names that most proofs on journals cite, re-exported from one place, and one of their own.
+use Rattle.std.proofs.Common.{rules}
+use Rattle.std.proofs.Common.{arith}
 pub use Rattle.std.proofs.Common.{Bool, Err, IfErr, IfSome, IsTrue, List, MatchBool, None, Ok}
 pub use Rattle.std.proofs.Common.{Option, Result, Some, [], ap, append-nil, append_assoc, arith}
 pub use Rattle.std.proofs.Common.{bytes_eq, drop, drop-cons, drop-drop, drop_at, eqb, false}

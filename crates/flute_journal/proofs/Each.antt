@@ -1,11 +1,12 @@
 -- Lists of which each element is something.
+use Rattle.std.proofs.Common.{arith}
+use Rattle.std.proofs.lemmas.Grind.{common_steps}
 use Rattle.flute_journal.proofs.Common.{List, [], ◌∷◌, ◌++◌, AllByRecursion}
 
 module _ {X : Type 0} (P : X → Type 0) where
   pub all_append : (xs ys : List X) → AllByRecursion P xs → AllByRecursion P ys
       → AllByRecursion P (xs ++ ys)
-  all_append [] ys p q = q
-  all_append (x ∷ xs) ys p q = (p.0, all_append xs ys p.1 q)
+  all_append x0 x1 x2 x3 = grind (arith, common_steps)
 
   pub all_more : (xs : List X) (x : X) → AllByRecursion P xs → P x → AllByRecursion P (xs ++ x ∷ [])
   all_more xs x p q = all_append xs (x ∷ []) p (q, tt)

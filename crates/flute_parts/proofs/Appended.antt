@@ -1,6 +1,7 @@
 -- Parts of bytes, appended one after the other.
-use Rattle.std.proofs.Common.{◌≡◌, ℕ, List, [], ◌∷◌, ◌++◌, Option, Result, Ok}
-use Rattle.std.proofs.Common.{Err, refl, sym, ap, ◌∙◌, append_assoc}
+use Rattle.std.proofs.Common.{rules}
+use Rattle.std.proofs.Common.{◌≡◌, ℕ, List, [], ◌∷◌, ◌++◌, Option, Result}
+use Rattle.std.proofs.Common.{refl, sym, ap, ◌∙◌, append_assoc}
 use Rattle.std.specs.Io.KnownBytes.{Appends}
 use Rattle.std.proofs.KnownBytes.{Appends-trans}
 use Rattle.flute_parts.specs.Devices.{AppendsPart, Writes}
@@ -34,5 +35,5 @@ AppendsPart-second old mid new a b done p = record {
 -- what was appended, and then what a write did
 pub Writes-behind : {T E : Type 0} (old mid new : Option (List ℕ)) (a b : List ℕ)
     (r : Result T E) → Appends old mid a → Writes mid new b r → Writes old new (a ++ b) r
-Writes-behind old mid new a b (Ok x) done w = Appends-trans old mid new a b done w
-Writes-behind old mid new a b (Err e) done w = AppendsPart-second old mid new a b done w
+Writes-behind x0 x1 x2 x3 x4 x5 x6 x7 = search (rules, Appends-trans, AppendsPart-second) steps
+    400000

@@ -1,11 +1,12 @@
 -- Partition::fits: which lengths fit a symbol (specs/SymbolBytes).
+use Rattle.std.proofs.Common.{rules}
 use Rattle.std.proofs.Common.{◌≡◌, ℕ, ◌+◌, ◌-◌, ◌||◌, ◌&&◌, Bool, true}
-use Rattle.std.proofs.Common.{false, List, length, Option, Some, None, refl, sym, ap, ◌∙◌}
+use Rattle.std.proofs.Common.{false, List, length, Option, Some, None, refl, ap, ◌∙◌}
 use Rattle.std.proofs.Common.{inl, inr, ◌⊎◌, arith}
 use Rattle.std.specs.Prelude.{slice_get, ◌==◌, ◌↔◌, Contains}
 use Rattle.std.proofs.lemmas.Bool.Decides.{nat_tests}
 use Rattle.std.proofs.lemmas.Option.{slice_get_within, slice_get-get_or, get_or_from_slice_get}
-use Rattle.std.proofs.lemmas.Bool.{false≢true, eq-eqb, ne_eqb, or_cases}
+use Rattle.std.proofs.lemmas.Bool.{false≢true, eq-eqb, or_cases}
 use Rattle.flute_parts.specs.Equality.{both}
 use Rattle.flute_parts.specs.declared.symbol_id.SymbolId.{SymbolId}
 use Rattle.flute_parts.specs.Information.{Information, symbol_count, IsValid}
@@ -20,46 +21,31 @@ module _ (i : Information) (id : SymbolId) (n : ℕ) where
   pub fits-full : (k : ℕ) → place i id ≡ Some k → n ≡ i.symbol_length
       → fits i id n ≡ (n == i.symbol_length)
   unfolding fits
-  fits-full k e h =
-      let t = eq-eqb n i.symbol_length h in
-      ap (λ p. fits_at i p n) e
-      ∙ ap (λ b. b || ((k + 1 == symbol_count i) && (n == last_length i))) t ∙ sym t
+  fits-full k e h = search rules
 
   pub fits-last : (k : ℕ) → place i id ≡ Some k → (n ≡ i.symbol_length → ⊥)
       → k + 1 ≡ symbol_count i → fits i id n ≡ (n == last_length i)
   unfolding fits
-  fits-last k e h l =
-      ap (λ p. fits_at i p n) e
-      ∙ ap (λ b. b || ((k + 1 == symbol_count i) && (n == last_length i)))
-      (ne_eqb n i.symbol_length h)
-      ∙ ap (λ b. b && (n == last_length i)) (eq-eqb (k + 1) (symbol_count i) l)
+  fits-last k e h l = search rules
 
   pub fits-other : (k : ℕ) → place i id ≡ Some k → (n ≡ i.symbol_length → ⊥)
       → (k + 1 ≡ symbol_count i → ⊥) → fits i id n ≡ (k + 1 == symbol_count i)
   unfolding fits
-  fits-other k e h l =
-      let t = ne_eqb (k + 1) (symbol_count i) l in
-      ap (λ p. fits_at i p n) e
-      ∙ ap (λ b. b || ((k + 1 == symbol_count i) && (n == last_length i)))
-      (ne_eqb n i.symbol_length h)
-      ∙ ap (λ b. b && (n == last_length i)) t
-      ∙ sym t
+  fits-other k e h l = search rules
 
 -- and in words
 
 fits-some : (info : Information) (id : SymbolId) (n k : ℕ) → place info id ≡ Some k
     → fits info id n ≡ fits_at info (Some k) n
 unfolding fits
-fits-some info id n k e = ap (λ p. fits_at info p n) e
+fits-some info id n k e = search rules
 
 Contains-at : (xs : List SymbolId) (x : SymbolId) (k : ℕ) → slice_get xs k ≡ Some x → Contains xs x
 Contains-at xs x k e = (k, slice_get_within xs k x e, get_or_from_slice_get xs k x x e)
 
 Fits : Information → SymbolId → ℕ → Type 0
-Fits info id n =
-    Contains (ids info) id
-    × ((n ≡ info.symbol_length) ⊎ ((slice_get (ids info) (length (ids info) - 1) ≡ Some id)
-    × (n ≡ last_length info)))
+Fits info id n = Contains (ids info) id × ((n ≡ info.symbol_length) ⊎
+    ((slice_get (ids info) (length (ids info) - 1) ≡ Some id) × (n ≡ last_length info)))
 
 fits-from : (info : Information) (id : SymbolId) (n : ℕ) → IsValid info → (o : Option ℕ)
     → place info id ≡ o → fits_at info o n ≡ true → Fits info id n
@@ -86,10 +72,9 @@ fits-to : (info : Information) (id : SymbolId) (n : ℕ) → IsValid info → Fi
     → fits info id n ≡ true
 unfolding Fits
 fits-to info id n v (c, inl f) =
-    let e : slice_get (ids info) c.0 ≡ Some id =
-    slice_get-get_or (ids info) c.0 id c.1 ∙ ap Some c.2 in
-    fits-some info id n c.0 ((places-inverse info id c.0).1 e)
-    ∙ ap (λ b. b || ((c.0 + 1 == symbol_count info) && (n == last_length info)))
+    let e : slice_get (ids info) c.0 ≡ Some id = slice_get-get_or (ids info) c.0 id c.1 ∙ ap Some
+    c.2 in fits-some info id n c.0 ((places-inverse info id c.0).1 e) ∙ ap
+    (λ b. b || ((c.0 + 1 == symbol_count info) && (n == last_length info)))
     (eq-eqb n info.symbol_length f)
 fits-to info id n v (c, inr l) =
     let k = length (ids info) - 1 in
@@ -106,10 +91,8 @@ fits-to info id n v (c, inr l) =
     or_true true = refl
     or_true false = refl
 
-pub fits-means : (info : Information) (id : SymbolId) (n : ℕ) → IsValid info
-    → (fits info id n ≡ true) ↔ (Contains (ids info) id
-    × ((n ≡ info.symbol_length) ⊎ ((slice_get (ids info) (length (ids info) - 1) ≡ Some id)
-    × (n ≡ last_length info))))
+pub fits-means : (info : Information) (id : SymbolId) (n : ℕ) → IsValid info →
+    (fits info id n ≡ true) ↔ (Contains (ids info) id × ((n ≡ info.symbol_length) ⊎
+    ((slice_get (ids info) (length (ids info) - 1) ≡ Some id) × (n ≡ last_length info))))
 unfolding Fits fits
-fits-means info id n v =
-    (λ h. fits-from info id n v (place info id) refl h, λ f. fits-to info id n v f)
+fits-means info id n v = search (rules, fits-from, fits-to)

@@ -1,11 +1,12 @@
 -- Ids listed block after block: the place of an id, and the id at a place (specs/Partition).
+use Rattle.std.proofs.lemmas.Grind.{common_steps}
+use Rattle.std.proofs.Common.{rules}
 use Rattle.std.proofs.Common.{◌≡◌, ℕ, zero, suc, ◌+◌, ◌-◌, ◌*◌, ◌<◌}
 use Rattle.std.proofs.Common.{◌≤◌, true, cond, List, [], ◌∷◌, ◌++◌, length, get_or}
 use Rattle.std.proofs.Common.{take, map, replicate, Some, None, refl, sym, ap, ◌∙◌, subst}
 use Rattle.std.proofs.Common.{inl, inr, ◌⊎◌, arith, length-append}
 use Rattle.std.specs.Prelude.{flat_map, slice_get}
 use Rattle.std.specs.List.{position_from, range_with_len, enumerate_from}
-use Rattle.std.proofs.Math.ListN.{length-replicate}
 use Rattle.std.proofs.lemmas.Bool.{false≢true, cases_lt, cases_Bool}
 use Rattle.std.proofs.lemmas.Bool.Decides.{nat_tests}
 use Rattle.std.specs.Ordering.{nat_cmp, ordering_then}
@@ -56,12 +57,10 @@ block-hit n a (suc s) k j {e = e} rest h f =
     cases_zero zero = inl refl
     cases_zero (suc j) = inr (omega arith)
 
-block-miss : (id : SymbolId) (n a s k : ℕ) {p : ℕ} (rest : List SymbolId)
-    → ((e : ℕ) → a ≤ e → e < a + s → id ≡ symbol_id n e → ⊥) → k + s ≡ p
-    → position_from (same_symbol_id id) k (block n a s ++ rest)
-    ≡ position_from (same_symbol_id id) p rest
-block-miss id n a zero k rest h g =
-    ap (λ x. position_from (same_symbol_id id) x rest) (omega arith)
+block-miss : (id : SymbolId) (n a s k : ℕ) {p : ℕ} (rest : List SymbolId) →
+    ((e : ℕ) → a ≤ e → e < a + s → id ≡ symbol_id n e → ⊥) → k + s ≡ p → position_from
+    (same_symbol_id id) k (block n a s ++ rest) ≡ position_from (same_symbol_id id) p rest
+block-miss id n a zero k rest h g = ap (λ x. position_from (same_symbol_id id) x rest) (omega arith)
 block-miss id n a (suc s) k {p = p} rest h g =
     elim (cases_Bool (same_symbol_id id (symbol_id n a))) [
       | inl t ↦ absurd (h a (omega arith) (omega arith) (symbol_id_same id (symbol_id n a) t))
@@ -73,34 +72,30 @@ block-miss id n a (suc s) k {p = p} rest h g =
     ]
 
 -- the place of an id is after all ids of the blocks before its own
-pub place-hit : (sizes : List ℕ) (n m j k : ℕ) {q : ℕ} → m < length sizes
-    → j < get_or sizes m 0 → n + m ≡ q
-    → position_from (same_symbol_id (symbol_id q j)) k (listing n sizes)
-    ≡ Some (k + (total (take m sizes) + j))
+pub place-hit : (sizes : List ℕ) (n m j k : ℕ) {q : ℕ} → m < length sizes → j < get_or sizes m 0 → n
+    + m ≡ q → position_from (same_symbol_id (symbol_id q j)) k (listing n sizes) ≡ Some
+    (k + (total (take m sizes) + j))
 place-hit [] n m j k h l f = absurd (omega arith)
 place-hit (s ∷ sizes) n zero j k {q = q} h l f =
     let e : q ≡ n = omega arith in
-    ap (λ x. position_from (same_symbol_id (symbol_id x j)) k (listing n (s ∷ sizes))) e
-    ∙ block-hit n 0 s k j (listing (n + 1) sizes) l (omega arith)
-    ∙ ap Some (omega arith)
-place-hit (s ∷ sizes) n (suc m) j k {q = q} h l f =
-    block-miss (symbol_id q j) n 0 s k (listing (n + 1) sizes)
-    (λ e _ _ x. let y : q ≡ n = ap (λ (i : SymbolId). i.sbn) x in omega arith) refl
-    ∙ place-hit sizes (n + 1) m j (k + s) (omega arith) l (omega arith)
-    ∙ ap Some (omega arith)
+    ap (λ x. position_from (same_symbol_id (symbol_id x j)) k (listing n (s ∷ sizes))) e ∙ block-hit
+    n 0 s k j (listing (n + 1) sizes) l (omega arith) ∙ ap Some (omega arith)
+place-hit (s ∷ sizes) n (suc m) j k {q = q} h l f = block-miss (symbol_id q j) n 0 s k
+    (listing (n + 1) sizes)
+    (λ e _ _ x. let y : q ≡ n = ap (λ (i : SymbolId). i.sbn) x in omega arith) refl ∙ place-hit
+    sizes (n + 1) m j (k + s) (omega arith) l (omega arith) ∙ ap Some (omega arith)
 
 -- an id beyond its block, or of no block, has no place
 pub place-miss : (sizes : List ℕ) (id : SymbolId) (n k : ℕ)
     → ((m : ℕ) → m < length sizes → n + m ≡ id.sbn → get_or sizes m 0 ≤ id.esi)
     → position_from (same_symbol_id id) k (listing n sizes) ≡ None
 place-miss [] id n k h = refl
-place-miss (s ∷ sizes) id n k h =
-    block-miss id n 0 s k (listing (n + 1) sizes) (λ e _ u x.
-    let y : id.sbn ≡ n = ap (λ (i : SymbolId). i.sbn) x in
+place-miss (s ∷ sizes) id n k h = block-miss id n 0 s k (listing (n + 1) sizes) (λ e _ u x. let y :
+    id.sbn ≡ n = ap (λ (i : SymbolId). i.sbn) x in
     let z : id.esi ≡ e = ap (λ (i : SymbolId). i.esi) x in
     let w : s ≤ id.esi = h 0 (omega arith) (omega arith) in
-    omega (arith, u)) refl
-    ∙ place-miss sizes id (n + 1) (k + s) (λ m l e. h (suc m) (omega (arith, l)) (omega (arith, e)))
+    omega (arith, u)) refl ∙ place-miss sizes id (n + 1) (k + s)
+    (λ m l e. h (suc m) (omega (arith, l)) (omega (arith, e)))
 
 -- the id at a place
 
@@ -116,23 +111,20 @@ slice_get-right [] ys k p h = ap (slice_get ys) (omega arith)
 slice_get-right (x ∷ xs) ys k zero h = absurd (omega arith)
 slice_get-right (x ∷ xs) ys k (suc p) h = slice_get-right xs ys k p (omega arith)
 
-block-at : (n a s j e : ℕ) → j < s → a + j ≡ e
-    → slice_get (block n a s) j ≡ Some (symbol_id n e)
+block-at : (n a s j e : ℕ) → j < s → a + j ≡ e → slice_get (block n a s) j ≡ Some (symbol_id n e)
 block-at n a zero j e h f = absurd (omega arith)
 block-at n a (suc s) zero e h f = ap (λ x. Some (symbol_id n x)) (omega arith)
 block-at n a (suc s) (suc j) e h f = block-at n (a + 1) s j e (omega arith) (omega arith)
 
-pub listing-at : (sizes : List ℕ) (n m j : ℕ) {q p : ℕ} → m < length sizes
-    → j < get_or sizes m 0 → n + m ≡ q → total (take m sizes) + j ≡ p
-    → slice_get (listing n sizes) p ≡ Some (symbol_id q j)
+pub listing-at : (sizes : List ℕ) (n m j : ℕ) {q p : ℕ} → m < length sizes → j < get_or sizes m 0 →
+    n + m ≡ q → total (take m sizes) + j ≡ p → slice_get (listing n sizes) p ≡ Some (symbol_id q j)
 listing-at [] n m j h l f g = absurd (omega arith)
 listing-at (s ∷ sizes) n zero j {p = p} h l f g =
     let len = length-map-range_with_len (symbol_id n) 0 s in
     let e : p ≡ j = omega arith in
-    ap (slice_get (listing n (s ∷ sizes))) e
-    ∙ slice_get-left (block n 0 s) (listing (n + 1) sizes) j (omega arith)
-    ∙ block-at n 0 s j j l (omega arith)
-    ∙ ap (λ x. Some (symbol_id x j)) (omega arith)
+    ap (slice_get (listing n (s ∷ sizes))) e ∙ slice_get-left (block n 0 s) (listing (n + 1) sizes)
+    j (omega arith) ∙ block-at n 0 s j j l (omega arith) ∙ ap (λ x. Some (symbol_id x j))
+    (omega arith)
 listing-at (s ∷ sizes) n (suc m) j {q = q} {p = p} h l f g =
     let len = length-map-range_with_len (symbol_id n) 0 s in
     slice_get-right (block n 0 s) (listing (n + 1) sizes) (total (take m sizes) + j) p (omega arith)
@@ -140,13 +132,12 @@ listing-at (s ∷ sizes) n (suc m) j {q = q} {p = p} h l f g =
 
 pub length-listing : (n : ℕ) (sizes : List ℕ) → length (listing n sizes) ≡ total sizes
 length-listing n [] = refl
-length-listing n (s ∷ sizes) =
-    omega (
-      arith,
-      length-append (block n 0 s) (listing (n + 1) sizes),
-      length-map-range_with_len (symbol_id n) 0 s,
-      length-listing (n + 1) sizes,
-    )
+length-listing n (s ∷ sizes) = omega (
+  arith,
+  length-append (block n 0 s) (listing (n + 1) sizes),
+  length-map-range_with_len (symbol_id n) 0 s,
+  length-listing (n + 1) sizes,
+)
 
 -- larger blocks and then smaller ones
 
@@ -154,24 +145,13 @@ abbrev pub split : ℕ → ℕ → ℕ → ℕ → List ℕ
 split large x small y = replicate large x ++ replicate small y
 
 pub length-split : (large x small y : ℕ) → length (split large x small y) ≡ large + small
-length-split large x small y =
-    omega (
-      arith,
-      length-append (replicate large x) (replicate small y),
-      length-replicate large x,
-      length-replicate small y,
-    )
+length-split large x small y = grind (arith, common_steps)
 
-pub size-large : (large x small y m : ℕ) → m < large
-    → get_or (split large x small y) m 0 ≡ x
-size-large zero x small y m h = absurd (omega arith)
-size-large (suc large) x small y zero h = refl
-size-large (suc large) x small y (suc m) h = size-large large x small y m (omega arith)
+pub size-large : (large x small y m : ℕ) → m < large → get_or (split large x small y) m 0 ≡ x
+size-large x0 x1 x2 x3 x4 x5 = grind (arith, common_steps)
 
 size-alone : (small y m : ℕ) → m < small → get_or (replicate small y) m 0 ≡ y
-size-alone zero y m h = absurd (omega arith)
-size-alone (suc small) y zero h = refl
-size-alone (suc small) y (suc m) h = size-alone small y m (omega arith)
+size-alone x0 x1 x2 x3 = grind (arith, common_steps)
 
 pub size-small : (large x small y m : ℕ) → large ≤ m → m < large + small
     → get_or (split large x small y) m 0 ≡ y
@@ -181,12 +161,9 @@ size-small (suc large) x small y (suc m) h l =
     size-small large x small y m (omega arith) (omega arith)
 
 size-alone_none : (small y m : ℕ) → small ≤ m → get_or (replicate small y) m 0 ≡ 0
-size-alone_none zero y m h = refl
-size-alone_none (suc small) y zero h = absurd (omega arith)
-size-alone_none (suc small) y (suc m) h = size-alone_none small y m (omega arith)
+size-alone_none x0 x1 x2 x3 = grind (arith, common_steps)
 
-pub size-none : (large x small y m : ℕ) → large + small ≤ m
-    → get_or (split large x small y) m 0 ≡ 0
+pub size-none : (large x small y m : ℕ) → large + small ≤ m → get_or (split large x small y) m 0 ≡ 0
 size-none zero x small y m h = size-alone_none small y m (omega arith)
 size-none (suc large) x small y zero h = absurd (omega arith)
 size-none (suc large) x small y (suc m) h = size-none large x small y m (omega arith)
@@ -205,9 +182,7 @@ before-alone (suc small) y (suc m) h = omega (arith, before-alone small y m (ome
 
 pub before-small : (large x small y m q : ℕ) → m ≤ small → large + m ≡ q
     → total (take q (split large x small y)) ≡ large * x + m * y
-before-small zero x small y m q h e =
-    ap (λ z. total (take z (replicate small y))) (omega arith) ∙ before-alone small y m h
-    ∙ omega arith
+before-small zero x small y m q h e = search (rules, before-alone)
 before-small (suc large) x small y m zero h e = absurd (omega arith)
 before-small (suc large) x small y m (suc q) h e =
     omega (arith, before-small large x small y m q h (omega arith))
@@ -216,35 +191,30 @@ total-alone : (small y : ℕ) → total (replicate small y) ≡ small * y
 total-alone zero y = omega arith
 total-alone (suc small) y = omega (arith, total-alone small y)
 
-pub total-split : (large x small y : ℕ)
-    → total (split large x small y) ≡ large * x + small * y
+pub total-split : (large x small y : ℕ) → total (split large x small y) ≡ large * x + small * y
 total-split zero x small y = omega (arith, total-alone small y)
 total-split (suc large) x small y = omega (arith, total-split large x small y)
 
 -- each place is that of one symbol of one block
 
-pub cover : (sizes : List ℕ) (k : ℕ) → k < total sizes
-    → (m : ℕ) × (j : ℕ) × (m < length sizes) × (j < get_or sizes m 0)
-    × (total (take m sizes) + j ≡ k)
+pub cover : (sizes : List ℕ) (k : ℕ) → k < total sizes → (m : ℕ) × (j : ℕ) × (m < length sizes) ×
+    (j < get_or sizes m 0) × (total (take m sizes) + j ≡ k)
 cover [] k h = absurd (omega arith)
 cover (s ∷ sizes) k h = elim (cases_lt k s) [
   | inl l ↦ (0, k, omega arith, l, omega arith)
-  | inr l ↦
-      let c = cover sizes (k - s) (omega arith) in
+  | inr l ↦ let c = cover sizes (k - s) (omega arith) in
       let e = c.4 in
       (suc c.0, c.1, omega (arith, c.2), c.3, omega arith)
 ]
 
 listed-within : (sizes : List ℕ) (n k : ℕ) (id : SymbolId)
     → slice_get (listing n sizes) k ≡ Some id → k < total sizes
-listed-within sizes n k id e = let l =
-    slice_get_within (listing n sizes) k id e in omega (arith, length-listing n sizes)
+listed-within sizes n k id e = search (rules, slice_get_within, length-listing)
 
 -- the id at a place, as its block and its number there
-pub listed-as : (sizes : List ℕ) (k : ℕ) (id : SymbolId)
-    → slice_get (listing 0 sizes) k ≡ Some id
-    → (id.sbn < length sizes) × (id.esi < get_or sizes id.sbn 0)
-    × (total (take id.sbn sizes) + id.esi ≡ k)
+pub listed-as : (sizes : List ℕ) (k : ℕ) (id : SymbolId) → slice_get (listing 0 sizes) k ≡ Some id →
+    (id.sbn < length sizes) × (id.esi < get_or sizes id.sbn 0) ×
+    (total (take id.sbn sizes) + id.esi ≡ k)
 listed-as sizes k id e =
     let c = cover sizes k (listed-within sizes 0 k id e) in
     let f = listing-at sizes 0 c.0 c.1 c.2 c.3 (omega arith) c.4 in
@@ -253,28 +223,19 @@ listed-as sizes k id e =
     subst (λ (x : SymbolId). (x.sbn < length sizes) × (x.esi < get_or sizes x.sbn 0)
     × (total (take x.sbn sizes) + x.esi ≡ k)) h (c.2, c.3, c.4)
 
-pub place-of_listed : (sizes : List ℕ) (k : ℕ) (id : SymbolId)
-    → slice_get (listing 0 sizes) k ≡ Some id
-    → position_from (same_symbol_id id) 0 (listing 0 sizes) ≡ Some k
+pub place-of_listed : (sizes : List ℕ) (k : ℕ) (id : SymbolId) → slice_get (listing 0 sizes) k ≡
+    Some id → position_from (same_symbol_id id) 0 (listing 0 sizes) ≡ Some k
 place-of_listed sizes k id e =
     let a = listed-as sizes k id e in
     let b = a.2 in
     place-hit sizes 0 id.sbn id.esi 0 a.0 a.1 (omega arith) ∙ ap Some (omega arith)
 
-pub listed-of_place : (id : SymbolId) (xs : List SymbolId) (k r : ℕ)
-    → position_from (same_symbol_id id) k xs ≡ Some r
-    → (k ≤ r) × (slice_get xs (r - k) ≡ Some id)
+pub listed-of_place : (id : SymbolId) (xs : List SymbolId) (k r : ℕ) → position_from
+    (same_symbol_id id) k xs ≡ Some r → (k ≤ r) × (slice_get xs (r - k) ≡ Some id)
 listed-of_place id [] k r e = cc
 listed-of_place id (x ∷ xs) k r e = elim (cases_Bool (same_symbol_id id x)) [
-  | inl t ↦
-      let f : Some k ≡ Some r =
-      sym (ap (λ b. cond b (Some k) (position_from (same_symbol_id id) (k + 1) xs)) t) ∙ e in
-      let g : k ≡ r = cc in
-      let z : r - k ≡ zero = omega arith in
-      (omega arith, ap (slice_get (x ∷ xs)) z ∙ ap Some (sym (symbol_id_same id x t)))
-  | inr t ↦
-      let f : position_from (same_symbol_id id) (k + 1) xs ≡ Some r =
-      sym (ap (λ b. cond b (Some k) (position_from (same_symbol_id id) (k + 1) xs)) t) ∙ e in
+  | inl t ↦ search rules
+  | inr t ↦ let f : position_from (same_symbol_id id) (k + 1) xs ≡ Some r = search rules in
       let h = listed-of_place id xs (k + 1) r f in
       let l = h.0 in
       let z : r - k ≡ suc (r - (k + 1)) = omega arith in
@@ -300,9 +261,8 @@ total-take_less (s ∷ sizes) (suc m) (suc n) h l =
     omega (arith, total-take_less sizes m n (omega arith) (omega arith))
 
 -- later places have later ids
-pub ids-rise : (sizes : List ℕ) (j k : ℕ) (a b : SymbolId) → j < k
-    → slice_get (listing 0 sizes) j ≡ Some a → slice_get (listing 0 sizes) k ≡ Some b
-    → symbol_id_cmp a b ≡ Less
+pub ids-rise : (sizes : List ℕ) (j k : ℕ) (a b : SymbolId) → j < k → slice_get (listing 0 sizes) j ≡
+    Some a → slice_get (listing 0 sizes) k ≡ Some b → symbol_id_cmp a b ≡ Less
 ids-rise sizes j k a b h e f =
     let x = listed-as sizes j a e in
     let y = listed-as sizes k b f in

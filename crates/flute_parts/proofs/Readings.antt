@@ -1,12 +1,11 @@
 -- The value of a list of facts at an address, by the facts that the list contains.
+use Rattle.std.proofs.Common.{rules}
 use Rattle.std.proofs.Common.{◌≡◌, true, false, List, [], ◌∷◌, Option, Some, None, refl}
 use Rattle.std.proofs.Common.{sym, ap, ◌∙◌, subst, inl, inr, ◌⊎◌}
 use Rattle.std.specs.Prelude.{Contains}
 use Rattle.std.proofs.lemmas.Bool.{cases_Bool}
 use Rattle.flute_parts.specs.declared.key.Key.{Key}
 use Rattle.flute_parts.specs.declared.address.Part.{Part}
-use Rattle.flute_parts.specs.declared.address.Part.TheVariants.{Info as InfoPart}
-use Rattle.flute_parts.specs.declared.address.Part.TheVariants.{Symbol as SymbolPart}
 use Rattle.flute_parts.specs.declared.address.Address.{Address}
 use Rattle.flute_parts.specs.declared.fact.Fact.{Fact}
 use Rattle.flute_parts.specs.Order.{same_address}
@@ -21,10 +20,7 @@ use Rattle.flute_parts.proofs.Facts.{fact_at-member_some, fact_at-some_named}
 
 pub fact_at-none : (F : List Fact) (a : Address)
     → ((f : Fact) → Contains F f → address f ≡ a → ⊥) → fact_at F a ≡ None
-fact_at-none F a h = elim (fact_at-some_named F a) [
-  | inl n ↦ absurd (h n.0 (Contains-from F n.0 n.1) n.2)
-  | inr e ↦ e
-]
+fact_at-none F a h = search (rules, fact_at-some_named, Contains-from)
 
 pub none-at : (F : List Fact) (a : Address) → fact_at F a ≡ None → (f : Fact) → Contains F f
     → address f ≡ a → ⊥
@@ -38,18 +34,16 @@ unfolding Member
 one_or_none [] a f h = inl (fact_at-nil a)
 one_or_none (g ∷ F) a f h = elim (cases_Bool (same_address (address g) a)) [
   | inr e ↦ elim (one_or_none F a f (λ k m. h k (inr m))) [
-    | inl n ↦ inl (fact_at-cons g F a
-        ∙ ap (λ x. joined a x (fact_at F a)) (alone-elsewhere g a e) ∙ n)
-    | inr s ↦ inr (fact_at-cons g F a
-        ∙ ap (λ x. joined a x (fact_at F a)) (alone-elsewhere g a e) ∙ s)
+    | inl n ↦ inl (fact_at-cons g F a ∙ ap (λ x. joined a x (fact_at F a))
+        (alone-elsewhere g a e) ∙ n)
+    | inr s ↦ inr (fact_at-cons g F a ∙ ap (λ x. joined a x (fact_at F a))
+        (alone-elsewhere g a e) ∙ s)
   ]
-  | inl e ↦
-      let p = address_same (address g) a e in
+  | inl e ↦ let p = address_same (address g) a e in
       let q = h g (inl refl) p in
-      let here : fact_at (g ∷ F) a ≡ joined a (Some f) (fact_at F a) =
-      fact_at-cons g F a ∙ ap (λ x. joined a x (fact_at F a))
-      (alone-at g a p ∙ ap Some q) in
-      elim (one_or_none F a f (λ k m. h k (inr m))) [
+      let here : fact_at (g ∷ F) a ≡ joined a (Some f) (fact_at F a) = fact_at-cons g F a ∙ ap
+      (λ x. joined a x (fact_at F a)) (alone-at g a p ∙ ap Some q) in elim
+      (one_or_none F a f (λ k m. h k (inr m))) [
         | inl n ↦ inr (here ∙ ap (joined a (Some f)) n)
         | inr s ↦ inr (here ∙ ap (joined a (Some f)) s ∙ joined-itself a (Some f))
       ]
@@ -64,31 +58,27 @@ fact_at-one F a f m p h = elim (one_or_none F a f (λ g n q. h g (Contains-from 
 
 conflict_stays : (a : Address) (y : Option Fact)
     → joined a (Some (conflict_at a)) y ≡ Some (conflict_at a)
-conflict_stays a None = refl
-conflict_stays a (Some g) = ap Some (joined-conflict_left a g)
+conflict_stays x0 x1 = search (rules, joined-conflict_left)
 
-pub fact_at-two : (F : List Fact) {a : Address} {f g : Fact} → Contains F f → Contains F g
-    → address f ≡ a → address g ≡ a → (f ≡ g → ⊥)
-    → fact_at F a ≡ Some (conflict_at a)
+pub fact_at-two : (F : List Fact) {a : Address} {f g : Fact} → Contains F f → Contains F g → address
+    f ≡ a → address g ≡ a → (f ≡ g → ⊥) → fact_at F a ≡ Some (conflict_at a)
 fact_at-two F {a = a} {f = f} {g = g} m n p q h =
     let apart : same_fact f g ≡ false = elim (cases_Bool (same_fact f g)) [
       | inl e ↦ absurd (h (fact_same f g e))
       | inr e ↦ e
-    ] in
-    sym (fact_at-member f F a (Member-from F f m))
-    ∙ ap (joined a (alone a f)) (sym (fact_at-member g F a (Member-from F g n)))
-    ∙ sym (joined-assoc a (alone a f) (alone a g) (fact_at F a))
-    ∙ ap (λ x. joined a (joined a x (alone a g)) (fact_at F a)) (alone-at f a p)
-    ∙ ap (λ x. joined a (joined a (Some f) x) (fact_at F a)) (alone-at g a q)
-    ∙ ap (λ x. joined a (Some x) (fact_at F a)) (joined-apart a f g apart)
-    ∙ conflict_stays a (fact_at F a)
+    ] in sym (fact_at-member f F a (Member-from F f m)) ∙ ap (joined a (alone a f))
+    (sym (fact_at-member g F a (Member-from F g n))) ∙ sym
+    (joined-assoc a (alone a f) (alone a g) (fact_at F a)) ∙ ap
+    (λ x. joined a (joined a x (alone a g)) (fact_at F a)) (alone-at f a p) ∙ ap
+    (λ x. joined a (joined a (Some f) x) (fact_at F a)) (alone-at g a q) ∙ ap
+    (λ x. joined a (Some x) (fact_at F a)) (joined-apart a f g apart) ∙ conflict_stays a
+    (fact_at F a)
 
 -- the value at an address is a fact of that address
 
 conflict-address : (key : Key) (part : Part)
     → address (conflict_in key part) ≡ record { key = key; part = part }
-conflict-address key InfoPart = refl
-conflict-address key (SymbolPart id) = refl
+conflict-address x0 x1 = search rules
 
 abbrev Stands : Address → Option Fact → Type 0
 Stands a None = Unit {0}
@@ -122,8 +112,6 @@ fact_at-address F a f e = subst (Stands a) e (fact_at-stands F a)
 
 pub fact_at-conflict : (F : List Fact) (a : Address) → Contains F (conflict_at a)
     → fact_at F a ≡ Some (conflict_at a)
-fact_at-conflict F a m =
-    sym (fact_at-member (conflict_at a) F a (Member-from F (conflict_at a) m))
+fact_at-conflict F a m = sym (fact_at-member (conflict_at a) F a (Member-from F (conflict_at a) m))
     ∙ ap (λ x. joined a x (fact_at F a))
-    (alone-at (conflict_at a) a (conflict-address a.key a.part))
-    ∙ conflict_stays a (fact_at F a)
+    (alone-at (conflict_at a) a (conflict-address a.key a.part)) ∙ conflict_stays a (fact_at F a)

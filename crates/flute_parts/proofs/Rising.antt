@@ -1,4 +1,5 @@
 -- Lists of facts at rising addresses (specs/Facts: IsRising).
+use Rattle.std.proofs.Common.{rules}
 use Rattle.std.proofs.Common.{◌≡◌, false, List, [], ◌∷◌, Some, None, refl, sym, ap}
 use Rattle.std.proofs.Common.{◌∙◌, subst, inl, inr}
 use Rattle.std.specs.Prelude.{Contains}
@@ -51,11 +52,14 @@ fact_at-rising : (F : List Fact) (f : Fact) → IsRising F → Member f F
     → fact_at F (address f) ≡ Some f
 unfolding Member
 fact_at-rising [] f r m = absurd m
-fact_at-rising (g ∷ F) f r (inl e) =
-    subst (λ x. fact_at (g ∷ F) (address x) ≡ Some x) (sym e) (fact_at-first g F r.0)
-fact_at-rising (g ∷ F) f r (inr m) =
-    fact_at-elsewhere g F (address f) (ap is_eq (member-after (address g) f F r.0 m))
-    ∙ fact_at-rising F f r.1 m
+fact_at-rising (g ∷ F) f r (inl e) = search (rules, fact_at-first)
+fact_at-rising (g ∷ F) f r (inr m) = search (
+  rules,
+  fact_at-elsewhere,
+  member-after,
+  fact_at-rising
+      F f r.1 m,
+)
 
 pub rising_tells : (F : List Fact) (f : Fact) → IsRising F → Contains F f
     → fact_at F (address f) ≡ Some f
@@ -71,21 +75,21 @@ rest_same : (f : Fact) (F G : List Fact) → StandAfter (address f) F → StandA
     → ((a : Address) → fact_at (f ∷ F) a ≡ fact_at (f ∷ G) a) → (a : Address)
     → fact_at F a ≡ fact_at G a
 rest_same f F G p q h a = elim (cases_Bool (same_address (address f) a)) [
-  | inl t ↦
-      let e = address_same (address f) a t in
-      subst (λ x. fact_at F x ≡ fact_at G x) e
+  | inl t ↦ let e = address_same (address f) a t in subst (λ x. fact_at F x ≡ fact_at G x) e
       (fact_at-after (address f) F p ∙ sym (fact_at-after (address f) G q))
   | inr n ↦ sym (fact_at-elsewhere f F a n) ∙ h a ∙ fact_at-elsewhere f G a n
 ]
 
 -- a list that begins later has no value at the address of the first fact
-first_alone : (f g : Fact) (F G : List Fact) → IsRising (f ∷ F) → IsRising (g ∷ G)
-    → address_cmp (address f) (address g) ≡ Less
-    → fact_at (f ∷ F) (address f) ≡ fact_at (g ∷ G) (address f) → ⊥
-first_alone f g F G r s l h =
-    none-some f (
-    sym (fact_at-after (address f) (g ∷ G) (l, StandAfter-before (address f) (address g) G l s.0))
-    ∙ sym h ∙ fact_at-first f F r.0)
+first_alone : (f g : Fact) (F G : List Fact) → IsRising (f ∷ F) → IsRising (g ∷ G) → address_cmp
+    (address f) (address g) ≡ Less → fact_at (f ∷ F) (address f) ≡ fact_at (g ∷ G) (address f) → ⊥
+first_alone f g F G r s l h = search (
+  rules,
+  none-some,
+  fact_at-after,
+  StandAfter-before,
+  fact_at-first,
+)
 
 -- two rising lists with the same value at each address are one
 rising_same : (F G : List Fact) → IsRising F → IsRising G
@@ -93,9 +97,8 @@ rising_same : (F G : List Fact) → IsRising F → IsRising G
 rising_same [] [] r s h = refl
 rising_same [] (g ∷ G) r s h =
     absurd (none-some g (sym (fact_at-nil (address g)) ∙ h (address g) ∙ fact_at-first g G s.0))
-rising_same (f ∷ F) [] r s h =
-    absurd (none-some f (sym (fact_at-nil (address f)) ∙ sym (h (address f))
-    ∙ fact_at-first f F r.0))
+rising_same (f ∷ F) [] r s h = absurd
+    (none-some f (sym (fact_at-nil (address f)) ∙ sym (h (address f)) ∙ fact_at-first f F r.0))
 rising_same (f ∷ F) (g ∷ G) r s h =
     by_order (rising_same F G r.1 s.1) (address_cmp (address f) (address g)) refl
   where

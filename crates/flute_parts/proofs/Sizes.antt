@@ -1,9 +1,8 @@
 -- The blocks of valid information: how many there are, and how long each is (specs/Partition).
-use Rattle.std.proofs.Common.{◌≡◌, ℕ, ◌+◌, ◌-◌, ◌<◌, ◌≤◌, false, cond, []}
+use Rattle.std.proofs.Common.{rules}
+use Rattle.std.proofs.Common.{◌≡◌, ℕ, ◌+◌, ◌-◌, ◌<◌, ◌≤◌, []}
 use Rattle.std.proofs.Common.{◌++◌, length, get_or, replicate, refl, ap, subst, inl, inr, arith}
-use Rattle.std.specs.Prelude.{◌==◌}
 use Rattle.std.proofs.lemmas.Bool.{cases_lt}
-use Rattle.std.proofs.lemmas.Bool.Decides.{nat_tests}
 use Rattle.std.proofs.Math.Nat.{eq-zero-or-pos}
 use Rattle.flute_parts.specs.Information.{Information, sizes, symbol_count, block_count}
 use Rattle.flute_parts.specs.Information.{large_length, small_length, large_count, IsValid}
@@ -14,18 +13,13 @@ use Rattle.flute_parts.proofs.Split.{IsSplit-none, IsSplit-of, count-sizes}
 pub sizes-none : (i : Information) → i.transfer_length ≡ 0 → sizes i ≡ []
 sizes-none i z = (IsSplit-none i z).split
 
-pub sizes-some : (i : Information) → (i.transfer_length ≡ 0 → ⊥)
-    → sizes i ≡ replicate (large_count i) (large_length i)
-    ++ replicate (block_count i - large_count i) (small_length i)
+pub sizes-some : (i : Information) → (i.transfer_length ≡ 0 → ⊥) → sizes i ≡ replicate
+    (large_count i) (large_length i) ++ replicate (block_count i - large_count i) (small_length i)
 unfolding sizes
-sizes-some i n =
-    let not_zero : (i.transfer_length == 0) ≡ false = grind (arith, nat_tests) in
-    ap (λ b. cond b [] (replicate (large_count i) (large_length i)
-    ++ replicate (block_count i - large_count i) (small_length i))) not_zero
+sizes-some i n = search rules
 
-pub IsSplit-from : (i : Information) → IsValid i
-    → (large : ℕ) × (small : ℕ) × (length' : ℕ)
-    × IsSplit i (symbol_count i) large small length'
+pub IsSplit-from : (i : Information) → IsValid i → (large : ℕ) × (small : ℕ) × (length' : ℕ) ×
+    IsSplit i (symbol_count i) large small length'
 IsSplit-from i v = elim (eq-zero-or-pos i.transfer_length) [
   | inl z ↦ let s = IsSplit-none i z in (0, 0, 0, subst (λ t. IsSplit i t 0 0 0) s.count s)
   | inr l ↦ (_, _, _, IsSplit-of i (block_count i) refl l (v.parts l))
@@ -42,11 +36,10 @@ sizes-short i n v =
     let s = IsSplit-from i v in
     let l = s.3.longest in
     let m = s.3.large_longest in
-    let e : get_or (sizes i) n 0 ≡ get_or (split s.0 (s.2 + 1) s.1 s.2) n 0 =
-    ap (λ xs. get_or xs n 0) s.3.split in
-    elim (cases_lt n s.0) [
-      | inl a ↦ let p : s.2 < 65536 =
-          m (omega arith) in omega (arith, size-large s.0 (s.2 + 1) s.1 s.2 n a)
+    let e : get_or (sizes i) n 0 ≡ get_or (split s.0 (s.2 + 1) s.1 s.2) n 0 = ap
+    (λ xs. get_or xs n 0) s.3.split in elim (cases_lt n s.0) [
+      | inl a ↦ let p : s.2 < 65536 = m (omega arith) in omega
+          (arith, size-large s.0 (s.2 + 1) s.1 s.2 n a)
       | inr a ↦ elim (cases_lt n (s.0 + s.1)) [
         | inl b ↦ omega (arith, size-small s.0 (s.2 + 1) s.1 s.2 n a b)
         | inr b ↦ omega (arith, size-none s.0 (s.2 + 1) s.1 s.2 n b)

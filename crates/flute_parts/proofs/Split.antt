@@ -1,6 +1,8 @@
 -- The partition that information gives, from its four numbers (specs/Split).
-use Rattle.std.proofs.Common.{◌≡◌, ℕ, zero, suc, ◌+◌, ◌-◌, ◌*◌, ◌/◌}
-use Rattle.std.proofs.Common.{◌%◌, ◌^◌, ◌<◌, ◌≤◌, min, Bool, true, false, cond}
+use Rattle.std.proofs.lemmas.Grind.{common_steps}
+use Rattle.std.proofs.Common.{rules}
+use Rattle.std.proofs.Common.{◌≡◌, ℕ, ◌+◌, ◌-◌, ◌*◌, ◌/◌}
+use Rattle.std.proofs.Common.{◌%◌, ◌^◌, ◌<◌, ◌≤◌, min, Bool, false, cond}
 use Rattle.std.proofs.Common.{List, [], ◌∷◌, ◌++◌, length, get_or, take, replicate, Some}
 use Rattle.std.proofs.Common.{None, refl, sym, ap, ◌∙◌, subst, inl, inr, arith}
 use Rattle.std.proofs.Math.Nat.{div-add-mod', eq-zero-or-pos}
@@ -19,7 +21,7 @@ use Rattle.flute_parts.specs.Information.{large_length, small_length, large_coun
 use Rattle.flute_parts.specs.Information.{IsValid}
 use Rattle.flute_parts.specs.Partition.{symbol_id, ids, place}
 use Rattle.flute_parts.specs.Split.{total, IsSplit}
-use Rattle.flute_parts.proofs.Division.{div_ceil-pos, div_ceil-le, div_ceil-zero}
+use Rattle.flute_parts.proofs.Division.{div_ceil-pos, div_ceil-le}
 use Rattle.flute_parts.proofs.Listing.{listing, place-hit, place-miss, listing-at}
 use Rattle.flute_parts.proofs.Listing.{length-listing, length-split, size-large, size-small}
 use Rattle.flute_parts.proofs.Listing.{before-large, before-small, total-split, listed-of_place}
@@ -29,34 +31,19 @@ use Rattle.flute_parts.proofs.Listing.{place-of_listed, ids-rise, next-in_block}
 
 pub IsSplit-none : (i : Information) → i.transfer_length ≡ 0 → IsSplit i 0 0 0 0
 unfolding sizes
-IsSplit-none i h =
-    let is_zero : (i.transfer_length == 0) ≡ true = grind (arith, nat_tests) in
-    record {
-      split = ap (λ b. cond b [] (replicate (large_count i) (large_length i)
-          ++ replicate (block_count i - large_count i) (small_length i))) is_zero;
-      count = sym (ap (λ l. div_ceil l i.symbol_length) h ∙ div_ceil-zero i.symbol_length);
-      all = omega arith;
-      blocks = omega arith;
-      longest = omega arith;
-      large_longest = λ l. omega (arith, l);
-      not_empty = λ l. omega (arith, l);
-    }
+IsSplit-none i h = search rules
 
 larger : (q r : ℕ) → replicate r (q + min 1 r) ≡ replicate r (q + 1)
-larger q zero = refl
-larger q (suc r) = ap (replicate (suc r)) (omega arith)
+larger x0 x1 = search rules
 
 counted : (q r d t : ℕ) → q * (r + d) + r ≡ t → t ≡ r * (q + 1) + d * q
 counted q r d t e = omega arith
 
 quotient_pos : (q r n t : ℕ) → q * n + r ≡ t → r < n → n ≤ t → 0 < q
-quotient_pos zero r n t e h l = absurd (omega arith)
-quotient_pos (suc q) r n t e h l = omega arith
+quotient_pos x0 x1 x2 x3 x4 x5 x6 = search rules
 
-pub IsSplit-of : (i : Information) (n : ℕ) → n ≡ block_count i → 0 < i.transfer_length
-    → HasBlocks i
-    → IsSplit i (symbol_count i) (symbol_count i % n) (n - symbol_count i % n)
-    (symbol_count i / n)
+pub IsSplit-of : (i : Information) (n : ℕ) → n ≡ block_count i → 0 < i.transfer_length → HasBlocks i
+    → IsSplit i (symbol_count i) (symbol_count i % n) (n - symbol_count i % n) (symbol_count i / n)
 unfolding sizes
 IsSplit-of i n e l h =
     let t = symbol_count i in
@@ -73,13 +60,11 @@ IsSplit-of i n e l h =
     let is_large : t - q * n ≡ r = omega arith in
     let not_zero : (i.transfer_length == 0) ≡ false = grind (arith, nat_tests) in
     record {
-      split =
-          ap (λ b. cond b [] (replicate (large_count i) (large_length i)
-          ++ replicate (block_count i - large_count i) (small_length i))) not_zero
-          ∙ ap (λ x. replicate (t - t / x * x) (div_ceil t x)
-          ++ replicate (x - (t - t / x * x)) (t / x)) (sym e)
-          ∙ ap (λ x. replicate x (q + min 1 r) ++ replicate (n - x) q) is_large
-          ∙ ap (λ xs. xs ++ replicate (n - r) q) (larger q r);
+      split = ap (λ b. cond b [] (replicate (large_count i) (large_length i) ++ replicate
+          (block_count i - large_count i) (small_length i))) not_zero ∙ ap
+          (λ x. replicate (t - t / x * x) (div_ceil t x) ++ replicate (x - (t - t / x * x)) (t / x))
+          (sym e) ∙ ap (λ x. replicate x (q + min 1 r) ++ replicate (n - x) q) is_large ∙ ap
+          (λ xs. xs ++ replicate (n - r) q) (larger q r);
       count = refl;
       all = counted q r (n - r) t (ap (λ x. q * x + r) n_is ∙ parts);
       blocks = omega arith;
@@ -89,9 +74,7 @@ IsSplit-of i n e l h =
     }
 
 inside : (xs : List ℕ) (n : ℕ) → 0 < get_or xs n 0 → n < length xs
-inside [] n p = absurd (omega arith)
-inside (x ∷ xs) zero p = omega arith
-inside (x ∷ xs) (suc n) p = omega (arith, inside xs n p)
+inside x0 x1 x2 = grind (arith, common_steps)
 
 -- what follows from the numbers of a partition
 
@@ -99,8 +82,7 @@ module _ (i : Information) (symbols large small length' : ℕ)
     (s : IsSplit i symbols large small length') where
   pub count-ids : length (ids i) ≡ symbols
   unfolding ids
-  count-ids = length-listing 0 (sizes i) ∙ ap total s.split
-      ∙ total-split large (length' + 1) small length' ∙ sym s.all
+  count-ids = search (rules, length-listing, sizes, total-split)
 
   -- no more than 2^16 blocks of 2^16 symbols
   pub few-symbols : symbols ≤ 2 ^ 32
@@ -108,12 +90,8 @@ module _ (i : Information) (symbols large small length' : ℕ)
       let all = s.all in
       let blocks = s.blocks in
       elim (eq-zero-or-pos large) [
-        | inl z ↦
-            let p = mul-le small length' 65536 65536 (omega arith) s.longest in
-            let e : large * (length' + 1) ≡ 0 = ap (λ x. x * (length' + 1)) z ∙ omega arith in
-            omega arith
-        | inr p ↦
-            let l = s.large_longest p in
+        | inl z ↦ search rules
+        | inr p ↦ let l = s.large_longest p in
             let e : large * (length' + 1) + small * length' ≤ (large + small) * (length' + 1) =
             omega arith in
             let q = mul-le (large + small) (length' + 1) 65536 65536 blocks (omega arith) in
@@ -121,17 +99,15 @@ module _ (i : Information) (symbols large small length' : ℕ)
       ]
 
   pub count-sizes : length (sizes i) ≡ large + small
-  count-sizes = ap length s.split ∙ length-split large (length' + 1) small length'
+  count-sizes = search (rules, length-split)
 
   pub before-first : (n : ℕ) → n ≤ large → total (take n (sizes i)) ≡ n * (length' + 1)
-  before-first n h =
-      ap (λ xs. total (take n xs)) s.split ∙ before-large large (length' + 1) small length' n h
+  before-first n h = search (rules, before-large)
 
   pub before-second : (n : ℕ) → large ≤ n → n ≤ large + small
       → total (take n (sizes i)) ≡ large * (length' + 1) + (n - large) * length'
-  before-second n h l =
-      ap (λ xs. total (take n xs)) s.split
-      ∙ before-small large (length' + 1) small length' (n - large) n (omega arith) (omega arith)
+  before-second n h l = ap (λ xs. total (take n xs)) s.split ∙ before-small large (length' + 1)
+      small length' (n - large) n (omega arith) (omega arith)
 
   -- the symbols before a block that is there
   pub before-block : (n j : ℕ) → j < get_or (sizes i) n 0
@@ -141,11 +117,9 @@ module _ (i : Information) (symbols large small length' : ℕ)
       let l = inside (sizes i) n (omega arith) in
       elim (eq-zero-or-pos (n - large)) [
         | inl z ↦ let b = before-first n (omega arith) in omega arith
-        | inr p ↦
-            let b = before-second n (omega arith) (omega arith) in
-            let m : (large + (n - large)) * length' ≡ n * length' =
-            ap (λ x. x * length') (omega arith) in
-            omega arith
+        | inr p ↦ let b = before-second n (omega arith) (omega arith) in
+            let m : (large + (n - large)) * length' ≡ n * length' = ap (λ x. x * length')
+            (omega arith) in omega arith
       ]
 
   -- an id at its place
@@ -159,23 +133,20 @@ module _ (i : Information) (symbols large small length' : ℕ)
       let b = before-first n (omega arith) in
       listing-at (sizes i) 0 n j (omega arith) (omega arith) (omega arith) (omega arith)
 
-  pub at-second : (n j k : ℕ) → large ≤ n → n < large + small → j < length'
-      → large * (length' + 1) + ((n - large) * length' + j) ≡ k
-      → slice_get (ids i) k ≡ Some (symbol_id n j)
+  pub at-second : (n j k : ℕ) → large ≤ n → n < large + small → j < length' → large * (length' + 1)
+      + ((n - large) * length' + j) ≡ k → slice_get (ids i) k ≡ Some (symbol_id n j)
   unfolding ids
   at-second n j k h m l e =
       let count = count-sizes in
-      let size : get_or (sizes i) n 0 ≡ length' =
-      ap (λ xs. get_or xs n 0) s.split
-      ∙ size-small large (length' + 1) small length' n h m in
+      let size : get_or (sizes i) n 0 ≡ length' = ap (λ xs. get_or xs n 0) s.split ∙ size-small
+      large (length' + 1) small length' n h m in
       let b = before-second n h (omega arith) in
       listing-at (sizes i) 0 n j (omega arith) (omega arith) (omega arith) (omega arith)
 
   -- the id at each place
   pub place-first : (k : ℕ) → k < large * (length' + 1)
       → slice_get (ids i) k ≡ Some (symbol_id (k / (length' + 1)) (k % (length' + 1)))
-  place-first k h =
-      at-first (k / (length' + 1)) (k % (length' + 1)) k
+  place-first k h = at-first (k / (length' + 1)) (k % (length' + 1)) k
       (div_below k (length' + 1) large (omega arith) h) (mod_below k (length' + 1) (omega arith))
       (div-add-mod' k (length' + 1))
 
@@ -186,11 +157,7 @@ module _ (i : Information) (symbols large small length' : ℕ)
   place-second k h l =
       let rest = k - large * (length' + 1) in
       let below : rest < small * length' = let all = s.all in omega arith in
-      let some : 0 < small = elim (eq-zero-or-pos small) [
-        | inl z ↦ absurd (let e : small * length' ≡ 0 =
-            ap (λ x. x * length') z ∙ omega arith in omega arith)
-        | inr p ↦ p
-      ] in
+      let some : 0 < small = search rules in
       let pos : 0 < length' = s.not_empty some in
       let q = rest / length' in
       let r = rest % length' in
@@ -202,38 +169,28 @@ module _ (i : Information) (symbols large small length' : ℕ)
       ∙ ap (λ x. large * (length' + 1) + x) parts ∙ omega arith)
 
   pub past-last : (k : ℕ) → symbols ≤ k → slice_get (ids i) k ≡ None
-  past-last k h = slice_get_past (ids i) k (let e = count-ids in omega arith)
+  past-last k h = search (rules, slice_get_past, count-ids)
 
 -- a symbol of a block is after the blocks before its own, and any other has no place
 
 pub place-in : (i : Information) (id : SymbolId) (k : ℕ) → id.esi < get_or (sizes i) id.sbn 0
     → total (take id.sbn (sizes i)) + id.esi ≡ k → place i id ≡ Some k
 unfolding place ids
-place-in i id k h e =
-    place-hit (sizes i) 0 id.sbn id.esi 0 (inside (sizes i) id.sbn (omega arith)) h
-    (omega arith)
-    ∙ ap Some (omega arith)
+place-in i id k h e = place-hit (sizes i) 0 id.sbn id.esi 0 (inside (sizes i) id.sbn (omega arith))
+    h (omega arith) ∙ ap Some (omega arith)
 
 pub place-out : (i : Information) (id : SymbolId) → get_or (sizes i) id.sbn 0 ≤ id.esi
     → place i id ≡ None
 unfolding place ids
-place-out i id h =
-    place-miss (sizes i) id 0 0 (λ m l e.
-    subst (λ x. get_or (sizes i) x 0 ≤ id.esi) (omega (arith, e)) h)
+place-out i id h = search (rules, place-miss, sizes)
 
 position-within : (p : SymbolId → Bool) (xs : List SymbolId) (k r : ℕ)
     → position_from p k xs ≡ Some r → r < k + length xs
 position-within p [] k r e = cc
 position-within p (x ∷ xs) k r e = elim (cases_Bool (p x)) [
-  | inl t ↦
-      let f : Some k ≡ Some r =
-      sym (ap (λ b. cond b (Some k) (position_from p (k + 1) xs)) t) ∙ e in
-      let g : k ≡ r = cc in
-      omega arith
-  | inr t ↦
-      let f : position_from p (k + 1) xs ≡ Some r =
-      sym (ap (λ b. cond b (Some k) (position_from p (k + 1) xs)) t) ∙ e in
-      omega (arith, position-within p xs (k + 1) r f)
+  | inl t ↦ search rules
+  | inr t ↦ let f : position_from p (k + 1) xs ≡ Some r = search rules in omega
+      (arith, position-within p xs (k + 1) r f)
 ]
 
 pub place-within : (i : Information) (id : SymbolId) (k : ℕ) → place i id ≡ Some k
@@ -256,9 +213,8 @@ places-inverse info id k = (
     sub-zero_at k h = let e : k ≡ k - 0 =
         omega arith in ap (slice_get (listing 0 (sizes info))) e ∙ h
 
-pub ids_rise : (info : Information) (j k : ℕ) (a b : SymbolId) → j < k
-    → slice_get (ids info) j ≡ Some a → slice_get (ids info) k ≡ Some b
-    → symbol_id_cmp a b ≡ Less
+pub ids_rise : (info : Information) (j k : ℕ) (a b : SymbolId) → j < k → slice_get (ids info) j ≡
+    Some a → slice_get (ids info) k ≡ Some b → symbol_id_cmp a b ≡ Less
 unfolding ids
 ids_rise info = ids-rise (sizes info)
 
@@ -271,7 +227,6 @@ ids_follow info = next-in_block (sizes info)
 pub ids_counted : (info : Information) → IsValid info → length (ids info) ≡ symbol_count info
 ids_counted info v = elim (eq-zero-or-pos info.transfer_length) [
   | inl z ↦ let s = IsSplit-none info z in count-ids info 0 0 0 0 s ∙ s.count
-  | inr l ↦ let s =
-      IsSplit-of info (block_count info) refl l (v.parts l) in
-      count-ids info (symbol_count info) _ _ _ s
+  | inr l ↦ let s = IsSplit-of info (block_count info) refl l (v.parts l) in count-ids info
+      (symbol_count info) _ _ _ s
 ]

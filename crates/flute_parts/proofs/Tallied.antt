@@ -1,11 +1,12 @@
 -- Tally: facts at rising addresses, counted one after another (specs/Tally).
+use Rattle.std.proofs.Common.{rules}
 use Rattle.std.proofs.Common.{◌≡◌, ℕ, ◌+◌, ◌<◌, ◌≤◌, Bool, true, false, List}
 use Rattle.std.proofs.Common.{[], ◌∷◌, ◌++◌, length, map, Option, Some, None, refl, sym}
 use Rattle.std.proofs.Common.{ap, ◌∙◌, subst, inl, inr, ◌&&◌, ◌==◌, arith}
 use Rattle.std.specs.List.{last_or}
 use Rattle.std.specs.declared.cmp.Ordering.TheVariants.{Greater}
 use Rattle.std.specs.Ordering.{is_eq}
-use Rattle.std.proofs.lemmas.Bool.{false≢true, cases_Bool, eqb-true, eq-eqb}
+use Rattle.std.proofs.lemmas.Bool.{false≢true, cases_Bool}
 use Rattle.std.proofs.lemmas.Option.{same_Some, none-some}
 use Rattle.flute_parts.specs.Session.{Session}
 use Rattle.flute_parts.specs.declared.key.Key.{Key}
@@ -17,8 +18,8 @@ use Rattle.flute_parts.specs.declared.tally.Tally.{Tally}
 use Rattle.flute_parts.specs.Order.{session_cmp, key_cmp, same_session, same_object, same_key}
 use Rattle.flute_parts.specs.Order.{same_symbol_id, same_address}
 use Rattle.flute_parts.specs.Addresses.{address}
-use Rattle.flute_parts.specs.Equality.{session_same, session_place, object_same, object_itself}
-use Rattle.flute_parts.specs.Equality.{key_same, key_itself, address_itself, both, both_true}
+use Rattle.flute_parts.specs.Equality.{session_place}
+use Rattle.flute_parts.specs.Equality.{key_same, key_itself, address_itself}
 use Rattle.flute_parts.specs.Totality.{session_total, key_total}
 use Rattle.flute_parts.specs.Facts.{IsRising}
 use Rattle.flute_parts.specs.Limits.{symbol_in, session_of, object_of, symbol_of, sessions, objects}
@@ -27,7 +28,7 @@ use Rattle.flute_parts.specs.Tally.{last_key, Counts, CountsKey}
 use Rattle.flute_parts.proofs.Facts.{Member}
 use Rattle.flute_parts.proofs.Rising.{member-after}
 use Rattle.flute_parts.proofs.OneMore.{count-none, count-again, count-new, count-empty}
-use Rattle.flute_parts.proofs.OneMore.{object_of-inside, object_of-some, object_of-elsewhere}
+use Rattle.flute_parts.proofs.OneMore.{object_of-some, object_of-elsewhere}
 use Rattle.flute_parts.proofs.OneMore.{symbol_of-inside, symbol_of-elsewhere, symbol_of-some}
 use Rattle.flute_parts.proofs.OneMore.{keys-after, equal-is_not, tied, key-before, before-next}
 use Rattle.flute_parts.proofs.OneMore.{rising-front}
@@ -37,9 +38,8 @@ use Rattle.flute_parts.proofs.Named.{session_tells, object_tells, symbol_id_tell
 
 -- the last fact, and its object, after which none of the facts is
 abbrev LastAfter : List Fact → Fact → Type 0
-LastAfter F g =
-    (l : Fact) × Member l F × (last_key F ≡ Some (address l).key)
-    × (key_cmp (address g).key (address l).key ≡ Greater → ⊥)
+LastAfter F g = (l : Fact) × Member l F × (last_key F ≡ Some (address l).key) ×
+    (key_cmp (address g).key (address l).key ≡ Greater → ⊥)
 
 last_after : (F : List Fact) (g : Fact) → IsRising F → Member g F → LastAfter F g
 unfolding Member
@@ -48,9 +48,9 @@ last_after (f ∷ []) g r (inl e) = (
   f,
   inl refl,
   refl,
-  subst (λ x. key_cmp (address x).key (address f).key ≡ Greater → ⊥)
-      (sym e) (equal-is_not (key_cmp (address f).key (address f).key)
-      (key_itself (address f).key)),
+  subst
+      (λ x. key_cmp (address x).key (address f).key ≡ Greater → ⊥) (sym e)
+      (equal-is_not (key_cmp (address f).key (address f).key) (key_itself (address f).key)),
 )
 last_after (f ∷ []) g r (inr m) = absurd m
 last_after (f ∷ h ∷ F) g r (inl e) =
@@ -105,26 +105,22 @@ module _ (F : List Fact) (f : Fact) (r : IsRising (F ++ f ∷ [])) where
   other_key other g m e =
       let w = last_after F g front m in
       let before = key-before (address w.0) (address f) (before-next F f w.0 r w.1) in
-      let after : key_cmp key (address w.0).key ≡ Greater → ⊥ =
-      subst (λ k. key_cmp k (address w.0).key ≡ Greater → ⊥) e w.3 in
+      let after : key_cmp key (address w.0).key ≡ Greater → ⊥ = search rules in
       let same = tied (key_cmp key (address w.0).key) (key_cmp (address w.0).key key)
-      (key_total.antisymm key (address w.0).key) after before in
-      other (w.2 ∙ sym (ap Some (key_same key (address w.0).key (ap is_eq same))))
+      (key_total.antisymm key (address w.0).key) after before in other
+      (w.2 ∙ sym (ap Some (key_same key (address w.0).key (ap is_eq same))))
 
   other_session : ((k : Key) → last_key F ≡ Some k → k.session ≡ session → ⊥)
       → (g : Fact) → Member g F → (address g).key.session ≡ session → ⊥
   other_session other g m e =
       let w = last_after F g front m in
       let last = (address w.0).key in
-      let before : session_cmp last.session session ≡ Greater → ⊥ =
-      λ h. key-before (address w.0) (address f) (before-next F f w.0 r w.1)
-      (keys-after last key h) in
-      let after : session_cmp session last.session ≡ Greater → ⊥ =
-      λ h. w.3 (keys-after (address g).key last
-      (ap (λ s. session_cmp s last.session) e ∙ h)) in
+      let before : session_cmp last.session session ≡ Greater → ⊥ = λ h. key-before (address w.0)
+      (address f) (before-next F f w.0 r w.1) (keys-after last key h) in
+      let after : session_cmp session last.session ≡ Greater → ⊥ = search rules in
       let same = tied (session_cmp session last.session) (session_cmp last.session session)
-      (session_total.antisymm session last.session) after before in
-      other last w.2 (sym (session_place session last.session same))
+      (session_total.antisymm session last.session) after before in other last w.2
+      (sym (session_place session last.session same))
 
   -- what the facts name with it
 
@@ -139,98 +135,102 @@ module _ (F : List Fact) (f : Fact) (r : IsRising (F ++ f ∷ [])) where
   sessions-new : ((k : Key) → last_key F ≡ Some k → k.session ≡ session → ⊥)
       → length (sessions (F ++ f ∷ [])) ≡ length (sessions F) + 1
   unfolding sessions
-  sessions-new other =
-      count-new same_session session_tells session_of F f session refl
+  sessions-new other = count-new same_session session_tells session_of F f session refl
       (λ g m e. other_session other g m (same_Some (address g).key.session session e))
 
   named_object : object_of session (address f) ≡ Some key.object
-  named_object = object_of-inside session (address f) refl
+  named_object = search rules
 
   objects-again : last_key F ≡ Some key
       → length (objects (F ++ f ∷ []) session) ≡ length (objects F session)
   unfolding objects
   objects-again e =
       let l = last_member F key front e in
-      let named : object_of session (address l.0) ≡ Some key.object =
-      object_of-inside session (address l.0) (ap (λ (x : Key). x.session) l.2)
-      ∙ ap (λ (x : Key). Some x.object) l.2 in
-      count-again same_object object_tells
-      (object_of session) F f l.0 key.object named_object l.1 named
+      let named : object_of session (address l.0) ≡ Some key.object = search rules in
+      count-again same_object object_tells (object_of session) F f l.0 key.object named_object l.1
+      named
 
   objects-new : (last_key F ≡ Some key → ⊥)
       → length (objects (F ++ f ∷ []) session) ≡ length (objects F session) + 1
   unfolding objects
-  objects-new other =
-      count-new same_object object_tells (object_of session) F f key.object named_object (λ g m e.
-      let n = object_of-some session (address g) key.object e in
-      other_key other g m (λ i. record { session = n.0 i; object = n.1 i }))
+  objects-new other = search (
+    rules,
+    count-new,
+    same_object,
+    object_tells,
+    object_of,
+    named_object,
+    object_of-some,
+    other_key,
+  )
 
   objects-none : ((k : Key) → last_key F ≡ Some k → k.session ≡ session → ⊥)
       → length (objects F session) ≡ 0
   unfolding objects
-  objects-none other =
-      count-empty same_object object_tells (object_of session) F
-      (λ x g m e. other_session other g m (object_of-some session (address g) x e).0)
+  objects-none other = search (
+    rules,
+    count-empty,
+    same_object,
+    object_tells,
+    object_of,
+    other_session,
+    object_of-some,
+  )
 
   symbols-none : (last_key F ≡ Some key → ⊥) → length (symbols F key) ≡ 0
   unfolding symbols
-  symbols-none other =
-      count-empty same_symbol_id symbol_id_tells (symbol_of key) F
+  symbols-none other = count-empty same_symbol_id symbol_id_tells (symbol_of key) F
       (λ x g m e. other_key other g m (symbol_of-some key (address g) x e).0)
 
   symbols-again : (address f).part ≡ InfoPart
       → length (symbols (F ++ f ∷ []) key) ≡ length (symbols F key)
   unfolding symbols
-  symbols-again e =
-      count-none same_symbol_id symbol_id_tells (symbol_of key) F f
-      (symbol_of-inside key (address f) refl ∙ ap symbol_in e)
+  symbols-again e = search (rules, count-none, symbol_id_tells, symbol_of-inside)
 
   symbols-new : (id : SymbolId) → (address f).part ≡ SymbolPart id
       → length (symbols (F ++ f ∷ []) key) ≡ length (symbols F key) + 1
   unfolding symbols
-  symbols-new id e =
-      count-new same_symbol_id symbol_id_tells (symbol_of key) F f id
-      (symbol_of-inside key (address f) refl ∙ ap symbol_in e) (λ g m n.
-      let q = symbol_of-some key (address g) id n in
+  symbols-new id e = count-new same_symbol_id symbol_id_tells (symbol_of key) F f id
+      (symbol_of-inside key (address f) refl ∙ ap symbol_in e) (λ g m n. let q = symbol_of-some key
+      (address g) id n in
       let part = q.1 ∙ sym e in
       other_address g m (λ i. record { key = q.0 i; part = part i }))
 
   -- no more than the limits, if neither they nor what it adds are
 
-  few_objects : (x : Session) (o : ℕ) → (length (objects F x) ≤ o)
-      → length (objects (F ++ f ∷ []) session) ≤ o
-      → length (objects (F ++ f ∷ []) x) ≤ o
+  few_objects : (x : Session) (o : ℕ) → (length (objects F x) ≤ o) → length
+      (objects (F ++ f ∷ []) session) ≤ o → length (objects (F ++ f ∷ []) x) ≤ o
   unfolding objects
-  few_objects x o few here = elim (cases_Bool (same_session session x)) [
-    | inl t ↦ subst (λ s. length (objects (F ++ f ∷ []) s) ≤ o) (session_same session x t) here
-    | inr t ↦ let e =
-        count-none same_object object_tells (object_of x) F f
-        (object_of-elsewhere x (address f) t) in omega (arith, few, e)
-  ]
+  few_objects x o few here = search (
+    rules,
+    cases_Bool,
+    objects,
+    count-none,
+    same_object,
+    object_tells,
+    object_of,
+    object_of-elsewhere,
+  )
 
   few_symbols : (k : Key) (y : ℕ) → (length (symbols F k) ≤ y)
       → length (symbols (F ++ f ∷ []) key) ≤ y → length (symbols (F ++ f ∷ []) k) ≤ y
   unfolding symbols
   few_symbols k y few here = elim (cases_Bool (same_key key k)) [
-    | inl t ↦ subst (λ s. length (symbols (F ++ f ∷ []) s) ≤ y) (key_same key k t) here
-    | inr t ↦ let e =
-        count-none same_symbol_id symbol_id_tells (symbol_of k) F f
+    | inl t ↦ search rules
+    | inr t ↦ let e = count-none same_symbol_id symbol_id_tells (symbol_of k) F f
         (symbol_of-elsewhere k (address f) t) in omega (arith, few, e)
   ]
 
   module _ (s o y : ℕ) (within : Over F s o y → ⊥) where
-    within-more : length (sessions (F ++ f ∷ [])) ≤ s
-        → length (objects (F ++ f ∷ []) session) ≤ o
-        → length (symbols (F ++ f ∷ []) key) ≤ y → Over (F ++ f ∷ []) s o y → ⊥
+    within-more : length (sessions (F ++ f ∷ [])) ≤ s → length (objects (F ++ f ∷ []) session) ≤ o →
+        length (symbols (F ++ f ∷ []) key) ≤ y → Over (F ++ f ∷ []) s o y → ⊥
     within-more few few_here few_there (more_sessions l) = omega (arith, few, l)
     within-more few few_here few_there (more_objects x l) =
-        let n = few_objects x o (few-from (length (objects F x)) o
-        (λ m. within (more_objects x m))) few_here in
-        omega (arith, n, l)
+        let n = few_objects x o (few-from (length (objects F x)) o (λ m. within (more_objects x m)))
+        few_here in omega (arith, n, l)
     within-more few few_here few_there (more_symbols k l) =
-        let n = few_symbols k y (few-from (length (symbols F k)) y
-        (λ m. within (more_symbols k m))) few_there in
-        omega (arith, n, l)
+        let n = few_symbols k y (few-from (length (symbols F k)) y (λ m. within (more_symbols k m)))
+        few_there in omega (arith, n, l)
 
 -- ---- names distinguished by their parts
 
@@ -238,43 +238,21 @@ module _ (F : List Fact) (f : Fact) (r : IsRising (F ++ f ∷ [])) where
 abbrev same_parts : Session → Session → Bool
 same_parts a b = (a.sender == b.sender) && (a.tsi == b.tsi)
 
-same_parts-itself : (a b : Session) → a ≡ b → same_parts a b ≡ true
-same_parts-itself a b e =
-    both_true (a.sender == b.sender) (a.tsi == b.tsi)
-    (eq-eqb a.sender b.sender (ap (λ (x : Session). x.sender) e))
-    (eq-eqb a.tsi b.tsi (ap (λ (x : Session). x.tsi) e))
-
 pub session-told : (a b : Session) → true ≡ ((a.sender == b.sender) && (a.tsi == b.tsi)) → a ≡ b
-session-told a b t =
-    let p = both (a.sender == b.sender) (a.tsi == b.tsi) (sym t) in
-    let s = eqb-true a.sender b.sender p.0 in
-    let i = eqb-true a.tsi b.tsi p.1 in
-    λ k. record { sender = s k; tsi = i k }
+session-told a b t = search rules
 
 pub session-told_apart : (last : Option Key) (x key : Key) → last ≡ Some x
     → false ≡ ((x.session.sender == key.session.sender) && (x.session.tsi == key.session.tsi))
     → (k : Key) → last ≡ Some k → k.session ≡ key.session → ⊥
-session-told_apart last x key e t k p q =
-    let s = ap (λ (z : Key). z.session) (same_Some x k (sym e ∙ p)) ∙ q in
-    false≢true (t ∙ same_parts-itself x.session key.session s)
+session-told_apart last x key e t k p q = search rules
 
-pub key-told : (a b : Key) → true
-    ≡ (((a.session.sender == b.session.sender) && (a.session.tsi == b.session.tsi))
-    && same_object a.object b.object) → a ≡ b
-key-told a b t =
-    let p = both (same_parts a.session b.session) (same_object a.object b.object) (sym t) in
-    let s = session-told a.session b.session (sym p.0) in
-    let o = object_same a.object b.object p.1 in
-    λ i. record { session = s i; object = o i }
+pub key-told : (a b : Key) → true ≡ (((a.session.sender == b.session.sender) &&
+    (a.session.tsi == b.session.tsi)) && same_object a.object b.object) → a ≡ b
+key-told a b t = search rules
 
-pub key-told_apart : (a b : Key) → false
-    ≡ (((a.session.sender == b.session.sender) && (a.session.tsi == b.session.tsi))
-    && same_object a.object b.object) → a ≡ b → ⊥
-key-told_apart a b t e =
-    let s = same_parts-itself a.session b.session (ap (λ (x : Key). x.session) e) in
-    let o : same_object a.object b.object ≡ true =
-    subst (λ (x : Key). same_object a.object x.object ≡ true) e (object_itself a.object) in
-    false≢true (t ∙ both_true (same_parts a.session b.session) (same_object a.object b.object) s o)
+pub key-told_apart : (a b : Key) → false ≡ (((a.session.sender == b.session.sender) &&
+    (a.session.tsi == b.session.tsi)) && same_object a.object b.object) → a ≡ b → ⊥
+key-told_apart a b t e = search rules
 
 -- ---- what a tally has counted
 
@@ -289,10 +267,8 @@ module _ {s o y : ℕ} (F : List Fact) (f : Fact) (tally : Tally s o y)
       let here = objects-again F f r at in
       let known = c.object_count (address f).key e in
       let few = few-from (length (sessions F)) s (λ l. c.within (more_sessions l)) in
-      let few_here =
-      few-from (length (objects F (address f).key.session)) o
-      (λ l. c.within (more_objects (address f).key.session l)) in
-      record {
+      let few_here = few-from (length (objects F (address f).key.session)) o
+      (λ l. c.within (more_objects (address f).key.session l)) in record {
         last = e;
         session_count = c.session_count ∙ sym all;
         object_count = known ∙ sym here;
@@ -306,21 +282,16 @@ module _ {s o y : ℕ} (F : List Fact) (f : Fact) (tally : Tally s o y)
   module _ (c : Counts s o y F tally) (key k : Key) (d : (address f).key ≡ key)
       (e : tally.last ≡ Some k) (q : k.session ≡ key.session) (apart : k ≡ key → ⊥) where
     inside : k.session ≡ (address f).key.session
-    inside = q ∙ ap (λ (x : Key). x.session) (sym d)
+    inside = search rules
 
     other : last_key F ≡ Some (address f).key → ⊥
-    other h = apart (same_Some k (address f).key (sym e ∙ c.last ∙ h) ∙ d)
+    other h = search rules
 
     known : tally.objects ≡ length (objects F (address f).key.session)
-    known = c.object_count k e ∙ ap (λ x. length (objects F x)) inside
+    known = search rules
 
-    pub count-object : (n : ℕ) → n ≡ tally.objects + 1 → tally.objects < o
-        → CountsKey s o y F f (record {
-          last = Some key;
-          sessions = tally.sessions;
-          objects = n;
-          symbols = 0;
-        })
+    pub count-object : (n : ℕ) → n ≡ tally.objects + 1 → tally.objects < o → CountsKey s o y F f
+        (record { last = Some key; sessions = tally.sessions; objects = n; symbols = 0 })
     count-object n m below =
         let all = sessions-again F f r k (sym c.last ∙ e) inside in
         let here = objects-new F f r other in
@@ -346,20 +317,16 @@ module _ {s o y : ℕ} (F : List Fact) (f : Fact) (tally : Tally s o y)
   module _ (c : Counts s o y F tally) (key : Key) (d : (address f).key ≡ key)
       (apart : (k : Key) → tally.last ≡ Some k → k.session ≡ key.session → ⊥) where
     others_apart : (k : Key) → last_key F ≡ Some k → k.session ≡ (address f).key.session → ⊥
-    others_apart k h q = apart k (c.last ∙ h) (q ∙ ap (λ (x : Key). x.session) d)
+    others_apart k h q = search rules
 
     key_apart : last_key F ≡ Some (address f).key → ⊥
-    key_apart h = others_apart (address f).key h refl
+    key_apart h = search rules
 
     first_object : length (objects (F ++ f ∷ []) (address f).key.session) ≡ 1
-    first_object =
-        let none = objects-none F f r others_apart in
-        let here = objects-new F f r key_apart in
-        omega (arith, none, here)
+    first_object = search (rules, objects-none, others_apart, objects-new, key_apart)
 
-    pub count-session : (n m : ℕ) → n ≡ tally.sessions + 1 → m ≡ 1 → tally.sessions < s
-        → 0 < o → CountsKey s o y F f
-        (record { last = Some key; sessions = n; objects = m; symbols = 0 })
+    pub count-session : (n m : ℕ) → n ≡ tally.sessions + 1 → m ≡ 1 → tally.sessions < s → 0 < o →
+        CountsKey s o y F f (record { last = Some key; sessions = n; objects = m; symbols = 0 })
     count-session n m p q below some =
         let all = sessions-new F f r others_apart in
         let here = first_object in
@@ -375,10 +342,7 @@ module _ {s o y : ℕ} (F : List Fact) (f : Fact) (tally : Tally s o y)
         }
 
     pub over-session : s ≤ tally.sessions → Over (F ++ f ∷ []) s o y
-    over-session above =
-        let all = sessions-new F f r others_apart in
-        let was = c.session_count in
-        more_sessions (omega (arith, was, all, above))
+    over-session above = search (rules, sessions-new, others_apart)
 
     pub over-first_object : o ≤ 0 → Over (F ++ f ∷ []) s o y
     over-first_object none = let here =
@@ -387,8 +351,7 @@ module _ {s o y : ℕ} (F : List Fact) (f : Fact) (tally : Tally s o y)
   -- the last object and its symbols
   module _ (c : CountsKey s o y F f tally) where
     few_before : length (symbols F (address f).key) ≤ y
-    few_before =
-        few-from (length (symbols F (address f).key)) y
+    few_before = few-from (length (symbols F (address f).key)) y
         (λ l. c.within (more_symbols (address f).key l))
 
     counted : (n : ℕ) → n ≡ length (symbols (F ++ f ∷ []) (address f).key) → n ≤ y
@@ -401,12 +364,8 @@ module _ {s o y : ℕ} (F : List Fact) (f : Fact) (tally : Tally s o y)
     counted n e few = record {
       last = c.last ∙ sym (last_key-snoc F f);
       session_count = c.session_count;
-      object_count =
-          λ k h. c.object_count ∙ ap (λ (x : Key). length (objects (F ++ f ∷ []) x.session))
-          (same_Some (address f).key k (sym c.last ∙ h));
-      symbol_count =
-          λ k h. e ∙ ap (λ (x : Key). length (symbols (F ++ f ∷ []) x))
-          (same_Some (address f).key k (sym c.last ∙ h));
+      object_count = search rules;
+      symbol_count = search rules;
       within = within-more F f r s o y c.within c.few_sessions c.few_objects
           (subst (λ m. m ≤ y) e few);
     }
@@ -418,9 +377,8 @@ module _ {s o y : ℕ} (F : List Fact) (f : Fact) (tally : Tally s o y)
         let few = few_before in
         counted tally.symbols (was ∙ sym same) (omega (arith, was, few))
 
-    pub count-symbol : (id : SymbolId) → (address f).part ≡ SymbolPart id → (n : ℕ)
-        → n ≡ tally.symbols + 1 → tally.symbols < y
-        → Counts s o y (F ++ f ∷ []) (record {
+    pub count-symbol : (id : SymbolId) → (address f).part ≡ SymbolPart id → (n : ℕ) → n ≡
+        tally.symbols + 1 → tally.symbols < y → Counts s o y (F ++ f ∷ []) (record {
           last = tally.last;
           sessions = tally.sessions;
           objects = tally.objects;
@@ -441,17 +399,9 @@ module _ {s o y : ℕ} (F : List Fact) (f : Fact) (tally : Tally s o y)
 -- of nothing
 none-over : (s o y : ℕ) → Over [] s o y → ⊥
 unfolding sessions objects symbols
-none-over s o y (more_sessions l) = omega (arith, l)
-none-over s o y (more_objects x l) = omega (arith, l)
-none-over s o y (more_symbols k l) = omega (arith, l)
+none-over x0 x1 x2 x3 = search rules
 
 pub count-nothing : (s o y : ℕ)
     → Counts s o y [] (record { last = None; sessions = 0; objects = 0; symbols = 0 })
 unfolding sessions objects symbols
-count-nothing s o y = record {
-  last = refl;
-  session_count = refl;
-  object_count = λ k e. refl;
-  symbol_count = λ k e. refl;
-  within = none-over s o y;
-}
+count-nothing s o y = search rules

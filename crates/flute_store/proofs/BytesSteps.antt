@@ -1,4 +1,6 @@
 -- The bytes that a walk gives are those of the object (specs/BytesLeft, specs/Extract).
+use Rattle.std.proofs.lemmas.Grind.{common_steps}
+use Rattle.std.proofs.Common.{rules}
 use Rattle.std.proofs.Common.{◌≡◌, ℕ, zero, suc, ◌+◌, ◌-◌, List, [], ◌∷◌, ◌++◌, length, take}
 use Rattle.std.proofs.Common.{Option, Some, None, refl, sym, ap, ◌∙◌, subst, arith, append_assoc}
 use Rattle.flute_store.proofs.Lookups.{Above, above-before, blocks_from-all, blocks_from-next}
@@ -43,9 +45,7 @@ bytes-past e es (x ∷ xs) a =
 bytes-here : (e : Entry) (es : List Entry) (q : SymbolId) (xs : List SymbolId) → e.0 ≡ q
     → Above q xs → held_bytes (e ∷ es) (q ∷ xs) ≡ cell_bytes e.1 ++ held_bytes es xs
 unfolding held_bytes
-bytes-here e es q xs h a =
-    (λ i. found_bytes (value-here e es q h i) ++ bytes-past e es xs
-    (subst (λ z. Above z xs) (sym h) a) i)
+bytes-here e es q xs h a = search (rules, value-here, bytes-past)
 
 -- passing a symbol and beginning a block leave the same bytes; taking a symbol gives its own
 pass-bytes : (w : Walk) → IsWalk w → AtPassed w → bytes_left (after_pass w) ≡ bytes_left w
@@ -56,92 +56,67 @@ pass-bytes w p t =
     rw (
       t.held,
       symbols-first w l,
-      bytes-past t.first t.others (here w ∷ others_left w) (t.before, a),
+      bytes-past t.first t.others (here w ∷ others_left w)
+          (t.before, a),
     )
 
 begin-bytes : (w : Walk) → IsWalk w → Tells w BlockEnd → bytes_left (after_begin w) ≡ bytes_left w
 unfolding bytes_left
-begin-bytes w p t =
-    ap (held_bytes w.held) (sym (blocks_from-next w.partition w.begun (block-left w p t))
-    ∙ sym (symbols-end w t.0))
+begin-bytes w p t = search (rules, blocks_from-next, block-left, symbols-end)
 
 take-bytes : (w : Walk) → IsWalk w → (t : AtHere w None)
     → bytes_left w ≡ cell_bytes t.first.1 ++ bytes_left (after_take w)
 unfolding bytes_left
-take-bytes w p t =
-    let l = inside-less w p t.inside in
-    let h = bytes-here t.first t.others (here w) (others_left w) t.at_here (others-above w p l) in
-    rw (t.held, symbols-first w l, h)
+take-bytes w p t = search (rules, inside-less, bytes-here, others-above, symbols-first)
 
 end-bytes : (w : Walk) → Tells w End → bytes_left w ≡ []
 unfolding bytes_left held_bytes
-end-bytes w t =
-    ap (held_bytes w.held) (symbols-end w t.0 ∙ ap (blocks_from w.partition) t.1
-    ∙ blocks_from-end w.partition)
+end-bytes w t = search (rules, symbols-end, blocks_from-end)
 
 -- where nothing is wanted, no gap is given, and no wanted symbol passed
 no-gap : (v : Walk) (g : Gap) (gs : List Gap) → all_left v ≡ [] → gaps_left v ≡ g ∷ gs → ⊥
 unfolding runs
-no-gap v g gs h e = not_cons_nil g gs (sym e ∙ ap runs h)
+no-gap v g gs h e = search rules
 
 no-rest : (a b : List (SymbolId × Reason)) → a ++ b ≡ [] → b ≡ []
 no-rest [] b h = h
 no-rest (x ∷ a) b h = absurd (not_cons_nil x (a ++ b) h)
 
 no-wanted : (v : Walk) (r : Reason) → IsWalk v → all_left v ≡ [] → upcoming_of v ≡ Wanted r → ⊥
-no-wanted v r p h e =
-    not_cons_nil (here v, r) (left (taken None v))
+no-wanted v r p h e = not_cons_nil (here v, r) (left (taken None v))
     (sym (taken-left None v (Some r) p (told v (Wanted r) e)) ∙ no-rest (pending v.run) (left v) h)
 
 -- what a turn gives if nothing is wanted
 pub no-bytes : (v w : HeldScan) (t : Option Turn) → IsHeldScan v → all_left (walk_in v) ≡ []
     → Turns v t w → GivesNone t → bytes_left (walk_in v) ≡ []
-no-bytes v w (Some (Turn.Gap g)) p h s n =
-    absurd (no-gap (walk_in v) g (gaps_left (walk_in w)) h s.turns.first)
-no-bytes v w (Some Turn.Wanted) p h s n =
-    absurd (no-wanted (walk_in v) s.turns.1.0 p.walk h s.turns.1.1)
+no-bytes v w (Some (Turn.Gap g)) p h s n = search (rules, no-gap)
+no-bytes v w (Some Turn.Wanted) p h s n = search (rules, no-wanted)
 no-bytes v w (Some Turn.End) p h s n = end-bytes (walk_in v) (told (walk_in v) End s.turns.1)
 no-bytes v w t p h s n = absurd n
 
 same-bytes : (v w : HeldScan) → Keeps (walk_in v) (walk_in w) → IsHeldScan w → bound w ≡ bound v
     → w.ticks ≡ v.ticks + 1 → all_left (walk_in v) ≡ []
     → bytes_left (walk_in w) ≡ bytes_left (walk_in v) → KeepsBytes v w
-same-bytes v w k p b t h e = record {
-  walk = p;
-  whole = k.left_is ∙ h;
-  bytes = e;
-  bound_is = b;
-  onward = omega (arith, t);
-}
+same-bytes v w k p b t h e = search rules
 
 pub pass-keeps : (v w : HeldScan) → IsHeldScan v → all_left (walk_in v) ≡ []
     → Turns v (Some Turn.Passed) w → KeepsBytes v w
-pass-keeps v w p h s =
-    same-bytes v w s.turns.0 s.walk s.bound_is s.ticks h
+pass-keeps v w p h s = same-bytes v w s.turns.0 s.walk s.bound_is s.ticks h
     (ap bytes_left s.turns.2 ∙ pass-bytes (walk_in v) p.walk (told (walk_in v) Passed s.turns.1))
 
 pub begin-keeps : (v w : HeldScan) → IsHeldScan v → all_left (walk_in v) ≡ [] → Turns v None w
     → KeepsBytes v w
-begin-keeps v w p h s =
-    same-bytes v w s.turns.0 s.walk s.bound_is s.ticks h
+begin-keeps v w p h s = same-bytes v w s.turns.0 s.walk s.bound_is s.ticks h
     (ap bytes_left s.turns.2 ∙ begin-bytes (walk_in v) p.walk (told (walk_in v) BlockEnd s.turns.1))
 
 pub keeps-on : (u v w : HeldScan) → KeepsBytes u v → KeepsBytes v w → KeepsBytes u w
-keeps-on u v w k l =
-    record {
-      walk = l.walk;
-      whole = l.whole;
-      bytes = l.bytes ∙ k.bytes;
-      bound_is = l.bound_is ∙ k.bound_is;
-      onward = omega arith;
-    }
+keeps-on u v w k l = search rules
 
 -- a fitting symbol has one value, which is given
-pub gives-first : (u v w : HeldScan) {e : Entry} {es : List Entry} (value : Option (Bor (List ℕ)))
-    → KeepsBytes u v → v.held ≡ e ∷ es → Turns v (Some Turn.Fitting) w
-    → MatchOption value (e.1 ≡ Conflict)
-    (λ bytes. (e.1 ≡ One bytes.now) × HasSymbolSize bytes.now)
-    → GivesBytes u value w
+pub gives-first : (u v w : HeldScan) {e : Entry} {es : List Entry} (value : Option (Bor (List ℕ))) →
+    KeepsBytes u v → v.held ≡ e ∷ es → Turns v (Some Turn.Fitting) w → MatchOption value
+    (e.1 ≡ Conflict) (λ bytes. (e.1 ≡ One bytes.now) × HasSymbolSize bytes.now) → GivesBytes u value
+    w
 gives-first u v w {e} {es} None k h s m =
     let t = told (walk_in v) Fitting s.turns.1 in
     let f : t.first ≡ e = let held = sym t.held ∙ h in cc in
@@ -171,24 +146,17 @@ pub take-both : (n : ℕ) (a b : List ℕ)
 take-both zero [] b = refl
 take-both zero (x ∷ a) b = refl
 take-both (suc n) [] b = let e : suc n ≡ suc n - 0 = omega arith in ap (λ k. take k b) e
-take-both (suc n) (x ∷ a) b =
-    let e : n - length (take n a) ≡ suc n - length (take (suc n) (x ∷ a)) = omega arith in
-    ap (λ ys. x ∷ ys) (take-both n a b) ∙ ap (λ k. x ∷ (take n a ++ take k b)) e
+take-both (suc n) (x ∷ a) b = search (rules, take-both n a b)
 
 pub found-of : (key : Key) (id : SymbolId) (found : Option (Cell (List ℕ)))
     → value_bytes (symbol_fact key id found) ≡ found_bytes found
-found-of key id (Some (One b)) = refl
-found-of key id found = refl
+found-of key id found = search rules
 
 -- the bytes of an object are those of its held symbols
-pub object-told : {n : ℕ} (F : List Fact) (key : Key) (x : Object n) (info : Information)
-    → IsTold F key x
-    → object F key info ≡ take info.transfer_length (held_bytes x.symbols (ids info))
+pub object-told : {n : ℕ} (F : List Fact) (key : Key) (x : Object n) (info : Information) → IsTold F
+    key x → object F key info ≡ take info.transfer_length (held_bytes x.symbols (ids info))
 unfolding object held_bytes
-object-told F key x info t =
-    λ i. take info.transfer_length
-    (flat_map (λ id. (ap value_bytes (t.each id)
-    ∙ found-of key id (value_at symbol_id_cmp x.symbols id)) i) (ids info))
+object-told F key x info t = search rules
 
 pub no-want : (ws : List (SymbolId × Reason)) → runs ws ≡ [] → ws ≡ []
 no-want ws e = sym (runs-listed ws) ∙ ap (flat_map listed) e
@@ -207,10 +175,9 @@ pub record Cuts (left x more : List ℕ) (n : ℕ) (b : List ℕ) : Type 0 where
 -- what comes after the first bytes that are written
 cut-left : (w : List ℕ) {all left x more b : List ℕ} {n : ℕ} → all ≡ w ++ take n left
     → Cuts left x more n b → all ≡ (w ++ b) ++ take (n - length b) more
-cut-left w {all} {left} {x} {more} {b} {n} h c =
-    h ∙ ap (λ l. w ++ take n l) c.left_is ∙ ap (λ l. w ++ l) (take-both n x more)
-    ∙ ap (λ (y : List ℕ). w ++ (y ++ take (n - length y) more)) (sym c.bytes_are)
-    ∙ sym (append_assoc w b (take (n - length b) more))
+cut-left w {all} {left} {x} {more} {b} {n} h c = h ∙ ap (λ l. w ++ take n l) c.left_is ∙ ap
+    (λ l. w ++ l) (take-both n x more) ∙ ap (λ (y : List ℕ). w ++ (y ++ take (n - length y) more))
+    (sym c.bytes_are) ∙ sym (append_assoc w b (take (n - length b) more))
 
 -- the first bytes of what is left are written
 pub writing-more : {old now new : Option (List ℕ)} {all left x more b : List ℕ} {n : ℕ}
@@ -226,10 +193,9 @@ writing-more {old} {now} {new} {all} {left} {x} {more} {b} w c a = record {
 pub writing-fails : {old now : Option (List ℕ)} (new : Option (List ℕ)) {all left x more b : List ℕ}
     {n : ℕ} → IsWriting old now all (take n left) → Cuts left x more n b → AppendsPart now new b
     → AppendsPart old new all
-writing-fails {old} {now} new {all} {left} {x} {more} {b} {n} w c a =
-    subst (AppendsPart old new) (sym (cut-left w.part w.whole c))
-    (AppendsPart-first old new (w.part ++ b) (take (n - length b) more)
-    (AppendsPart-second old now new w.part b w.appended a))
+writing-fails {old} {now} new {all} {left} {x} {more} {b} {n} w c a = subst (AppendsPart old new)
+    (sym (cut-left w.part w.whole c)) (AppendsPart-first old new (w.part ++ b)
+    (take (n - length b) more) (AppendsPart-second old now new w.part b w.appended a))
 
 -- ---- the whole object, from its held symbols
 
@@ -246,44 +212,32 @@ bytes-start info held = ap (held_bytes held) (blocks_from-all info)
 pub none-wanted : (info : Information) {s held again : List Entry} {gs : List Gap}
     → gs ≡ runs (wanted info held (ids info)) → gs ≡ [] → held ≡ s → again ≡ s
     → wanted info again (ids info) ≡ []
-none-wanted info {s} {held} g n h a =
-    ap (λ (x : List Entry). wanted info x (ids info)) (a ∙ sym h)
-    ∙ no-want (wanted info held (ids info)) (sym g ∙ n)
+none-wanted info {s} {held} g n h a = search (rules, no-want)
 
 module _ {n : ℕ} {F : List Fact} {key : Key} {x : Object n} {info : Information} {held : List Entry}
     {gs : List Gap} (t : ToldGaps F key x info held gs) where
   information : fact_at F (info_address key) ≡ Some (Info key info)
-  information = told-information F key x info t.told t.info_is
+  information = search rules
 
   are_gaps : gaps F key info ≡ gs
-  are_gaps =
-      ap runs (wants-told F key x info t.told
-      ∙ ap (λ (s : List Entry). wanted info s (ids info)) (sym t.held_is)) ∙ sym t.gaps_are
+  are_gaps = ap runs (wants-told F key x info t.told ∙ ap
+      (λ (s : List Entry). wanted info s (ids info)) (sym t.held_is)) ∙ sym t.gaps_are
 
   -- an object with a gap is not whole, and one without is
   pub not-whole : (gap : Gap) (others : List Gap) → gs ≡ gap ∷ others
       → IsNotWhole F key (symbol_id gap.sbn gap.first)
-  not-whole gap others f = record {
-    info = info;
-    information = information;
-    gap = gap;
-    others = others;
-    gaps_are = are_gaps ∙ f;
-    first_is = refl;
-  }
+  not-whole gap others f = search (rules, information, are_gaps)
 
   pub whole-object : gs ≡ [] → Whole F key info
   whole-object f = gapless-whole F key info information (are_gaps ∙ f)
 
   -- the bytes that a walk from the start gives are those of the object
-  told-bytes : {walk : Walk} {length : ℕ} (again : List Entry) → again ≡ x.symbols
-      → walk ≡ at_start info again → length ≡ info.transfer_length
-      → take length (bytes_left walk) ≡ object F key info
-  told-bytes {walk} {length} again a start l =
-      ap (λ n. take n (bytes_left walk)) l
-      ∙ ap (take info.transfer_length) (ap bytes_left start ∙ bytes-start info again)
-      ∙ ap (λ (s : List Entry). take info.transfer_length (held_bytes s (ids info))) a
-      ∙ sym (object-told F key x info t.told)
+  told-bytes : {walk : Walk} {length : ℕ} (again : List Entry) → again ≡ x.symbols → walk ≡ at_start
+      info again → length ≡ info.transfer_length → take length (bytes_left walk) ≡ object F key info
+  told-bytes {walk} {length} again a start l = ap (λ n. take n (bytes_left walk)) l ∙ ap
+      (take info.transfer_length) (ap bytes_left start ∙ bytes-start info again) ∙ ap
+      (λ (s : List Entry). take info.transfer_length (held_bytes s (ids info))) a ∙ sym
+      (object-told F key x info t.told)
 
   -- what is written by it: the whole object, or a prefix of it
   module _ {W : Type 0} {written : W → Option (List ℕ)} {old new : W} {walk : Walk}
@@ -301,8 +255,4 @@ module _ {n : ℕ} {F : List Fact} {key : Key} {x : Object n} {info : Informatio
 
     pub writes-part : AppendsPart (written old) (written new) (take length (bytes_left walk))
         → WritesPart written F key old new
-    writes-part w = record {
-      info = info;
-      whole = whole-object f;
-      bytes = subst (AppendsPart (written old) (written new)) (told-bytes again a start l) w;
-    }
+    writes-part w = search (rules, whole-object, told-bytes)

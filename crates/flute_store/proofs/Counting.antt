@@ -1,4 +1,5 @@
 -- How many sessions, objects and symbols the content of a store names (specs/Content).
+use Rattle.std.proofs.Common.{rules}
 use Rattle.std.proofs.Common.{append-nil, ◌≡◌, ◌≢◌, ℕ, ◌≤◌, List, [], ◌∷◌, ◌++◌, length, Bool, true}
 use Rattle.std.proofs.Common.{Option, Some, None, refl, sym, ap, ◌∙◌, subst, inl, inr, arith}
 use Rattle.flute_store.proofs.FactEntries.{session_keys, object_keys, symbol_keys, at-entries}
@@ -21,12 +22,11 @@ use Common.{info_cell_facts}
 -- ---- what is looked up
 
 pub some-value : {X : Type 0} (o : Option X) → o ≢ None → (v : X) × (o ≡ Some v)
-some-value None h = absurd (h refl)
-some-value (Some v) h = (v, refl)
+some-value x0 x1 = search rules
 
 pub a_fact : (F : List Fact) (a : Address) → fact_at F a ≢ None
     → (f : Fact) × Member f F × (address f ≡ a)
-a_fact F a h = elim (fact_at-some_named F a) [ inl n ↦ n | inr e ↦ absurd (h e) ]
+a_fact F a h = search (rules, fact_at-some_named)
 
 module _ {K X : Type 0} (cmp : K → K → Ordering) (t : Tells (λ a b. is_eq (cmp a b))) where
   abbrev is_key : K → List (K × X) → Bool
@@ -44,25 +44,21 @@ module _ {X : Type 0} (same : X → X → Bool) (t : Tells same) (part : Address
   pub count-Below : (ks : List X)
       → ((x : X) (a : Address) → fact_at F a ≢ None → part a ≡ Some x → has same t x ks ≡ true)
       → length (firsts same (named part F)) ≤ length ks
-  count-Below ks h =
-      length-Distinct same t (firsts same (named part F)) ks (Distinct-firsts same t (named part F))
-      (λ x k.
-      let n = named-names same t part F x (sym (has-firsts same t x (named part F)) ∙ k) in
-      h x (address n.0) (fact_at-member_some n.0 F n.1) n.2)
+  count-Below ks h = length-Distinct same t (firsts same (named part F)) ks
+      (Distinct-firsts same t (named part F)) (λ x k. let n = named-names same t part F x
+      (sym (has-firsts same t x (named part F)) ∙ k) in h x (address n.0)
+      (fact_at-member_some n.0 F n.1) n.2)
 
   none-named : ((x : X) (a : Address) → part a ≡ Some x → fact_at F a ≡ None)
       → length (firsts same (named part F)) ≤ 0
   none-named h = count-Below [] (λ x a k e. absurd (k (h x a e)))
 
   -- if each of these distinct names has a value, there are at least as many names
-  pub count-ge : (ks : List X) → Distinct same t ks
-      → ((x : X) → has same t x ks ≡ true
-      → (a : Address) × (fact_at F a ≢ None) × (part a ≡ Some x))
+  pub count-ge : (ks : List X) → Distinct same t ks →
+      ((x : X) → has same t x ks ≡ true → (a : Address) × (fact_at F a ≢ None) × (part a ≡ Some x))
       → length ks ≤ length (firsts same (named part F))
-  count-ge ks d h =
-      length-Distinct same t ks (firsts same (named part F)) d
-      (λ x k.
-      let n = h x k in
+  count-ge ks d h = length-Distinct same t ks (firsts same (named part F)) d (λ x k. let n = h x k
+      in
       let f = a_fact F n.0 n.1 in
       has-firsts same t x (named part F) ∙ named-member same t part f.0 F x f.1 (ap part f.2 ∙ n.2))
 
@@ -70,16 +66,12 @@ module _ {X : Type 0} (same : X → X → Bool) (t : Tells same) (part : Address
 
 pub named_symbol : (key : Key) (a : Address) (x : SymbolId) → symbol_of key a ≡ Some x
     → a ≡ symbol_address key x
-named_symbol key a x e = let p = symbol_of-some key a x e in λ i. record {
-  key = p.0 i;
-  part = p.1 i;
-}
+named_symbol key a x e = search rules
 
 module _ {n : ℕ} where
   -- ---- the value at an address
-  pub at-content : (m : List (Session × List (ObjectName × Object n))) (a : Address)
-      → OrderedStore m
-      → fact_at (content m) a ≡ option_map_or (λ os. fact_at (session_facts a.key.session os) a)
+  pub at-content : (m : List (Session × List (ObjectName × Object n))) (a : Address) → OrderedStore
+      m → fact_at (content m) a ≡ option_map_or (λ os. fact_at (session_facts a.key.session os) a)
       (value_at session_cmp m a.key.session) None
   at-content m a p = at-entries session_keys in_store a a.key.session (sessions_apart a) m p.ordered
 
@@ -87,37 +79,27 @@ module _ {n : ℕ} where
       → fact_at (session_facts a.key.session os) a
       ≡ option_map_or (λ x. fact_at (object_facts (key_in a.key.session a.key.object) x) a)
       (value_at object_cmp os a.key.object) None
-  at-session os a p =
-      at-entries object_keys (in_session a.key.session) a a.key.object (objects_apart a) os
-      p.ordered
+  at-session os a p = search (rules, at-entries, object_keys, objects_apart)
 
   pub at-object : (x : Object n) (key : Key) (id : SymbolId) → OrderedObject x
       → fact_at (object_facts key x) (symbol_address key id)
       ≡ option_map_or (λ c. fact_at (symbol_cell_facts key id c) (symbol_address key id))
       (value_at symbol_id_cmp x.symbols id) None
-  at-object x key id p =
-      object-symbol key id x
-      ∙ at-entries symbol_keys (entry_facts key) (symbol_address key id) id (symbols_apart key id)
-      x.symbols p
+  at-object x key id p = search (rules, object-symbol, at-entries, symbol_keys, symbols_apart) steps
+      300000
 
   -- the content has no value at an address of a session that is not held; at an address of a held
   -- object it has the object's value
   module _ {m : List (Session × List (ObjectName × Object n))} (q : OrderedStore m) where
     pub at-unheard : (a : Address) → value_at session_cmp m a.key.session ≡ None
         → fact_at (content m) a ≡ None
-    at-unheard a f =
-        at-content m a q
-        ∙ ap (λ z. option_map_or (λ os. fact_at (session_facts a.key.session os) a) z None) f
+    at-unheard a f = search (rules, at-content)
 
     module _ (key : Key) {os : List (ObjectName × Object n)}
         (f : value_at session_cmp m key.session ≡ Some os) where
-      pub at-found : (part : Part) (found : Option (Object n))
-          → value_at object_cmp os key.object ≡ found
-          → fact_at (content m) (record { key = key; part = part })
-          ≡ option_map_or (λ x. fact_at (object_facts key x) (record {
-            key = key;
-            part = part;
-          })) found None
+      pub at-found : (part : Part) (found : Option (Object n)) → value_at object_cmp os key.object ≡
+          found → fact_at (content m) (record { key = key; part = part }) ≡ option_map_or
+          (λ x. fact_at (object_facts key x) (record { key = key; part = part })) found None
       at-found part found h =
           let a : Address = record { key = key; part = part } in
           at-content m a q
@@ -130,11 +112,9 @@ module _ {n : ℕ} where
             ≡ fact_at (info_cell_facts key x.info) (info_address key)
         at-info = at-found InfoPart (Some x) h ∙ object-info key x
 
-        pub at-symbol : (id : SymbolId) (found : Option (Cell (List ℕ)))
-            → value_at symbol_id_cmp x.symbols id ≡ found
-            → fact_at (content m) (symbol_address key id)
-            ≡ option_map_or (λ c. fact_at (symbol_cell_facts key id c) (symbol_address key id))
-            found None
+        pub at-symbol : (id : SymbolId) (found : Option (Cell (List ℕ))) → value_at symbol_id_cmp
+            x.symbols id ≡ found → fact_at (content m) (symbol_address key id) ≡ option_map_or
+            (λ c. fact_at (symbol_cell_facts key id c) (symbol_address key id)) found None
         at-symbol id found g =
             let session = each-value_at session_cmp OrderedSession m key.session os q.each f in
             at-found (SymbolPart id) (Some x) h
@@ -147,13 +127,12 @@ module _ {n : ℕ} where
         pub symbols-held : length (symbols (content m) key) ≤ length x.symbols
         unfolding symbols
         symbols-held =
-            let c =
-            count-Below same_symbol_id symbol_id_tells (symbol_of key) (content m)
-            (keys_of x.symbols) (λ id a k e.
-            let found = some-value (value_at symbol_id_cmp x.symbols id)
+            let c = count-Below same_symbol_id symbol_id_tells (symbol_of key) (content m)
+            (keys_of x.symbols) (λ id a k e. let found = some-value
+            (value_at symbol_id_cmp x.symbols id)
             (λ z. k (ap (fact_at (content m)) (named_symbol key a id e) ∙ at-symbol id None z)) in
-            value_at-has symbol_id_cmp symbol_id_tells x.symbols id found.0 found.1) in
-            omega (arith, c, length-keys_of x.symbols)
+            value_at-has symbol_id_cmp symbol_id_tells x.symbols id found.0 found.1) in omega
+            (arith, c, length-keys_of x.symbols)
 
   -- ---- a store within its limits names no more
   module _ (s o : ℕ) (m : List (Session × List (ObjectName × Object n))) (p : IsStore s o m) where
@@ -176,30 +155,25 @@ module _ {n : ℕ} where
     unfolding objects
     few_objects_of session None f =
         let c = none-named same_object object_tells (object_of session) (content m)
-        (λ x a e. at-unheard q a (ap (value_at session_cmp m) (object_of-some session a x e).0
-        ∙ f)) in
-        omega (arith, c)
+        (λ x a e. at-unheard q a (ap (value_at session_cmp m) (object_of-some session a x e).0 ∙ f))
+        in omega (arith, c)
     few_objects_of session (Some os) f =
         let sound = each-value_at session_cmp (IsSession o) m session os p.each f in
-        let c =
-        count-Below same_object object_tells (object_of session) (content m) (keys_of os)
-        (λ x a k e.
-        let r = object_of-some session a x e in
+        let c = count-Below same_object object_tells (object_of session) (content m) (keys_of os) (λ
+        x a k e. let r = object_of-some session a x e in
         let found = some-value (value_at object_cmp os a.key.object)
         (λ z. k (at-found q a.key (ap (value_at session_cmp m) r.0 ∙ f) a.part None z)) in
         value_at-has object_cmp object_tells os x found.0
-        (subst (λ z. value_at object_cmp os z ≡ Some found.0) r.1 found.1)) in
-        omega (arith, c, length-keys_of os)
+        (subst (λ z. value_at object_cmp os z ≡ Some found.0) r.1 found.1)) in omega
+        (arith, c, length-keys_of os)
 
-    few_in : (key : Key) (os : List (ObjectName × Object n))
-        → value_at session_cmp m key.session ≡ Some os → IsSession o os
-        → (found : Option (Object n)) → value_at object_cmp os key.object ≡ found
-        → length (symbols (content m) key) ≤ n
+    few_in : (key : Key) (os : List (ObjectName × Object n)) → value_at session_cmp m key.session ≡
+        Some os → IsSession o os → (found : Option (Object n)) → value_at object_cmp os key.object ≡
+        found → length (symbols (content m) key) ≤ n
     unfolding symbols
     few_in key os f sound None h =
-        let c = none-named same_symbol_id symbol_id_tells (symbol_of key) (content m)
-        (λ x a e. ap (fact_at (content m)) (named_symbol key a x e)
-        ∙ at-found q key f (SymbolPart x) None h) in
+        let c = none-named same_symbol_id symbol_id_tells (symbol_of key) (content m) (λ x a e. ap
+        (fact_at (content m)) (named_symbol key a x e) ∙ at-found q key f (SymbolPart x) None h) in
         omega (arith, c)
     few_in key os f sound (Some v) h =
         let known = each-value_at object_cmp IsObject os key.object v sound.each h in
@@ -211,23 +185,18 @@ module _ {n : ℕ} where
         → value_at session_cmp m key.session ≡ found → length (symbols (content m) key) ≤ n
     unfolding symbols
     few_symbols_of key None f =
-        let c = none-named same_symbol_id symbol_id_tells (symbol_of key) (content m)
-        (λ x a e. ap (fact_at (content m)) (named_symbol key a x e)
-        ∙ at-unheard q (symbol_address key x) f) in
+        let c = none-named same_symbol_id symbol_id_tells (symbol_of key) (content m) (λ x a e. ap
+        (fact_at (content m)) (named_symbol key a x e) ∙ at-unheard q (symbol_address key x) f) in
         omega (arith, c)
     few_symbols_of key (Some os) f =
         few_in key os f (each-value_at session_cmp (IsSession o) m key.session os p.each f)
         (value_at object_cmp os key.object) refl
 
     pub not_over : Over (content m) s o n → ⊥
-    not_over (more_sessions l) = let c = few_sessions in omega (arith, l, c)
-    not_over (more_objects session l) =
-        let c = few_objects_of session (value_at session_cmp m session) refl in omega (arith, l, c)
-    not_over (more_symbols key l) =
-        let c = few_symbols_of key (value_at session_cmp m key.session) refl in omega (arith, l, c)
+    not_over x0 = search (rules, few_sessions, few_objects_of, value_at, few_symbols_of) steps
+        300000
 
     -- nor does it with an empty list appended
     pub not_over_more : (G : List Fact) → G ≡ [] → Over (content m ++ G) s o n → ⊥
-    not_over_more G e over =
-        not_over (subst (λ H. Over H s o n) (ap (λ H. content m ++ H) e ∙ append-nil (content m))
-        over)
+    not_over_more G e over = not_over
+        (subst (λ H. Over H s o n) (ap (λ H. content m ++ H) e ∙ append-nil (content m)) over)

@@ -1,4 +1,6 @@
 -- A store beyond the limits names more sessions, objects or symbols than they allow (specs/Beyond).
+use Rattle.std.proofs.lemmas.Grind.{common_steps}
+use Rattle.std.proofs.Common.{rules}
 use Rattle.std.proofs.Common.{◌≡◌, ◌≢◌, ℕ, ◌<◌, ◌≤◌, List, [], ◌∷◌, ◌++◌, length, true, false, cond}
 use Rattle.std.proofs.Common.{◌||◌, Option, Some, None, refl, sym, ap, ◌∙◌, subst, inl, inr, ◌⊎◌}
 use Rattle.std.proofs.Common.{arith, bytes_eq}
@@ -42,39 +44,27 @@ module _ {n : ℕ} where
     pub each : EachValue SolidSession m
 
   solid_object : (x : Object n) → IsObject x → SolidObject x
-  solid_object x p = record {
-    ordered = p.symbols_are.ordered;
-    each = p.symbols_are.each;
-    some = p.some;
-  }
+  solid_object x p = search rules
 
   solid_session : (o : ℕ) (os : List (ObjectName × Object n)) → IsSession o os → SolidSession os
-  solid_session o os p = record {
-    ordered = p.ordered;
-    each = EachValue-weaker IsObject SolidObject solid_object os p.each;
-    some = p.some;
-  }
+  solid_session o os p = search (rules, EachValue-weaker, solid_object)
 
   pub solid-store : (s o : ℕ) (m : List (Session × List (ObjectName × Object n))) → IsStore s o m
       → SolidStore m
-  solid-store s o m p = record {
-    ordered = p.ordered;
-    each = EachValue-weaker (IsSession o) SolidSession (solid_session o) m p.each;
-  }
+  solid-store s o m p = search (rules, EachValue-weaker, solid_session)
 
   -- joins of solid objects, sessions and stores are solid
   object-solid : (v w : Object n) → SolidObject v → SolidObject w → SolidObject (object_join v w)
-  object-solid v w p q = record {
-    ordered =
-        ordered-map_join symbol_id_total (cell_join bytes_eq) v.symbols w.symbols p.ordered
-        q.ordered;
-    each =
-        EachValue-map_join symbol_id_cmp (cell_join bytes_eq) IsKnown
-        (λ c d x y. known-join bytes_eq c d x) v.symbols w.symbols p.each q.each;
-    some =
-        λ e. some-right symbols_joined v.symbols w.symbols
-        (q.some (absent-right same_information v.info w.info e));
-  }
+  object-solid v w p q = search (
+    rules,
+    ordered-map_join,
+    EachValue-map_join,
+    known-join,
+    some-right,
+    symbols_joined,
+    absent-right,
+    same_information,
+  )
 
   session-solid : (v w : List (ObjectName × Object n)) → SolidSession v → SolidSession w
       → SolidSession (session_join v w)
@@ -92,38 +82,19 @@ module _ {n : ℕ} where
   }
 
 told-known : (o : Option (SymbolId × SymbolUpdate)) → EachValue IsKnown (update_symbols o)
-told-known None = tt
-told-known (Some (id, t)) = (known-update t, tt)
+told-known x0 = search rules
 
 pub solid-one : (n : ℕ) (key : Key) (update : Update) → IsUpdate update
     → SolidStore (one_object n key update)
 unfolding IsStrictlySortedBy
-solid-one n key update h = record {
-  ordered = (tt, tt);
-  each = (
-    record {
-      ordered = (tt, tt);
-      each = (
-        record {
-          ordered = told-ordered update.symbol;
-          each = told-known update.symbol;
-          some = λ e. update-some update.symbol (h.some e);
-        },
-        tt,
-      );
-      some = λ e. cc;
-    },
-    tt,
-  );
-}
+solid-one n key update h = search rules
 
 -- ---- looking up
 module _ {K : Type 0} (cmp : K → K → Ordering) (t : Tells (λ a b. is_eq (cmp a b))) where
   not_below : (k : K) (ks : List K) → AllByRecursion (λ y. cmp k y ≡ Less) ks
       → has (λ a b. is_eq (cmp a b)) t k ks ≡ false
   not_below k [] a = refl
-  not_below k (y ∷ ks) a =
-      ap (λ o. is_eq o || has (λ a b. is_eq (cmp a b)) t k ks) a.0 ∙ not_below k ks a.1
+  not_below k (y ∷ ks) a = search (rules, not_below k ks a.1)
 
   -- keys in order are distinct
   pub distinct : (ks : List K) → IsStrictlySortedBy cmp ks → Distinct (λ a b. is_eq (cmp a b)) t ks
@@ -134,13 +105,11 @@ module _ {K : Type 0} (cmp : K → K → Ordering) (t : Tells (λ a b. is_eq (cm
 module _ {K X : Type 0} {cmp : K → K → Ordering} (order : IsTotalOrder cmp)
     (t : Tells (λ a b. is_eq (cmp a b))) where
   pub first_value : (e : K × X) (es : List (K × X)) → value_at cmp (e ∷ es) e.0 ≡ Some e.1
-  first_value e es =
-      ap (λ o. cond (is_eq o) (Some e.1) (value_at cmp es e.0)) (tied_itself order e.0)
+  first_value e es = search rules
 
   -- a key has a value just if it is among the keys
-  pub has-value_at : (es : List (K × X)) (k : K)
-      → has (λ a b. is_eq (cmp a b)) t k (keys_of es) ≡ true
-      → (v : X) × (value_at cmp es k ≡ Some v)
+  pub has-value_at : (es : List (K × X)) (k : K) → has (λ a b. is_eq (cmp a b)) t k (keys_of es) ≡
+      true → (v : X) × (value_at cmp es k ≡ Some v)
   has-value_at [] k h = absurd (false≢true h)
   has-value_at (e ∷ es) k h = elim (cases_Bool (is_eq (cmp k e.0))) [
     | inl b ↦ (e.1, rw b)
@@ -157,40 +126,33 @@ module _ {K X : Type 0} {cmp : K → K → Ordering} (order : IsTotalOrder cmp)
       → (k : K) × (v : X) × (value_at cmp es k ≡ Some v) × B v
   any-value B [] s a = absurd a
   any-value B (e ∷ es) s (inl b) = (e.0, e.1, first_value e es, b)
-  any-value B (e ∷ es) s (inr a) =
-      let r = any-value B es (sorted_tail cmp e.0 (keys_of es) s) a in
-      (r.0, r.1, later_value e es r.0 r.1 s r.2, r.3)
+  any-value B (e ∷ es) s (inr a) = search (
+    rules,
+    sorted_tail,
+    later_value,
+    any-value B es
+        (sorted_tail cmp e.0 (keys_of es) s) a,
+  )
 
 -- ---- addresses that have a value
 pub info_stands : (key : Key) (c : Cell Information) → IsKnown c
     → fact_at (info_cell_facts key c) (info_address key) ≢ None
-info_stands key Absent h e = h refl
-info_stands key (One i) h e = none-some (Info key i) (sym e ∙ at-one_here (Info key i))
-info_stands key Conflict h e = none-some (InfoConflict key) (sym e ∙ at-one_here (InfoConflict key))
+info_stands x0 x1 x2 x3 = search (rules, none-some, at-one_here)
 
 cell_stands : (key : Key) (id : SymbolId) (c : Cell (List ℕ)) → IsKnown c
     → fact_at (symbol_cell_facts key id c) (symbol_address key id) ≢ None
-cell_stands key id Absent h e = h refl
-cell_stands key id (One b) h e = none-some (Symbol key id b) (sym e ∙ at-one_here (Symbol key id b))
-cell_stands key id Conflict h e =
-    none-some (SymbolConflict key id) (sym e ∙ at-one_here (SymbolConflict key id))
+cell_stands x0 x1 x2 x3 x4 = search (rules, none-some, at-one_here)
 
 known_or_absent : {T : Type 0} (c : Cell T) → (c ≡ Absent) ⊎ IsKnown c
 known_or_absent c = grind arith
 
 ordered_session : {n : ℕ} (os : List (ObjectName × Object n)) → SolidSession os → OrderedSession os
-ordered_session os q = record {
-  ordered = q.ordered;
-  each = EachValue-weaker SolidObject OrderedObject (λ x r. r.ordered) os q.each;
-}
+ordered_session os q = search (rules, EachValue-weaker)
 
 -- The content of a solid store names at least as many as its maps hold.
 module _ {n : ℕ} {m : List (Session × List (ObjectName × Object n))} (p : SolidStore m) where
   pub ordered_store : OrderedStore m
-  ordered_store = record {
-    ordered = p.ordered;
-    each = EachValue-weaker SolidSession OrderedSession ordered_session m p.each;
-  }
+  ordered_store = search (rules, EachValue-weaker, ordered_session)
 
   module _ (s : Session) {os : List (ObjectName × Object n)}
       (f : value_at session_cmp m s ≡ Some os) where
@@ -201,9 +163,8 @@ module _ {n : ℕ} {m : List (Session × List (ObjectName × Object n))} (p : So
       r : SolidObject x
       r = each-value_at object_cmp SolidObject os o x q.each h
 
-      pub symbol_stands : (id : SymbolId) {c : Cell (List ℕ)}
-          → value_at symbol_id_cmp x.symbols id ≡ Some c → IsKnown c
-          → fact_at (content m) (symbol_address (key_in s o) id) ≢ None
+      pub symbol_stands : (id : SymbolId) {c : Cell (List ℕ)} → value_at symbol_id_cmp x.symbols id
+          ≡ Some c → IsKnown c → fact_at (content m) (symbol_address (key_in s o) id) ≢ None
       symbol_stands id {c} g k e =
           let key = key_in s o in
           cell_stands key id c k (sym (at-symbol ordered_store key f h id (Some c) g) ∙ e)
@@ -212,18 +173,15 @@ module _ {n : ℕ} {m : List (Session × List (ObjectName × Object n))} (p : So
           → (part : Part) × (fact_at (content m) (record { key = key_in s o; part = part }) ≢ None)
       first_stands [] e h = absurd (h refl)
       first_stands (d ∷ es) e h =
-          let found =
-          subst (λ l. value_at symbol_id_cmp l d.0 ≡ Some d.1) e
+          let found = subst (λ l. value_at symbol_id_cmp l d.0 ≡ Some d.1) e
           (first_value symbol_id_total symbol_id_tells d es) in (
             SymbolPart d.0,
-            symbol_stands d.0 found (each-value_at symbol_id_cmp IsKnown x.symbols d.0 d.1 r.each
-                found),
+            symbol_stands d.0
+                found (each-value_at symbol_id_cmp IsKnown x.symbols d.0 d.1 r.each found),
           )
 
-      pub object_stands : (part : Part) × (fact_at (content m) (record {
-        key = key_in s o;
-        part = part;
-      }) ≢ None)
+      pub object_stands : (part : Part) ×
+          (fact_at (content m) (record { key = key_in s o; part = part }) ≢ None)
       object_stands = elim (known_or_absent x.info) [
         | inl e ↦ first_stands x.symbols refl (r.some e)
         | inr k ↦ (
@@ -250,48 +208,39 @@ module _ {n : ℕ} {m : List (Session × List (ObjectName × Object n))} (p : So
           omega (arith, c, length-keys_of x.symbols)
 
     -- a session with an object has an address with a value
-    pub first_object : (es : List (ObjectName × Object n)) → es ≡ os → es ≢ []
-        → (key : Key) × (part : Part) × (key.session ≡ s) × (fact_at (content m) (record {
-          key = key;
-          part = part;
-        }) ≢ None)
+    pub first_object : (es : List (ObjectName × Object n)) → es ≡ os → es ≢ [] → (key : Key) ×
+        (part : Part) × (key.session ≡ s) ×
+        (fact_at (content m) (record { key = key; part = part }) ≢ None)
     first_object [] e h = absurd (h refl)
     first_object (d ∷ es) e h =
-        let stands =
-        object_stands d.0 (subst (λ l. value_at object_cmp l d.0 ≡ Some d.1) e
-        (first_value object_total object_tells d es)) in
-        (key_in s d.0, stands.0, refl, stands.1)
+        let stands = object_stands d.0 (subst (λ l. value_at object_cmp l d.0 ≡ Some d.1) e
+        (first_value object_total object_tells d es)) in (key_in s d.0, stands.0, refl, stands.1)
 
     -- there are at least as many object names as held objects
     objects_named : length os ≤ length (objects (content m) s)
     unfolding objects
     objects_named =
-        let c =
-        count-ge same_object object_tells (object_of s) (content m) (keys_of os)
-        (distinct object_cmp object_tells (keys_of os) q.ordered) (λ k h.
-        let found = has-value_at object_total object_tells os k h in
+        let c = count-ge same_object object_tells (object_of s) (content m) (keys_of os)
+        (distinct object_cmp object_tells (keys_of os) q.ordered) (λ k h. let found = has-value_at
+        object_total object_tells os k h in
         let stands = object_stands k found.1 in (
-          record {
-            key = key_in s k;
-            part = stands.0;
-          },
+          record { key = key_in s k; part = stands.0 },
           stands.1,
-          ap (λ b. cond b (Some k) None) (session_itself s),
-        )) in
-        omega (arith, c, length-keys_of os)
+          ap (λ b. cond b (Some k) None)
+              (session_itself s),
+        )) in omega (arith, c, length-keys_of os)
 
   -- and at least as many session names as held sessions
   sessions_named : length m ≤ length (sessions (content m))
   unfolding sessions
   sessions_named =
-      let c =
-      count-ge same_session session_tells session_of (content m) (keys_of m)
-      (distinct session_cmp session_tells (keys_of m) p.ordered) (λ k h.
-      let found = has-value_at session_total session_tells m k h in
+      let c = count-ge same_session session_tells session_of (content m) (keys_of m)
+      (distinct session_cmp session_tells (keys_of m) p.ordered) (λ k h. let found = has-value_at
+      session_total session_tells m k h in
       let solid = each-value_at session_cmp SolidSession m k found.0 p.each found.1 in
       let stands = first_object k found.1 found.0 refl solid.some in
-      (record { key = stands.0; part = stands.1 }, stands.3, ap Some stands.2)) in
-      omega (arith, c, length-keys_of m)
+      (record { key = stands.0; part = stands.1 }, stands.3, ap Some stands.2)) in omega
+      (arith, c, length-keys_of m)
 
   -- a session beyond the limits of objects or symbols: its facts are over them
   in_object : (s o : ℕ) (session : Session) (os : List (ObjectName × Object n))
@@ -315,9 +264,8 @@ module _ {n : ℕ} {m : List (Session × List (ObjectName × Object n))} (p : So
 module _ {K X : Type 0} {cmp : K → K → Ordering} (order : IsTotalOrder cmp) (join : X → X → X)
     (limit : ℕ) (over : X → X → Type 0) {P : X → Type 0} (B : X → Type 0)
     (beyond : (v w : X) → P v → P w → over v w → B (join v w)) where
-  pub map_over-beyond : {es fs : List (K × X)} → AreMaps cmp P es fs
-      → MapOver cmp join limit over es fs
-      → (limit < length (map_join cmp join es fs)) ⊎ AnyValue B (map_join cmp join es fs)
+  pub map_over-beyond : {es fs : List (K × X)} → AreMaps cmp P es fs → MapOver cmp join limit over
+      es fs → (limit < length (map_join cmp join es fs)) ⊎ AnyValue B (map_join cmp join es fs)
   map_over-beyond m (inl l) = inl l
   map_over-beyond {es} {fs} m (inr (q, v, w, f, g, o)) =
       inr (any-value_at cmp B (map_join cmp join es fs) q (join v w)
@@ -328,37 +276,26 @@ module _ {K X : Type 0} {cmp : K → K → Ordering} (order : IsTotalOrder cmp) 
 module _ {n : ℕ} where
   object_over : (v w : Object n) → SolidObject v → SolidObject w → ObjectOver v w
       → ObjectBeyond (object_join v w)
-  object_over v w p q (inl l) = l
-  object_over v w p q (inr (k, c, d, f, g, o)) = absurd o
+  object_over x0 x1 x2 x3 x4 = search rules
 
   session_over : (o : ℕ) (v w : List (ObjectName × Object n)) → SolidSession v → SolidSession w
       → MapOver object_cmp object_join o ObjectOver v w → SessionBeyond o (session_join v w)
-  session_over o v w p q h =
-      map_over-beyond object_total object_join o ObjectOver ObjectBeyond object_over (record {
-        first = p.ordered;
-        second = q.ordered;
-        first_each = p.each;
-        second_each = q.each;
-      }) h
+  session_over o v w p q h = map_over-beyond object_total object_join o ObjectOver ObjectBeyond
+      object_over
+      (record { first = p.ordered; second = q.ordered; first_each = p.each; second_each = q.each })
+      h
 
-  pub over-beyond : (s o : ℕ) (v w : List (Session × List (ObjectName × Object n))) → SolidStore v
-      → SolidStore w
-      → MapOver session_cmp session_join s (MapOver object_cmp object_join o ObjectOver) v w
-      → StoreBeyond s o (store_join v w)
-  over-beyond s o v w p q h =
-      map_over-beyond session_total session_join s (MapOver object_cmp object_join o ObjectOver)
-      (SessionBeyond o) (session_over o) (record {
-        first = p.ordered;
-        second = q.ordered;
-        first_each = p.each;
-        second_each = q.each;
-      }) h
+  pub over-beyond : (s o : ℕ) (v w : List (Session × List (ObjectName × Object n))) → SolidStore v →
+      SolidStore w → MapOver session_cmp session_join s
+      (MapOver object_cmp object_join o ObjectOver) v w → StoreBeyond s o (store_join v w)
+  over-beyond s o v w p q h = map_over-beyond session_total session_join s
+      (MapOver object_cmp object_join o ObjectOver) (SessionBeyond o) (session_over o)
+      (record { first = p.ordered; second = q.ordered; first_each = p.each; second_each = q.each })
+      h
 
   -- a join beyond the limits is of facts over them
   pub beyond-joined : (s o : ℕ) (v w : List (Session × List (ObjectName × Object n))) → SolidStore v
-      → SolidStore w
-      → StoreBeyond s o (store_join v w) → Over (content v ++ content w) s o n
-  beyond-joined s o v w p q b =
-      Over-below (content (store_join v w)) (content v ++ content w) s o n
+      → SolidStore w → StoreBeyond s o (store_join v w) → Over (content v ++ content w) s o n
+  beyond-joined s o v w p q b = Over-below (content (store_join v w)) (content v ++ content w) s o n
       (Below-from_Same _ _ (content-join v w (ordered_store p) (ordered_store q)))
       (beyond-over_at (solid-join v w p q) s o b)

@@ -74,8 +74,7 @@ module _ {T : Type 0} (told : T → Fact) (here : Address) where
     value v = subst (λ a. fact_at (told v ∷ []) a ≡ Some (told v)) (stands v) (at-one_here (told v))
 
     conflict : fact_at (conflict_at here ∷ []) here ≡ Some (conflict_at here)
-    conflict =
-        subst (λ a. fact_at (conflict_at here ∷ []) a ≡ Some (conflict_at here)) clash
+    conflict = subst (λ a. fact_at (conflict_at here ∷ []) a ≡ Some (conflict_at here)) clash
         (at-one_here (conflict_at here))
 
     two_values : (v w : T) (b : Bool) → eq v w ≡ b
@@ -83,30 +82,22 @@ module _ {T : Type 0} (told : T → Fact) (here : Address) where
     two_values v w true e = value v
     two_values v w false e = conflict
 
-    pub at-cell_join : (c d : Cell T)
-        → fact_at (facts (cell_join eq c d)) here
-        ≡ joined here (fact_at (facts c) here) (fact_at (facts d) here)
+    pub at-cell_join : (c d : Cell T) → fact_at (facts (cell_join eq c d)) here ≡ joined here
+        (fact_at (facts c) here) (fact_at (facts d) here)
     unfolding joined_fact
     at-cell_join Absent d =
         sym (ap (λ x. joined here x (fact_at (facts d) here)) (fact_at-nil here))
-    at-cell_join (One v) Absent =
-        sym (ap (joined here (fact_at (facts (One v)) here)) (fact_at-nil here)
-        ∙ joined-none here (fact_at (facts (One v)) here))
-    at-cell_join (One v) (One w) =
-        two_values v w (eq v w) refl
-        ∙ ap (λ b. Some (cond b (told v) (conflict_at here))) (sym (decides v w))
-        ∙ sym (λ i. joined here (value v i) (value w i))
-    at-cell_join (One v) Conflict =
-        conflict
-        ∙ sym ((λ i. joined here (value v i) (conflict i))
-        ∙ ap Some (joined-conflict_right here (told v)))
-    at-cell_join Conflict Absent =
-        sym (ap (joined here (fact_at (facts Conflict) here)) (fact_at-nil here)
-        ∙ joined-none here (fact_at (facts Conflict) here))
-    at-cell_join Conflict (One w) =
-        conflict
-        ∙ sym ((λ i. joined here (conflict i) (value w i))
-        ∙ ap Some (joined-conflict_left here (told w)))
+    at-cell_join (One v) Absent = sym (ap (joined here (fact_at (facts (One v)) here))
+        (fact_at-nil here) ∙ joined-none here (fact_at (facts (One v)) here))
+    at-cell_join (One v) (One w) = two_values v w (eq v w) refl ∙ ap
+        (λ b. Some (cond b (told v) (conflict_at here))) (sym (decides v w)) ∙ sym
+        (λ i. joined here (value v i) (value w i))
+    at-cell_join (One v) Conflict = conflict ∙ sym ((λ i. joined here (value v i) (conflict i)) ∙ ap
+        Some (joined-conflict_right here (told v)))
+    at-cell_join Conflict Absent = sym (ap (joined here (fact_at (facts Conflict) here))
+        (fact_at-nil here) ∙ joined-none here (fact_at (facts Conflict) here))
+    at-cell_join Conflict (One w) = conflict ∙ sym
+        ((λ i. joined here (conflict i) (value w i)) ∙ ap Some (joined-conflict_left here (told w)))
     at-cell_join Conflict Conflict = sym (joined-itself here (fact_at (facts Conflict) here))
 
 -- ---- the entries of a map: the value of their facts at an address
@@ -139,16 +130,14 @@ module _ {K X : Type 0} {cmp : K → K → Ordering} (keys : AreKeys cmp) (f : K
   not_at e t p =
       false≢true (sym t ∙ ap (λ k. is_eq (cmp q k)) (sym p) ∙ ap is_eq (tied_itself keys.order q))
 
-  pub at-entries : (es : List (K × X)) → IsOrdered cmp es
-      → fact_at (flat_map f es) a
-      ≡ option_map_or (λ v. fact_at (f (q, v)) a) (value_at cmp es q) None
+  pub at-entries : (es : List (K × X)) → IsOrdered cmp es → fact_at (flat_map f es) a ≡
+      option_map_or (λ v. fact_at (f (q, v)) a) (value_at cmp es q) None
   at-entries [] s = fact_at-nil a
   at-entries (e ∷ es) s =
       let more = at-entries es (sorted_tail cmp e.0 (keys_of es) s) in
       let both = fact_at-append (f e) (flat_map f es) a in
       elim (cases_Bool (is_at (cmp q) e.0)) [
-        | inl t ↦
-            let here = keys.same q e.0 ((Equal-is (cmp q e.0)).0 t) in
+        | inl t ↦ let here = keys.same q e.0 ((Equal-is (cmp q e.0)).0 t) in
             let none = rw (absent_past keys.order e es q s t) at more in
             rw (t, both, none, joined-none a (fact_at (f e) a))
             (ap (λ k. fact_at (f (k, e.1)) a) (sym here))
@@ -161,9 +150,8 @@ module _ {K X : Type 0} {cmp : K → K → Ordering} (keys : AreKeys cmp) (f : K
     pub at-map_join : {es fs : List (K × X)} → AreMaps cmp P es fs
         → fact_at (flat_map f (map_join cmp join es fs)) a
         ≡ joined a (fact_at (flat_map f es) a) (fact_at (flat_map f fs) a)
-    at-map_join {es} {fs} m =
-        at-entries (map_join cmp join es fs)
-        (ordered-map_join keys.order join es fs m.first m.second)
-        ∙ reading_at keys.order join P (λ v. fact_at (f (q, v)) a) None (joined a) (λ c. refl)
-        (joined-none a) keeps es fs q m.first m.second m.first_each m.second_each
-        ∙ sym (λ i. joined a (at-entries es m.first i) (at-entries fs m.second i))
+    at-map_join {es} {fs} m = at-entries (map_join cmp join es fs)
+        (ordered-map_join keys.order join es fs m.first m.second) ∙ reading_at keys.order join P
+        (λ v. fact_at (f (q, v)) a) None (joined a) (λ c. refl) (joined-none a) keeps es fs q
+        m.first m.second m.first_each m.second_each ∙ sym
+        (λ i. joined a (at-entries es m.first i) (at-entries fs m.second i))

@@ -67,25 +67,19 @@ module _ {n s o : ℕ} {m : List (Session × List (ObjectName × Object n))} (p 
         → is_some (fact_at (content m) (symbol_address key id))
         ≡ is_some (value_at symbol_id_cmp x.symbols id)
     of_symbols key id {x} f h =
-        let sound =
-        each-value_at object_cmp IsObject os key.object x
-        (each-value_at session_cmp (IsSession o) m key.session os p.each f).each h in
-        ap is_some (at-symbol in_order key f h id (value_at symbol_id_cmp x.symbols id) refl)
-        ∙ of_symbol key id x (value_at symbol_id_cmp x.symbols id) sound.symbols_are.each refl
+        let sound = each-value_at object_cmp IsObject os key.object x
+        (each-value_at session_cmp (IsSession o) m key.session os p.each f).each h in ap is_some
+        (at-symbol in_order key f h id (value_at symbol_id_cmp x.symbols id) refl) ∙ of_symbol key
+        id x (value_at symbol_id_cmp x.symbols id) sound.symbols_are.each refl
 
   -- if an address has a value, its session and its object are held
-  pub object_held : (key : Key) → HoldsObject (content m) key
-      → (os : List (ObjectName × Object n)) × (x : Object n)
-      × (value_at session_cmp m key.session ≡ Some os)
-      × (value_at object_cmp os key.object ≡ Some x)
+  pub object_held : (key : Key) → HoldsObject (content m) key → (os : List (ObjectName × Object n))
+      × (x : Object n) × (value_at session_cmp m key.session ≡ Some os) ×
+      (value_at object_cmp os key.object ≡ Some x)
   object_held key (part, h) =
-      let session =
-      some-value (value_at session_cmp m key.session) (λ z. h (at-unheard in_order (record {
-        key = key;
-        part = part;
-      }) z)) in
-      let object =
-      some-value (value_at object_cmp session.0 key.object)
+      let session = some-value (value_at session_cmp m key.session)
+      (λ z. h (at-unheard in_order (record { key = key; part = part }) z)) in
+      let object = some-value (value_at object_cmp session.0 key.object)
       (λ z. h (at-found in_order key session.1 part None z)) in
       (session.0, object.0, session.1, object.1)
 
@@ -94,8 +88,7 @@ module _ {n s o : ℕ} {m : List (Session × List (ObjectName × Object n))} (p 
       → IsHeldSession m key (record { info = info; symbol = Some (id, told) })
   held_symbol key id told h info =
       let r = object_held key (SymbolPart id, h) in
-      let found =
-      some-value (value_at symbol_id_cmp r.1.symbols id)
+      let found = some-value (value_at symbol_id_cmp r.1.symbols id)
       (λ z. h (at-symbol in_order key r.2 r.3 id None z)) in
       (r.0, r.2, (r.1, r.3, ap is_some found.1))
 
@@ -103,21 +96,18 @@ module _ {n s o : ℕ} {m : List (Session × List (ObjectName × Object n))} (p 
       → IsHeldSession m key (record { info = info; symbol = None })
   held_info key h info = let r = object_held key h in (r.0, r.2, (r.1, r.3, tt))
 
-  of_told : (key : Key) (id : SymbolId) (told : SymbolUpdate) (F : List Fact)
-      → AllByRecursion (HasCell (content m))
-      (F ++ symbols_facts key (update_symbols (Some (id, told))))
-      → fact_at (content m) (symbol_address key id) ≢ None
+  of_told : (key : Key) (id : SymbolId) (told : SymbolUpdate) (F : List Fact) → AllByRecursion
+      (HasCell (content m)) (F ++ symbols_facts key (update_symbols (Some (id, told)))) → fact_at
+      (content m) (symbol_address key id) ≢ None
   of_told key id (BytesUpdate bytes) [] h = h.0
   of_told key id ConflictUpdate [] h = h.0
   of_told key id told (f ∷ F) h = of_told key id told F h.1
 
   -- if each fact of an update has a cell, its session, its object and its symbol are held
   pub news_held : (key : Key) (info : Cell Information) (symbol : Option (SymbolId × SymbolUpdate))
-      → (info ≡ Absent → symbol ≢ None)
-      → AllByRecursion (HasCell (content m)) (update_facts key (record {
-        info = info;
-        symbol = symbol;
-      })) → IsHeldSession m key (record { info = info; symbol = symbol })
+      → (info ≡ Absent → symbol ≢ None) → AllByRecursion (HasCell (content m))
+      (update_facts key (record { info = info; symbol = symbol })) → IsHeldSession m key
+      (record { info = info; symbol = symbol })
   news_held key info (Some (id, told)) some h =
       held_symbol key id told (of_told key id told (info_cell_facts key info) h) info
   news_held key Absent None some h = absurd (some refl refl)
@@ -164,18 +154,15 @@ module _ {n s o : ℕ} {m : List (Session × List (ObjectName × Object n))} (p 
         record {
           heard = object_stands solid key.session f key.object h;
           info = at-info q key f h ∙ info-cell key x.info;
-          each =
-              λ id. at-symbol q key f h id (value_at symbol_id_cmp x.symbols id) refl
-              ∙ symbol-cell key id (value_at symbol_id_cmp x.symbols id);
+          each = λ id. at-symbol q key f h id (value_at symbol_id_cmp x.symbols id) refl ∙
+              symbol-cell key id (value_at symbol_id_cmp x.symbols id);
           count = omega (arith, a, b);
-          object =
-              each-value_at object_cmp IsObject os key.object x
+          object = each-value_at object_cmp IsObject os key.object x
               (each-value_at session_cmp (IsSession o) m key.session os p.each f).each h;
         }
 
     -- what a look-up finds
-    pub found-object : (r : Option (Bor (Object n)))
-        → option_copied r ≡ value_at object_cmp os key.object
-        → MatchOption r (IsUnheard (content m) key) (λ x. IsTold (content m) key x.now)
+    pub found-object : (r : Option (Bor (Object n))) → option_copied r ≡ value_at object_cmp os
+        key.object → MatchOption r (IsUnheard (content m) key) (λ x. IsTold (content m) key x.now)
     found-object None e = unheard-object (sym e)
     found-object (Some x) e = told-object (sym e)

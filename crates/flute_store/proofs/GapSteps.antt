@@ -1,4 +1,6 @@
 -- The gaps that a walk gives are the runs of what is wanted (specs/GapsLeft).
+use Rattle.std.proofs.lemmas.Grind.{common_steps}
+use Rattle.std.proofs.Common.{rules}
 use Rattle.std.proofs.Common.{◌≡◌, ◌≢◌, ℕ, zero, suc, ◌+◌, ◌-◌, ◌<◌, ◌≤◌, false, cond, ◌&&◌, List}
 use Rattle.std.proofs.Common.{[], ◌∷◌, ◌++◌, map, Option, Some, None, refl, sym, ap, ◌∙◌, subst}
 use Rattle.std.proofs.Common.{inl, inr, ◌⊎◌, arith, append_assoc}
@@ -24,9 +26,7 @@ use Common.{until_of, ended_run, Keeps, GivesGap}
 
 pub end-left : (w : Walk) → Tells w End → left w ≡ []
 unfolding left wanted
-end-left w t =
-    ap (wanted w.partition w.held)
-    (symbols-end w t.0 ∙ ap (blocks_from w.partition) t.1 ∙ blocks_from-end w.partition)
+end-left w t = search (rules, symbols-end, blocks_from-end)
 
 pub gaps-end : (w : Walk) → upcoming_of w ≡ End → w.run ≡ None → gaps_left w ≡ []
 unfolding runs
@@ -52,18 +52,13 @@ run-more n i r (Some g) ws e h =
     rw (k, map-range_with_len_more (entry g.sbn g.reason) g.first n i (omega arith), append_assoc)
     (λ x. pending (Some g) ++ (entry (e.0 x) (same_run g r h x) i ∷ ws))
 
-pub run-ends : (n i : ℕ) (r : Reason) (run : Option Gap) → EndsBefore n i run
-    → ended_run run (Wanted r) ≡ None → r ≢ Missing
-    → EndsBefore n (i + 1) (Some (run_with n i r run))
-run-ends n i r None e h d = (refl, omega arith, refl, d)
-run-ends n i r (Some g) e h d = let a = e.1 in let b = e.2 in (e.0, omega (arith, a, b), refl, e.3)
+pub run-ends : (n i : ℕ) (r : Reason) (run : Option Gap) → EndsBefore n i run → ended_run run
+    (Wanted r) ≡ None → r ≢ Missing → EndsBefore n (i + 1) (Some (run_with n i r run))
+run-ends x0 x1 x2 x3 x4 x5 x6 = search rules
 
 first-above : (p : SymbolId) (held : List Entry) → IsOrdered symbol_id_cmp held → FirstAfter p held
     → Above p (keys_of held)
-first-above p [] s f = tt
-first-above p (e ∷ es) s f =
-    let l : symbol_id_cmp p e.0 ≡ Less = symbol_id_total.antisymm p e.0 ∙ ap ordering_reverse f in
-    (l, above-before p e.0 (keys_of es) l (sorted-first e es s))
+first-above x0 x1 x2 x3 = search (rules, above-before, sorted-first)
 
 -- what is known is not missing
 known-not_missing : (info : Information) (id : SymbolId) (c : Cell (List ℕ)) → IsKnown c
@@ -72,13 +67,10 @@ known-not_missing info id c k e = grind arith
 
 first-known : (held : List Entry) (e : Entry) (es : List Entry) → held ≡ e ∷ es
     → EachValue IsKnown held → IsKnown e.1
-first-known held e es h k =
-    let a : EachValue IsKnown (e ∷ es) = subst (EachValue IsKnown) h k in a.0
+first-known held e es h k = search rules
 
 here-known : (w : Walk) (r : Reason) → IsWalk w → AtHere w (Some r) → r ≢ Missing
-here-known w r p t =
-    λ e. known-not_missing w.partition (here w) t.first.1
-    (first-known w.held t.first t.others t.held p.known) (t.why_is ∙ ap Some e)
+here-known w r p t = search rules
 
 -- no symbol that is wanted for the reason comes next
 abbrev EndsRun : Reason → Upcoming → Type 0
@@ -90,15 +82,12 @@ EndsRun reason _ = Unit {0}
 module _ (w : Walk) (r : Reason) (p : IsWalk w) (h : 0 < w.esi) (d : r ≢ Missing) where
   at_end : w.esi ≡ w.size → Elsewhere (here w) r (left w)
   unfolding left
-  at_end e =
-      rw (symbols-end w e) (elsewhere-above w.partition w.held (here w) r _
+  at_end e = rw (symbols-end w e) (elsewhere-above w.partition w.held (here w) r _
       (above-later (here w) _ (blocks-later w p (omega (arith, e)))))
 
   at_fitting : AtHere w None → Elsewhere (here w) r (left (after_take w))
   unfolding left
-  at_fitting t =
-      elsewhere-above w.partition (after_take w).held (here w) r (others_left w)
-      (others-above w p (inside-less w p t.inside))
+  at_fitting t = search (rules, elsewhere-above, others-above, inside-less)
 
   at_not_held : Tells w NotHeld → Elsewhere (here w) r (left w)
   unfolding left
@@ -119,9 +108,8 @@ module _ (w : Walk) (r : Reason) (p : IsWalk w) (h : 0 < w.esi) (d : r ≢ Missi
   stop-elsewhere Fitting e s =
       let t = told w Fitting e in
       subst (Elsewhere (here w) r) (sym (taken-left w.run w None p t)) (at_fitting t)
-  stop-elsewhere (Wanted q) e s =
-      subst (Elsewhere (here w) r) (sym (taken-left w.run w (Some q) p (told w (Wanted q) e)))
-      (λ f g. s g)
+  stop-elsewhere (Wanted q) e s = subst (Elsewhere (here w) r)
+      (sym (taken-left w.run w (Some q) p (told w (Wanted q) e))) (λ f g. s g)
   stop-elsewhere NotHeld e s = at_not_held (told w NotHeld e)
 
 -- a wanted symbol is put to the run
@@ -135,11 +123,7 @@ step-want w r p t h =
 
 -- the run that ends is given
 ends-upcoming : (g : Gap) (l : Upcoming) → ended_run (Some g) l ≡ Some g → EndsRun g.reason l
-ends-upcoming g Passed h = absurd (none-some g h)
-ends-upcoming g (Wanted r) h =
-    λ e. absurd (none-some g (sym
-    (ap (λ b. cond b None (Some g)) (ap (same_reason g.reason) e ∙ reason_itself g.reason)) ∙ h))
-ends-upcoming g l h = tt
+ends-upcoming g l h = search rules
 
 pub gap-run : (w : Walk) (g : Gap) → IsWalk w → w.run ≡ Some g
     → ended_run w.run (upcoming_of w) ≡ Some g → GivesGap w g (record w { run = None })
@@ -151,9 +135,8 @@ gap-run w g p e h =
     let k : g.last + 1 - 1 ≡ g.last = omega arith in
     let j : w.esi - 1 ≡ g.last = omega arith in
     let f : here w ≡ symbol_id g.sbn (g.last + 1) = λ i. symbol_id (sym q.0 i) (y i) in
-    let x : Elsewhere (here w) g.reason (left w) =
-    stop-elsewhere w g.reason p z q.3 (upcoming_of w) refl
-    (ends-upcoming g (upcoming_of w) (ap (λ o. ended_run o (upcoming_of w)) (sym e) ∙ h)) in
+    let x : Elsewhere (here w) g.reason (left w) = stop-elsewhere w g.reason p z q.3 (upcoming_of w)
+    refl (ends-upcoming g (upcoming_of w) (ap (λ o. ended_run o (upcoming_of w)) (sym e) ∙ h)) in
     record {
       walk = record {
         ordered = p.ordered;
@@ -165,19 +148,16 @@ gap-run w g p e h =
         behind = p.behind;
         running = tt;
       };
-      first =
-          ap (λ o. runs (pending o ++ left w)) e
-          ∙ runs-first g.sbn g.first (g.last + 1) g.reason (left w) (omega arith)
-          (subst (λ x. Elsewhere x g.reason (left w)) f x)
-          ∙ (λ i. record g { last = k i } ∷ runs (left w));
+      first = ap (λ o. runs (pending o ++ left w)) e ∙ runs-first g.sbn g.first (g.last + 1)
+          g.reason (left w) (omega arith) (subst (λ x. Elsewhere x g.reason (left w)) f x) ∙
+          (λ i. record g { last = k i } ∷ runs (left w));
       held_is = refl;
       begun_is = refl;
       partition_is = refl;
       passes = record {
-        begun =
-            sym (p.in_block (let n = p.within in omega (arith, n, z))) ∙ ap (λ n. n + 1) (sym q.0);
-        behind =
-            subst (λ n. IsBehind n g.last w.held) (sym q.0)
+        begun = sym (p.in_block (let n = p.within in omega (arith, n, z))) ∙ ap (λ n. n + 1)
+            (sym q.0);
+        behind = subst (λ n. IsBehind n g.last w.held) (sym q.0)
             (subst (λ i. IsBehind w.sbn i w.held) j (p.behind z));
       };
     }
@@ -202,7 +182,7 @@ first-less n i e es s l = (l, above-before (symbol_id n i) e.0 (keys_of es) l (s
 
 -- the order of ids within a block, and beyond it
 less_in : (n i : ℕ) (p : SymbolId) → p.sbn ≡ n → i < p.esi → symbol_id_cmp (symbol_id n i) p ≡ Less
-less_in n i p e l = ap (λ m. symbol_id_cmp (symbol_id m i) p) (sym e) ∙ esi-less p.sbn i p.esi l
+less_in n i p e l = search rules
 
 beyond : (m n j size : ℕ) → ((m == n) && nat_lt j size) ≡ false → m ≡ n → size ≤ j
 beyond m n j size t e = grind (arith, nat_tests)
@@ -210,43 +190,19 @@ beyond m n j size t e = grind (arith, nat_tests)
 -- until_held gives the ESI of the block's first held symbol, or its end
 until-is : (n a size : ℕ) (held : List Entry) → a < size → IsOrdered symbol_id_cmp held
     → FirstAfter (symbol_id n a) held → Until n a size (until_held n size held) held
-until-is n a size [] l s f = record {
-  less = l;
-  within = omega arith;
-  before = λ i h. tt;
-  next = inl refl;
-}
-until-is n a size (e ∷ es) l s f = elim (cases_Bool ((e.0.sbn == n) && nat_lt e.0.esi size)) [
-  | inl t ↦
-      let b = both (e.0.sbn == n) (nat_lt e.0.esi size) t in
-      let m = eqb-true e.0.sbn n b.0 in
-      let j = ltb-true e.0.esi size b.1 in
-      subst (λ b. Until n a size (cond b e.0.esi size) (e ∷ es)) (sym t) (record {
-        less =
-            elim (greater-cases e.0 (symbol_id n a) f)
-            [ inl g ↦ absurd (omega (arith, g, m)) | inr g ↦ g.1 ];
-        within = omega (arith, j);
-        before = λ i h. first-less n i e es s (less_in n i e.0 m h);
-        next = inr (j, e, es, refl, λ i. record { sbn = m i; esi = e.0.esi });
-      })
-  | inr t ↦
-      subst (λ b. Until n a size (cond b e.0.esi size) (e ∷ es)) (sym t) (record {
-        less = l;
-        within = omega arith;
-        before = λ i h. first-less n i e es s (elim (greater-cases e.0 (symbol_id n a) f) [
-          | inl g ↦ sbn-less (symbol_id n i) e.0 g
-          | inr g ↦
-              less_in n i e.0 g.0 (let k = beyond e.0.sbn n e.0.esi size t g.0 in
-              omega (arith, k, h))
-        ]);
-        next = inl refl;
-      })
-]
+until-is x0 x1 x2 x3 x4 x5 x6 = search (
+  rules,
+  cases_Bool,
+  greater-cases,
+  first-less,
+  less_in,
+  sbn-less,
+  beyond,
+)
 
 -- a block's ids, cut in two
-block-append : (n a k j : ℕ)
-    → map (symbol_id n) (range_with_len a (k + j))
-    ≡ map (symbol_id n) (range_with_len a k) ++ map (symbol_id n) (range_with_len (a + k) j)
+block-append : (n a k j : ℕ) → map (symbol_id n) (range_with_len a (k + j)) ≡ map (symbol_id n)
+    (range_with_len a k) ++ map (symbol_id n) (range_with_len (a + k) j)
 block-append n a zero j = simp (zero-add, add-zero)
 block-append n a (suc k) j =
     let f : a + 1 + k ≡ a + suc k = omega arith in
@@ -272,22 +228,12 @@ until-walk w p e =
 -- a gap of symbols that are not held: what is left after it, and that nothing continues it
 missing-walk : (w : Walk) → IsWalk w → w.run ≡ None → until_of w ≤ w.size
     → IsBehind w.sbn (until_of w - 1) w.held → IsWalk (after_missing w)
-missing-walk w p r l b = record {
-  ordered = p.ordered;
-  known = p.known;
-  begun = p.begun;
-  within = l;
-  longest = p.longest;
-  in_block = p.in_block;
-  behind = λ z. b;
-  running = subst (EndsBefore w.sbn (until_of w)) (sym r) tt;
-}
+missing-walk w p r l b = search rules
 
-missing-elsewhere : (w : Walk) → IsWalk w → 0 < w.size
-    → ((until_of w ≡ w.size)
-    ⊎ ((until_of w < w.size) × (e : Entry) × (es : List Entry) × (w.held ≡ e ∷ es)
-    × (e.0 ≡ symbol_id w.sbn (until_of w))))
-    → Elsewhere (symbol_id w.sbn (until_of w)) Missing (left (after_missing w))
+missing-elsewhere : (w : Walk) → IsWalk w → 0 < w.size → ((until_of w ≡ w.size) ⊎ ((until_of w <
+    w.size) × (e : Entry) × (es : List Entry) × (w.held ≡ e ∷ es) ×
+    (e.0 ≡ symbol_id w.sbn (until_of w)))) → Elsewhere (symbol_id w.sbn (until_of w)) Missing
+    (left (after_missing w))
 unfolding left
 missing-elsewhere w p l (inl e) =
     let q = symbol_id w.sbn (until_of w) in
@@ -297,10 +243,9 @@ missing-elsewhere w p l (inr n) =
     let q = symbol_id w.sbn (until_of w) in
     let e = n.1 in
     subst (λ xs. Elsewhere q Missing (wanted w.partition w.held xs))
-    (sym (symbols-first (after_missing w) n.0))
-    (elsewhere-here w.partition w.held q Missing (others_left (after_missing w))
-    (λ z. known-not_missing w.partition q e.1 (first-known w.held e n.2 n.3 p.known)
-    (sym (ap (want_cell w.partition q)
+    (sym (symbols-first (after_missing w) n.0)) (elsewhere-here w.partition w.held q Missing
+    (others_left (after_missing w)) (λ z. known-not_missing w.partition q e.1
+    (first-known w.held e n.2 n.3 p.known) (sym (ap (want_cell w.partition q)
     (ap (λ (x : List Entry). value_at symbol_id_cmp x q) n.3 ∙ value-here e n.2 q n.4)) ∙ z))
     (above-block w.sbn (until_of w) w.size (blocks_from w.partition w.begun) (blocks-later w p l)))
 
@@ -322,13 +267,9 @@ abbrev missing_gap_of : Walk → Gap
 missing_gap_of w = record { sbn = w.sbn; first = w.esi; last = until_of w - 1; reason = Missing }
 
 -- the turn gives this gap
-pub gap-missing : (w : Walk) → IsWalk w → w.run ≡ None → upcoming_of w ≡ NotHeld
-    → GivesGap w (record {
-      sbn = w.sbn;
-      first = w.esi;
-      last = until_of w - 1;
-      reason = Missing;
-    }) (after_missing w)
+pub gap-missing : (w : Walk) → IsWalk w → w.run ≡ None → upcoming_of w ≡ NotHeld → GivesGap w
+    (record { sbn = w.sbn; first = w.esi; last = until_of w - 1; reason = Missing })
+    (after_missing w)
 gap-missing w p r e =
     let u = until-walk w p e in
     let behind = u.before (until_of w - 1) (omega arith) in
@@ -338,10 +279,8 @@ gap-missing w p r e =
       begun_is = refl;
       partition_is = refl;
       passes = record { begun = sym (p.in_block (omega arith)); behind = behind };
-      first =
-          ap (λ o. runs (pending o ++ left w)) r
-          ∙ ap runs (missing-left w u)
-          ∙ runs-first w.sbn w.esi (until_of w) Missing (left (after_missing w)) u.less
-          (missing-elsewhere w p (omega arith) u.next)
-          ∙ ap (λ o. missing_gap_of w ∷ runs (pending o ++ left (after_missing w))) (sym r);
+      first = ap (λ o. runs (pending o ++ left w)) r ∙ ap runs (missing-left w u) ∙ runs-first w.sbn
+          w.esi (until_of w) Missing (left (after_missing w)) u.less
+          (missing-elsewhere w p (omega arith) u.next) ∙ ap
+          (λ o. missing_gap_of w ∷ runs (pending o ++ left (after_missing w))) (sym r);
     }

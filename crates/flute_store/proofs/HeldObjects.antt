@@ -22,10 +22,8 @@ module _ {n : ℕ} where
   pub known-objects : (o : ℕ) (m : List (Session × List (ObjectName × Object n)))
       → EachValue (IsSession o) m → EachValue IsObject (keyed_objects (λ os. os) m)
   known-objects o [] p = tt
-  known-objects o (e ∷ m) p =
-      each-append (λ (x : Key × Object n). IsObject x.1) (keyed e.0 e.1)
-      (keyed_objects (λ os. os) m)
-      (each-keyed e.0 e.1 p.0.each) (known-objects o m p.1)
+  known-objects o (e ∷ m) p = each-append (λ (x : Key × Object n). IsObject x.1) (keyed e.0 e.1)
+      (keyed_objects (λ os. os) m) (each-keyed e.0 e.1 p.0.each) (known-objects o m p.1)
 
   pub have-objects : (o : ℕ) (m : List (Session × List (ObjectName × Object n)))
       → EachValue (IsSession o) m → HaveObjects (λ os. os) m

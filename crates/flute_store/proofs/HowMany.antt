@@ -75,9 +75,8 @@ pub counts-more : (g : Gap) (count new : Wanted) (all rest : List Want)
     → Counts count all (listed g ++ rest) → Adds g count new → Counts new all rest
 counts-more g count new all rest c a = omega (arith, how-append)
 
-pub counts-few : (count : Wanted) (all rest : List Want) → Counts count all rest
-    → length all ≤ 2 ^ 32
-    → (count.missing < 2 ^ 33) × (count.conflicting < 2 ^ 33) × (count.misfit < 2 ^ 33)
+pub counts-few : (count : Wanted) (all rest : List Want) → Counts count all rest → length all ≤ 2 ^
+    32 → (count.missing < 2 ^ 33) × (count.conflicting < 2 ^ 33) × (count.misfit < 2 ^ 33)
 counts-few count all rest c l = omega (arith, how-all all)
 
 -- nothing was counted yet
@@ -129,10 +128,8 @@ module _ (F : List Fact) (key : Key) (info : Information) (count : Wanted)
   is-partial z = record {
     info = info;
     information = i;
-    some =
-        λ w. let s = total in
-        let l : length (wants F key info) ≡ 0 =
-        ap (λ (x : List Want). length x) w in
+    some = λ w. let s = total in
+        let l : length (wants F key info) ≡ 0 = ap (λ (x : List Want). length x) w in
         z (omega (arith, s, l)) (omega (arith, s, l)) (omega (arith, s, l));
     missing_are = c.missing;
     conflicting_are = c.conflicting;
@@ -155,10 +152,9 @@ pub store-status : {n : ℕ} {F : List Fact} {key : Key} {x : Object n} {info : 
     → length ≡ info.transfer_length → TellsStatus F key (status_of count length)
 store-status {n} {F} {key} {x} {info} {held} {gs} t count c =
     let told = wants-told F key x info t.told in
-    let all = ap (flat_map listed) t.gaps_are ∙ runs-listed (wanted info held (ids info))
-    ∙ ap (λ s. wanted info s (ids info)) t.held_is ∙ sym told in
-    tells-status F key info count (told-information F key x info t.told t.info_is)
-    (subst (IsCount count) all c)
+    let all = ap (flat_map listed) t.gaps_are ∙ runs-listed (wanted info held (ids info)) ∙ ap
+    (λ s. wanted info s (ids info)) t.held_is ∙ sym told in tells-status F key info count
+    (told-information F key x info t.told t.info_is) (subst (IsCount count) all c)
 
 -- ---- gap after gap
 

@@ -51,17 +51,15 @@ module _ {X : Type 0} where
   keys-are : (m : List (Session × List (ObjectName × X)))
       → keys_of (keyed_objects (λ os. os) m) ≡ store_keys m
   keys-are [] = refl
-  keys-are (e ∷ m) =
-      map-append (λ (x : Key × X). x.0) (keyed e.0 e.1) (keyed_objects (λ os. os) m)
+  keys-are (e ∷ m) = map-append (λ (x : Key × X). x.0) (keyed e.0 e.1) (keyed_objects (λ os. os) m)
       ∙ (λ i. session-keys-are e.0 e.1 i ++ keys-are m i)
 
-  object_before : (s : Session) (o : ObjectName) (es : List (ObjectName × X))
-      → AllByRecursion (λ y. object_cmp o y ≡ Less) (keys_of es)
-      → Before (key_in s o) (session_keys s es)
+  object_before : (s : Session) (o : ObjectName) (es : List (ObjectName × X)) → AllByRecursion
+      (λ y. object_cmp o y ≡ Less) (keys_of es) → Before (key_in s o) (session_keys s es)
   object_before s o [] p = tt
   object_before s o (e ∷ es) p = (
-    ap (λ r. ordering_then r (object_cmp o e.0)) (tied_itself session_total s)
-        ∙ p.0,
+    ap (λ r. ordering_then r (object_cmp o e.0))
+        (tied_itself session_total s) ∙ p.0,
     object_before s o es p.1,
   )
 
@@ -80,14 +78,12 @@ module _ {X : Type 0} where
   sessions_before : (k : Key) (m : List (Session × List (ObjectName × X)))
       → AllByRecursion (λ y. session_cmp k.session y ≡ Less) (keys_of m) → Before k (store_keys m)
   sessions_before k [] p = tt
-  sessions_before k (e ∷ m) p =
-      each-append (λ y. key_cmp k y ≡ Less) (session_keys e.0 e.1) (store_keys m)
-      (session_before k e.0 e.1 p.0) (sessions_before k m p.1)
+  sessions_before k (e ∷ m) p = each-append (λ y. key_cmp k y ≡ Less) (session_keys e.0 e.1)
+      (store_keys m) (session_before k e.0 e.1 p.0) (sessions_before k m p.1)
 
   all_before : (s : Session) (es : List (ObjectName × X))
-      (m : List (Session × List (ObjectName × X)))
-      → AllByRecursion (λ y. session_cmp s y ≡ Less) (keys_of m)
-      → AllByRecursion (λ k. Before k (store_keys m)) (session_keys s es)
+      (m : List (Session × List (ObjectName × X))) → AllByRecursion (λ y. session_cmp s y ≡ Less)
+      (keys_of m) → AllByRecursion (λ k. Before k (store_keys m)) (session_keys s es)
   all_before s [] m p = tt
   all_before s (e ∷ es) m p = (sessions_before (key_in s e.0) m p, all_before s es m p)
 
@@ -116,9 +112,8 @@ module _ {X : Type 0} where
       → value_at object_cmp es o ≡ Some v → Contains (session_keys s es) (key_in s o)
   session_has s [] o v f = absurd (none-some v f)
   session_has s (e ∷ es) o v f = elim (cases_Bool (is_eq (object_cmp o e.0))) [
-    | inl t ↦
-        let same = object_place o e.0 ((Equal-is (object_cmp o e.0)).0 t) in
-        rw same (first_is (key_in s e.0) (session_keys s es))
+    | inl t ↦ let same = object_place o e.0 ((Equal-is (object_cmp o e.0)).0 t) in rw same
+        (first_is (key_in s e.0) (session_keys s es))
     | inr t ↦ Contains-append_right (key_in s e.0 ∷ []) _ _ (session_has s es o v (rw t at f))
   ]
 
@@ -128,9 +123,8 @@ module _ {n : ℕ} where
       → EachValue OrderedSession m → IsStrictlySortedBy key_cmp (store_keys m)
   unfolding IsStrictlySortedBy
   sessions_rise [] p q = tt
-  sessions_rise (e ∷ m) p q =
-      rise-append (session_keys e.0 e.1) (store_keys m) (session_rises e.0 e.1 q.0.ordered)
-      (sessions_rise m p.1 q.1) (all_before e.0 e.1 m p.0)
+  sessions_rise (e ∷ m) p q = rise-append (session_keys e.0 e.1) (store_keys m)
+      (session_rises e.0 e.1 q.0.ordered) (sessions_rise m p.1 q.1) (all_before e.0 e.1 m p.0)
 
   pub keys_rise : (m : List (Session × List (ObjectName × Object n))) → OrderedStore m
       → IsStrictlySortedBy key_cmp (keys_of (keyed_objects (λ os. os) m))
@@ -157,9 +151,8 @@ module _ {n : ℕ} where
       ]
 
   store_has : (m : List (Session × List (ObjectName × Object n))) (s : Session) (o : ObjectName)
-      (os : List (ObjectName × Object n)) (x : Object n)
-      → value_at session_cmp m s ≡ Some os → value_at object_cmp os o ≡ Some x
-      → Contains (store_keys m) (key_in s o)
+      (os : List (ObjectName × Object n)) (x : Object n) → value_at session_cmp m s ≡ Some os →
+      value_at object_cmp os o ≡ Some x → Contains (store_keys m) (key_in s o)
   store_has [] s o os x f h = absurd (none-some os f)
   store_has (e ∷ m) s o os x f h = elim (cases_Bool (is_eq (session_cmp s e.0))) [
     | inl t ↦
@@ -177,8 +170,7 @@ module _ {n : ℕ} where
   keys_held s o m p key =
       let ordered = ordered-store s o m p in
       rw (keys-are m) (
-        (λ c.
-            let r = in_store m key ordered.ordered ordered.each c in
-            object_stands (solid-store s o m p) key.session r.2 key.object r.3),
+        (λ c. let r = in_store m key ordered.ordered ordered.each c in object_stands
+            (solid-store s o m p) key.session r.2 key.object r.3),
         (λ h. let r = object_held p key h in store_has m key.session key.object r.0 r.1 r.2 r.3),
       )

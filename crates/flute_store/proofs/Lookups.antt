@@ -72,13 +72,11 @@ above-block n a s xs l =
 pub blocks_from-next : (info : Information) (n : ℕ) → n < length (sizes info)
     → blocks_from info n ≡ block_from n 0 (get_or (sizes info) n 0) ++ blocks_from info (n + 1)
 unfolding blocks_from
-blocks_from-next info n l =
-    rw (drop_more (sizes info) n 0 l, sub-zero)
+blocks_from-next info n l = rw (drop_more (sizes info) n 0 l, sub-zero)
 
 pub blocks_from-end : (info : Information) → blocks_from info (length (sizes info)) ≡ []
 unfolding blocks_from
-blocks_from-end info =
-    ap (λ xs. flat_map block_ids (enumerate_from (length (sizes info)) xs))
+blocks_from-end info = ap (λ xs. flat_map block_ids (enumerate_from (length (sizes info)) xs))
     (drop-length (sizes info))
 
 pub blocks_from-all : (info : Information) → blocks_from info 0 ≡ ids info
@@ -92,14 +90,12 @@ Entry = SymbolId × Cell (List ℕ)
 
 pub value-past : (e : Entry) (es : List Entry) (q : SymbolId) → symbol_id_cmp e.0 q ≡ Less
     → value_at symbol_id_cmp (e ∷ es) q ≡ value_at symbol_id_cmp es q
-value-past e es q l =
-    ap (λ o. cond (is_eq o) (Some e.1) (value_at symbol_id_cmp es q))
+value-past e es q l = ap (λ o. cond (is_eq o) (Some e.1) (value_at symbol_id_cmp es q))
     (symbol_id_total.antisymm q e.0 ∙ ap ordering_reverse l)
 
 pub value-here : (e : Entry) (es : List Entry) (q : SymbolId) → e.0 ≡ q
     → value_at symbol_id_cmp (e ∷ es) q ≡ Some e.1
-value-here e es q h =
-    ap (λ b. cond b (Some e.1) (value_at symbol_id_cmp es q))
+value-here e es q h = ap (λ b. cond b (Some e.1) (value_at symbol_id_cmp es q))
     (ap (λ x. is_eq (symbol_id_cmp q x)) h ∙ symbol_id_itself q)
 
 -- nothing is held of a symbol before all that are held
@@ -118,9 +114,8 @@ wanted-past info e es (x ∷ xs) a = rw (value-past e es x a.0, wanted-past info
 
 -- a held symbol decides on itself
 pub wanted-here : (info : Information) (e : Entry) (es : List Entry) (q : SymbolId)
-    (xs : List SymbolId) → e.0 ≡ q → Above q xs
-    → wanted info (e ∷ es) (q ∷ xs)
-    ≡ cons_option (option_map (with_reason q) (want_cell info q (Some e.1))) (wanted info es xs)
+    (xs : List SymbolId) → e.0 ≡ q → Above q xs → wanted info (e ∷ es) (q ∷ xs) ≡ cons_option
+    (option_map (with_reason q) (want_cell info q (Some e.1))) (wanted info es xs)
 unfolding wanted
 wanted-here info e es q xs h a =
     rw (value-here e es q h, wanted-past info e es xs (subst (λ z. Above z xs) (sym h) a))

@@ -31,17 +31,14 @@ module _ {n : ℕ} {m w : List (Session × List (ObjectName × Object n))} (p : 
       new_info : CellNeedsMemory x.info y.info → HasNew (content m) (content w)
       new_info (e, v) =
           let key = key_in s o in
-          from_address (content m) (content w) (info_address key)
-          (λ z. info_stands key y.info (has_value y.info v)
-          (sym (at-info (ordered_store q) key g k) ∙ z))
-          (at-info (ordered_store p) key f h
-          ∙ ap (λ c. fact_at (info_cell_facts key c) (info_address key)) e
+          from_address (content m) (content w) (info_address key) (λ z. info_stands key y.info
+          (has_value y.info v) (sym (at-info (ordered_store q) key g k) ∙ z)) (at-info
+          (ordered_store p) key f h ∙ ap (λ c. fact_at (info_cell_facts key c) (info_address key)) e
           ∙ fact_at-nil (info_address key))
 
-      new_symbol : (id : SymbolId) (d : Cell (List ℕ))
-          → value_at symbol_id_cmp y.symbols id ≡ Some d → (found : Option (Cell (List ℕ)))
-          → value_at symbol_id_cmp x.symbols id ≡ found
-          → ForSome found (λ c. CellNeedsMemory c d) → HasNew (content m) (content w)
+      new_symbol : (id : SymbolId) (d : Cell (List ℕ)) → value_at symbol_id_cmp y.symbols id ≡ Some
+          d → (found : Option (Cell (List ℕ))) → value_at symbol_id_cmp x.symbols id ≡ found →
+          ForSome found (λ c. CellNeedsMemory c d) → HasNew (content m) (content w)
       new_symbol id d b found a needs =
           let key = key_in s o in
           let known =
@@ -66,26 +63,21 @@ module _ {n : ℕ} {m w : List (Session × List (ObjectName × Object n))} (p : 
       new_in_object (inr (id, d, b, needs)) =
           new_symbol id d b (value_at symbol_id_cmp x.symbols id) refl needs
 
-    new_object : (o : ObjectName) {y : Object n} → value_at object_cmp ws o ≡ Some y
-        → (found : Option (Object n)) → value_at object_cmp os o ≡ found
-        → ForSome found (λ x. ObjectNeedsMemory x y)
-        → HasNew (content m) (content w)
+    new_object : (o : ObjectName) {y : Object n} → value_at object_cmp ws o ≡ Some y →
+        (found : Option (Object n)) → value_at object_cmp os o ≡ found → ForSome found
+        (λ x. ObjectNeedsMemory x y) → HasNew (content m) (content w)
     new_object o k None h needs =
         let stands = object_stands q s g o k in
-        from_address (content m) (content w) (record {
-          key = key_in s o;
-          part = stands.0;
-        }) stands.1 (at-found (ordered_store p) (key_in s o) f stands.0 None h)
+        from_address (content m) (content w) (record { key = key_in s o; part = stands.0 }) stands.1
+        (at-found (ordered_store p) (key_in s o) f stands.0 None h)
     new_object o k (Some x) h needs = new_in_object o h k (needs x refl)
 
-  new_session : (s : Session) {ws : List (ObjectName × Object n)}
-      → value_at session_cmp w s ≡ Some ws → (found : Option (List (ObjectName × Object n)))
-      → value_at session_cmp m s ≡ found
-      → ForSome found (λ os. MapNeedsMemory object_cmp ObjectNeedsMemory os ws)
-      → HasNew (content m) (content w)
+  new_session : (s : Session) {ws : List (ObjectName × Object n)} → value_at session_cmp w s ≡ Some
+      ws → (found : Option (List (ObjectName × Object n))) → value_at session_cmp m s ≡ found →
+      ForSome found (λ os. MapNeedsMemory object_cmp ObjectNeedsMemory os ws) → HasNew (content m)
+      (content w)
   new_session s {ws} g None f needs =
-      let stands =
-      first_object q s g ws refl
+      let stands = first_object q s g ws refl
       (each-value_at session_cmp SolidSession w s ws q.each g).some in
       let a : Address = record { key = stands.0; part = stands.1 } in
       from_address (content m) (content w) a stands.3

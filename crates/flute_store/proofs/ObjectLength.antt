@@ -11,9 +11,8 @@ use Common.{Fact, Whole, value_bytes, object}
 
 -- each symbol has e bytes, or is the last and has m
 abbrev Each : (SymbolId → List ℕ) → ℕ → ℕ → List SymbolId → Type 0
-Each f e m xs =
-    (k : ℕ) (x : SymbolId) → k < length xs → get_or xs k x ≡ x
-    → (length (f x) ≡ e) ⊎ ((k + 1 ≡ length xs) × (length (f x) ≡ m))
+Each f e m xs = (k : ℕ) (x : SymbolId) → k < length xs → get_or xs k x ≡ x → (length (f x) ≡ e) ⊎
+    ((k + 1 ≡ length xs) × (length (f x) ≡ m))
 
 -- so all of them have no fewer than the first ones with e, and the last with m
 length-each : (f : SymbolId → List ℕ) (e m : ℕ) (x : SymbolId) (xs : List SymbolId) → m ≤ e
@@ -24,8 +23,7 @@ length-each f e m x (y ∷ ys) l h =
     let more = length-each f e m y ys l (λ k z b g. elim (h (suc k) z (omega (arith, b)) g) [
       | inl p ↦ inl p
       | inr p ↦ inr (omega (arith, p.0), p.1)
-    ]) in
-    grind (arith, a, more, h 0 x (omega arith) refl)
+    ]) in grind (arith, a, more, h 0 x (omega arith) refl)
 
 -- how long a symbol is that fits
 fits-length : (info : Information) (id : SymbolId) (n k : ℕ) → IsValid info → k < length (ids info)
@@ -33,20 +31,17 @@ fits-length : (info : Information) (id : SymbolId) (n k : ℕ) → IsValid info 
     → (n ≡ info.symbol_length) ⊎ ((k + 1 ≡ length (ids info)) × (n ≡ last_length info))
 unfolding fits
 fits-length info id n k v l g h =
-    let at_k : place info id ≡ Some k =
-    (places-inverse info id k).1 (slice_get-get_or (ids info) k id l ∙ ap Some g) in
+    let at_k : place info id ≡ Some k = (places-inverse info id k).1
+    (slice_get-get_or (ids info) k id l ∙ ap Some g) in
     let count = ids_counted info v in
     let told : fits_at info (Some k) n ≡ true = sym (ap (λ p. fits_at info p n) at_k) ∙ h in
     elim (or_cases (n == info.symbol_length)
     ((k + 1 == symbol_count info) && (n == last_length info)) told) [
       | inl p ↦ inl (eqb-true n info.symbol_length p)
-      | inr p ↦
-          let q = both (k + 1 == symbol_count info) (n == last_length info) p in
-          inr (
-            eqb-true (k + 1) (symbol_count info) q.0
-                ∙ sym count,
-            eqb-true n (last_length info) q.1,
-          )
+      | inr p ↦ let q = both (k + 1 == symbol_count info) (n == last_length info) p in inr (
+        eqb-true (k + 1) (symbol_count info) q.0 ∙ sym count,
+        eqb-true n (last_length info) q.1,
+      )
     ]
 
 symbol_bytes : List Fact → Key → SymbolId → List ℕ
@@ -74,10 +69,9 @@ last-short info h =
     shorter l zero e h = omega (arith, h)
     shorter l (suc t) e h = let less : suc t - 1 ≡ t = omega arith in rw less (omega arith)
 
-enough : (info : Information) (f : SymbolId → List ℕ) (xs : List SymbolId)
-    → length xs ≡ symbol_count info → 0 < length xs → last_length info ≤ info.symbol_length
-    → Each f info.symbol_length (last_length info) xs
-    → info.transfer_length ≤ length (flat_map f xs)
+enough : (info : Information) (f : SymbolId → List ℕ) (xs : List SymbolId) → length xs ≡
+    symbol_count info → 0 < length xs → last_length info ≤ info.symbol_length → Each f
+    info.symbol_length (last_length info) xs → info.transfer_length ≤ length (flat_map f xs)
 enough info f [] c p l h = absurd (omega (arith, p))
 enough info f (x ∷ xs) c p l h =
     let t : length xs ≡ symbol_count info - 1 = omega (arith, c) in
@@ -88,8 +82,7 @@ pub object-length : (F : List Fact) (key : Key) (info : Information) → IsValid
 unfolding object symbol_bytes
 object-length F key info v w = length-take-le _ _ (elim (eq-zero-or-pos info.transfer_length) [
   | inl z ↦ omega (arith, z)
-  | inr l ↦
-      let count = ids_counted info v in
+  | inr l ↦ let count = ids_counted info v in
       let pos = div_ceil-pos info.transfer_length info.symbol_length l in
       enough info (symbol_bytes F key) (ids info) count (omega (arith, count, pos))
       (last-short info (v.parts l).symbol) (each-symbol F key info v w)

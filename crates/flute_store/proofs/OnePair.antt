@@ -61,8 +61,7 @@ module _ {K X : Type 0} {cmp : K → K → Ordering} {join : X → X → X} (all
 
   pair-ordered : (es : List (K × X)) (k : K) (w : X) → IsOrdered cmp es
       → IsOrdered cmp (with_pair es k w)
-  pair-ordered es k w s =
-      ordered-map_join all.keys.order join es ((k, w) ∷ []) s
+  pair-ordered es k w s = ordered-map_join all.keys.order join es ((k, w) ∷ []) s
       (ordered_one all.keys.order all.keys.same all.laws (k, w))
 
   pair-some : (es : List (K × X)) (k : K) (w : X) → with_pair es k w ≢ []
@@ -70,9 +69,8 @@ module _ {K X : Type 0} {cmp : K → K → Ordering} {join : X → X → X} (all
 
   pair-longer : (es : List (K × X)) (k : K) (w : X) (limit : ℕ) → value_at cmp es k ≡ None
       → length (with_pair es k w) ≡ length es + 1
-  pair-longer es k w limit f =
-      ap length (single_new all.keys.order all.laws es k w f)
-      ∙ length_new all.keys.order all.laws all.keys.same limit (λ _ _. ⊥) es k w f
+  pair-longer es k w limit f = ap length (single_new all.keys.order all.laws es k w f) ∙ length_new
+      all.keys.order all.laws all.keys.same limit (λ _ _. ⊥) es k w f
 
   module _ {limit : ℕ} {P : X → Type 0} {es : List (K × X)} (m : IsMap cmp limit P es) (k : K)
       (w : X) where
@@ -81,14 +79,12 @@ module _ {K X : Type 0} {cmp : K → K → Ordering} {join : X → X → X} (all
         → IsSound cmp limit P (with_pair es k w)
     held-sound {v} f p =
         let is = single_held all.keys.order all.laws es k v w m.ordered f in
-        let same_length : length (with_pair es k w) ≡ length es =
-        ap length is ∙ length-set_value (is_at (cmp k)) es (join v w) in
-        record {
+        let same_length : length (with_pair es k w) ≡ length es = ap length is ∙ length-set_value
+        (is_at (cmp k)) es (join v w) in record {
           ordered = pair-ordered es k w m.ordered;
           within = (let l = m.within in omega (arith, l, same_length));
           some = pair-some es k w;
-          each =
-              subst (EachValue P) (sym is)
+          each = subst (EachValue P) (sym is)
               (each-set_value cmp P (is_at (cmp k)) es (join v w) m.each p);
         }
 
@@ -101,16 +97,14 @@ module _ {K X : Type 0} {cmp : K → K → Ordering} {join : X → X → X} (all
           ordered = pair-ordered es k w m.ordered;
           within = omega (arith, longer, room);
           some = pair-some es k w;
-          each =
-              subst (EachValue P) (sym (single_new all.keys.order all.laws es k w f))
+          each = subst (EachValue P) (sym (single_new all.keys.order all.laws es k w f))
               (each-insert_entry cmp P es k w m.each p);
         }
 
     -- so it is if there is room, where a join keeps what holds of each value
-    pub joined-sound : (found : Option X) → value_at cmp es k ≡ found
-        → ((v : X) → P v → P (join v w)) → P w
-        → (value_at cmp es k ≡ None → length es < limit)
-        → IsSound cmp limit P (with_pair es k w)
+    pub joined-sound : (found : Option X) → value_at cmp es k ≡ found →
+        ((v : X) → P v → P (join v w)) → P w → (value_at cmp es k ≡ None → length es < limit) →
+        IsSound cmp limit P (with_pair es k w)
     joined-sound None f kept p room = new-sound f (room f) p
     joined-sound (Some v) f kept p room =
         held-sound f (kept v (each-value_at cmp P es k v m.each f))
@@ -118,10 +112,9 @@ module _ {K X : Type 0} {cmp : K → K → Ordering} {join : X → X → X} (all
   module _ (es : List (K × X)) (k : K) (w : X) where
     joined_there : (found : Option X) → IsOrdered cmp es → value_at cmp es k ≡ found
         → value_at cmp (with_pair es k w) k ≡ join_values join found (Some w)
-    joined_there found s f =
-        value_at-map_join all.keys.order join es ((k, w) ∷ []) k s
-        (ordered_one all.keys.order all.keys.same all.laws (k, w))
-        ∙ rw (f, tied_itself all.keys.order k)
+    joined_there found s f = value_at-map_join all.keys.order join es ((k, w) ∷ []) k s
+        (ordered_one all.keys.order all.keys.same all.laws (k, w)) ∙ rw
+        (f, tied_itself all.keys.order k)
 
     -- beyond a limit: at a held key, at a new one, and at a new key of a full map
     pub held-beyond : (B : X → Type 0) {v : X} → IsOrdered cmp es → value_at cmp es k ≡ Some v

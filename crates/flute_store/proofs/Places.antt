@@ -1,4 +1,6 @@
 -- The place of a walk after a turn, whatever is held after the next symbol (specs/PartitionScan).
+use Rattle.std.proofs.lemmas.Grind.{common_steps}
+use Rattle.std.proofs.Common.{rules}
 use Common.{nat_tests, ◌==◌, Ordering, Less, Equal, Greater, match_ordering, ne_eqb, eq-eqb, sizes}
 use Common.{symbol_id_cmp, symbol_id_place, symbol_id, fits, SymbolId, Reason, Missing, Misfit, Gap}
 use Common.{Turn, Upcoming, End, BlockEnd, Passed, Fitting, Wanted, NotHeld, PartitionScan}
@@ -20,32 +22,21 @@ Next = Option (SymbolId × Option ℕ)
 pub at-end : (w : PartitionScan) (next : Next) → w.esi ≡ w.size
     → w.begun ≡ length (sizes w.partition) → End ≡ upcoming_at w next
 unfolding upcoming_at
-at-end w next e f =
-    sym ((λ i. cond (eq-eqb w.esi w.size e i)
-    (cond (w.begun == length (sizes w.partition)) End BlockEnd)
-    (upcoming_next w.partition (symbol_id w.sbn w.esi) next))
-    ∙ ap (λ b. cond b End BlockEnd) (eq-eqb w.begun (length (sizes w.partition)) f))
+at-end w next e f = search rules
 
 pub at-block_end : (w : PartitionScan) (next : Next) → w.esi ≡ w.size
     → w.begun ≢ length (sizes w.partition) → BlockEnd ≡ upcoming_at w next
 unfolding upcoming_at
-at-block_end w next e f =
-    sym ((λ i. cond (eq-eqb w.esi w.size e i)
-    (cond (w.begun == length (sizes w.partition)) End BlockEnd)
-    (upcoming_next w.partition (symbol_id w.sbn w.esi) next))
-    ∙ ap (λ b. cond b End BlockEnd) (ne_eqb w.begun (length (sizes w.partition)) f))
+at-block_end w next e f = search rules
 
 pub at-inside : (w : PartitionScan) (next : Next) → w.esi ≢ w.size
     → upcoming_next w.partition (symbol_id w.sbn w.esi) next ≡ upcoming_at w next
 unfolding upcoming_at
-at-inside w next i =
-    sym (ap (λ b. cond b (cond (w.begun == length (sizes w.partition)) End BlockEnd)
-    (upcoming_next w.partition (symbol_id w.sbn w.esi) next)) (ne_eqb w.esi w.size i))
+at-inside w next i = search rules
 
-pub at-first : (w : PartitionScan) (id : SymbolId) (n : Option ℕ) (o : Ordering) → w.esi ≢ w.size
-    → symbol_id_cmp id (symbol_id w.sbn w.esi) ≡ o
-    → match_ordering o Passed (upcoming_wanted (want_length w.partition id n)) NotHeld
-    ≡ upcoming_at w (Some (id, n))
+pub at-first : (w : PartitionScan) (id : SymbolId) (n : Option ℕ) (o : Ordering) → w.esi ≢ w.size →
+    symbol_id_cmp id (symbol_id w.sbn w.esi) ≡ o → match_ordering o Passed
+    (upcoming_wanted (want_length w.partition id n)) NotHeld ≡ upcoming_at w (Some (id, n))
 at-first w id n o i c =
     ap (λ o. match_ordering o Passed (upcoming_wanted (want_length w.partition id n)) NotHeld)
     (sym c) ∙ at-inside w (Some (id, n)) i
@@ -60,9 +51,7 @@ abbrev TellsAt : PartitionScan → Next → Upcoming → Type 0
 TellsAt w next End = (w.esi ≡ w.size) × (w.begun ≡ length (sizes w.partition))
 TellsAt w next BlockEnd = (w.esi ≡ w.size) × (w.begun ≢ length (sizes w.partition))
 TellsAt w next Passed = (n : SymbolId × Option ℕ) × (next ≡ Some n)
-TellsAt w next Fitting =
-    (w.esi ≢ w.size)
-    × ((n : ℕ) × (next ≡ Some (symbol_id w.sbn w.esi, Some n))
+TellsAt w next Fitting = (w.esi ≢ w.size) × ((n : ℕ) × (next ≡ Some (symbol_id w.sbn w.esi, Some n))
     × (fits w.partition (symbol_id w.sbn w.esi) n ≡ true))
 TellsAt w next (Wanted r) =
     (w.esi ≢ w.size) × (r ≢ Missing) × ((n : Option ℕ) × (next ≡ Some (symbol_id w.sbn w.esi, n)))
@@ -71,13 +60,7 @@ TellsAt w next NotHeld = (w.esi ≢ w.size) × IsAfter (symbol_id w.sbn w.esi) n
 tells-wanted : (w : PartitionScan) (next : Next) (n : Option ℕ) → w.esi ≢ w.size
     → next ≡ Some (symbol_id w.sbn w.esi, n)
     → TellsAt w next (upcoming_wanted (want_length w.partition (symbol_id w.sbn w.esi) n))
-tells-wanted w next None i e = (i, (λ e. cc), (None, e))
-tells-wanted w next (Some n) i e = by_test (fits w.partition (symbol_id w.sbn w.esi) n) refl
-  where
-    by_test : (b : Bool) → fits w.partition (symbol_id w.sbn w.esi) n ≡ b
-        → TellsAt w next (upcoming_wanted (cond b None (Some Misfit)))
-    by_test true f = (i, (n, e, f))
-    by_test false f = (i, (λ e. cc), (Some n, e))
+tells-wanted x0 x1 x2 x3 x4 = search rules
 
 tells-next : (w : PartitionScan) (next : Next) → w.esi ≢ w.size
     → TellsAt w next (upcoming_next w.partition (symbol_id w.sbn w.esi) next)
@@ -98,20 +81,17 @@ tells-next w (Some next) i = by_order (symbol_id_cmp next.0 (symbol_id w.sbn w.e
 pub told-at : (w : PartitionScan) (next : Next) (l : Upcoming) → upcoming_at w next ≡ l
     → TellsAt w next l
 unfolding upcoming_at
-told-at w next l h =
-    subst (TellsAt w next) h (by-place w.esi w.size w.begun (length (sizes w.partition))
-    (TellsAt w next) (tells-next w next) (λ e f. (e, f)) (λ e f. (e, f)))
+told-at w next l h = search (rules, by-place, sizes, tells-next)
 
 -- ---- where the next held symbol is
 
 until-beyond : (w : PartitionScan) (next : Next) → w.esi < w.size
     → IsAfter (symbol_id w.sbn w.esi) next → (w.esi < until_at w next) × (until_at w next ≤ w.size)
-until-beyond w None l a = (l, omega arith)
-until-beyond w (Some next) l a = grind (arith, nat_tests, greater-cases)
+until-beyond x0 x1 x2 x3 = search rules
 
 module _ (w : PartitionScan) (next : Next) (p : IsPlace w) where
   inside : w.esi ≢ w.size → w.esi < w.size
-  inside i = let l = p.within in omega (arith, l, i)
+  inside i = search rules
 
   pub until-within : upcoming_at w next ≡ NotHeld
       → (w.esi < until_at w next) × (until_at w next ≤ w.size)
@@ -166,14 +146,13 @@ module _ (w : PartitionScan) (next : Next) (p : IsPlace w) where
         longest = s;
         running = run-ends w.sbn w.esi r w.run p.running h t.1;
       }
-  place-on NotHeld None e h s =
-      record {
-        blocks = p.blocks;
-        begun = p.begun;
-        within = (until-within e).1;
-        longest = s;
-        running = subst (EndsBefore w.sbn (until_at w next)) (sym (no-run w.run NotHeld tt h)) tt;
-      }
+  place-on NotHeld None e h s = record {
+    blocks = p.blocks;
+    begun = p.begun;
+    within = (until-within e).1;
+    longest = s;
+    running = subst (EndsBefore w.sbn (until_at w next)) (sym (no-run w.run NotHeld tt h)) tt;
+  }
 
   -- and a walk that a turn led to is
   pub placed : (answer : Option Turn) (x : PartitionScan) → (answer, x) ≡ turn_of w next
@@ -188,34 +167,23 @@ module _ (w : PartitionScan) (next : Next) (p : IsPlace w) where
 -- how the walk x follows from the walk before, for each turn
 abbrev pub Kind : PartitionScan → Next → Option Turn → PartitionScan → Type 0
 Kind w next None x = (upcoming_at w next ≡ BlockEnd) × (w.run ≡ None) × (x ≡ after_block w)
-Kind w next (Some (Turn.Gap g)) x =
-    ((w.run ≡ Some g) × (x ≡ record w { run = None }))
-    ⊎ ((w.run ≡ None) × (upcoming_at w next ≡ NotHeld) × (x ≡ after_missing w next)
-    × (g ≡ missing_gap w next))
+Kind w next (Some (Turn.Gap g)) x = ((w.run ≡ Some g) × (x ≡ record w { run = None })) ⊎ ((w.run ≡
+    None) × (upcoming_at w next ≡ NotHeld) × (x ≡ after_missing w next) × (g ≡ missing_gap w next))
 Kind w next (Some Turn.Fitting) x =
     (upcoming_at w next ≡ Fitting) × (w.run ≡ None) × (x ≡ record w { esi = w.esi + 1 })
-Kind w next (Some Turn.Wanted) x =
-    (r : Reason) × (upcoming_at w next ≡ Wanted r) × (ended_run w.run (Wanted r) ≡ None)
-    × (x ≡ after_wanted w r)
+Kind w next (Some Turn.Wanted) x = (r : Reason) × (upcoming_at w next ≡ Wanted r) ×
+    (ended_run w.run (Wanted r) ≡ None) × (x ≡ after_wanted w r)
 Kind w next (Some Turn.Passed) x = (upcoming_at w next ≡ Passed) × (x ≡ w)
 Kind w next (Some Turn.End) x = (upcoming_at w next ≡ End) × (w.run ≡ None) × (x ≡ w)
 
 kind-on : (w : PartitionScan) (next : Next) (l : Upcoming) (o : Option Gap) → upcoming_at w next ≡ l
     → ended_run w.run l ≡ o → Kind w next (turn_after w next l o).0 (turn_after w next l o).1
-kind-on w next l (Some g) e h = inl (run-is w.run l g h, refl)
-kind-on w next End None e h = (e, no-run w.run End tt h, refl)
-kind-on w next BlockEnd None e h = (e, no-run w.run BlockEnd tt h, refl)
-kind-on w next Passed None e h = (e, refl)
-kind-on w next Fitting None e h = (e, no-run w.run Fitting tt h, refl)
-kind-on w next (Wanted r) None e h = (r, e, h, refl)
-kind-on w next NotHeld None e h = inr (no-run w.run NotHeld tt h, e, refl, refl)
+kind-on x0 x1 x2 x3 x4 x5 = search rules
 
 pub kind : (w : PartitionScan) (next : Next) (t : Option Turn) (x : PartitionScan)
     → (t, x) ≡ turn_of w next → Kind w next t x
 unfolding turn_of
-kind w next t x e =
-    subst (λ (r : Option Turn × PartitionScan). Kind w next r.0 r.1) (sym e)
-    (kind-on w next (upcoming_at w next) (ended_run w.run (upcoming_at w next)) refl refl)
+kind w next t x e = search rules
 
 -- ---- no more is counted than was passed
 
@@ -228,33 +196,14 @@ module _ {w : PartitionScan} (next : Next) (c : Counted) (p : IsPlace w)
     (h : CountsWithin w c) where
   pub within-turn : (t : Option Turn) (x : PartitionScan) → NoGap t → Kind w next t x
       → CountsWithin x c
-  within-turn None x n k = rw (k.2, k.1) (omega (arith, rw k.1 at h))
-  within-turn (Some (Turn.Gap g)) x n k = absurd n
-  within-turn (Some Turn.Fitting) x n k =
-      subst (λ y. CountsWithin y c) (sym k.2) (let l = h in omega (arith, l))
-  within-turn (Some Turn.Wanted) x n k =
-      subst (λ y. CountsWithin y c) (sym k.3) (by_run w.run refl)
-    where
-      by_run : (o : Option Gap) → w.run ≡ o
-          → c.missing + c.conflicting + c.misfit + run_length
-          (Some (run_with w.sbn w.esi k.0 w.run)) ≤ w.begun * 65536 + (w.esi + 1)
-      by_run None e = rw e (omega (arith, rw e at h))
-      by_run (Some g) e = rw e (omega (arith, rw e at h, rw e at p.running))
-  within-turn (Some Turn.Passed) x n k = subst (λ y. CountsWithin y c) (sym k.1) h
-  within-turn (Some Turn.End) x n k = subst (λ y. CountsWithin y c) (sym k.2) h
+  within-turn x0 x1 x2 x3 = search rules
 
   -- a gap has a symbol, and with its symbols counted this holds too
-  pub within-gap : (g : Gap) (x : PartitionScan) → Kind w next (Some (Turn.Gap g)) x
-      → (g.first ≤ g.last)
-      × (c.missing + c.conflicting + c.misfit + (g.last + 1 - g.first) + run_length x.run
-      ≤ x.begun * 65536 + x.esi)
-  within-gap g x (inl k) =
-      rw k.1 (omega (arith, rw k.0 at h, rw k.0 at p.running))
-  within-gap g x (inr k) =
-      rw (k.2, k.3, k.0) (omega (arith, rw k.0 at h, until-within w next p k.1))
+  pub within-gap : (g : Gap) (x : PartitionScan) → Kind w next (Some (Turn.Gap g)) x →
+      (g.first ≤ g.last) × (c.missing + c.conflicting + c.misfit + (g.last + 1 - g.first) +
+      run_length x.run ≤ x.begun * 65536 + x.esi)
+  within-gap x0 x1 x2 = search (rules, until-within)
 
   -- so the counts together are below 2^33
   pub small : c.missing + c.conflicting + c.misfit < 2 ^ 33
-  small =
-      let a = p.begun in let b = p.blocks in let l = p.within in let m = p.longest in let r = h in
-      omega (arith, a, b, l, m, r)
+  small = search rules

@@ -1,4 +1,6 @@
 -- The facts of a store rise, and how many they are (specs/Content).
+use Rattle.std.proofs.lemmas.Grind.{common_steps}
+use Rattle.std.proofs.Common.{rules}
 use Rattle.std.proofs.Common.{ℕ, ◌+◌, ◌*◌, ◌≤◌, List, [], ◌∷◌, length, arith, length-append, ◌≡◌}
 use Rattle.std.proofs.Common.{◌++◌, refl, ap, ◌∙◌}
 use Rattle.flute_store.proofs.FactEntries.{any_value, cell-stands, each-append, each-flat_map}
@@ -33,24 +35,19 @@ module _ {K X : Type 0} (f : K × X → List Fact) (P : X → Type 0) (most : �
 module _ {n : ℕ} where
   object_length : (key : Key) (x : Object n) → IsObject x → length (object_facts key x) ≤ n + 1
   object_length key x p =
-      let c =
-      within_limit (λ e. symbol_cell_facts key e.0 e.1) (λ _. Unit {0}) 1
+      let c = within_limit (λ e. symbol_cell_facts key e.0 e.1) (λ _. Unit {0}) 1
       (λ e _. cell_length (Symbol key e.0) (SymbolConflict key e.0) e.1) n x.symbols
-      (any_value x.symbols) p.symbols_are.within in
-      omega (arith, length-append {A = Fact}, cell_length (Info key) (InfoConflict key) x.info, c)
+      (any_value x.symbols) p.symbols_are.within in omega
+      (arith, length-append {A = Fact}, cell_length (Info key) (InfoConflict key) x.info, c)
 
   session_length : (o : ℕ) (session : Session) (os : List (ObjectName × Object n)) → IsSession o os
       → length (session_facts session os) ≤ o * (n + 1)
-  session_length o session os p =
-      within_limit (λ e. object_facts (key_in session e.0) e.1) IsObject (n + 1)
-      (λ e q. object_length (key_in session e.0) e.1 q) o os p.each p.within
+  session_length o session os p = search (rules, within_limit, object_length)
 
   -- each object has its information and no more symbols than the limit
   pub content_length : (s o : ℕ) (m : List (Session × List (ObjectName × Object n))) → IsStore s o m
       → length (content m) ≤ s * (o * (n + 1))
-  content_length s o m p =
-      within_limit (λ e. session_facts e.0 e.1) (IsSession o) (o * (n + 1))
-      (λ e q. session_length o e.0 e.1 q) s m p.each p.within
+  content_length s o m p = search (rules, within_limit, session_length)
 
 -- ---- the content of a store rises
 
@@ -88,39 +85,40 @@ module _ {K X : Type 0} {cmp : K → K → Ordering} {f : K × X → List Fact} 
   after_group : (a : Address) (j k : K) (F : List Fact) → In j a → cmp j k ≡ Less → Stand (In k) F
       → StandAfter a F
   after_group a j k [] i l s = tt
-  after_group a j k (g ∷ F) i l s =
-      (groups.order j k a (address g) i s.0 l, after_group a j k F i l s.1)
+  after_group a j k (g ∷ F) i l s = search (rules, after_group a j k F i l s.1)
 
   after_groups : (a : Address) (j : K) → In j a → (es : List (K × X))
       → AllByRecursion (λ y. cmp j y ≡ Less) (keys_of es) → StandAfter a (flat_map f es)
   after_groups a j i [] s = tt
-  after_groups a j i (e ∷ es) s =
-      after-append a (f e) (flat_map f es) (after_group a j e.0 (f e) i s.0 (groups.within e))
-      (after_groups a j i es s.1)
+  after_groups a j i (e ∷ es) s = search (
+    rules,
+    after-append,
+    after_group,
+    after_groups a j i es
+        s.1,
+  )
 
   groups-rise : (es : List (K × X)) → IsOrdered cmp es → EachValue P es → IsRising (flat_map f es)
   unfolding IsStrictlySortedBy
   groups-rise [] s p = tt
-  groups-rise (e ∷ es) s p =
-      rising-append (f e) (flat_map f es) (groups.rises e p.0) (groups-rise es s.1 p.1)
-      (stand-weaker (In e.0) (λ a. StandAfter a (flat_map f es))
-      (λ a i. after_groups a e.0 i es s.0) (f e) (groups.within e))
+  groups-rise (e ∷ es) s p = search (
+    rules,
+    rising-append,
+    stand-weaker,
+    after_groups,
+    groups-rise
+        es s.1 p.1,
+  )
 
 -- the facts of one cell, of an object, and of a session rise
 cell-rises : {T : Type 0} (told : T → Fact) (clash : Fact) (c : Cell T)
     → IsRising (cell_facts told clash c)
-cell-rises told clash Absent = tt
-cell-rises told clash (One v) = (tt, tt)
-cell-rises told clash Conflict = (tt, tt)
+cell-rises x0 x1 x2 = search rules
 
 after_info : (key : Key) (F : List Fact)
     → Stand (λ b. (id : SymbolId) × (b ≡ symbol_address key id)) F → StandAfter (info_address key) F
 after_info key [] s = tt
-after_info key (f ∷ F) s = (
-  ap (address_cmp (info_address key)) s.0.1
-      ∙ ap (λ o. ordering_then o Less) (equal_keys key),
-  after_info key F s.1,
-)
+after_info key (f ∷ F) s = search (rules, after_info key F s.1)
 
 module _ {n : ℕ} where
   object-rises : (key : Key) (x : Object n) → OrderedObject x → IsRising (object_facts key x)
@@ -180,8 +178,7 @@ module _ {n : ℕ} where
   session-stands : (P : Address → Type 0) (session : Session)
       → ((a : Address) → a.key.session ≡ session → P a) → (os : List (ObjectName × Object n))
       → Stand P (session_facts session os)
-  session-stands P session h os =
-      each-flat_map (Of P) (λ e. object_facts (key_in session e.0) e.1)
+  session-stands P session h os = each-flat_map (Of P) (λ e. object_facts (key_in session e.0) e.1)
       (λ e. object-stands P (key_in session e.0) (λ a q. h a (ap (λ (k : Key). k.session) q)) e.1)
       os
 

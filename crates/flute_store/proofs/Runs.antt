@@ -42,12 +42,10 @@ unfolding AreRuns
 before-listed (id, r) [] s = ap (λ xs. xs ++ []) (listed-one (id, r))
 before-listed (id, r) (h ∷ gaps) s = elim (cases_Bool (goes_on (one (id, r)) h)) [
   | inr e ↦ rw (e, listed-one (id, r))
-  | inl e ↦
-      let t = goes_on-tells (one (id, r)) h e in
-      rw (e, listed-first h.sbn id.esi h.last h.reason (omega arith))
-      (λ i. entry (sym t.0 i) (sym t.2 i) id.esi
-      ∷ (map (entry h.sbn h.reason) (range_with_len (t.1 i) (h.last + 1 - t.1 i)) ++ flat_map listed
-      gaps))
+  | inl e ↦ let t = goes_on-tells (one (id, r)) h e in rw
+      (e, listed-first h.sbn id.esi h.last h.reason (omega arith)) (λ i. entry (sym t.0 i)
+      (sym t.2 i) id.esi ∷ (map (entry h.sbn h.reason)
+      (range_with_len (t.1 i) (h.last + 1 - t.1 i)) ++ flat_map listed gaps))
 ]
 
 -- a gap that begins earlier is continued by the same gaps
@@ -61,12 +59,11 @@ before-runs : (w : Want) (gaps : List Gap) → AreRuns gaps → AreRuns (before 
 unfolding AreRuns
 before-runs (id, r) [] s = (omega arith, tt, tt)
 before-runs (id, r) (h ∷ gaps) s = elim (cases_Bool (goes_on (one (id, r)) h)) [
-  | inr e ↦
-      subst (λ b. AreRuns (cond b (record h { first = id.esi } ∷ gaps) (one (id, r) ∷ h ∷ gaps)))
+  | inr e ↦ subst
+      (λ b. AreRuns (cond b (record h { first = id.esi } ∷ gaps) (one (id, r) ∷ h ∷ gaps)))
       (sym e) (omega arith, e, s)
-  | inl e ↦
-      let f = (goes_on-tells (one (id, r)) h e).1 in
-      rw e (lengthened id.esi h gaps (omega arith) s)
+  | inl e ↦ let f = (goes_on-tells (one (id, r)) h e).1 in rw e
+      (lengthened id.esi h gaps (omega arith) s)
 ]
 
 pub runs-are : (ws : List Want) → AreRuns (runs ws)
@@ -105,10 +102,9 @@ unfolding runs
 gap-runs zero n a {l} r ws {gaps} h e s =
     let same : l ≡ a = omega arith in
     rw (e, same) (before-apart (gap n a a r) gaps (subst (λ x. IsApart (gap n a x r) gaps) same s))
-gap-runs (suc k) n a {l} r ws {gaps} h e s =
-    ap (before (gap n a a r))
-    (gap-runs k n (a + 1) r ws (omega arith) e (apart-from n a (a + 1) l r gaps s))
-    ∙ ap (λ b. cond b (gap n a l r ∷ gaps) (gap n a a r ∷ gap n (a + 1) l r ∷ gaps))
+gap-runs (suc k) n a {l} r ws {gaps} h e s = ap (before (gap n a a r))
+    (gap-runs k n (a + 1) r ws (omega arith) e (apart-from n a (a + 1) l r gaps s)) ∙ ap
+    (λ b. cond b (gap n a l r ∷ gaps) (gap n a a r ∷ gap n (a + 1) l r ∷ gaps))
     (goes_on-next n a l r)
 
 pub runs-unique : (gaps : List Gap) → AreRuns gaps → runs (flat_map listed gaps) ≡ gaps
@@ -126,17 +122,14 @@ not-goes g h n = grind (arith, goes_on-tells g h)
 
 apart-before : (g : Gap) (w : Want) (gaps : List Gap)
     → (w.0 ≡ symbol_id g.sbn (g.last + 1) → w.1 ≡ g.reason → ⊥) → IsApart g (before (one w) gaps)
-apart-before g (id, r) [] n = not-goes g (one (id, r)) (λ s f q. n (λ i. record {
-  sbn = sym s i;
-  esi = sym f i;
-}) (sym q))
+apart-before g (id, r) [] n = not-goes g (one (id, r))
+    (λ s f q. n (λ i. record { sbn = sym s i; esi = sym f i }) (sym q))
 apart-before g (id, r) (h ∷ gaps) n = elim (cases_Bool (goes_on (one (id, r)) h)) [
-  | inl e ↦
-      let t = goes_on-tells (one (id, r)) h e in
-      rw e (not-goes g (record h { first = id.esi })
+  | inl e ↦ let t = goes_on-tells (one (id, r)) h e in rw e (not-goes g
+      (record h { first = id.esi })
       (λ s f p. n (λ i. symbol_id ((t.0 ∙ sym s) i) (sym f i)) (t.2 ∙ sym p)))
-  | inr e ↦
-      rw e (not-goes g (one (id, r)) (λ s f q. n (λ i. symbol_id (sym s i) (sym f i)) (sym q)))
+  | inr e ↦ rw e
+      (not-goes g (one (id, r)) (λ s f q. n (λ i. symbol_id (sym s i) (sym f i)) (sym q)))
 ]
 
 pub apart-runs : (g : Gap) (ws : List Want) → Elsewhere (symbol_id g.sbn (g.last + 1)) g.reason ws

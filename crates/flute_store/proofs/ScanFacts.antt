@@ -45,28 +45,25 @@ module _ {s : Scanned} {F before rest : List Fact} (a : Among s F before rest) w
   -- what the facts show is what was passed and what the others show
   pub shown-all : shown s.key F ≡ shown s.key s.facts ++ shown s.key rest
   shown-all =
-      let none =
-      none-before s.key s.info before (a.symbols ++ rest) (subst IsRising all-again a.rising) in
-      ap (shown s.key) a.all ∙ shown-append s.key before (s.facts ++ rest)
-      ∙ ap (λ es. es ++ shown s.key (s.facts ++ rest)) (shown-none s.key before none)
-      ∙ shown-append s.key s.facts rest
+      let none = none-before s.key s.info before (a.symbols ++ rest)
+      (subst IsRising all-again a.rising) in ap (shown s.key) a.all ∙ shown-append s.key before
+      (s.facts ++ rest) ∙ ap (λ es. es ++ shown s.key (s.facts ++ rest))
+      (shown-none s.key before none) ∙ shown-append s.key s.facts rest
 
   -- and the information is in F
   pub information-at : fact_at F (info_address s.key) ≡ Some (Info s.key s.info)
   information-at =
       let info = Info s.key s.info in
-      let there =
-      Contains-append_right before (info ∷ (a.symbols ++ rest)) info
-      (first_is info (a.symbols ++ rest)) in
-      rising_tells F info a.rising (subst (λ G. Contains G info) (sym all-again) there)
+      let there = Contains-append_right before (info ∷ (a.symbols ++ rest)) info
+      (first_is info (a.symbols ++ rest)) in rising_tells F info a.rising
+      (subst (λ G. Contains G info) (sym all-again) there)
 
 pub wants-shown : (F : List Fact) (key : Key) (info : Information) → IsRising F
     → wants F key info ≡ wanted info (shown key F) (ids info)
 unfolding wants wanted
-wants-shown F key info r =
-    λ i. filter_map (λ id. option_map (with_reason id)
-    ((ap (want info id) (shown-at key id F r)
-    ∙ want-symbol info key id (value_at symbol_id_cmp (shown key F) id)) i)) (ids info)
+wants-shown F key info r = λ i. filter_map (λ id. option_map (with_reason id) ((ap (want info id)
+    (shown-at key id F r) ∙ want-symbol info key id (value_at symbol_id_cmp (shown key F) id)) i))
+    (ids info)
 
 come-as : (key : Key) (next : Next) (rest : List Fact) → ComeNext key next rest
     → ComesAs key (coming_fact key next) (shown key rest)
@@ -100,9 +97,8 @@ module _ {o : ScanState} {s : Scanned} {next : Next} (q : Scans o (announced s n
   pub information-all : fact_at F (info_address s.key) ≡ Some (Info s.key s.info)
   information-all = information-at among-all
 
-  pub not-whole-all : (g : Gap) (gs : List Gap) → s.given ≡ []
-      → gaps_left (walk_of o.walk (shown s.key f.rest)) ≡ g ∷ gs
-      → IsNotWhole F s.key (symbol_id g.sbn g.first)
+  pub not-whole-all : (g : Gap) (gs : List Gap) → s.given ≡ [] → gaps_left
+      (walk_of o.walk (shown s.key f.rest)) ≡ g ∷ gs → IsNotWhole F s.key (symbol_id g.sbn g.first)
   not-whole-all g gs n e = record {
     info = s.info;
     information = information-all;

@@ -51,10 +51,9 @@ pub record LeavesSame (w x : PartitionScan) : Type 0 where
   pub symbols : symbols_left (walk_of x []) ≡ symbols_left (walk_of w [])
   pub run : x.run ≡ w.run
 
-pub moved-done : (s : Scanned) (coming : Option (Option Fact)) (n : ℕ) {w x : PartitionScan}
-    → LeavesSame w x
-    → (bytes : Option (List ℕ)) → IfSome bytes (λ b. FitsSoFar s w b)
-    → IfSome bytes (λ b. FitsSoFar (record s { coming = coming; ahead = n }) x b)
+pub moved-done : (s : Scanned) (coming : Option (Option Fact)) (n : ℕ) {w x : PartitionScan} →
+    LeavesSame w x → (bytes : Option (List ℕ)) → IfSome bytes (λ b. FitsSoFar s w b) → IfSome bytes
+    (λ b. FitsSoFar (record s { coming = coming; ahead = n }) x b)
 moved-done s coming n l None d = tt
 moved-done s coming n l (Some b) d = record {
   done = d.done;
@@ -73,20 +72,18 @@ scan-begun {o} {s} {next} {x} p =
     let k = step-kind p in
     let l = told-at o.walk (held_next next) Upcoming.BlockEnd k.0 in
     let b = block-next o.walk (held_next next) p.scan.place k.0 in
-    let a : symbols_left (walk_of x []) ≡ symbols_left (walk_of o.walk []) =
-    symbols-same x (after_block o.walk) k.2 ∙ begin-symbols o.walk l.0 b in
+    let a : symbols_left (walk_of x []) ≡ symbols_left (walk_of o.walk []) = symbols-same x
+    (after_block o.walk) k.2 ∙ begin-symbols o.walk l.0 b in
     let r : x.run ≡ o.walk.run = ap (λ (y : PartitionScan). y.run) k.2 in
     record {
       key_is = q.key_is;
       info_is = q.info_is;
       begins = q.begins;
-      walks = λ more d n h.
-          let w = turns-at p more d n h in
-          record {
-            walk = w.0.walk;
-            gaps_are =
-                (q.walks more d n h).gaps_are ∙ ap (λ ws. s.given ++ runs ws) (sym w.0.left_is);
-          };
+      walks = λ more d n h. let w = turns-at p more d n h in record {
+        walk = w.0.walk;
+        gaps_are = (q.walks more d n h).gaps_are ∙ ap (λ ws. s.given ++ runs ws)
+            (sym w.0.left_is);
+      };
       done = moved-done (announced s next) _ _ (record { symbols = a; run = r }) s.bytes q.done;
       counts = q.counts;
       ahead_is = q.ahead_is ∙ (λ i. length (sym a i) + one_run (sym r i));
@@ -104,28 +101,23 @@ abbrev pub behind-gap : Scanned → Next → Gap → PartitionScan → Scanned
 behind-gap s next g x = record s {
   given = s.given ++ g ∷ [];
   bytes = None;
-  coming = Some (coming_fact s.key next);
+  coming = Some
+      (coming_fact s.key next);
   ahead = length (symbols_left (walk_of x [])) + one_run x.run;
 }
 
-first-gap : {o : ScanState} {s : Scanned} {next : Next} {g : Gap} {x : PartitionScan}
-    → Step o s next (Some (Turn.Gap g)) x
-    → (bytes : Option (List ℕ)) → IfSome bytes (λ b. FitsSoFar (announced s next) o.walk b)
-    → IfSome bytes (λ b. (F : List Fact) → Follows s next F
-    → IsNotWhole F s.key (symbol_id g.sbn g.first))
+first-gap : {o : ScanState} {s : Scanned} {next : Next} {g : Gap} {x : PartitionScan} → Step o s
+    next (Some (Turn.Gap g)) x → (bytes : Option (List ℕ)) → IfSome bytes
+    (λ b. FitsSoFar (announced s next) o.walk b) → IfSome bytes
+    (λ b. (F : List Fact) → Follows s next F → IsNotWhole F s.key (symbol_id g.sbn g.first))
 first-gap p None d = tt
-first-gap {o} {s} {next} {g} {x} p (Some b) d = λ F f.
-    let turned =
-    turns-at p (shown s.key f.rest) (ordered-all p.scans f) (shown-known s.key f.rest)
-    (coming-all p.scans f) in
-    not-whole-all p.scans f g (gaps_left (walk_of x (shown s.key f.rest))) d.no_gap turned.first
+first-gap {o} {s} {next} {g} {x} p (Some b) d = λ F f. let turned = turns-at p (shown s.key f.rest)
+    (ordered-all p.scans f) (shown-known s.key f.rest) (coming-all p.scans f) in not-whole-all
+    p.scans f g (gaps_left (walk_of x (shown s.key f.rest))) d.no_gap turned.first
 
-pub gap-given : {o : ScanState} {s : Scanned} {next : Next} {g : Gap} {x : PartitionScan}
-    → Step o s next (Some (Turn.Gap g)) x → (c : Counted) → Adds g o.wanted c
-    → GaveGap s next g (behind-gap s next g x) × Scans (record o {
-      walk = x;
-      wanted = c;
-    }) (behind-gap s next g x)
+pub gap-given : {o : ScanState} {s : Scanned} {next : Next} {g : Gap} {x : PartitionScan} → Step o s
+    next (Some (Turn.Gap g)) x → (c : Counted) → Adds g o.wanted c → GaveGap s next g
+    (behind-gap s next g x) × Scans (record o { walk = x; wanted = c }) (behind-gap s next g x)
 gap-given {o} {s} {next} {g} {x} p c a = (
   record { now = refl; fewer = fewer; first = first-gap p s.bytes q.done },
   record {

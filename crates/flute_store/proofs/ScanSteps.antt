@@ -28,16 +28,14 @@ use Rattle.flute_store.specs.declared.partition_scan.Upcoming.TheVariants as Upc
 -- ---- the end
 
 values-shown : (F : List Fact) (key : Key) (es more : List Entry) (xs : List SymbolId) → IsRising F
-    → shown key F ≡ es ++ more
-    → ((id : SymbolId) → Contains xs id
-    → (c : Cell (List ℕ)) × (value_at symbol_id_cmp es id ≡ Some c))
-    → held_bytes es xs ≡ flat_map (λ id. value_bytes (fact_at F (symbol_address key id))) xs
+    → shown key F ≡ es ++ more → ((id : SymbolId) → Contains xs id → (c : Cell (List ℕ)) ×
+    (value_at symbol_id_cmp es id ≡ Some c)) → held_bytes es xs ≡ flat_map
+    (λ id. value_bytes (fact_at F (symbol_address key id))) xs
 unfolding held_bytes
 values-shown F key es more xs r e h =
-    let told =
-    λ (id : SymbolId). sym (ap value_bytes (shown-at key id F r)
-    ∙ found-of key id (value_at symbol_id_cmp (shown key F) id)) in
-    sym (held-same es more xs h) ∙ rw (← e) (λ i. flat_map (λ id. told id i) xs)
+    let told = λ (id : SymbolId). sym (ap value_bytes (shown-at key id F r) ∙ found-of key id
+    (value_at symbol_id_cmp (shown key F) id)) in sym (held-same es more xs h) ∙ rw (← e)
+    (λ i. flat_map (λ id. told id i) xs)
 
 -- the bytes are a prefix of the object
 pub first-part : {s : Scanned} {w : PartitionScan} {F before rest : List Fact} {bytes : List ℕ}
@@ -49,44 +47,35 @@ first-part {s} {w} {F} {before} {rest} d m =
       first = d.done;
       others = symbols_left (walk_of w []);
       all = d.all;
-      held = λ id c.
-          let h = d.held id c in
-          record {
-            bytes = h.0;
-            value =
-                shown-at s.key id F r
-                ∙ ap (symbol_fact s.key id)
-                (ap (λ es. value_at symbol_id_cmp es id) a
-                ∙ value-more (shown s.key s.facts) (shown s.key rest) id (One h.0) h.1);
-            fitting = h.2;
-          };
-      values =
-          d.values
-          ∙ values-shown F s.key (shown s.key s.facts) (shown s.key rest) d.done r a
+      held = λ id c. let h = d.held id c in record {
+        bytes = h.0;
+        value = shown-at s.key id F r ∙ ap (symbol_fact s.key id) (ap
+            (λ es. value_at symbol_id_cmp es id) a ∙ value-more (shown s.key s.facts)
+            (shown s.key rest) id (One h.0) h.1);
+        fitting = h.2;
+      };
+      values = d.values ∙ values-shown F s.key (shown s.key s.facts) (shown s.key rest) d.done r a
           (λ id c. let h = d.held id c in (One h.0, h.1));
     }
 
 abbrev pub behind-end : Scanned → PartitionScan → Scanned
-behind-end s x = record s {
-  coming = Some None;
-  ahead = length (symbols_left (walk_of x [])) + one_run x.run;
-}
+behind-end s x = record s
+    { coming = Some None; ahead = length (symbols_left (walk_of x [])) + one_run x.run }
 
 -- after the last turn the bytes are those of the whole object
 whole-bytes : {s : Scanned} (w : PartitionScan) {F before rest : List Fact}
-    (bytes : Option (List ℕ)) → IfSome bytes (λ b. FitsSoFar s w b) → Among s F before rest
-    → symbols_left (walk_of w []) ≡ [] → gaps F s.key s.info ≡ s.given
-    → IfSome bytes (λ b. Whole F s.key s.info
-    × (object F s.key s.info ≡ take s.info.transfer_length b))
+    (bytes : Option (List ℕ)) → IfSome bytes (λ b. FitsSoFar s w b) → Among s F before rest →
+    symbols_left (walk_of w []) ≡ [] → gaps F s.key s.info ≡ s.given → IfSome bytes
+    (λ b. Whole F s.key s.info × (object F s.key s.info ≡ take s.info.transfer_length b))
 unfolding object first-part
 whole-bytes w None d a l g = tt
 whole-bytes {s} w {F} (Some bytes) d a l g =
     let p = first-part d a in (
       gapless-whole F s.key s.info (information-at a) (g ∙ d.no_gap),
-      ap (λ xs. take s.info.transfer_length
-          (flat_map (λ id. value_bytes (fact_at F (symbol_address s.key id))) xs))
-          (d.all ∙ ap (λ xs. d.done ++ xs) l ∙ append-nil d.done)
-          ∙ ap (take s.info.transfer_length) (sym p.values),
+      ap (λ xs. take
+          s.info.transfer_length (flat_map (λ id. value_bytes (fact_at F (symbol_address s.key id))) xs))
+          (d.all ∙ ap (λ xs. d.done ++ xs) l ∙ append-nil d.done) ∙ ap (take s.info.transfer_length)
+          (sym p.values),
     )
 
 -- after the last turn all gaps were given, and the counts are those of the gaps
@@ -98,9 +87,8 @@ end-given {o} {s} {x} p =
     let l = told-at o.walk None Upcoming.End k.0 in
     let same : (more : List Entry) → gaps_left (walk_of x more) ≡ gaps_left (walk_of o.walk more) =
     λ more. ap (λ (y : PartitionScan). gaps_left (walk_of y more)) k.2 in
-    let none : (more : List Entry) → gaps_left (walk_of o.walk more) ≡ [] =
-    λ more. gaps-end (walk_of o.walk more) (sym (upcoming-end (walk_of o.walk more) l.0 l.1))
-    k.1 in (
+    let none : (more : List Entry) → gaps_left (walk_of o.walk more) ≡ [] = λ more. gaps-end
+    (walk_of o.walk more) (sym (upcoming-end (walk_of o.walk more) l.0 l.1)) k.1 in (
       (
         refl,
         λ F f.
@@ -111,30 +99,23 @@ end-given {o} {s} {x} p =
               rising = f.rising;
               come = f.come;
             } in
-            let a : gaps F s.key s.info ≡ s.given =
-            gaps-all q g ∙ ap (λ gs. s.given ++ gs) (none (shown s.key f.rest))
-            ∙ append-nil s.given in
-            record {
+            let a : gaps F s.key s.info ≡ s.given = gaps-all q g ∙ ap (λ gs. s.given ++ gs)
+            (none (shown s.key f.rest)) ∙ append-nil s.given in record {
               information = information-all q g;
               gaps_are = a;
-              whole = whole-bytes o.walk s.bytes q.done (record {
-                symbols = q.begins.0;
-                begins = q.begins.1;
-                all = f.all;
-                rising = f.rising;
-              }) (end-symbols o.walk l.0 l.1) a;
+              whole = whole-bytes o.walk s.bytes q.done
+                  (record { symbols = q.begins.0; begins = q.begins.1; all = f.all; rising = f.rising })
+                  (end-symbols o.walk l.0 l.1) a;
             },
       ),
       record {
         key_is = q.key_is;
         info_is = q.info_is;
         begins = q.begins;
-        walks = λ more d n h.
-            let w = q.walks more d n h in
-            record {
-              walk = subst (λ (y : PartitionScan). IsWalk (walk_of y more)) (sym k.2) w.walk;
-              gaps_are = w.gaps_are ∙ ap (λ gs. s.given ++ gs) (sym (same more));
-            };
+        walks = λ more d n h. let w = q.walks more d n h in record {
+          walk = subst (λ (y : PartitionScan). IsWalk (walk_of y more)) (sym k.2) w.walk;
+          gaps_are = w.gaps_are ∙ ap (λ gs. s.given ++ gs) (sym (same more));
+        };
         done = moved-done (announced s None) _ _ (record {
           symbols = symbols-same x o.walk k.2;
           run = ap (λ (y : PartitionScan). y.run) k.2;
@@ -153,7 +134,8 @@ pub can-add : (o : ScanState) (h : Option (SymbolId × Option ℕ)) (t : Option 
     (x : PartitionScan) → IsScan o → (t, x) ≡ turn_of o.walk h → CanAdd t o.wanted
 can-add o h (Some (Turn.Gap g)) x sc e = (
   (within-gap h o.wanted sc.place sc.within g x (kind o.walk h (Some (Turn.Gap g)) x e)).0,
-  small h o.wanted sc.place sc.within,
+  small
+      h o.wanted sc.place sc.within,
 )
 can-add o h t x sc e = tt
 
@@ -174,12 +156,11 @@ begins-blocks {o} h {t} {x} c v e p =
     rw (← v) (record { partition_is = m.0; onward = m.1; within = p.begun })
 
 pub begins-more : (a b c : ScanState) → BeginsBlocks a b → BeginsBlocks b c → BeginsBlocks a c
-begins-more a b c h k =
-    record {
-      partition_is = k.partition_is ∙ h.partition_is;
-      onward = omega arith;
-      within = k.within;
-    }
+begins-more a b c h k = record {
+  partition_is = k.partition_is ∙ h.partition_is;
+  onward = omega arith;
+  within = k.within;
+}
 
 -- after a step a scan is still in order: its place, its counts and its partition
 pub step-scan : {o : ScanState} (h : Option (SymbolId × Option ℕ)) (t : Option Turn)
@@ -201,8 +182,7 @@ step-scan {o} h t {x} c sc e pl a =
 
 ordered-next : (s : Scanned) (n : SymbolId × Option (Bor (List ℕ))) → CanFollow s (Some n)
     → IsOrdered symbol_id_cmp (shown s.key s.facts ++ (n.0, cell_of n.1) ∷ [])
-ordered-next s n f =
-    subst (IsOrdered symbol_id_cmp) (shown-next s n)
+ordered-next s n f = subst (IsOrdered symbol_id_cmp) (shown-next s n)
     (shown-ordered s.key (s.facts ++ next_fact s.key n ∷ []) f)
 
 -- what was counted is the same where no gap was given
@@ -238,7 +218,8 @@ stepped {o} {s} (Some n) (Some Turn.Wanted) {x} p c f a =
     let r = symbol-passed o s n x None p.scans (keeps-at p tt (λ more. refl)) tt in (
       behind-symbol s n None x,
       (r.0, first-wanted p s.bytes p.scans.done),
-      same-counts o (behind-symbol s n None x) x c a r.1,
+      same-counts o
+          (behind-symbol s n None x) x c a r.1,
     )
 stepped {o} None (Some Turn.Passed) p c f a =
     absurd (let t = told-at o.walk None Upcoming.Passed (step-kind p).0 in none-some t.0 t.1)

@@ -1,4 +1,5 @@
 -- What a scan has passed and given after a turn that passes a symbol (specs/Scan).
+use Rattle.std.proofs.Common.{rules}
 use Rattle.flute_store.proofs.ScanFacts.{ordered-all, coming-all, walks-all, not-whole-all}
 use Rattle.flute_store.proofs.ScanGaps.{Step, step-kind, turns-at, symbols-same}
 use Rattle.std.proofs.Common.{◌≡◌, ℕ, ◌+◌, ◌<◌, true, cond, List, [], ◌∷◌, ◌++◌, length, Option}
@@ -32,23 +33,17 @@ behind-symbol s n bytes x = record s {
   ahead = length (symbols_left (walk_of x [])) + one_run x.run;
 }
 
-pub shown-next : (s : Scanned) (n : SymbolId × Option (Bor (List ℕ)))
-    → shown s.key (s.facts ++ next_fact s.key n ∷ [])
-    ≡ shown s.key s.facts ++ (n.0, cell_of n.1) ∷ []
+pub shown-next : (s : Scanned) (n : SymbolId × Option (Bor (List ℕ))) → shown s.key
+    (s.facts ++ next_fact s.key n ∷ []) ≡ shown s.key s.facts ++ (n.0, cell_of n.1) ∷ []
 unfolding shown
-shown-next s n =
-    shown-append s.key s.facts (next_fact s.key n ∷ [])
-    ∙ ap (λ es. shown s.key s.facts ++ es)
-    (append-nil (shown_by s.key (next_fact s.key n)) ∙ shown-told s.key n)
+shown-next s n = search (rules, shown-append, shown-told)
 
 -- whatever follows, what is left is the same after the symbol
 abbrev pub KeepsAt : ScanState → Scanned → SymbolId × Option (Bor (List ℕ)) → PartitionScan → Type 0
-KeepsAt o s n x =
-    (more : List Entry)
-    → IsOrdered symbol_id_cmp (shown s.key s.facts ++ ((n.0, cell_of n.1) ∷ more))
-    → EachValue IsKnown more
-    → IsWalk (walk_of x more)
-    × (gaps_left (walk_of x more) ≡ gaps_left (walk_of o.walk ((n.0, cell_of n.1) ∷ more)))
+KeepsAt o s n x = (more : List Entry) → IsOrdered symbol_id_cmp
+    (shown s.key s.facts ++ ((n.0, cell_of n.1) ∷ more)) → EachValue IsKnown more → IsWalk
+    (walk_of x more) ×
+    (gaps_left (walk_of x more) ≡ gaps_left (walk_of o.walk ((n.0, cell_of n.1) ∷ more)))
 
 pub next-comes : (s : Scanned) (n : SymbolId × Option (Bor (List ℕ))) (more : List Entry)
     → ComesAs s.key (coming_fact s.key (Some n)) ((n.0, cell_of n.1) ∷ more)
@@ -56,9 +51,8 @@ next-comes s n more = (more, ap (λ es. es ++ more) (sym (shown-told s.key n)))
 
 pub symbol-passed : (o : ScanState) (s : Scanned) (n : SymbolId × Option (Bor (List ℕ)))
     (x : PartitionScan) (bytes : Option (List ℕ)) → Scans o (announced s (Some n)) → KeepsAt o s n x
-    → IfSome bytes (λ b. FitsSoFar (behind-symbol s n bytes x) x b)
-    → PassedNext s n bytes (behind-symbol s n bytes x)
-    × Scans (record o { walk = x }) (behind-symbol s n bytes x)
+    → IfSome bytes (λ b. FitsSoFar (behind-symbol s n bytes x) x b) → PassedNext s n bytes
+    (behind-symbol s n bytes x) × Scans (record o { walk = x }) (behind-symbol s n bytes x)
 symbol-passed o s n x bytes q k d = (
   record { now = refl },
   record {
@@ -96,7 +90,8 @@ keeps-at {o} {s} {n} {t} {x} p st h more r m =
     let turned = turns-at p es r (known-cell n.1, m) (next-comes s n more) in
     let k = step-keeps (walk_of o.walk es) t (walk_of x (held_after t es)) st turned in (
       subst (λ es. IsWalk (walk_of x es)) (h more) k.walk,
-      ap (λ es. gaps_left (walk_of x es)) (sym (h more)) ∙ ap runs k.left_is,
+      ap (λ es. gaps_left (walk_of x es))
+          (sym (h more)) ∙ ap runs k.left_is,
     )
 
 -- held symbols after the last block
@@ -107,25 +102,25 @@ keeps-end {o} {s} {n} {x} p more r m =
     let k = step-kind p in
     let l = told-at o.walk (held_next (Some n)) Upcoming.End k.0 in
     let w = (p.scans.walks es r (known-cell n.1, m) (next-comes s n more)).walk in
-    let g : (held : List Entry) → gaps_left (walk_of o.walk held) ≡ [] =
-    λ held. gaps-end (walk_of o.walk held) (sym (upcoming-end (walk_of o.walk held) l.0 l.1))
-    k.1 in
-    let v : IsWalk (walk_of o.walk more) =
-    assumption (
+    let g : (held : List Entry) → gaps_left (walk_of o.walk held) ≡ [] = λ held. gaps-end
+    (walk_of o.walk held) (sym (upcoming-end (walk_of o.walk held) l.0 l.1)) k.1 in
+    let v : IsWalk (walk_of o.walk more) = assumption (
       w,
       m,
-      sorted_tail symbol_id_cmp n.0 (keys_of more) w.ordered,
+      sorted_tail symbol_id_cmp n.0
+          (keys_of more) w.ordered,
       λ (z : 0 < o.walk.esi). (w.behind z).1,
     ) in (
-      subst (λ (y : PartitionScan). IsWalk (walk_of y more)) (sym k.2) v,
-      ap (λ (y : PartitionScan). gaps_left (walk_of y more)) k.2 ∙ g more ∙ sym (g es),
+      subst
+          (λ (y : PartitionScan). IsWalk (walk_of y more)) (sym k.2) v,
+      ap
+          (λ (y : PartitionScan). gaps_left (walk_of y more)) k.2 ∙ g more ∙ sym (g es),
     )
 
 -- the bytes of held symbols stay the same with more entries after them
-pub held-same : (es more : List Entry) (xs : List SymbolId)
-    → ((id : SymbolId) → Contains xs id
-    → (c : Cell (List ℕ)) × (value_at symbol_id_cmp es id ≡ Some c))
-    → held_bytes (es ++ more) xs ≡ held_bytes es xs
+pub held-same : (es more : List Entry) (xs : List SymbolId) → ((id : SymbolId) → Contains xs id →
+    (c : Cell (List ℕ)) × (value_at symbol_id_cmp es id ≡ Some c)) → held_bytes (es ++ more) xs ≡
+    held_bytes es xs
 unfolding held_bytes
 held-same es more [] h = refl
 held-same es more (x ∷ xs) h =
@@ -136,12 +131,12 @@ held-same es more (x ∷ xs) h =
 bytes-both : (es : List Entry) (xs ys : List SymbolId)
     → held_bytes es (xs ++ ys) ≡ held_bytes es xs ++ held_bytes es ys
 unfolding held_bytes
-bytes-both es xs ys = flat_map-append (λ id. found_bytes (value_at symbol_id_cmp es id)) xs ys
+bytes-both es xs ys = search (rules, flat_map-append, value_at)
 
 one-value : (es : List Entry) (id : SymbolId) (b : List ℕ)
     → value_at symbol_id_cmp es id ≡ Some (One b) → held_bytes es (id ∷ []) ≡ b
 unfolding held_bytes
-one-value es id b h = ap (λ f. found_bytes f ++ []) h ∙ append-nil b
+one-value es id b h = search rules
 
 -- the symbol is not of the partition, and is passed
 pub passed-done : (s : Scanned) (n : SymbolId × Option (Bor (List ℕ))) (next : Next)
@@ -155,18 +150,14 @@ passed-done s n next (Some b) said {w} {x} e d =
     record {
       done = d.done;
       all = d.all ∙ ap (λ xs. d.done ++ xs) (sym (symbols-same x w e));
-      held =
-          λ id c. let h = d.held id c in (
-            h.0,
-            ap (λ es. value_at symbol_id_cmp es id) p
-                ∙ value-more (shown s.key s.facts) more id (One h.0) h.1,
-            h.2,
-          );
-      values =
-          d.values
-          ∙ sym (ap (λ es. held_bytes es d.done) p
-          ∙ held-same (shown s.key s.facts) more d.done
-          (λ id c. let h = d.held id c in (One h.0, h.1)));
+      held = λ id c. let h = d.held id c in (
+        h.0,
+        ap (λ es. value_at symbol_id_cmp es id) p ∙
+            value-more (shown s.key s.facts) more id (One h.0) h.1,
+        h.2,
+      );
+      values = d.values ∙ sym (ap (λ es. held_bytes es d.done) p ∙ held-same (shown s.key s.facts)
+          more d.done (λ id c. let h = d.held id c in (One h.0, h.1)));
       no_run = ap (λ (y : PartitionScan). y.run) e ∙ d.no_run;
       no_gap = d.no_gap;
     }
@@ -175,22 +166,13 @@ passed-done s n next (Some b) said {w} {x} e d =
 length-is : (n : SymbolId × Option (Bor (List ℕ))) (here : SymbolId) (k : ℕ)
     → held_next (Some n) ≡ Some (here, Some k)
     → (n.0 ≡ here) × (cell_of n.1 ≡ One (value_of n)) × (length (value_of n) ≡ k)
-length-is (id, None) here k e =
-    absurd (none-some k (ap (λ (p : SymbolId × Option ℕ). p.1)
-    (same_Some (id, None) (here, Some k) e)))
-length-is (id, Some b) here k e =
-    let p = same_Some (id, Some (length b.now)) (here, Some k) e in (
-      ap (λ (p : SymbolId × Option ℕ). p.0) p,
-      refl,
-      same_Some (length b.now) k (ap (λ (p : SymbolId × Option ℕ). p.1) p),
-    )
+length-is x0 x1 x2 x3 = search rules
 
 pub fitting-done : {o : ScanState} {s : Scanned} {n : SymbolId × Option (Bor (List ℕ))}
-    {x : PartitionScan} → Step o s (Some n) (Some Turn.Fitting) x → (bytes said : Option (List ℕ))
-    → IsOrdered symbol_id_cmp (shown s.key s.facts ++ (n.0, cell_of n.1) ∷ [])
-    → IfSome bytes (λ b. FitsSoFar (announced s (Some n)) o.walk b)
-    → IfSome (option_map (λ b. b ++ value_of n) bytes)
-    (λ b. FitsSoFar (behind-symbol s n said x) x b)
+    {x : PartitionScan} → Step o s (Some n) (Some Turn.Fitting) x → (bytes said : Option (List ℕ)) →
+    IsOrdered symbol_id_cmp (shown s.key s.facts ++ (n.0, cell_of n.1) ∷ []) → IfSome bytes
+    (λ b. FitsSoFar (announced s (Some n)) o.walk b) → IfSome
+    (option_map (λ b. b ++ value_of n) bytes) (λ b. FitsSoFar (behind-symbol s n said x) x b)
 fitting-done p None said r d = tt
 fitting-done {o} {s} {n} {x} p (Some b) said r d =
     let k = step-kind p in
@@ -201,50 +183,43 @@ fitting-done {o} {s} {n} {x} p (Some b) said r d =
     let f = shown-next s n in
     let more : List Entry = (n.0, cell_of n.1) ∷ [] in
     let es = shown s.key (s.facts ++ next_fact s.key n ∷ []) in
-    let v : value_at symbol_id_cmp es here ≡ Some (One (value_of n)) =
-    ap (λ es. value_at symbol_id_cmp es here) f
-    ∙ ap (value_at symbol_id_cmp (shown s.key s.facts ++ more)) (sym h.0)
-    ∙ value-last (shown s.key s.facts) (n.0, cell_of n.1) r ∙ ap Some h.1 in
+    let v : value_at symbol_id_cmp es here ≡ Some (One (value_of n)) = ap
+    (λ es. value_at symbol_id_cmp es here) f ∙ ap
+    (value_at symbol_id_cmp (shown s.key s.facts ++ more)) (sym h.0) ∙ value-last
+    (shown s.key s.facts) (n.0, cell_of n.1) r ∙ ap Some h.1 in
     let fit : fits s.info here (length (value_of n)) ≡ true =
     (λ j. fits ((p.scans.info_is ∙ sym p.scan.partition) j) here (h.2 j)) ∙ t.1.2 in
-    let old : held_bytes es d.done ≡ held_bytes (shown s.key s.facts) d.done =
-    ap (λ es. held_bytes es d.done) f
-    ∙ held-same (shown s.key s.facts) more d.done
-    (λ id c. let h = d.held id c in (One h.0, h.1)) in
-    record {
+    let old : held_bytes es d.done ≡ held_bytes (shown s.key s.facts) d.done = ap
+    (λ es. held_bytes es d.done) f ∙ held-same (shown s.key s.facts) more d.done
+    (λ id c. let h = d.held id c in (One h.0, h.1)) in record {
       done = d.done ++ here ∷ [];
-      all =
-          d.all
-          ∙ ap (λ xs. d.done ++ xs)
-          (take-symbols o.walk l
-          ∙ ap (λ xs. here ∷ xs) (sym
-          (symbols-same x (record o.walk { esi = o.walk.esi + 1 }) k.2)))
-          ∙ sym (append_assoc d.done (here ∷ []) (symbols_left (walk_of x [])));
+      all = d.all ∙ ap (λ xs. d.done ++ xs) (take-symbols o.walk l ∙ ap (λ xs. here ∷ xs)
+          (sym (symbols-same x (record o.walk { esi = o.walk.esi + 1 }) k.2))) ∙ sym
+          (append_assoc d.done (here ∷ []) (symbols_left (walk_of x [])));
       held = λ id c. elim (Contains-append_cases d.done (here ∷ []) id c) [
         | inl a ↦ let g = d.held id a in (
           g.0,
-          ap (λ es. value_at symbol_id_cmp es id) f
-              ∙ value-more (shown s.key s.facts) more id (One g.0) g.1,
+          ap (λ es. value_at symbol_id_cmp es id) f ∙
+              value-more (shown s.key s.facts) more id (One g.0) g.1,
           g.2,
         )
         | inr a ↦ let z = one_is here id a in (
           value_of n,
-          subst (λ id. value_at symbol_id_cmp es id ≡ Some (One (value_of n))) z v,
-          subst (λ id. fits s.info id (length (value_of n)) ≡ true) z fit,
+          subst
+              (λ id. value_at symbol_id_cmp es id ≡ Some (One (value_of n))) z v,
+          subst
+              (λ id. fits s.info id (length (value_of n)) ≡ true) z fit,
         )
       ];
-      values =
-          (λ j. d.values j ++ value_of n)
-          ∙ sym (bytes-both es d.done (here ∷ [])
-          ∙ (λ j. old j ++ one-value es here (value_of n) v j));
+      values = (λ j. d.values j ++ value_of n) ∙ sym
+          (bytes-both es d.done (here ∷ []) ∙ (λ j. old j ++ one-value es here (value_of n) v j));
       no_run = ap (λ (y : PartitionScan). y.run) k.2 ∙ k.1;
       no_gap = d.no_gap;
     }
 
 -- the first of some wanted symbols begins their first gap
-runs-head : (id : SymbolId) (r : Reason) (ws : List (SymbolId × Reason))
-    → (g : Gap) × (gs : List Gap) × (runs ((id, r) ∷ ws) ≡ g ∷ gs) × (g.sbn ≡ id.sbn)
-    × (g.first ≡ id.esi)
+runs-head : (id : SymbolId) (r : Reason) (ws : List (SymbolId × Reason)) → (g : Gap) ×
+    (gs : List Gap) × (runs ((id, r) ∷ ws) ≡ g ∷ gs) × (g.sbn ≡ id.sbn) × (g.first ≡ id.esi)
 unfolding runs
 runs-head id r ws = by_gaps (runs ws)
   where

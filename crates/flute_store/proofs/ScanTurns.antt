@@ -43,9 +43,8 @@ shows-next key (Some (id, None)) more h =
 
 pub length-left : (w : Walk)
     → length (symbols_left w) ≡ (w.size - w.esi) + length (blocks_from w.partition w.begun)
-length-left w =
-    length-append (block_from w.sbn w.esi w.size) (blocks_from w.partition w.begun)
-    ∙ ap (λ k. k + length (blocks_from w.partition w.begun))
+length-left w = length-append (block_from w.sbn w.esi w.size) (blocks_from w.partition w.begun) ∙ ap
+    (λ k. k + length (blocks_from w.partition w.begun))
     (length-map-range_with_len (symbol_id w.sbn) w.esi (w.size - w.esi))
 
 -- none at the end
@@ -59,9 +58,8 @@ pub begin-symbols : (w : PartitionScan) → w.esi ≡ w.size → w.begun < lengt
 begin-symbols w e l = rw (e, block_from-end w.sbn w.size, blocks_from-next w.partition w.begun l)
 
 -- the next one is passed
-pub take-symbols : (w : PartitionScan) → w.esi < w.size
-    → symbols_left (walk_of w [])
-    ≡ symbol_id w.sbn w.esi ∷ symbols_left (walk_of (record w { esi = w.esi + 1 }) [])
+pub take-symbols : (w : PartitionScan) → w.esi < w.size → symbols_left (walk_of w []) ≡ symbol_id
+    w.sbn w.esi ∷ symbols_left (walk_of (record w { esi = w.esi + 1 }) [])
 take-symbols w l =
     ap (λ xs. xs ++ blocks_from w.partition w.begun) (block_from-first w.sbn w.esi w.size l)
 
@@ -78,13 +76,9 @@ value-last es e r = value_there symbol_id_total es e [] r
 
 -- ---- the start
 
-pub new-scan : (key : Key) (info : Information) (w : PartitionScan) (c : Counted)
-    → ((held : List Entry) → walk_of w held ≡ at_start info held) → IsCount c [] → Scans (record {
-      key = key;
-      info = info;
-      walk = w;
-      wanted = c;
-    }) (at_begin key info)
+pub new-scan : (key : Key) (info : Information) (w : PartitionScan) (c : Counted) →
+    ((held : List Entry) → walk_of w held ≡ at_start info held) → IsCount c [] → Scans
+    (record { key = key; info = info; walk = w; wanted = c }) (at_begin key info)
 unfolding shown held_bytes
 new-scan key info w c e i =
     let start : symbols_left (walk_of w []) ≡ ids info =
@@ -117,6 +111,5 @@ new-within w c i r = omega (arith, ap run_length r, how-nil)
 
 pub counts-wants : (o : ScanState) (s : Scanned) (F : List Fact) → Scans o s → GaveAll s F
     → IsCount o.wanted (wants F s.key s.info)
-counts-wants o s F q g =
-    subst (IsCount o.wanted) (ap (flat_map listed) (sym g.gaps_are)
-    ∙ runs-listed (wants F s.key s.info)) q.counts
+counts-wants o s F q g = subst (IsCount o.wanted)
+    (ap (flat_map listed) (sym g.gaps_are) ∙ runs-listed (wants F s.key s.info)) q.counts

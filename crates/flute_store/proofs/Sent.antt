@@ -28,15 +28,13 @@ keeps : (p : Fact → Bool) (F : List Fact) (f : Fact) → p f ≡ true → Memb
     → Member f (filter p F)
 unfolding Member
 keeps p [] f passed m = absurd m
-keeps p (g ∷ F) f passed (inl e) =
-    subst (λ b. Member f (cond b (g ∷ filter p F) (filter p F))) (sym (ap p (sym e) ∙ passed))
-    (inl e)
+keeps p (g ∷ F) f passed (inl e) = subst (λ b. Member f (cond b (g ∷ filter p F) (filter p F)))
+    (sym (ap p (sym e) ∙ passed)) (inl e)
 keeps p (g ∷ F) f passed (inr m) = elim (cases_Bool (p g)) [
-  | inl here ↦
-      subst (λ b. Member f (cond b (g ∷ filter p F) (filter p F))) (sym here)
+  | inl here ↦ subst (λ b. Member f (cond b (g ∷ filter p F) (filter p F))) (sym here)
       (inr (keeps p F f passed m))
-  | inr gone ↦
-      subst (λ b. Member f (cond b (g ∷ filter p F) (filter p F))) (sym gone) (keeps p F f passed m)
+  | inr gone ↦ subst (λ b. Member f (cond b (g ∷ filter p F) (filter p F))) (sym gone)
+      (keeps p F f passed m)
 ]
 
 -- what is known of the object is what was sent
@@ -50,12 +48,9 @@ holds : (F : List Fact) (key : Key) (info : Information) (content : List ℕ) �
 holds F key info content v same =
     let test : Fact → Bool = λ f. same_key (address f).key key in
     record {
-      told =
-          λ f sent. Contains-from F f
-          (kept test F f (Member-from (filter test F) f
-          ((same f).1 ((told-iff key info content f v).1 sent))));
-      only = λ f c at'.
-          let here : test f ≡ true = ap (λ k. same_key k key) at' ∙ key_itself key in
+      told = λ f sent. Contains-from F f (kept test F f
+          (Member-from (filter test F) f ((same f).1 ((told-iff key info content f v).1 sent))));
+      only = λ f c at'. let here : test f ≡ true = ap (λ k. same_key k key) at' ∙ key_itself key in
           (told-iff key info content f v).0
           ((same f).0 (Contains-from (filter test F) f (keeps test F f here (Member-from F f c))));
     }
@@ -103,25 +98,20 @@ module _ (F : List Fact) (key : Key) (info : Information) (content : List ℕ)
   is_whole : IsValid info → length content ≡ info.transfer_length → Whole F key info
   is_whole v whole = record {
     information = info_there;
-    each = λ id c.
-        let s =
-        sent_as (symbols_of info content) id
-        (subst (λ xs. Contains xs id) (sym (cut-ids info content)) c) in
-        record {
+    each = λ id c. let s = sent_as (symbols_of info content) id
+        (subst (λ xs. Contains xs id) (sym (cut-ids info content)) c) in record {
           bytes = s.0.1;
-          value =
-              subst (λ (x : SymbolId). fact_at F (symbol_address key x) ≡ Some (Symbol key x s.0.1))
+          value = subst
+              (λ (x : SymbolId). fact_at F (symbol_address key x) ≡ Some (Symbol key x s.0.1))
               s.2 (symbol_there s.0 s.1);
-          fitting =
-              subst (λ (x : SymbolId). fits info x (length s.0.1) ≡ true) s.2
+          fitting = subst (λ (x : SymbolId). fits info x (length s.0.1) ≡ true) s.2
               (cut-fit info content s.0 v whole s.1);
         };
   }
 
-  agree : (ss : List (SymbolId × List ℕ))
-      → ((s : SymbolId × List ℕ) → Contains ss s
-      → fact_at F (symbol_address key s.0) ≡ Some (Symbol key s.0 s.1))
-      → flat_map (λ s. value_bytes (fact_at F (symbol_address key s.0))) ss ≡ flat_map (λ s. s.1) ss
+  agree : (ss : List (SymbolId × List ℕ)) → ((s : SymbolId × List ℕ) → Contains ss s → fact_at F
+      (symbol_address key s.0) ≡ Some (Symbol key s.0 s.1)) → flat_map
+      (λ s. value_bytes (fact_at F (symbol_address key s.0))) ss ≡ flat_map (λ s. s.1) ss
   agree [] each = refl
   agree (s ∷ ss) each =
       let one = ap value_bytes (each s (0, omega arith, refl)) in
@@ -132,24 +122,19 @@ module _ (F : List Fact) (key : Key) (info : Information) (content : List ℕ)
   unfolding object
   is_object v whole =
       let by_id = λ (id : SymbolId). value_bytes (fact_at F (symbol_address key id)) in
-      let joined : flat_map by_id (ids info) ≡ content =
-      ap (flat_map by_id) (sym (cut-ids info content))
-      ∙ flat_map-map by_id (λ s. s.0) (symbols_of info content)
-      ∙ agree (symbols_of info content) symbol_there
-      ∙ cut-joined info content v whole
-      in
-      ap (take info.transfer_length) joined
-      ∙ take_all info.transfer_length content (omega (arith, whole))
+      let joined : flat_map by_id (ids info) ≡ content = ap (flat_map by_id)
+      (sym (cut-ids info content)) ∙ flat_map-map by_id (λ s. s.0) (symbols_of info content) ∙ agree
+      (symbols_of info content) symbol_there ∙ cut-joined info content v whole in ap
+      (take info.transfer_length) joined ∙ take_all info.transfer_length content
+      (omega (arith, whole))
 
-pub datagrams_give_the_object : (F : List Fact) (key : Key) {info : Information}
-    (content : List ℕ)
-    (datagrams : List (List ℕ)) → IsValid info → length content ≡ info.transfer_length
-    → AllZip IsWritten datagrams (packets_of key info content)
-    → SameMembers (facts_at_key key F) (flat_map (facts key.session.sender) datagrams)
-    → Whole F key info × (object F key info ≡ content)
+pub datagrams_give_the_object : (F : List Fact) (key : Key) {info : Information} (content : List ℕ)
+    (datagrams : List (List ℕ)) → IsValid info → length content ≡ info.transfer_length → AllZip
+    IsWritten datagrams (packets_of key info content) → SameMembers (facts_at_key key F)
+    (flat_map (facts key.session.sender) datagrams) → Whole F key info ×
+    (object F key info ≡ content)
 datagrams_give_the_object F key {info = info} content datagrams v whole written same =
-    let sent : SameMembers (facts_at_key key F) (facts_sent key info content) =
-    subst (SameMembers (facts_at_key key F)) (facts_are_sent key info content datagrams written)
-    same in
+    let sent : SameMembers (facts_at_key key F) (facts_sent key info content) = subst
+    (SameMembers (facts_at_key key F)) (facts_are_sent key info content datagrams written) same in
     let h = holds F key info content v sent in
     (is_whole F key info content h v whole, is_object F key info content h v whole)

@@ -15,9 +15,8 @@ use Common.{fact_at-elsewhere, symbol_id_itself, symbol_fact, shown_by, shown}
 pub shown-append : (key : Key) (F G : List Fact) → shown key (F ++ G) ≡ shown key F ++ shown key G
 unfolding shown
 shown-append key [] G = refl
-shown-append key (f ∷ F) G =
-    ap (λ es. shown_by key f ++ es) (shown-append key F G)
-    ∙ sym (append_assoc (shown_by key f) (shown key F) (shown key G))
+shown-append key (f ∷ F) G = ap (λ es. shown_by key f ++ es) (shown-append key F G) ∙ sym
+    (append_assoc (shown_by key f) (shown key F) (shown key G))
 
 -- ---- what a fact shows
 
@@ -30,32 +29,25 @@ shown-if key k id c P n s = elim (cases_Bool (same_key k key)) [
   | inr t ↦ rw t (n (λ e. false≢true (sym t ∙ ap (λ k. same_key k key) e ∙ key_itself key)))
 ]
 
-shown-cases : (key : Key) (f : Fact) (P : List Entry → Type 0)
-    → (((id : SymbolId) → address f ≡ symbol_address key id → ⊥) → P [])
-    → ((id : SymbolId) (c : Cell (List ℕ)) → IsKnown c → address f ≡ symbol_address key id
-    → Some f ≡ symbol_fact key id (Some c)
-    → P ((id, c) ∷ []))
-    → P (shown_by key f)
+shown-cases : (key : Key) (f : Fact) (P : List Entry → Type 0) →
+    (((id : SymbolId) → address f ≡ symbol_address key id → ⊥) → P []) → ((id : SymbolId)
+    (c : Cell (List ℕ)) → IsKnown c → address f ≡ symbol_address key id → Some f ≡ symbol_fact key
+    id (Some c) → P ((id, c) ∷ [])) → P (shown_by key f)
 shown-cases key (Info k i) P n s = n (λ id. not_symbol k key id)
 shown-cases key (InfoConflict k) P n s = n (λ id. not_symbol k key id)
-shown-cases key (Symbol k id b) P n s =
-    shown-if key k id (One b) P (λ d. n (λ j e. d (ap (λ (a : Address). a.key) e)))
-    (λ e. s id (One b) (λ z. cc) (ap (λ k. symbol_address k id) e)
-    (ap (λ k. Some (Symbol k id b)) e))
-shown-cases key (SymbolConflict k id) P n s =
-    shown-if key k id Conflict P (λ d. n (λ j e. d (ap (λ (a : Address). a.key) e)))
-    (λ e. s id Conflict (λ z. cc) (ap (λ k. symbol_address k id) e)
-    (ap (λ k. Some (SymbolConflict k id)) e))
+shown-cases key (Symbol k id b) P n s = shown-if key k id (One b) P
+    (λ d. n (λ j e. d (ap (λ (a : Address). a.key) e))) (λ e. s id (One b) (λ z. cc)
+    (ap (λ k. symbol_address k id) e) (ap (λ k. Some (Symbol k id b)) e))
+shown-cases key (SymbolConflict k id) P n s = shown-if key k id Conflict P
+    (λ d. n (λ j e. d (ap (λ (a : Address). a.key) e))) (λ e. s id Conflict (λ z. cc)
+    (ap (λ k. symbol_address k id) e) (ap (λ k. Some (SymbolConflict k id)) e))
 
 pub shown-none : (key : Key) (F : List Fact) → AllByRecursion (λ f. (address f).key ≡ key → ⊥) F
     → shown key F ≡ []
 unfolding shown
 shown-none key [] n = refl
-shown-none key (f ∷ F) n =
-    ap (λ es. es ++ shown key F)
-    (shown-cases key f (λ es. es ≡ []) (λ _. refl)
-    (λ id c k e g. absurd (n.0 (ap (λ (a : Address). a.key) e))))
-    ∙ shown-none key F n.1
+shown-none key (f ∷ F) n = ap (λ es. es ++ shown key F) (shown-cases key f (λ es. es ≡ [])
+    (λ _. refl) (λ id c k e g. absurd (n.0 (ap (λ (a : Address). a.key) e)))) ∙ shown-none key F n.1
 
 -- ---- all that is shown is known, and in order
 
@@ -76,9 +68,8 @@ unfolding shown
 above-shown key id [] s = tt
 above-shown key id (f ∷ F) s =
     let rest = above-shown key id F s.1 in
-    shown-cases key f (λ es. Above id (keys_of (es ++ shown key F))) (λ _. rest)
-    (λ j c k e g.
-    let first = ap (λ o. ordering_then o (symbol_id_cmp id j)) (equal_keys key) in
+    shown-cases key f (λ es. Above id (keys_of (es ++ shown key F))) (λ _. rest) (λ j c k e g. let
+    first = ap (λ o. ordering_then o (symbol_id_cmp id j)) (equal_keys key) in
     (sym first ∙ ap (address_cmp (symbol_address key id)) (sym e) ∙ s.0, rest))
 
 pub shown-ordered : (key : Key) (F : List Fact) → IsRising F → IsOrdered symbol_id_cmp (shown key F)
@@ -91,9 +82,8 @@ shown-ordered key (f ∷ F) r =
 
 -- ---- and it is the value at the addresses
 
-pub shown-at : (key : Key) (id : SymbolId) (F : List Fact) → IsRising F
-    → fact_at F (symbol_address key id)
-    ≡ symbol_fact key id (value_at symbol_id_cmp (shown key F) id)
+pub shown-at : (key : Key) (id : SymbolId) (F : List Fact) → IsRising F → fact_at F
+    (symbol_address key id) ≡ symbol_fact key id (value_at symbol_id_cmp (shown key F) id)
 unfolding shown
 shown-at key id [] r = fact_at-nil (symbol_address key id)
 shown-at key id (f ∷ F) r =

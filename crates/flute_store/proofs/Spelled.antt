@@ -8,12 +8,10 @@ use Rattle.flute_store.proofs.Common.{IfSome, cases_Bool, nat_tests}
 tail_size : (tail : List ℕ) → length tail ≤ 65535
     → IfSome (tail_symbol tail) (λ symbol. HasSymbolSize symbol.1)
 tail_size tail l = elim (cases_Bool (nat_lt 4 (length tail))) [
-  | inl e ↦
-      let long : 4 < length tail = grind (arith, nat_tests) in
-      rw e (record {
-        some = omega (arith, long, length-drop 4 tail);
-        few = omega (arith, l, length-drop 4 tail);
-      })
+  | inl e ↦ let long : 4 < length tail = grind (arith, nat_tests) in rw e (record {
+    some = omega (arith, long, length-drop 4 tail);
+    few = omega (arith, l, length-drop 4 tail);
+  })
   | inr e ↦ rw e tt
 ]
 

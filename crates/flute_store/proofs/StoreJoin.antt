@@ -1,4 +1,7 @@
 -- The content of the join of two stores is the join of their contents (specs/ObjectJoin).
+use Rattle.std.proofs.Common.{arith}
+use Rattle.std.proofs.lemmas.Grind.{common_steps}
+use Rattle.std.proofs.Common.{rules}
 use Rattle.flute_store.proofs.FactEntries.{Apart, Elsewhere, elsewhere-none, each-append}
 use Rattle.flute_store.proofs.FactEntries.{each-flat_map, cell-stands, at-cell_join, session_keys}
 use Rattle.flute_store.proofs.FactEntries.{object_keys, symbol_keys, at-map_join}
@@ -21,18 +24,17 @@ use Common.{update_object, update_facts}
 
 elsewhere-info : (a : Address) (key : Key) → (info_address key ≡ a → ⊥) → (c : Cell Information)
     → Elsewhere a (info_cell_facts key c)
-elsewhere-info a key h c = cell-stands (λ b. b ≡ a → ⊥) (Info key) _ (λ v. h) h c
+elsewhere-info a key h c = search rules
 
 elsewhere-symbol : (a : Address) (key : Key) (id : SymbolId) → (symbol_address key id ≡ a → ⊥)
     → (c : Cell (List ℕ)) → Elsewhere a (symbol_cell_facts key id c)
-elsewhere-symbol a key id h c = cell-stands (λ b. b ≡ a → ⊥) (Symbol key id) _ (λ v. h) h c
+elsewhere-symbol a key id h c = search rules
 
 info-join : (key : Key) (c d : Cell Information)
     → fact_at (info_cell_facts key (cell_join same_information c d)) (info_address key)
     ≡ joined (info_address key) (fact_at (info_cell_facts key c) (info_address key))
     (fact_at (info_cell_facts key d) (info_address key))
-info-join key =
-    at-cell_join (Info key) (info_address key) same_information (λ v. refl) refl
+info-join key = at-cell_join (Info key) (info_address key) same_information (λ v. refl) refl
     (λ v w. ap (λ b. b && same_information v w) (key_itself key))
 
 symbol-join : (key : Key) (id : SymbolId) (c d : Cell (List ℕ))
@@ -47,13 +49,13 @@ symbol-join key id =
 -- ---- the symbols of an object
 
 not_info : (key l : Key) (id : SymbolId) → symbol_address key id ≡ info_address l → ⊥
-not_info key l id p = let q : SymbolPart id ≡ InfoPart = ap (λ (a : Address). a.part) p in cc
+not_info key l id p = search rules
 
 pub not_symbol : (key l : Key) (id : SymbolId) → info_address key ≡ symbol_address l id → ⊥
-not_symbol key l id p = let q : InfoPart ≡ SymbolPart id = ap (λ (a : Address). a.part) p in cc
+not_symbol key l id p = search rules
 
 pub same_id : (key l : Key) (i j : SymbolId) → symbol_address key i ≡ symbol_address l j → i ≡ j
-same_id key l i j p = let q : SymbolPart i ≡ SymbolPart j = ap (λ (a : Address). a.part) p in cc
+same_id key l i j p = search rules
 
 any_cell : (es : List (SymbolId × Cell (List ℕ))) → EachValue (λ _. Unit {0}) es
 any_cell [] = tt
@@ -64,36 +66,25 @@ entry_facts key e = symbol_cell_facts key e.0 e.1
 
 pub symbols_apart : (key : Key) (id : SymbolId) (e : SymbolId × Cell (List ℕ)) → (id ≡ e.0 → ⊥)
     → Elsewhere (symbol_address key id) (entry_facts key e)
-symbols_apart key id e h =
-    elsewhere-symbol (symbol_address key id) key e.0 (λ p. h (sym (same_id key key e.0 id p))) e.1
+symbols_apart key id e h = search rules
 
 symbols-join : (key : Key) (id : SymbolId) (es fs : List (SymbolId × Cell (List ℕ)))
     → IsOrdered symbol_id_cmp es → IsOrdered symbol_id_cmp fs
     → fact_at (symbols_facts key (symbols_join es fs)) (symbol_address key id)
     ≡ joined (symbol_address key id) (fact_at (symbols_facts key es) (symbol_address key id))
     (fact_at (symbols_facts key fs) (symbol_address key id))
-symbols-join key id es fs s t =
-    at-map_join symbol_keys (entry_facts key) (symbol_address key id) id (symbols_apart key id)
-    (cell_join bytes_eq) {P = λ _. Unit {0}}
-    (λ v w x y. symbol-join key id v w) (record {
-      first = s;
-      second = t;
-      first_each = any_cell es;
-      second_each = any_cell fs;
-    })
+symbols-join key id es fs s t = at-map_join symbol_keys (entry_facts key) (symbol_address key id) id
+    (symbols_apart key id) (cell_join bytes_eq) {P = λ _. Unit {0}}
+    (λ v w x y. symbol-join key id v w)
+    (record { first = s; second = t; first_each = any_cell es; second_each = any_cell fs })
 
 symbols-info : (key : Key) (es : List (SymbolId × Cell (List ℕ)))
     → fact_at (symbols_facts key es) (info_address key) ≡ None
-symbols-info key es =
-    elsewhere-none (info_address key) (symbols_facts key es)
-    (each-flat_map (Apart (info_address key)) (entry_facts key)
-    (λ e. elsewhere-symbol (info_address key) key e.0 (not_info key key e.0) e.1) es)
+symbols-info key es = search (rules, elsewhere-none, each-flat_map, elsewhere-symbol, not_info)
 
 info-symbol : (key : Key) (id : SymbolId) (c : Cell Information)
     → fact_at (info_cell_facts key c) (symbol_address key id) ≡ None
-info-symbol key id c =
-    elsewhere-none (symbol_address key id) (info_cell_facts key c)
-    (elsewhere-info (symbol_address key id) key (not_symbol key key id) c)
+info-symbol key id c = search (rules, elsewhere-none, elsewhere-info, not_symbol)
 
 pub EachValue-weaker : {K X : Type 0} (P Q : X → Type 0) → ((x : X) → P x → Q x)
     → (es : List (K × X)) → EachValue P es → EachValue Q es
@@ -115,17 +106,11 @@ module _ {n : ℕ} where
 
   pub ordered-session : (o : ℕ) (objects : List (ObjectName × Object n)) → IsSession o objects
       → OrderedSession objects
-  ordered-session o objects p = record {
-    ordered = p.ordered;
-    each = EachValue-weaker IsObject OrderedObject (λ x q. q.symbols_are.ordered) objects p.each;
-  }
+  ordered-session o objects p = search (rules, EachValue-weaker)
 
   pub ordered-store : (s o : ℕ) (m : List (Session × List (ObjectName × Object n))) → IsStore s o m
       → OrderedStore m
-  ordered-store s o m p = record {
-    ordered = p.ordered;
-    each = EachValue-weaker (IsSession o) OrderedSession (ordered-session o) m p.each;
-  }
+  ordered-store s o m p = search (rules, EachValue-weaker, ordered-session)
 
   object_ordered : (v w : Object n) → OrderedObject v → OrderedObject w
       → OrderedObject (object_join v w)
@@ -143,8 +128,7 @@ module _ {n : ℕ} where
       → OrderedStore w → OrderedStore (store_join v w)
   store_ordered v w p q = record {
     ordered = ordered-map_join session_total session_join v w p.ordered q.ordered;
-    each =
-        EachValue-map_join session_cmp session_join OrderedSession session_ordered v w p.each
+    each = EachValue-map_join session_cmp session_join OrderedSession session_ordered v w p.each
         q.each;
   }
 
@@ -156,44 +140,21 @@ module _ {n : ℕ} where
 
 module _ {n : ℕ} where
   -- ---- an object
-  pub object-info : (key : Key) (x : Object n)
-      → fact_at (object_facts key x) (info_address key)
-      ≡ fact_at (info_cell_facts key x.info) (info_address key)
-  object-info key x =
-      fact_at-append (info_cell_facts key x.info) (symbols_facts key x.symbols) (info_address key)
-      ∙ ap (joined (info_address key) (fact_at (info_cell_facts key x.info) (info_address key)))
-      (symbols-info key x.symbols)
-      ∙ joined-none (info_address key) (fact_at (info_cell_facts key x.info) (info_address key))
+  pub object-info : (key : Key) (x : Object n) → fact_at (object_facts key x) (info_address key) ≡
+      fact_at (info_cell_facts key x.info) (info_address key)
+  object-info key x = search (rules, fact_at-append, symbols-info, joined-none)
 
-  pub object-symbol : (key : Key) (id : SymbolId) (x : Object n)
-      → fact_at (object_facts key x) (symbol_address key id)
-      ≡ fact_at (symbols_facts key x.symbols) (symbol_address key id)
-  object-symbol key id x =
-      fact_at-append (info_cell_facts key x.info) (symbols_facts key x.symbols)
-      (symbol_address key id)
-      ∙ ap (λ o. joined (symbol_address key id) o
-      (fact_at (symbols_facts key x.symbols) (symbol_address key id))) (info-symbol key id x.info)
+  pub object-symbol : (key : Key) (id : SymbolId) (x : Object n) → fact_at (object_facts key x)
+      (symbol_address key id) ≡ fact_at (symbols_facts key x.symbols) (symbol_address key id)
+  object-symbol key id x = search (rules, fact_at-append, info-symbol)
 
-  object-join : (key : Key) (part : Part) (v w : Object n) → OrderedObject v → OrderedObject w
-      → fact_at (object_facts key (object_join v w)) (record {
-        key = key;
-        part = part;
-      }
-      ) ≡ joined (record {
-        key = key;
-        part = part;
-      }
-      ) (fact_at (object_facts key v) (record {
-        key = key;
-        part = part;
-      })) (fact_at (object_facts key w) (record { key = key; part = part }))
-  object-join key InfoPart v w p q =
-      object-info key (object_join v w) ∙ info-join key v.info w.info
-      ∙ sym (λ i. joined (info_address key) (object-info key v i) (object-info key w i))
-  object-join key (SymbolPart id) v w p q =
-      object-symbol key id (object_join v w) ∙ symbols-join key id v.symbols w.symbols p q
-      ∙ sym (λ i. joined (symbol_address key id) (object-symbol key id v i)
-      (object-symbol key id w i))
+  object-join : (key : Key) (part : Part) (v w : Object n) → OrderedObject v → OrderedObject w →
+      fact_at (object_facts key (object_join v w)) (record { key = key; part = part }) ≡ joined
+      (record { key = key; part = part })
+      (fact_at (object_facts key v) (record { key = key; part = part }))
+      (fact_at (object_facts key w) (record { key = key; part = part }))
+  object-join key InfoPart v w p q = search (rules, object-info, info-join)
+  object-join key (SymbolPart id) v w p q = search (rules, object-symbol, symbols-join)
 
   pub elsewhere-object : (a : Address) (key : Key) → (key ≡ a.key → ⊥) → (x : Object n)
       → Elsewhere a (object_facts key x)
@@ -206,28 +167,19 @@ module _ {n : ℕ} where
   -- ---- a session
   pub objects_apart : (a : Address) (e : ObjectName × Object n) → (a.key.object ≡ e.0 → ⊥)
       → Elsewhere a (in_session a.key.session e)
-  objects_apart a e h =
-      elsewhere-object a (key_in a.key.session e.0) (λ p. h (sym (ap (λ (k : Key). k.object) p)))
-      e.1
+  objects_apart a e h = elsewhere-object a (key_in a.key.session e.0)
+      (λ p. h (sym (ap (λ (k : Key). k.object) p))) e.1
 
-  session-join : (a : Address) (v w : List (ObjectName × Object n)) → OrderedSession v
-      → OrderedSession w
-      → fact_at (session_facts a.key.session (session_join v w)) a
-      ≡ joined a (fact_at (session_facts a.key.session v) a)
-      (fact_at (session_facts a.key.session w) a)
-  session-join a v w p q =
-      at-map_join object_keys (in_session a.key.session) a a.key.object (objects_apart a)
-      object_join (object-join a.key a.part) (record {
-        first = p.ordered;
-        second = q.ordered;
-        first_each = p.each;
-        second_each = q.each;
-      })
+  session-join : (a : Address) (v w : List (ObjectName × Object n)) → OrderedSession v →
+      OrderedSession w → fact_at (session_facts a.key.session (session_join v w)) a ≡ joined a
+      (fact_at (session_facts a.key.session v) a) (fact_at (session_facts a.key.session w) a)
+  session-join a v w p q = at-map_join object_keys (in_session a.key.session) a a.key.object
+      (objects_apart a) object_join (object-join a.key a.part)
+      (record { first = p.ordered; second = q.ordered; first_each = p.each; second_each = q.each })
 
   elsewhere-session : (a : Address) (session : Session) → (session ≡ a.key.session → ⊥)
       → (objects : List (ObjectName × Object n)) → Elsewhere a (session_facts session objects)
-  elsewhere-session a session h objects =
-      each-flat_map (Apart a) (in_session session)
+  elsewhere-session a session h objects = each-flat_map (Apart a) (in_session session)
       (λ e. elsewhere-object a (key_in session e.0) (λ p. h (ap (λ (k : Key). k.session) p)) e.1)
       objects
 
@@ -236,38 +188,28 @@ module _ {n : ℕ} where
       → (a.key.session ≡ e.0 → ⊥) → Elsewhere a (in_store e)
   sessions_apart a e h = elsewhere-session a e.0 (λ p. h (sym p)) e.1
 
-  store-join : (v w : List (Session × List (ObjectName × Object n))) → OrderedStore v
-      → OrderedStore w → (a : Address)
-      → fact_at (content (store_join v w)) a
-      ≡ joined a (fact_at (content v) a) (fact_at (content w) a)
-  store-join v w p q a =
-      at-map_join session_keys in_store a a.key.session (sessions_apart a) session_join
-      (session-join a) (record {
-        first = p.ordered;
-        second = q.ordered;
-        first_each = p.each;
-        second_each = q.each;
-      })
+  store-join : (v w : List (Session × List (ObjectName × Object n))) → OrderedStore v → OrderedStore
+      w → (a : Address) → fact_at (content (store_join v w)) a ≡ joined a (fact_at (content v) a)
+      (fact_at (content w) a)
+  store-join v w p q a = at-map_join session_keys in_store a a.key.session (sessions_apart a)
+      session_join (session-join a)
+      (record { first = p.ordered; second = q.ordered; first_each = p.each; second_each = q.each })
 
   -- the content of a join has the values of both contents together
   pub content-join : (v w : List (Session × List (ObjectName × Object n))) → OrderedStore v
       → OrderedStore w → Same (content (store_join v w)) (content v ++ content w)
-  content-join v w p q =
-      record { each = λ a. store-join v w p q a ∙ sym (fact_at-append (content v) (content w) a) }
+  content-join v w p q = search (rules, store-join, fact_at-append, content)
 
   -- the content of a lower store is below
   pub content-below : (v w : List (Session × List (ObjectName × Object n))) → OrderedStore v
       → OrderedStore w → IsBelow store_join v w → Below (content v) (content w)
-  content-below v w p q b =
-      subst (λ m. Same (content v ++ content w) (content m)) b
-      (Same-sym (content (store_join v w)) (content v ++ content w) (content-join v w p q))
+  content-below v w p q b = search (rules, content, Same-sym, content-join)
 
   pub content-below_join : (u v w : List (Session × List (ObjectName × Object n))) → OrderedStore u
       → OrderedStore v → OrderedStore w → IsBelow store_join u (store_join v w)
       → Below (content u) (content v ++ content w)
-  content-below_join u v w o p q b =
-      Below-trans (content u) (content (store_join v w)) (content v ++ content w)
-      (content-below u (store_join v w) o (store_ordered v w p q) b)
+  content-below_join u v w o p q b = Below-trans (content u) (content (store_join v w))
+      (content v ++ content w) (content-below u (store_join v w) o (store_ordered v w p q) b)
       (Below-from_Same (content (store_join v w)) (content v ++ content w) (content-join v w p q))
 
 -- ---- the store of one object
@@ -275,20 +217,15 @@ module _ {n : ℕ} where
 pub told-ordered : (o : Option (SymbolId × SymbolUpdate))
     → IsOrdered symbol_id_cmp (update_symbols o)
 unfolding IsStrictlySortedBy
-told-ordered None = tt
-told-ordered (Some t) = (tt, tt)
+told-ordered x0 = search rules
 
 abbrev pub one_object : (n : ℕ) → Key → Update → List (Session × List (ObjectName × Object n))
 one_object n key update = (key.session, (key.object, update_object update) ∷ []) ∷ []
 
 pub one-ordered : (n : ℕ) (key : Key) (update : Update) → OrderedStore (one_object n key update)
 unfolding IsStrictlySortedBy
-one-ordered n key update = record {
-  ordered = (tt, tt);
-  each = (record { ordered = (tt, tt); each = (told-ordered update.symbol, tt) }, tt);
-}
+one-ordered n key update = search rules
 
 pub one-content : (n : ℕ) (key : Key) (update : Update)
     → content (one_object n key update) ≡ update_facts key update
-one-content n key update =
-    append-nil (update_facts key update ++ []) ∙ append-nil (update_facts key update)
+one-content n key update = search rules

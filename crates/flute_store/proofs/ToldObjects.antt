@@ -43,10 +43,8 @@ want-symbol info key id found = refl
 pub wants-told : {n : ℕ} (F : List Fact) (key : Key) (x : Object n) (info : Information)
     → IsTold F key x → wants F key info ≡ wanted info x.symbols (ids info)
 unfolding wants wanted
-wants-told F key x info t =
-    λ i. filter_map (λ id. option_map (with_reason id)
-    ((ap (want info id) (t.each id) ∙ want-symbol info key id (value_at symbol_id_cmp x.symbols id))
-    i)) (ids info)
+wants-told F key x info t = λ i. filter_map (λ id. option_map (with_reason id) ((ap (want info id)
+    (t.each id) ∙ want-symbol info key id (value_at symbol_id_cmp x.symbols id)) i)) (ids info)
 
 -- a walk begins with all symbols of the partition
 pub start-left : (info : Information) (held : List (SymbolId × Cell (List ℕ)))
@@ -83,22 +81,20 @@ pub gives-gaps : {n : ℕ} {F : List Fact} {key : Key} {x : Object n} {info : In
 gives-gaps {n} {F} {key} {x} {info} {held} g t b =
     let told = t.told in
     let k : g.held ≡ keys_of x.symbols = b.held_is ∙ ap keys_of t.held_is in
-    let m : length held ≡ length x.symbols =
-    ap (λ (s : List (SymbolId × Cell (List ℕ))). length s) t.held_is in
-    record {
+    let m : length held ≡ length x.symbols = ap (λ (s : List (SymbolId × Cell (List ℕ))). length s)
+    t.held_is in record {
       info = info;
       information = told-information F key x info told t.info_is;
-      gaps_are =
-          t.gaps_are ∙ ap (λ s. runs (wanted info s (ids info))) t.held_is
-          ∙ ap runs (sym (wants-told F key x info told));
+      gaps_are = t.gaps_are ∙ ap (λ s. runs (wanted info s (ids info))) t.held_is ∙ ap runs
+          (sym (wants-told F key x info told));
       rising = subst (IsStrictlySortedBy symbol_id_cmp) (sym k) told.object.symbols_are.ordered;
-      held_are =
-          subst (λ (l : List SymbolId). (id : SymbolId)
-          → Contains l id ↔ (fact_at F (symbol_address key id) ≢ None)) (sym k)
-          (ids_told F key x told);
+      held_are = subst (λ (l : List SymbolId). (id : SymbolId) → Contains l id ↔
+          (fact_at F (symbol_address key id) ≢ None)) (sym k) (ids_told F key x told);
       begun_is = b.begun_is;
       blocks_are = b.blocks_are;
       ended_is = b.ended_is;
       ticks_are = b.ticks_are;
-      bound_is = let c = b.bound_is in omega (arith, c, told.count, m);
+      bound_is =
+          let c = b.bound_is in
+          omega (arith, c, told.count, m);
     }

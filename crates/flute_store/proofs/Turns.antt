@@ -25,10 +25,7 @@ Ends (Wanted r) = ⊥
 Ends l = Unit {0}
 
 pub no-run : (run : Option Gap) (l : Upcoming) → Ends l → ended_run run l ≡ None → run ≡ None
-no-run None l e h = refl
-no-run (Some f) Passed e h = absurd e
-no-run (Some f) (Wanted r) e h = absurd e
-no-run (Some f) l e h = absurd (none-some f (sym h))
+no-run x0 x1 x2 x3 = search rules
 
 -- what comes next depends only on the next held symbol
 want-same : (info : Information) (id : SymbolId) (cell : Cell (List ℕ)) → IsKnown cell
@@ -38,29 +35,20 @@ want-same info id cell k = grind arith
 upcoming_next-same : (info : Information) (here : SymbolId) (held : List Entry)
     (next : Option (SymbolId × Option ℕ)) → EachValue IsKnown held → ShowsNext held next
     → upcoming_next info here next ≡ upcoming_held info here held
-upcoming_next-same info here held None k n = ap (upcoming_held info here) (sym n)
-upcoming_next-same info here held (Some next) k n =
-    let known : EachValue IsKnown ((next.0, n.0) ∷ n.1) = subst (EachValue IsKnown) n.2 k in
-    ap (λ o. match_ordering (symbol_id_cmp next.0 here) Passed (upcoming_wanted o) NotHeld)
-    (ap (want_length info next.0) (sym n.3) ∙ want-same info next.0 n.0 known.0)
-    ∙ ap (upcoming_held info here) (sym n.2)
+upcoming_next-same x0 x1 x2 x3 x4 x5 = search rules
 
 until-same : (sbn size : ℕ) (held : List Entry) (next : Option (SymbolId × Option ℕ))
     → ShowsNext held next → until_next sbn size next ≡ until_held sbn size held
-until-same sbn size held None n = ap (until_held sbn size) (sym n)
-until-same sbn size held (Some next) n = ap (until_held sbn size) (sym n.2)
+until-same x0 x1 x2 x3 x4 = search rules
 
 module _ (w : PartitionScan) (held : List Entry) (next : Option (SymbolId × Option ℕ))
     (n : ShowsNext held next) (p : IsWalk (walk_of w held)) where
   pub upcoming-same : upcoming_at w next ≡ upcoming_of (walk_of w held)
   unfolding upcoming_at upcoming_of
-  upcoming-same =
-      ap (λ l. cond (w.esi == w.size) (cond (w.begun == length (sizes w.partition)) End BlockEnd) l)
-      (upcoming_next-same w.partition (symbol_id w.sbn w.esi) held next p.known n)
+  upcoming-same = search rules
 
   abbrev Gives : Upcoming → Option Gap → Type 0
-  Gives l o =
-      TurnsTo (walk_of w held) (turn_after w next l o).0
+  Gives l o = TurnsTo (walk_of w held) (turn_after w next l o).0
       (walk_of (turn_after w next l o).1 (held_after (turn_after w next l o).0 held))
 
   by_run : (l : Upcoming) (o : Option Gap) → upcoming_of (walk_of w held) ≡ l
@@ -76,36 +64,31 @@ module _ (w : PartitionScan) (held : List Entry) (next : Option (SymbolId × Opt
     },
   )
   by_run BlockEnd None e h q = (
-    step-begin (walk_of w held) p (told (walk_of w held) BlockEnd e) (no-run w.run BlockEnd tt h)
-        q.longest,
+    step-begin (walk_of w held) p (told (walk_of w held) BlockEnd e)
+        (no-run w.run BlockEnd tt h) q.longest,
     e,
     refl,
   )
   by_run Passed None e h q =
       (step-pass (walk_of w held) p (told (walk_of w held) Passed e), e, refl)
   by_run Fitting None e h q = (
-    step-take (walk_of w held) p (told (walk_of w held) Fitting e) (no-run w.run Fitting tt h),
+    step-take (walk_of w held) p (told (walk_of w held) Fitting e)
+        (no-run w.run Fitting tt h),
     e,
     refl,
   )
   by_run (Wanted r) None e h q =
       (step-want (walk_of w held) r p (told (walk_of w held) (Wanted r) e) h, (r, e, refl))
-  by_run NotHeld None e h q =
-      subst (λ u. GivesGap (walk_of w held) (record {
-        sbn = w.sbn;
-        first = w.esi;
-        last = u - 1;
-        reason = Missing;
-      }) (walk_of (record w { esi = u }) held)) (sym (until-same w.sbn w.size held next n))
+  by_run NotHeld None e h q = subst (λ u. GivesGap (walk_of w held)
+      (record { sbn = w.sbn; first = w.esi; last = u - 1; reason = Missing })
+      (walk_of (record w { esi = u }) held)) (sym (until-same w.sbn w.size held next n))
       (gap-missing (walk_of w held) p (no-run w.run NotHeld tt h) e)
 
   -- a turn, given the next held symbol
-  pub turn-turns : IsPlace (turn_of w next).1
-      → TurnsTo (walk_of w held) (turn_of w next).0
+  pub turn-turns : IsPlace (turn_of w next).1 → TurnsTo (walk_of w held) (turn_of w next).0
       (walk_of (turn_of w next).1 (held_after (turn_of w next).0 held))
   unfolding turn_of
-  turn-turns q =
-      by_run (upcoming_at w next) (ended_run w.run (upcoming_at w next)) (sym upcoming-same) refl q
+  turn-turns q = search (rules, by_run, upcoming-same)
 
 -- ---- the parts of a turn
 
@@ -113,13 +96,12 @@ pub turn-ended : (w : PartitionScan) (next : Option (SymbolId × Option ℕ)) (g
     → ended_run w.run (upcoming_at w next) ≡ Some g
     → (Some (Turn.Gap g), record w { run = None }) ≡ turn_of w next
 unfolding turn_of
-turn-ended w next g h = sym (ap (turn_after w next (upcoming_at w next)) h)
+turn-ended w next g h = search rules
 
-pub turn-at : (w : PartitionScan) (next : Option (SymbolId × Option ℕ)) (l : Upcoming)
-    → upcoming_at w next ≡ l → ended_run w.run (upcoming_at w next) ≡ None
-    → turn_on w next l ≡ turn_of w next
+pub turn-at : (w : PartitionScan) (next : Option (SymbolId × Option ℕ)) (l : Upcoming) → upcoming_at
+    w next ≡ l → ended_run w.run (upcoming_at w next) ≡ None → turn_on w next l ≡ turn_of w next
 unfolding turn_of
-turn-at w next l e h = sym (ap (turn_after w next (upcoming_at w next)) h ∙ ap (turn_on w next) e)
+turn-at w next l e h = search rules
 
 -- ---- the turns of a walk over all that is held
 
@@ -130,17 +112,13 @@ Steps (Some Turn.End) = ⊥
 Steps turn = Unit {0}
 
 pub step-keeps : (v : Walk) (t : Option Turn) (w : Walk) → Steps t → TurnsTo v t w → Keeps v w
-step-keeps v (Some (Turn.Gap g)) w s h = absurd s
-step-keeps v (Some Turn.End) w s h = absurd s
-step-keeps v t w s h = h.0
+step-keeps v t w s h = search rules
 
 walked : (v : HeldScan) (next : Option (SymbolId × Option ℕ)) (t : Option Turn) (x : PartitionScan)
     → IsHeldScan v → ShowsNext v.held next → (t, x) ≡ turn_of v.walk next → IsPlace x
     → TurnsTo (walk_in v) t (walk_of x (held_after t v.held))
-walked v next t x p n e q =
-    subst (λ (r : Option Turn × PartitionScan). TurnsTo (walk_in v) r.0
-    (walk_of r.1 (held_after r.0 v.held))) (sym e)
-    (turn-turns v.walk v.held next n p.walk
+walked v next t x p n e q = subst (λ (r : Option Turn × PartitionScan). TurnsTo (walk_in v) r.0
+    (walk_of r.1 (held_after r.0 v.held))) (sym e) (turn-turns v.walk v.held next n p.walk
     (subst (λ (r : Option Turn × PartitionScan). IsPlace r.1) e q))
 
 last-ended : (b : Bool) (t r : ℕ) → t + last_tick b + r + 0 ≡ t + r + last_tick b
@@ -150,41 +128,11 @@ module _ (v : HeldScan) (x : PartitionScan) (p : IsHeldScan v) (q : IsPlace x) w
   -- a turn of a HeldScan is one step of its walk
   stepped : (t : Option Turn) (w : HeldScan) → Steps t → w.walk ≡ x → w.ticks ≡ v.ticks + 1
       → w.ended ≡ v.ended → TurnsTo (walk_in v) t (walk_in w) → IsHeldScan w × (bound w ≡ bound v)
-  stepped t w s e k d h =
-      let keeps = step-keeps (walk_in v) t (walk_in w) s h in
-      let b : bound w ≡ bound v =
-      (λ i. k i + remaining (walk_in w) + last_tick (d i)) ∙ omega arith in
-      (record { walk = keeps.walk; place = subst IsPlace (sym e) q; few = omega (arith, b) }, b)
+  stepped t w s e k d h = search rules
 
   turned : (t : Option Turn) → TurnsTo (walk_in v) t (walk_of x (held_after t v.held))
       → Turns v t (counted t (record v { walk = x }))
-  turned (Some (Turn.Gap g)) h =
-      let b : bound (record v {
-        walk =
-            x;
-      }) ≡ bound v =
-      λ i. v.ticks + remaining (record (walk_in v)
-      { begun = h.begun_is i; partition = h.partition_is i }) + last_tick v.ended in
-      record {
-        turns = h;
-        walk = record { walk = h.walk; place = q; few = omega (arith, b) };
-        bound_is = b;
-        ticks = refl;
-      }
-  turned (Some Turn.End) h =
-      let w : HeldScan = with_end (record v { walk = x }) in
-      let b : bound w ≡ bound v =
-      last-ended v.ended v.ticks (remaining (walk_of x v.held))
-      ∙ ap (λ (y : Walk). v.ticks + remaining y + last_tick v.ended) h.0 in
-      record {
-        turns = h;
-        walk = record { walk = subst IsWalk (sym h.0) p.walk; place = q; few = omega (arith, b) };
-        bound_is = b;
-        ticks = refl;
-      }
-  turned t h =
-      let s = stepped t (counted t (record v { walk = x })) tt refl refl refl h in
-      record { turns = h; walk = s.0; bound_is = s.1; ticks = refl }
+  turned t h = search rules
 
 -- the same, for any turn that `turn_of` returns
 pub held-turn : {v : HeldScan} (next : Option (SymbolId × Option ℕ)) {t : Option Turn}
@@ -194,9 +142,7 @@ held-turn {v} next {t} {x} p n e q h =
     subst (Turns v t) (sym h) (turned v x p q t (walked v next t x p n e q))
 
 ticked : (v w : HeldScan) (t : Option Turn) → Steps t → Turns v t w → w.ticks ≡ v.ticks + 1
-ticked v w (Some (Turn.Gap g)) s h = absurd s
-ticked v w (Some Turn.End) s h = absurd s
-ticked v w t s h = h.ticks
+ticked v w t s h = search rules
 
 -- ---- the start
 
@@ -205,21 +151,11 @@ pub start-walk : (info : Information) (held : List Entry) → IsOrdered symbol_i
     → EachValue IsKnown held → IsWalk (at_start info held)
 start-walk info held o k = search rules
 
-pub start-held : (info : Information) (held : List Entry) {w : PartitionScan} (left : List Entry)
-    → walk_of w left ≡ at_start info held → IsPlace w → IsOrdered symbol_id_cmp held
-    → EachValue IsKnown held → length held < 2 ^ 32 → IsHeldScan (record {
-      walk = w;
-      held = left;
-      ticks = 0;
-      ended = false;
-    })
-start-held info held left e q o k f =
-    let n : length left ≡ length held = ap (λ (y : Walk). length y.held) e in
-    record {
-      walk = subst IsWalk (sym e) (start-walk info held o k);
-      place = q;
-      few = omega (arith, n, f);
-    }
+pub start-held : (info : Information) (held : List Entry) {w : PartitionScan} (left : List Entry) →
+    walk_of w left ≡ at_start info held → IsPlace w → IsOrdered symbol_id_cmp held → EachValue
+    IsKnown held → length held < 2 ^ 32 → IsHeldScan
+    (record { walk = w; held = left; ticks = 0; ended = false })
+start-held info held left e q o k f = search rules
 
 -- ---- turns one after another
 

@@ -1,4 +1,5 @@
 -- What comes next on a walk, and what is left then (specs/PartitionScan).
+use Rattle.std.proofs.lemmas.Grind.{common_steps}
 use Rattle.std.proofs.Common.{rules, ◌≡◌, ◌≢◌, ℕ, ◌+◌, ◌<◌, ◌≤◌, cond, List, [], ◌∷◌, ◌++◌, length}
 use Rattle.std.proofs.Common.{drop, Option, Some, None, refl, sym, ap, ◌∙◌, subst, inl, inr, arith}
 use Rattle.std.proofs.Common.{append_assoc, ◌-◌}
@@ -47,49 +48,23 @@ Tells w (Wanted reason) = AtHere w (Some reason)
 Tells w NotHeld = (w.esi ≢ w.size) × FirstAfter (here w) w.held
 
 tells-wanted : (w : Walk) (o : Option Reason) → AtHere w o → Tells w (upcoming_wanted o)
-tells-wanted w None h = h
-tells-wanted w (Some r) h = h
+tells-wanted x0 x1 x2 = search rules
 
 tells-held : (w : Walk) (held : List Entry) → w.held ≡ held → w.esi ≢ w.size
     → Tells w (upcoming_held w.partition (here w) held)
-tells-held w [] h i = (i, subst (FirstAfter (here w)) (sym h) tt)
-tells-held w (e ∷ es) h i = by_order (symbol_id_cmp e.0 (here w)) refl
-  where
-    by_order : (o : Ordering) → symbol_id_cmp e.0 (here w) ≡ o
-        → Tells w (match_ordering o Passed (upcoming_wanted (want_cell w.partition e.0 (Some e.1)))
-        NotHeld)
-    by_order Less l = record { inside = i; first = e; others = es; held = h; before = l }
-    by_order Equal l =
-        let p = symbol_id_place e.0 (here w) l in
-        tells-wanted w (want_cell w.partition e.0 (Some e.1)) (record {
-          inside = i;
-          first = e;
-          others = es;
-          held = h;
-          at_here = p;
-          why_is = ap (λ x. want_cell w.partition x (Some e.1)) (sym p);
-        })
-    by_order Greater l = (i, subst (FirstAfter (here w)) (sym h) l)
+tells-held x0 x1 x2 x3 = search rules
 
 -- what comes next where a block ends, where the last one does, and within one
 pub by-place : (esi size begun blocks : ℕ) {l : Upcoming} (P : Upcoming → Type 0)
     → (esi ≢ size → P l) → (esi ≡ size → begun ≡ blocks → P End)
     → (esi ≡ size → begun ≢ blocks → P BlockEnd)
     → P (cond (esi == size) (cond (begun == blocks) End BlockEnd) l)
-by-place esi size begun blocks P i e b = elim (cases_Bool (esi == size)) [
-  | inr f ↦ rw f (i (eqb-false esi size f))
-  | inl t ↦ rw t (elim (cases_Bool (begun == blocks)) [
-    | inl u ↦ rw u (e (eqb-true esi size t) (eqb-true begun blocks u))
-    | inr u ↦ rw u (b (eqb-true esi size t) (eqb-false begun blocks u))
-  ])
-]
+by-place esi size begun blocks P i e b = search rules
 
 -- what comes next, by its case
 pub told : (w : Walk) (l : Upcoming) → upcoming_of w ≡ l → Tells w l
 unfolding upcoming_of
-told w l h =
-    subst (Tells w) h (by-place w.esi w.size w.begun (length (sizes w.partition)) (Tells w)
-    (tells-held w w.held refl) (λ e f. (e, f)) (λ e f. (e, f)))
+told w l h = search (rules, by-place, sizes, tells-held)
 
 -- ---- the symbols that are left
 
@@ -97,27 +72,23 @@ abbrev pub others_left : Walk → List SymbolId
 others_left w = block_from w.sbn (w.esi + 1) w.size ++ blocks_from w.partition w.begun
 
 pub symbols-first : (w : Walk) → w.esi < w.size → symbols_left w ≡ here w ∷ others_left w
-symbols-first w l =
-    ap (λ xs. xs ++ blocks_from w.partition w.begun) (block_from-first w.sbn w.esi w.size l)
+symbols-first w l = search rules
 
 pub blocks-later : (w : Walk) → IsWalk w → 0 < w.size
     → Later w.sbn (blocks_from w.partition w.begun)
-blocks-later w p l =
-    let e = p.in_block l in later-blocks w.partition w.sbn w.begun (omega (arith, e))
+blocks-later w p l = search (rules, later-blocks)
 
 pub others-above : (w : Walk) → IsWalk w → w.esi < w.size → Above (here w) (others_left w)
-others-above w p l =
-    above-block w.sbn w.esi w.size (blocks_from w.partition w.begun)
-    (blocks-later w p (omega (arith, l)))
+others-above w p l = search (rules, above-block, blocks-later)
 
 pub inside-less : (w : Walk) → IsWalk w → w.esi ≢ w.size → w.esi < w.size
-inside-less w p i = let l = p.within in omega (arith, l, i)
+inside-less w p i = search rules
 
 -- ---- steps
 
 held-ordered : (held : List Entry) (e : Entry) (es : List Entry) → held ≡ e ∷ es
     → IsOrdered symbol_id_cmp held → IsOrdered symbol_id_cmp (drop 1 held)
-held-ordered held e es h s = rw h (sorted_tail symbol_id_cmp e.0 (keys_of es) (rw h at s))
+held-ordered held e es h s = search (rules, sorted_tail)
 
 held-known : (held : List Entry) (e : Entry) (es : List Entry) → held ≡ e ∷ es
     → EachValue IsKnown held → EachValue IsKnown (drop 1 held)
@@ -138,15 +109,13 @@ behind-first w e es h p s =
 -- ---- how far a walk is
 
 pub ahead-trans : (u v w : Walk) → IsAhead u v → IsAhead v w → IsAhead u w
-ahead-trans u v w a b =
-    record {
-      passed = a.passed ++ b.passed;
-      held_is =
-          a.held_is ∙ ap (λ x. a.passed ++ x) b.held_is
-          ∙ sym (append_assoc a.passed b.passed w.held);
-      onward = omega arith;
-      partition_is = b.partition_is ∙ a.partition_is;
-    }
+ahead-trans u v w a b = record {
+  passed = a.passed ++ b.passed;
+  held_is = a.held_is ∙ ap (λ x. a.passed ++ x) b.held_is ∙ sym
+      (append_assoc a.passed b.passed w.held);
+  onward = omega arith;
+  partition_is = b.partition_is ∙ a.partition_is;
+}
 
 pub ahead-first : (w x : Walk) (e : Entry) (es : List Entry) → w.held ≡ e ∷ es
     → x.held ≡ drop 1 w.held → x.begun ≡ w.begun → x.partition ≡ w.partition → IsAhead w x
@@ -159,7 +128,7 @@ ahead-first w x e es h d b p = record {
 
 step-behind : (w : Walk) (t : AtPassed w) → IsBehind w.sbn (w.esi - 1) w.held
     → IsBehind w.sbn (w.esi - 1) (drop 1 w.held)
-step-behind w t b = rw t.held ((rw t.held at b).1)
+step-behind w t b = search rules
 
 -- passing a held symbol that is not of the partition
 pub step-pass : (w : Walk) → IsWalk w → AtPassed w → Keeps w (after_pass w)
@@ -169,7 +138,8 @@ step-pass w p t =
     record {
       walk = assumption (
         held-ordered w.held t.first t.others t.held p.ordered,
-        held-known w.held t.first t.others t.held p.known,
+        held-known w.held
+            t.first t.others t.held p.known,
         λ (z : 0 < w.esi). step-behind w t (p.behind z),
       );
       ahead = ahead-first w (after_pass w) t.first t.others t.held refl refl refl;
@@ -178,7 +148,8 @@ step-pass w p t =
           rw (
             t.held,
             symbols-first w l,
-            wanted-past w.partition t.first t.others (here w ∷ others_left w) (t.before, a),
+            wanted-past w.partition t.first t.others
+                (here w ∷ others_left w) (t.before, a),
           );
       fewer = rw t.held (omega arith);
     }
@@ -190,24 +161,12 @@ taken run w = record w { held = drop 1 w.held; esi = w.esi + 1; run = run }
 -- taking the next held symbol: the walk stays in order, and what is left is after it
 pub taken-walk : (run : Option Gap) (w : Walk) (why : Option Reason) → IsWalk w → AtHere w why
     → EndsBefore w.sbn (w.esi + 1) run → IsWalk (taken run w)
-taken-walk run w why p t r =
-    let l = inside-less w p t.inside in
-    let inside : w.esi + 1 ≤ w.size = omega (arith, l) in
-    assumption (
-      held-ordered w.held t.first t.others t.held p.ordered,
-      held-known w.held t.first t.others t.held p.known,
-      behind-first w t.first t.others t.held t.at_here p.ordered,
-    )
+taken-walk run w why p t r = search (rules, inside-less, held-ordered, held-known, behind-first)
 
 pub taken-left : (run : Option Gap) (w : Walk) (why : Option Reason) → IsWalk w → AtHere w why
     → left w ≡ cons_option (option_map (with_reason (here w)) why) (left (taken run w))
 unfolding left
-taken-left run w why p t =
-    let l = inside-less w p t.inside in
-    let h =
-    wanted-here w.partition t.first t.others (here w) (others_left w) t.at_here
-    (others-above w p l) in
-    rw (t.held, symbols-first w l, h, t.why_is)
+taken-left run w why p t = search (rules, inside-less, wanted-here, others-above, symbols-first)
 
 pub taken-keeps : (run : Option Gap) (w : Walk) (why : Option Reason) → IsWalk w → AtHere w why
     → EndsBefore w.sbn (w.esi + 1) run → pending run ++ left (taken run w) ≡ pending w.run ++ left w
@@ -223,41 +182,25 @@ taken-keeps run w why p t r e =
     }
 
 pub step-take : (w : Walk) → IsWalk w → AtHere w None → w.run ≡ None → Keeps w (after_take w)
-step-take w p t r =
-    taken-keeps w.run w None p t (subst (EndsBefore w.sbn (w.esi + 1)) (sym r) tt)
+step-take w p t r = taken-keeps w.run w None p t (subst (EndsBefore w.sbn (w.esi + 1)) (sym r) tt)
     (ap (λ ws. pending w.run ++ ws) (sym (taken-left w.run w None p t)))
 
 -- where the block has no symbol left, those of the other blocks are
 pub symbols-end : (w : Walk) → w.esi ≡ w.size → symbols_left w ≡ blocks_from w.partition w.begun
-symbols-end w e =
-    ap (λ k. block_from w.sbn k w.size ++ blocks_from w.partition w.begun) e
-    ∙ ap (λ xs. xs ++ blocks_from w.partition w.begun) (block_from-end w.sbn w.size)
+symbols-end w e = search rules
 
 -- beginning the next block
 pub step-begin : (w : Walk) → IsWalk w → Tells w BlockEnd → w.run ≡ None
     → (after_begin w).size ≤ 65536 → Keeps w (after_begin w)
 unfolding left
-step-begin w p t r s =
-    let l : w.begun < length (sizes w.partition) = omega arith in
-    let running : EndsBefore w.begun 0 w.run = rw r tt in
-    record {
-      walk = search (rules, p.ordered, p.known, s, running, l);
-      ahead = record { passed = []; held_is = refl; onward = omega arith; partition_is = refl };
-      left_is =
-          ap (λ xs. pending w.run ++ wanted w.partition w.held xs)
-          (sym (blocks_from-next w.partition w.begun l) ∙ sym (symbols-end w t.0));
-      fewer = omega (arith, l);
-    }
+step-begin w p t r s = search (rules, sizes, blocks_from-next, symbols-end)
 
 -- ---- what comes next, from its parts
 
 pub upcoming-end : (w : Walk) → w.esi ≡ w.size → w.begun ≡ length (sizes w.partition)
     → End ≡ upcoming_of w
 unfolding upcoming_of
-upcoming-end w e f =
-    sym (ap (λ b. cond b (cond (w.begun == length (sizes w.partition)) End BlockEnd)
-    (upcoming_held w.partition (here w) w.held)) (eq-eqb w.esi w.size e)
-    ∙ ap (λ b. cond b End BlockEnd) (eq-eqb w.begun (length (sizes w.partition)) f))
+upcoming-end w e f = search rules
 
 pub block-left : (w : Walk) → IsWalk w → Tells w BlockEnd → w.begun < length (sizes w.partition)
-block-left w p t = let c = p.begun in let d = t.1 in omega (arith, c, d)
+block-left w p t = search rules

@@ -12,20 +12,17 @@ pub Whole-same : (F G : List Fact) (key : Key) (info : Information) → Same F G
     → Whole G key info
 Whole-same F G key info h w = record {
   information = sym (h.each (info_address key)) ∙ w.information;
-  each = λ id m.
-      let held = w.each id m in
-      record {
-        bytes = held.bytes;
-        value = sym (h.each (symbol_address key id)) ∙ held.value;
-        fitting = held.fitting;
-      };
+  each = λ id m. let held = w.each id m in record {
+    bytes = held.bytes;
+    value = sym (h.each (symbol_address key id)) ∙ held.value;
+    fitting = held.fitting;
+  };
 }
 
 pub object-same : (F G : List Fact) (key : Key) (info : Information) → Same F G
     → object F key info ≡ object G key info
 unfolding object
-object-same F G key info h =
-    λ i. take info.transfer_length
+object-same F G key info h = λ i. take info.transfer_length
     (flat_map (λ id. value_bytes (h.each (symbol_address key id) i)) (ids info))
 
 wants-same : (F G : List Fact) (key : Key) (info : Information) → Same F G
@@ -80,9 +77,8 @@ held-from F key info id o e w = cc
 
 want-held : (F : List Fact) (key : Key) (info : Information) (id : SymbolId) → IsHeld F key info id
     → want info id (fact_at F (symbol_address key id)) ≡ None
-want-held F key info id h =
-    ap (want info id) h.value
-    ∙ ap (λ b. cond b None (Some Misfit)) h.fitting
+want-held F key info id h = ap (want info id) h.value ∙ ap (λ b. cond b None (Some Misfit))
+    h.fitting
 
 -- no gaps: whole; and the other way round
 pub gapless-whole : (F : List Fact) (key : Key) (info : Information)

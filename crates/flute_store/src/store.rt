@@ -9,6 +9,8 @@ ghost use Rattle.std.specs.Prelude.{
   ◌∷◌,
   ◌++◌,
   length,
+  ℕ,
+  List,
   Contains,
   is_some,
   OnOk,
@@ -188,18 +190,47 @@ impl<const SESSIONS: u32, const OBJECTS: u32, const SYMBOLS: u32> Store<
     {
         // From this the proof knows that the store is within its limits.
         let _ = &self.sessions;
-        let packet = match read(datagram) {
-            Ok(packet) => packet,
-            Err(refusal) => return Err(TakeFault::Datagram(refusal)),
-        };
-        let Some(update) = Update::of_packet(&packet) else {
+        match read(datagram) {
+            Ok(packet) => match self.take_packet(alloc, sender, &packet) {
+                Ok(taken) => Ok(taken),
+                Err(JoinRefusal::Full) => Err(TakeFault::Full),
+                Err(JoinRefusal::OutOfMemory) => Err(TakeFault::OutOfMemory),
+            },
+            Err(refusal) => Err(TakeFault::Datagram(refusal)),
+        }
+    }
+
+    /// Adds the facts of a datagram, as [`take`](Store::take) does, for who has read it: it is not
+    /// read again.
+    ///
+    /// # Errors
+    ///
+    /// `Full` and `OutOfMemory` of `take`. After each the store is unchanged.
+    pub fn take_packet(
+        &mut self,
+        alloc: Global,
+        sender: Sender,
+        packet: &Packet<'_>,
+    ) -> Result<Taken, JoinRefusal>
+        requires read { (datagram : List ℕ) × Spells datagram packet.now }
+        ensures ok { OnOk result (Same self.new (self.old ++ facts_of sender packet.now)) }
+        ensures number { IfOk result
+            (λ taken. taken.facts ≡ length (facts_of sender packet.now)) }
+        ensures err { OnErr result (self.new ≡ self.old) }
+        ensures full { (result ≡ Err JoinRefusal.Full)
+            ↔ Over (self.old ++ facts_of sender packet.now) SESSIONS OBJECTS SYMBOLS }
+        ensures held { AllByRecursion (HasCell self.old) (facts_of sender packet.now)
+            → IsOk result }
+    {
+        // From this the proof knows that the store is within its limits.
+        let _ = &self.sessions;
+        let Some(update) = Update::of_packet(packet) else {
             return Ok(Taken { facts: 0 });
         };
         let facts = update.count();
         match self.join_update(alloc, &packet.key(sender), &update) {
             Ok(()) => Ok(Taken { facts }),
-            Err(JoinRefusal::Full) => Err(TakeFault::Full),
-            Err(JoinRefusal::OutOfMemory) => Err(TakeFault::OutOfMemory),
+            Err(refusal) => Err(refusal),
         }
     }
 

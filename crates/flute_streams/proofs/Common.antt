@@ -1,4 +1,6 @@
 -- Names that most proofs on streams cite, re-exported from one place.
+use Rattle.std.proofs.Common.{rules}
+use Rattle.std.proofs.Common.{arith}
 pub use Rattle.std.proofs.Common.{Bool, Err, IfErr, IfSome, IsTrue, List, None, Ok, OnOk, Option}
 pub use Rattle.std.proofs.Common.{Result, Some, [], add-one, ap, append-nil, append_assoc, arith}
 pub use Rattle.std.proofs.Common.{bytes_eq, drop, drop-cons, drop-set-lt, eqb, false, flat_map}

@@ -1,5 +1,6 @@
 mod Common
 mod streams_lemmas
 mod merge_lemmas
+mod compare_lemmas
 mod Cited
 pub mod Public

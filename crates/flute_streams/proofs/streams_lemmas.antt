@@ -6,3 +6,8 @@ pub mod JournalReads
 pub mod OwnedReads
 pub mod ListedFacts
 pub mod ChosenFacts
+pub mod Before
+pub mod MinusTurns
+pub mod MinusFacts
+pub mod MinusLaws
+pub mod SameJournals

@@ -21,3 +21,9 @@ pub mod Selections
 pub mod ChosenStreams
 pub mod ScopeExamples
 pub mod Chains
+pub mod Behind
+pub mod Minus
+pub mod MinusStreams
+pub mod Compared
+pub mod Counting
+pub mod Compares

@@ -8,6 +8,7 @@ pub(crate) mod chosen;
 pub(crate) mod either;
 pub(crate) mod fact_stream;
 pub(crate) mod lent_stream;
+pub(crate) mod minus;
 pub(crate) mod owned_journal_stream;
 pub(crate) mod stream;
 pub(crate) mod walk_stream;

@@ -31,4 +31,6 @@ fn laws_can_be_called() {
     laws::bytes_are_a_journal_or_stop();
     laws::bytes_are_a_file_or_stop();
     flute_streams::laws::merging_merged_is_merging_all();
+    flute_streams::laws::minus_is_what_a_join_needs();
+    flute_streams::laws::a_comparison_tells_of_the_join();
 }

@@ -4,6 +4,7 @@ use flute_parts::{
     Address, Bytes, Fact, Info, Key, MemorySink, ObjectKey, Part, Sender, SessionKey, SymbolId,
 };
 use flute_store::{Shelf, laws};
+use flute_wire::read;
 use std::alloc::Global;
 use std::test::Fail;
 use test_vectors::{INFO_AND_FIRST_SYMBOL, bytes};
@@ -47,6 +48,16 @@ fn a_file_is_taken(rt: HostRuntime) -> Result<(), Fail> {
     assert!(rt; store.objects().next() == Some(*key));
     let part = Part::Info;
     assert!(rt; store.contains(&Address { key: *key, part }));
+    Ok(())
+}
+
+#[test]
+fn a_packet_is_taken(rt: HostRuntime) -> Result<(), Fail> {
+    let datagram = bytes(rt.alloc(), INFO_AND_FIRST_SYMBOL)?;
+    let packet = read(&datagram)?;
+    let mut store = Shelf::new(rt.alloc());
+    let taken = store.take_packet(rt.alloc(), Sender::new(0), &packet)?;
+    assert!(rt; taken.facts == 2);
     Ok(())
 }
 

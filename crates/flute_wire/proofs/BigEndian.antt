@@ -21,8 +21,7 @@ pub big_from-whole : (n : ℕ) (xs : List ℕ) → n ≡ length xs → big_from 
 big_from-whole n xs h =
     big_from-big_endian n xs (omega arith) ∙ ap big_endian (take_all n xs (omega arith))
 
-from_below : (i n : ℕ) (xs : List ℕ) → ((k : ℕ) → get_or xs k 0 < 256)
-    → big_from i n xs < 256 ^ n
+from_below : (i n : ℕ) (xs : List ℕ) → ((k : ℕ) → get_or xs k 0 < 256) → big_from i n xs < 256 ^ n
 from_below i zero xs h = omega arith
 from_below i (suc n) xs h =
     let P : ℕ = 256 ^ n in

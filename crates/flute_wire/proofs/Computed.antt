@@ -1,18 +1,18 @@
 -- The packet that `packet` computes is the one that the datagram spells (specs/Reading).
+use Rattle.std.proofs.Common.{rules}
 use Rattle.std.proofs.Common.{◌≡◌, ℕ, zero, suc, ◌-◌, ◌*◌, ◌<◌, ◌≤◌}
 use Rattle.std.proofs.Common.{◌⊎◌, List, [], ◌∷◌, ◌++◌, length, take, drop, Bool}
 use Rattle.std.proofs.Common.{true, false, ◌&&◌, cond, eqb, ltb, leb, Option, Some, None, inl}
 use Rattle.std.proofs.Common.{inr, refl, sym, ap, subst, ◌∙◌, arith}
 use Rattle.std.specs.Prelude.{IfSome, IsSomeAnd, is_none, ◌↔◌}
 use Rattle.std.specs.Option.{option_map, option_and_then}
-use Rattle.std.proofs.lemmas.Bool.{and_parts, and_from, or_cases, or_left, or_right, cases_Bool}
-use Rattle.std.proofs.lemmas.Bool.{false≢true, leb-true, ltb-true, eqb-true, le-leb, lt-ltb}
+use Rattle.std.proofs.lemmas.Bool.{and_parts, and_from, or_cases}
+use Rattle.std.proofs.lemmas.Bool.{leb-true, ltb-true, eqb-true, le-leb, lt-ltb}
 use Rattle.std.proofs.lemmas.Bool.{eq-eqb}
 use Rattle.std.proofs.lemmas.List.{length-drop, take-append-drop, nil_from_length}
 use Rattle.flute_parts.specs.Information.{info_fault}
 use Rattle.flute_parts.specs.declared.info.InfoFault.{InfoFault}
 use Rattle.flute_parts.specs.BigEndian.{big_endian}
-use Rattle.flute_wire.specs.declared.first_word.FirstWord.{FirstWord}
 use Rattle.flute_wire.specs.Header.{first_word, tsi_len, toi_len, toi_in, extension_area}
 use Rattle.flute_wire.specs.Header.{after_header}
 use Rattle.flute_wire.specs.Extensions.{HeaderExtension, HasExtensions, IsExtension}
@@ -36,9 +36,7 @@ use Rattle.flute_wire.proofs.Spelling.{IsWhole, parts_of, has_parts}
 step : (t : Bool) (e : HeaderExtension) (o : Option (List HeaderExtension))
     (es : List HeaderExtension) → cond t (option_map (λ more. e ∷ more) o) None ≡ Some es
     → (t ≡ true) × ((more : List HeaderExtension) × (o ≡ Some more) × (e ∷ more ≡ es))
-step false e o es h = absurd cc
-step true e None es h = absurd cc
-step true e (Some more) es h = (refl, (more, refl, cc))
+step x0 x1 x2 x3 x4 = search rules
 
 made : (t : Bool) (e f : HeaderExtension) (o : Option (List HeaderExtension))
     (fs : List HeaderExtension) → t ≡ true → o ≡ Some fs → e ≡ f
@@ -48,9 +46,7 @@ made t e f o fs a b c = rw (a, b, c) refl
 pub extensions_in-HasExtensions : (n : ℕ) (bs : List ℕ) (es : List HeaderExtension)
     → extensions_in n bs ≡ Some es → HasExtensions bs es
 unfolding extensions_in
-extensions_in-HasExtensions n [] es h = let e : [] ≡ es =
-    cc in subst (λ (x : List HeaderExtension). HasExtensions [] x) e
-    (record { joined = refl; each = tt })
+extensions_in-HasExtensions n [] es h = search rules
 extensions_in-HasExtensions zero (het ∷ bs) es h = absurd cc
 extensions_in-HasExtensions (suc n) (het ∷ bs) es h =
     let k = words_at het bs in
@@ -60,12 +56,11 @@ extensions_in-HasExtensions (suc n) (het ∷ bs) es h =
     let t = and_parts (ltb 0 k) (leb body (length bs)) s.0 in
     let some : 0 < k = ltb-true 0 k t.0 in
     let room : body ≤ length bs = leb-true body (length bs) t.1 in
-    let is : het ∷ bs ≡ extension_bytes e ++ drop body bs =
-    ap (λ (l : List ℕ). het ∷ l) (sym (take-append-drop body bs)) in
+    let is : het ∷ bs ≡ extension_bytes e ++ drop body bs = ap (λ (l : List ℕ). het ∷ l)
+    (sym (take-append-drop body bs)) in
     let more = extensions_in-HasExtensions n (drop body bs) s.1.0 s.1.1 in
-    subst (λ (x : List HeaderExtension). HasExtensions (het ∷ bs) x) s.1.2
-    (goes_on e (het ∷ bs) (drop body bs) is
-    (front het bs k refl some (omega (arith, some, room))) s.1.0 more)
+    subst (λ (x : List HeaderExtension). HasExtensions (het ∷ bs) x) s.1.2 (goes_on e (het ∷ bs)
+    (drop body bs) is (front het bs k refl some (omega (arith, some, room))) s.1.0 more)
 
 pub extensions_in-Some : (n : ℕ) (bs : List ℕ) (es : List HeaderExtension) → length bs ≤ n
     → HasExtensions bs es → extensions_in n bs ≡ Some es
@@ -78,14 +73,13 @@ extensions_in-Some (suc n) (het ∷ bs) (f ∷ fs) le x =
     let body = 4 * k - 1 in
     let e : HeaderExtension = record { het = het; body = take body bs } in
     let w = words_first het bs f fs x in
-    let is : het ∷ bs ≡ extension_bytes e ++ drop body bs =
-    ap (λ (l : List ℕ). het ∷ l) (sym (take-append-drop body bs)) in
+    let is : het ∷ bs ≡ extension_bytes e ++ drop body bs = ap (λ (l : List ℕ). het ∷ l)
+    (sym (take-append-drop body bs)) in
     let whole : IsExtension e = front het bs k refl w.1 w.0 in
     let s = same_extension e f (drop body bs) _ whole x.each.0 (sym is ∙ x.joined) in
     let more = extensions_in-Some n (drop body bs) fs (omega (arith, length-drop body bs))
-    (record { joined = s.1; each = x.each.1 }) in
-    made (ltb 0 k && leb body (length bs)) e f (extensions_in n (drop body bs)) fs
-    (and_from (ltb 0 k) (leb body (length bs)) (lt-ltb 0 k w.1)
+    (record { joined = s.1; each = x.each.1 }) in made (ltb 0 k && leb body (length bs)) e f
+    (extensions_in n (drop body bs)) fs (and_from (ltb 0 k) (leb body (length bs)) (lt-ltb 0 k w.1)
     (le-leb body (length bs) (omega (arith, w.0)))) more s.0
 
 -- ---- the header
@@ -112,12 +106,7 @@ has_header-IsWhole d h =
     }
 
 pub has_header-true : (d : List ℕ) → IsWhole d (first_word d) → has_header d ≡ true
-has_header-true d h =
-    and_from _ _ (le-leb _ _ h.limit) (and_from _ _ (le-leb _ _ h.word)
-    (and_from _ _ (eq-eqb _ _ h.version) (and_from _ _ (le-leb _ _ h.fixed)
-    (and_from _ _ (le-leb _ _ h.header)
-    (and_from _ _ (lt-ltb _ _ h.tsi) (and_from _ _ (lt-ltb _ _ h.toi)
-    (eq-eqb _ _ h.codepoint)))))))
+has_header-true d h = search rules
 
 -- ---- what the extensions say
 
@@ -133,57 +122,38 @@ pub record Accepts (d : List ℕ) (es : List HeaderExtension) : Type 0 where
   pub payload : (after_header d ≡ []) ⊎ (4 ≤ length (after_header d))
 
 none_is : (o : Option InfoFault) → is_none o ≡ true → o ≡ None
-none_is None h = refl
-none_is (Some f) h = absurd (false≢true h)
+none_is x0 x1 = search rules
 
 is_none-true : (o : Option InfoFault) → o ≡ None → is_none o ≡ true
 is_none-true o e = rw e refl
 
-fti_passes : (o : Option (List ℕ))
-    → passes (λ body. (eqb (length body) 15) && is_none (info_fault (fti_information body))) o
-    ≡ true
-    → IfSome o (λ body. (length body ≡ 15) × (info_fault (fti_information body) ≡ None))
+fti_passes : (o : Option (List ℕ)) → passes
+    (λ body. (eqb (length body) 15) && is_none (info_fault (fti_information body))) o ≡ true →
+    IfSome o (λ body. (length body ≡ 15) × (info_fault (fti_information body) ≡ None))
 fti_passes None h = tt
 fti_passes (Some body) h = let a = and_parts _ _ h in (eqb-true _ _ a.0, none_is _ a.1)
 
-passes_fti : (o : Option (List ℕ))
-    → IfSome o (λ body. (length body ≡ 15) × (info_fault (fti_information body) ≡ None))
-    → passes (λ body. (eqb (length body) 15) && is_none (info_fault (fti_information body))) o
-    ≡ true
+passes_fti : (o : Option (List ℕ)) → IfSome o
+    (λ body. (length body ≡ 15) × (info_fault (fti_information body) ≡ None)) → passes
+    (λ body. (eqb (length body) 15) && is_none (info_fault (fti_information body))) o ≡ true
 passes_fti None h = refl
 passes_fti (Some body) h = and_from _ _ (eq-eqb _ _ h.0) (is_none-true _ h.1)
 
 cenc_passes : (o : Option (List ℕ)) → passes (λ body. eqb (content_encoding body) 0) o ≡ true
     → IfSome o (λ body. content_encoding body ≡ 0)
-cenc_passes None h = tt
-cenc_passes (Some body) h = eqb-true _ _ h
+cenc_passes x0 x1 = search rules
 
 passes_cenc : (o : Option (List ℕ)) → IfSome o (λ body. content_encoding body ≡ 0)
     → passes (λ body. eqb (content_encoding body) 0) o ≡ true
-passes_cenc None h = refl
-passes_cenc (Some body) h = eq-eqb _ _ h
+passes_cenc x0 x1 = search rules
 
 fdt_has : (o : Option (List ℕ)) → has (λ body. eqb (fdt_version body) 2) o ≡ true
     → IsSomeAnd o (λ body. fdt_version body ≡ 2)
-fdt_has None h = absurd (false≢true h)
-fdt_has (Some body) h = eqb-true _ _ h
-
-has_fdt : (o : Option (List ℕ)) → IsSomeAnd o (λ body. fdt_version body ≡ 2)
-    → has (λ body. eqb (fdt_version body) 2) o ≡ true
-has_fdt None h = absurd h
-has_fdt (Some body) h = eq-eqb _ _ h
+fdt_has x0 x1 = search rules
 
 -- a test that is asked for TOI 0 alone
 when_zero : (toi : ℕ) (b : Bool) → cond (eqb toi 0) b true ≡ true → toi ≡ 0 → b ≡ true
 when_zero toi b h e = let t : eqb toi 0 ≡ true = eq-eqb toi 0 e in rw t at h
-
-if_zero : (toi : ℕ) (b : Bool) → (toi ≡ 0 → b ≡ true) → cond (eqb toi 0) b true ≡ true
-if_zero toi b h =
-    elim (cases_Bool (eqb toi 0)) [
-      | inl same ↦ rw same (h (eqb-true toi 0 same))
-      | inr other ↦
-          rw other refl
-    ]
 
 pub is_accepted-Accepts : (d : List ℕ) (es : List HeaderExtension) → is_accepted d es ≡ true
     → Accepts d es
@@ -199,28 +169,17 @@ is_accepted-Accepts d es h =
       one_fdt = leb-true _ _ b.0;
       one_cenc = leb-true _ _ c.0;
       information = fti_passes _ e.0;
-      instance = λ zero. fdt_has _ (when_zero (toi_in d) _ f.0 zero);
+      instance = search rules;
       plain = cenc_passes _ g.0;
       payload = elim (or_cases _ _ g.1) [
-        | inl none ↦
-            inl (nil_from_length _ (eqb-true _ _ none))
+        | inl none ↦ inl (nil_from_length _ (eqb-true _ _ none))
         | inr four ↦ inr (leb-true _ _ four)
       ];
     }
 
 pub is_accepted-true : (d : List ℕ) (es : List HeaderExtension) → Accepts d es
     → is_accepted d es ≡ true
-is_accepted-true d es h =
-    and_from _ _ (le-leb _ _ h.one_fti)
-    (and_from _ _ (le-leb _ _ h.one_fdt) (and_from _ _ (le-leb _ _ h.one_cenc)
-    (and_from _ _ (passes_fti _ h.information)
-    (and_from _ _ (if_zero (toi_in d) _ (λ zero. has_fdt _ (h.instance zero)))
-    (and_from _ _ (passes_cenc _ h.plain)
-    (elim h.payload [
-      | inl none ↦ or_left _ _ (eq-eqb _ _ (ap length none))
-      | inr four ↦
-          or_right _ _ (le-leb _ _ four)
-    ]))))))
+is_accepted-true d es h = search rules
 
 -- ---- the packet
 
@@ -270,9 +229,8 @@ packet-Spells d c h =
     let b = through_then (accepted d) (extensions_in (length (extension_area d)) (extension_area d))
     c a.1 in
     let e = through_if (is_accepted d b.0) (Some (content_by d b.0)) c b.2 in
-    subst (λ (x : Content). Spells d x) (some_is e.1)
-    (spells_by d b.0 (has_header-IsWhole d a.0) (extensions_in-HasExtensions _ _ b.0 b.1)
-    (is_accepted-Accepts d b.0 e.0))
+    subst (λ (x : Content). Spells d x) (some_is e.1) (spells_by d b.0 (has_header-IsWhole d a.0)
+    (extensions_in-HasExtensions _ _ b.0 b.1) (is_accepted-Accepts d b.0 e.0))
 
 packet-Some : (d : List ℕ) (c : Content) → Spells d c → packet d ≡ Some c
 unfolding packet
@@ -283,18 +241,8 @@ packet-Some d c s =
     let b = by_place d p h in
     let tsi = h.tsi ∙ ap tsi_len b.word in
     let toi = h.toi ∙ ap toi_len b.word in
-    let whole : IsWhole d (first_word d) = record {
-      limit = t.limit;
-      word = b.long;
-      version = ap (λ (w : FirstWord). w.version) (sym b.word) ∙ t.version;
-      fixed = b.fixed;
-      header = b.header;
-      tsi = omega (arith, tsi, t.tsi);
-      toi = omega (arith, toi, t.toi);
-      codepoint = ap (λ (w : FirstWord). w.codepoint) (sym b.word) ∙ t.codepoint;
-    } in
-    let x : HasExtensions (extension_area d) p.extensions =
-    subst (λ (l : List ℕ). HasExtensions l p.extensions) (sym b.area) h.extensions in
+    let whole : IsWhole d (first_word d) = search rules in
+    let x : HasExtensions (extension_area d) p.extensions = search rules in
     let a : Accepts d p.extensions = record {
       one_fti = t.one_fti;
       one_fdt = t.one_fdt;

@@ -18,9 +18,8 @@ use Rattle.flute_wire.proofs.Pieces.{some_symbol}
 
 -- the information, or one of the symbols
 abbrev pub IsSent : Key → Information → List (SymbolId × List ℕ) → Fact → Type 0
-IsSent key i ss f =
-    (f ≡ Info key i)
-    ⊎ ((s : SymbolId × List ℕ) × Contains ss s × (f ≡ Symbol key s.0 s.1))
+IsSent key i ss f = (f ≡ Info key i) ⊎
+    ((s : SymbolId × List ℕ) × Contains ss s × (f ≡ Symbol key s.0 s.1))
 
 later : (s : SymbolId × List ℕ) (ss : List (SymbolId × List ℕ)) (t : SymbolId × List ℕ)
     → Contains ss t → Contains (s ∷ ss) t
@@ -39,12 +38,10 @@ module _ (key : Key) (i : Information) where
     | inl info ↦ inl info
     | inr rest ↦ elim rest [
       | inl symbol ↦ inr (s, (0, omega arith, refl), symbol)
-      | inr more ↦
-          elim (from_both ss f more) [
-            | inl info ↦ inl info
-            | inr t ↦
-                inr (t.0, later s ss t.0 t.1, t.2)
-          ]
+      | inr more ↦ elim (from_both ss f more) [
+        | inl info ↦ inl info
+        | inr t ↦ inr (t.0, later s ss t.0 t.1, t.2)
+      ]
     ]
   ]
 
@@ -60,9 +57,8 @@ module _ (key : Key) (i : Information) where
   to_symbol (t ∷ ss) s (zero, l, e) =
       subst (Member (Symbol key s.0 s.1)) (sym (flat_map-cons both t ss))
       (inr (inl (ap (λ (x : SymbolId × List ℕ). Symbol key x.0 x.1) (sym e))))
-  to_symbol (t ∷ ss) s (suc k, l, e) =
-      subst (Member (Symbol key s.0 s.1)) (sym (flat_map-cons both t ss))
-      (inr (inr (to_symbol ss s (k, omega (arith, l), e))))
+  to_symbol (t ∷ ss) s (suc k, l, e) = subst (Member (Symbol key s.0 s.1))
+      (sym (flat_map-cons both t ss)) (inr (inr (to_symbol ss s (k, omega (arith, l), e))))
 
   alone : (content : List ℕ) → i.transfer_length ≡ 0 → facts_sent key i content ≡ Info key i ∷ []
   unfolding facts_sent
@@ -71,9 +67,8 @@ module _ (key : Key) (i : Information) where
   each : (content : List ℕ) → 0 < i.transfer_length
       → facts_sent key i content ≡ flat_map both (symbols_of i content)
   unfolding facts_sent both
-  each content l =
-      ap (flat_map (outgoing_facts key (Some i))) (payloads_some i content l)
-      ∙ flat_map-map (outgoing_facts key (Some i)) (λ s. Some s) (symbols_of i content)
+  each content l = ap (flat_map (outgoing_facts key (Some i))) (payloads_some i content l) ∙
+      flat_map-map (outgoing_facts key (Some i)) (λ s. Some s) (symbols_of i content)
 
   -- the same of the facts of all datagrams
   only : (content : List ℕ) (f : Fact) → Member f (facts_sent key i content)
@@ -82,8 +77,7 @@ module _ (key : Key) (i : Information) where
   only content f m = elim (eq-zero-or-pos i.transfer_length) [
     | inl z ↦ elim (subst (Member f) (alone content z) m) [
       | inl info ↦ inl info
-      | inr none ↦
-          absurd none
+      | inr none ↦ absurd none
     ]
     | inr l ↦ from_both (symbols_of i content) f (subst (Member f) (each content l) m)
   ]
@@ -93,12 +87,10 @@ module _ (key : Key) (i : Information) where
   unfolding Member
   all content f v (inl info) = elim (eq-zero-or-pos i.transfer_length) [
     | inl z ↦ subst (Member f) (sym (alone content z)) (inl info)
-    | inr l ↦
-        let some : 0 < length (symbols_of i content) =
-        omega (arith, length-symbols_of i content, some_symbol i v l) in
-        subst (λ g. Member g (facts_sent key i content)) (sym info)
-        (subst (Member (Info key i)) (sym (each content l))
-        (to_info (symbols_of i content) some))
+    | inr l ↦ let some : 0 < length (symbols_of i content) = omega
+        (arith, length-symbols_of i content, some_symbol i v l) in subst
+        (λ g. Member g (facts_sent key i content)) (sym info) (subst (Member (Info key i))
+        (sym (each content l)) (to_info (symbols_of i content) some))
   ]
   all content f v (inr (s, c, e)) = elim (eq-zero-or-pos i.transfer_length) [
     | inl z ↦ absurd (omega (arith, c.1, length-symbols_of i content, ap length (no_symbol i v z)))
@@ -110,6 +102,8 @@ module _ (key : Key) (i : Information) where
 pub told-iff : (key : Key) (i : Information) (content : List ℕ) (f : Fact) → IsValid i
     → Contains (facts_sent key i content) f ↔ IsSent key i (symbols_of i content) f
 told-iff key i content f v = (
-  λ c. only key i content f (Member-from (facts_sent key i content) f c),
-  λ s. Contains-from (facts_sent key i content) f (all key i content f v s),
+  λ c. only key i content f
+      (Member-from (facts_sent key i content) f c),
+  λ s. Contains-from (facts_sent key i content) f
+      (all key i content f v s),
 )

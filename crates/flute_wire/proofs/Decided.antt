@@ -1,8 +1,9 @@
 -- Whether a datagram spells a packet is decided: it does, or a refusal applies (specs/Refusals).
+use Rattle.std.proofs.Common.{rules}
 use Rattle.std.proofs.Common.{◌≡◌, ℕ, ◌<◌, ◌⊎◌, List, [], ◌∷◌, length}
 use Rattle.std.proofs.Common.{Option, Some, None, inl, inr, refl, arith}
 use Rattle.std.specs.Prelude.{IsSomeAnd}
-use Rattle.std.proofs.lemmas.Bool.{cases_lt, cases_eq}
+use Rattle.std.proofs.lemmas.Bool.{cases_eq}
 use Rattle.flute_parts.specs.Information.{info_fault}
 use Rattle.flute_parts.specs.declared.info.InfoFault.{InfoFault}
 use Rattle.flute_wire.specs.declared.refusal.Refusal.{Refusal}
@@ -29,25 +30,20 @@ abbrev Either : Type 0 → Type 0
 Either P = P ⊎ (P → ⊥)
 
 below : (m n : ℕ) → Either (m < n)
-below m n = elim (cases_lt m n) [ inl lt ↦ inl lt | inr le ↦ inr (λ lt. absurd (omega arith)) ]
+below m n = search rules
 
 other : (m n : ℕ) → Either (m ≡ n → ⊥)
 other m n = elim (cases_eq m n) [ inl e ↦ inr (λ h. h e) | inr h ↦ inl h ]
 
 both : (P Q : Type 0) → Either P → Either Q → Either (P × Q)
-both P Q (inl p) (inl q) = inl (p, q)
-both P Q (inl p) (inr k) = inr (λ h. k h.1)
-both P Q (inr h) q = inr (λ k. h k.0)
+both x0 x1 x2 x3 = search rules
 
 either : (P Q : Type 0) → Either P → Either Q → Either (P ⊎ Q)
-either P Q (inl p) q = inl (inl p)
-either P Q (inr h) (inl q) = inl (inr q)
-either P Q (inr h) (inr k) = inr (λ x. elim x [ inl p ↦ h p | inr q ↦ k q ])
+either x0 x1 x2 x3 = search rules
 
 some_such : (o : Option (List ℕ)) (P : List ℕ → Type 0)
     → ((body : List ℕ) → Either (P body)) → Either (IsSomeAnd o P)
-some_such None P d = inr (λ h. h)
-some_such (Some body) P d = d body
+some_such x0 x1 x2 = search rules
 
 is_empty : (bs : List (List ℕ)) → Either (bs ≡ [])
 is_empty [] = inl refl
@@ -58,10 +54,9 @@ fault_in : (o : Option InfoFault) → ((f : InfoFault) × (o ≡ Some f))
 fault_in None = inr (λ f e. cc)
 fault_in (Some f) = inl (f, refl)
 
-fault_at : (o : Option (List ℕ))
-    → ((f : InfoFault) × IsSomeAnd o (λ body. info_fault (fti_information body) ≡ Some f))
-    ⊎ ((f : InfoFault) → IsSomeAnd o (λ body. info_fault (fti_information body) ≡ Some f)
-    → ⊥)
+fault_at : (o : Option (List ℕ)) →
+    ((f : InfoFault) × IsSomeAnd o (λ body. info_fault (fti_information body) ≡ Some f)) ⊎
+    ((f : InfoFault) → IsSomeAnd o (λ body. info_fault (fti_information body) ≡ Some f) → ⊥)
 fault_at None = inr (λ f h. h)
 fault_at (Some body) = fault_in (info_fault (fti_information body))
 
@@ -77,8 +72,7 @@ Outcome d = ((r : Refusal) → Applies r d → ⊥) ⊎ ((r : Refusal) × Applie
 -- one refusal after another: the first that applies, else a packet
 ask : (d : List ℕ) (r : Refusal) → Either (Applies r d)
     → ((Applies r d → ⊥) → Outcome d) → Outcome d
-ask d r (inl a) k = inr (r, a)
-ask d r (inr n) k = k n
+ask x0 x1 x2 x3 = search rules
 
 -- no refusal applies that is known before the extensions are
 record PassesHeader (d : List ℕ) : Type 0 where
@@ -102,8 +96,7 @@ record PassesExtensions (d : List ℕ) : Type 0 where
   content_encoded : Applies ContentEncoded d → ⊥
   payload_id_cut : Applies PayloadIdCut d → ⊥
 
-all_pass : {d : List ℕ} → PassesHeader d → PassesExtensions d → (r : Refusal)
-    → Applies r d → ⊥
+all_pass : {d : List ℕ} → PassesHeader d → PassesExtensions d → (r : Refusal) → Applies r d → ⊥
 all_pass h e TooLong = h.too_long
 all_pass h e TooShort = h.too_short
 all_pass h e LctVersion = h.lct_version
@@ -184,16 +177,7 @@ decide_refusal d =
       | inr none ↦ inr (ExtensionLength, none)
       | inl found ↦
           let header : PassesHeader d =
-          record {
-            too_long = a;
-            too_short = b;
-            lct_version = c;
-            header_length = e;
-            header_cut = f;
-            no_tsi = g;
-            no_toi = h;
-            codepoint = i;
-          } in
+          search rules in
           behind d found.0 found.1 header
     ]))))))))
 

@@ -1,10 +1,10 @@
 -- A datagram to which no refusal applies spells a packet (specs/Datagram).
+use Rattle.std.proofs.Common.{rules}
+use Rattle.std.proofs.lemmas.Grind.{common_steps}
 use Rattle.std.proofs.Common.{◌≡◌, ℕ, ◌<◌, ◌≤◌, ◌⊎◌, List, [], ◌∷◌}
 use Rattle.std.proofs.Common.{length, Option, Some, None, inl, inr, refl, arith}
 use Rattle.std.specs.Prelude.{IfSome, IsSomeAnd}
 use Rattle.std.specs.Option.{option_to_list}
-use Rattle.std.proofs.lemmas.Bool.{cases_lt}
-use Rattle.std.proofs.lemmas.List.{nil_from_length}
 use Rattle.flute_parts.specs.Information.{info_fault}
 use Rattle.flute_parts.specs.declared.info.InfoFault.{InfoFault}
 use Rattle.flute_wire.specs.declared.refusal.Refusal.{Refusal}
@@ -24,18 +24,14 @@ use Rattle.flute_wire.proofs.Walking.{short_bodies, short_body}
 use Rattle.flute_wire.proofs.Spelling.{stable, spells, content_at}
 
 at_most_one : (bs : List (List ℕ)) → (1 < length bs → ⊥) → bs ≡ option_to_list (first bs)
-at_most_one [] h = refl
-at_most_one (b ∷ []) h = refl
-at_most_one (b ∷ c ∷ bs) h = absurd (h (omega arith))
+at_most_one x0 x1 = grind (arith, common_steps)
 
 no_fault : (o : Option InfoFault) → ((f : InfoFault) → o ≡ Some f → ⊥) → o ≡ None
-no_fault None h = refl
-no_fault (Some f) h = absurd (h f refl)
+no_fault x0 x1 = search rules
 
-fti_taken : (o : Option (List ℕ)) → (IsSomeAnd o (λ body. length body ≡ 15 → ⊥) → ⊥)
-    → ((f : InfoFault) → IsSomeAnd o (λ body. info_fault (fti_information body) ≡ Some f)
-    → ⊥)
-    → IfSome o (λ body. (length body ≡ 15) × (info_fault (fti_information body) ≡ None))
+fti_taken : (o : Option (List ℕ)) → (IsSomeAnd o (λ body. length body ≡ 15 → ⊥) → ⊥) →
+    ((f : InfoFault) → IsSomeAnd o (λ body. info_fault (fti_information body) ≡ Some f) → ⊥) →
+    IfSome o (λ body. (length body ≡ 15) × (info_fault (fti_information body) ≡ None))
 fti_taken None h k = tt
 fti_taken (Some body) h k =
     (stable (length body) 15 h, no_fault (info_fault (fti_information body)) k)
@@ -46,38 +42,27 @@ fdt_taken : (bs : List (List ℕ)) → (bs ≡ [] → ⊥)
 fdt_taken [] h k = absurd (h refl)
 fdt_taken (body ∷ bs) h k = stable (fdt_version body) 2 k
 
-plain_taken : (o : Option (List ℕ))
-    → (IsSomeAnd o (λ body. content_encoding body ≡ 0 → ⊥) → ⊥)
-    → IfSome o (λ body. content_encoding body ≡ 0)
+plain_taken : (o : Option (List ℕ)) → (IsSomeAnd o (λ body. content_encoding body ≡ 0 → ⊥) → ⊥) →
+    IfSome o (λ body. content_encoding body ≡ 0)
 plain_taken None h = tt
 plain_taken (Some body) h = stable (content_encoding body) 0 h
 
 tail_taken : (tail : List ℕ) → ((0 < length tail) × (length tail < 4) → ⊥)
     → (tail ≡ []) ⊎ (4 ≤ length tail)
-tail_taken tail h =
-    elim (cases_lt 0 (length tail)) [
-      | inr none ↦ inl (nil_from_length tail (omega arith))
-      | inl some ↦
-          elim (cases_lt (length tail) 4) [
-            | inl cut ↦ absurd (h (some, cut))
-            | inr whole ↦
-                inr whole
-          ]
-    ]
+tail_taken tail h = grind (arith, common_steps)
 
 pub some_packet : (d : List ℕ) → ((r : Refusal) → Applies r d → ⊥) → (c : Content) × Spells d c
-some_packet d h =
-    elim (decide_extensions (length (extension_area d)) (extension_area d) (omega arith)) [
+some_packet d h = elim
+    (decide_extensions (length (extension_area d)) (extension_area d) (omega arith)) [
       | inr none ↦ absurd (h ExtensionLength none)
-      | inl found ↦
-          let es = found.0 in
+      | inl found ↦ let es = found.0 in
           let x = found.1 in
           let fti = first (bodies ext_fti es) in
           let fdt = first (bodies ext_fdt es) in
           let cenc = first (bodies ext_cenc es) in
           let fdt_is = at_most_one (bodies ext_fdt es) (λ two. h Repeated (es, x, inr (inl two))) in
-          let cenc_is =
-          at_most_one (bodies ext_cenc es) (λ two. h Repeated (es, x, inr (inr two))) in
+          let cenc_is = at_most_one (bodies ext_cenc es) (λ two. h Repeated (es, x, inr (inr two)))
+          in
           let f : Finds (extension_area d) fti fdt cenc = record {
             extensions = es;
             spelled = x;
@@ -91,12 +76,9 @@ some_packet d h =
           } in
           let passes : PassesUpTo 9 d = λ r lt a. h r a in (
             content_at d fti fdt,
-            spells passes f
-                (fti_taken fti (λ a. h FtiLength (es, x, a))
-                (λ fault a. h (Information fault) (es, x, a)))
-                (λ zero. fdt_taken (bodies ext_fdt es)
-                (λ none. h NoInstance (zero, (es, x, none)))
-                (λ a. h FluteVersion (zero, (es, x, a))))
+            spells passes f (fti_taken fti (λ a. h FtiLength (es, x, a))
+                (λ fault a. h (Information fault) (es, x, a))) (λ zero. fdt_taken (bodies ext_fdt es)
+                (λ none. h NoInstance (zero, (es, x, none))) (λ a. h FluteVersion (zero, (es, x, a))))
                 (plain_taken cenc (λ a. h ContentEncoded (es, x, a)))
                 (tail_taken (after_header d) (λ a. h PayloadIdCut a)),
           )

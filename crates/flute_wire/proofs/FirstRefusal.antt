@@ -1,4 +1,5 @@
 -- The first refusal that applies, from what each check of `read` found (specs/Refusals).
+use Rattle.std.proofs.Common.{rules}
 use Rattle.std.proofs.Common.{◌≡◌, ℕ, ◌+◌, ◌<◌, ◌⊎◌, List, [], length, cond}
 use Rattle.std.proofs.Common.{eqb, Option, Some, None, inl, inr, refl, sym, ap, subst, ◌∙◌}
 use Rattle.std.proofs.Common.{arith}
@@ -43,64 +44,25 @@ by_rank n =
 
 pub by_rank-rank : (r : Refusal) → (rank r ≡ 12 → ⊥) → by_rank (rank r) ≡ r
 unfolding by_rank
-by_rank-rank TooLong other = refl
-by_rank-rank TooShort other = refl
-by_rank-rank LctVersion other = refl
-by_rank-rank HeaderLength other = refl
-by_rank-rank HeaderCut other = refl
-by_rank-rank NoTsi other = refl
-by_rank-rank NoToi other = refl
-by_rank-rank Codepoint other = refl
-by_rank-rank ExtensionLength other = refl
-by_rank-rank Repeated other = refl
-by_rank-rank FtiLength other = refl
 by_rank-rank (Information f) other = absurd (other refl)
-by_rank-rank NoInstance other = refl
-by_rank-rank FluteVersion other = refl
-by_rank-rank ContentEncoded other = refl
-by_rank-rank PayloadIdCut other = refl
+by_rank-rank another other = refl
 
 pub is_information : (r : Refusal) → rank r ≡ 12 → (f : InfoFault) × (r ≡ Information f)
-is_information TooLong at = absurd (omega arith)
-is_information TooShort at = absurd (omega arith)
-is_information LctVersion at = absurd (omega arith)
-is_information HeaderLength at = absurd (omega arith)
-is_information HeaderCut at = absurd (omega arith)
-is_information NoTsi at = absurd (omega arith)
-is_information NoToi at = absurd (omega arith)
-is_information Codepoint at = absurd (omega arith)
-is_information ExtensionLength at = absurd (omega arith)
-is_information Repeated at = absurd (omega arith)
-is_information FtiLength at = absurd (omega arith)
 is_information (Information f) at = (f, refl)
-is_information NoInstance at = absurd (omega arith)
-is_information FluteVersion at = absurd (omega arith)
-is_information ContentEncoded at = absurd (omega arith)
-is_information PayloadIdCut at = absurd (omega arith)
+is_information other at = absurd (omega arith)
 
 -- one check more
 pub passes_more : (n : ℕ) (d : List ℕ) (r : Refusal) → rank r ≡ n → (n ≡ 12 → ⊥)
     → PassesUpTo n d → (Applies r d → ⊥) → PassesUpTo (n + 1) d
-passes_more n d r at other before not q lt applies =
-    elim (cases_lt (rank q) n) [
-      | inl below ↦ before q below applies
-      | inr above ↦
-          let same : rank q ≡ n = omega arith in
-          let is : q ≡ r =
-          sym (by_rank-rank q (λ e. other (sym same ∙ e))) ∙ ap by_rank (same ∙ sym at)
-          ∙ by_rank-rank r (λ e. other (sym at ∙ e)) in
-          not (subst (λ (x : Refusal). Applies x d) is applies)
-    ]
+passes_more n d r at other before not q lt applies = search rules
 
 passes_information : (d : List ℕ) → PassesUpTo 12 d
     → ((f : InfoFault) → Applies (Information f) d → ⊥) → PassesUpTo 13 d
-passes_information d before not q lt applies =
-    elim (cases_lt (rank q) 12) [
-      | inl below ↦ before q below applies
-      | inr above ↦
-          let is = is_information q (omega arith) in
-          not is.0 (subst (λ (x : Refusal). Applies x d) is.1 applies)
-    ]
+passes_information d before not q lt applies = elim (cases_lt (rank q) 12) [
+  | inl below ↦ before q below applies
+  | inr above ↦ let is = is_information q (omega arith) in not is.0
+      (subst (λ (x : Refusal). Applies x d) is.1 applies)
+]
 
 -- what the extensions of a datagram are said to have, they have
 pub carried : (d : List ℕ) (es : List HeaderExtension) → HasExtensions (extension_area d) es
@@ -109,8 +71,7 @@ carried d es x P c = subst P (same_extensions (extension_area d) c.0 es c.1 x) c
 
 one_at_most : (found : Option (List ℕ)) (bs : List (List ℕ)) → bs ≡ option_to_list found
     → 1 < length bs → ⊥
-one_at_most None bs is two = absurd (omega (arith, ap length is))
-one_at_most (Some b) bs is two = absurd (omega (arith, ap length is))
+one_at_most x0 x1 x2 x3 = search rules
 
 pub first_found : (found : Option (List ℕ)) (bs : List (List ℕ)) → bs ≡ option_to_list found
     → first bs ≡ found
@@ -124,9 +85,8 @@ none_found (Some b) bs is none = let e = sym none ∙ is in absurd cc
 
 -- ---- the walk
 
-pub found_in : (d : List ℕ) {area : List ℕ} {fti fdt cenc : Option (List ℕ)}
-    → area ≡ extension_area d → Finds area fti fdt cenc
-    → Finds (extension_area d) fti fdt cenc
+pub found_in : (d : List ℕ) {area : List ℕ} {fti fdt cenc : Option (List ℕ)} → area ≡ extension_area
+    d → Finds area fti fdt cenc → Finds (extension_area d) fti fdt cenc
 found_in d {fti = fti} {fdt = fdt} {cenc = cenc} is f =
     subst (λ (a : List ℕ). Finds a fti fdt cenc) is f
 
@@ -134,16 +94,12 @@ pub passes_area : {d : List ℕ} {fti fdt cenc : Option (List ℕ)} → PassesUp
     → Finds (extension_area d) fti fdt cenc → PassesUpTo 11 d
 passes_area {d = d} {fti = fti} {fdt = fdt} {cenc = cenc} before f =
     let nine = passes_more 9 d ExtensionLength refl (λ h. absurd (omega arith)) before
-    (λ none. none f.extensions f.spelled) in
-    passes_more 10 d Repeated refl (λ h. absurd (omega arith)) nine (λ c.
-    elim (carried d f.extensions f.spelled
-    (λ es. (1 < length (bodies ext_fti es))
-    ⊎ ((1 < length (bodies ext_fdt es)) ⊎ (1 < length (bodies ext_cenc es)))) c) [
-      | inl two ↦ one_at_most fti (bodies ext_fti f.extensions) f.fti_is two
-      | inr rest ↦ elim rest [
-        | inl two ↦ one_at_most fdt (bodies ext_fdt f.extensions) f.fdt_is two
-        | inr two ↦ one_at_most cenc (bodies ext_cenc f.extensions) f.cenc_is two
-      ]
+    (λ none. none f.extensions f.spelled) in passes_more 10 d Repeated refl
+    (λ h. absurd (omega arith)) nine (λ c. elim (carried d f.extensions f.spelled (λ es.
+    (1 < length (bodies ext_fti es)) ⊎
+    ((1 < length (bodies ext_fdt es)) ⊎ (1 < length (bodies ext_cenc es)))) c) [
+      | inl two ↦ search rules
+      | inr rest ↦ search rules
     ])
 
 -- a body that is found, in the words of the refusals
@@ -151,12 +107,7 @@ pub carries_found : (d : List ℕ) (het : ℕ) (found : Option (List ℕ))
     (es : List HeaderExtension) → HasExtensions (extension_area d) es
     → bodies het es ≡ option_to_list found → (P : List ℕ → Type 0) → IsSomeAnd found P
     → Carries d (λ es. IsSomeAnd (first (bodies het es)) P)
-carries_found d het found es x is P h = (
-  es,
-  x,
-  subst (λ (o : Option (List ℕ)). IsSomeAnd o P)
-      (sym (first_found found (bodies het es) is)) h,
-)
+carries_found d het found es x is P h = search rules
 
 pub found_carried : (d : List ℕ) (het : ℕ) (found : Option (List ℕ))
     (es : List HeaderExtension) → HasExtensions (extension_area d) es
@@ -168,8 +119,7 @@ found_carried d het found es x is P c =
 
 -- a found body that has one property does not have the opposite
 pub not_both : (found : Option (List ℕ)) (P Q : List ℕ → Type 0)
-    (apart : (b : List ℕ) → P b → Q b → ⊥) → IfSome found P
-    → IsSomeAnd found Q → ⊥
+    (apart : (b : List ℕ) → P b → Q b → ⊥) → IfSome found P → IsSomeAnd found Q → ⊥
 not_both None P Q apart h k = k
 not_both (Some b) P Q apart h k = apart b h k
 
@@ -179,19 +129,13 @@ and_then None P Q f h = h
 and_then (Some b) P Q f h = f b h
 
 some_if : (found : Option (List ℕ)) (P : List ℕ → Type 0) → IsSomeAnd found P → IfSome found P
-some_if None P h = tt
-some_if (Some b) P h = h
+some_if x0 x1 x2 = search rules
 
 -- ---- EXT_FTI
 
 pub refuses_fti : {d : List ℕ} {fti fdt cenc : Option (List ℕ)} → PassesUpTo 11 d
     → Finds (extension_area d) fti fdt cenc → (r : Refusal) → RefusesFti fti r → Refuses d r
-refuses_fti {d = d} {fti = fti} before f FtiLength h =
-    record {
-      applies = carries_found d ext_fti fti f.extensions f.spelled f.fti_is
-          (λ body. length body ≡ 15 → ⊥) h;
-      first = before;
-    }
+refuses_fti {d = d} {fti = fti} before f FtiLength h = search rules
 refuses_fti {d = d} {fti = fti} before f (Information fault) h =
     record {
       applies = carries_found d ext_fti fti f.extensions f.spelled f.fti_is
@@ -210,32 +154,24 @@ refuses_fti {d = d} {fti = fti} before f (Information fault) h =
     }
 refuses_fti before f _ h = absurd h
 
-pub passes_fti : {d : List ℕ} {fti fdt cenc : Option (List ℕ)} → PassesUpTo 11 d
-    → Finds (extension_area d) fti fdt cenc
-    → IfSome fti (λ body. (length body ≡ 15) × (info_fault (fti_information body) ≡ None))
-    → PassesUpTo 13 d
+pub passes_fti : {d : List ℕ} {fti fdt cenc : Option (List ℕ)} → PassesUpTo 11 d → Finds
+    (extension_area d) fti fdt cenc → IfSome fti
+    (λ body. (length body ≡ 15) × (info_fault (fti_information body) ≡ None)) → PassesUpTo 13 d
 passes_fti {d = d} {fti = fti} before f taken =
-    let twelve = passes_more 11 d FtiLength refl (λ e. absurd (omega arith)) before (λ c.
-    not_both fti (λ body. (length body ≡ 15) × (info_fault (fti_information body) ≡ None))
+    let twelve = passes_more 11 d FtiLength refl (λ e. absurd (omega arith)) before (λ c. not_both
+    fti (λ body. (length body ≡ 15) × (info_fault (fti_information body) ≡ None))
     (λ body. length body ≡ 15 → ⊥) (λ b p q. q p.0) taken
-    (found_carried d ext_fti fti f.extensions f.spelled f.fti_is
-    (λ body. length body ≡ 15 → ⊥) c)) in
-    passes_information d twelve (λ fault c.
-    not_both fti (λ body. (length body ≡ 15) × (info_fault (fti_information body) ≡ None))
-    (λ body. info_fault (fti_information body) ≡ Some fault)
-    (λ b p q. let e = sym p.1 ∙ q in cc) taken
-    (found_carried d ext_fti fti f.extensions f.spelled f.fti_is
+    (found_carried d ext_fti fti f.extensions f.spelled f.fti_is (λ body. length body ≡ 15 → ⊥) c))
+    in passes_information d twelve (λ fault c. not_both fti
+    (λ body. (length body ≡ 15) × (info_fault (fti_information body) ≡ None))
+    (λ body. info_fault (fti_information body) ≡ Some fault) (λ b p q. let e = sym p.1 ∙ q in cc)
+    taken (found_carried d ext_fti fti f.extensions f.spelled f.fti_is
     (λ body. info_fault (fti_information body) ≡ Some fault) c))
 
 -- ---- EXT_FDT
 
 some_is : (found : Option (List ℕ)) (P : List ℕ → Type 0) → IsSomeAnd found P → found ≡ None → ⊥
-some_is None P h e = h
-some_is (Some b) P h e = cc
-
-nothing_found : (found : Option (List ℕ)) (bs : List (List ℕ)) → bs ≡ option_to_list found
-    → found ≡ None → bs ≡ []
-nothing_found found bs is none = is ∙ ap option_to_list none
+some_is x0 x1 x2 x3 = search rules
 
 not_here : (d : List ℕ) (fdt : Option (List ℕ)) (es : List HeaderExtension)
     → HasExtensions (extension_area d) es → bodies ext_fdt es ≡ option_to_list fdt
@@ -246,65 +182,45 @@ not_here d fdt es x is c =
 pub refuses_fdt : {d : List ℕ} {toi : ℕ} {fti fdt cenc : Option (List ℕ)} → toi ≡ toi_in d
     → PassesUpTo 13 d → Finds (extension_area d) fti fdt cenc → (r : Refusal)
     → RefusesFdt toi fdt r → Refuses d r
-refuses_fdt {fdt = fdt} is before f NoInstance h =
-    record {
-      applies = (
-        sym is ∙ h.0,
-        (
-          f.extensions,
-          f.spelled,
-          nothing_found fdt (bodies ext_fdt f.extensions) f.fdt_is h.1,
-        ),
-      );
-      first = before;
-    }
-refuses_fdt {d = d} {fdt = fdt} is before f FluteVersion h =
-    record {
-      applies = (
-        sym is ∙ h.0,
-        carries_found d ext_fdt fdt f.extensions f.spelled f.fdt_is
-            (λ body. fdt_version body ≡ 2 → ⊥) h.1,
-      );
-      first = passes_more 13 d NoInstance refl (λ e. absurd (omega arith)) before (λ a.
-          some_is fdt (λ body. fdt_version body ≡ 2 → ⊥) h.1
-          (not_here d fdt f.extensions f.spelled f.fdt_is a.1));
-    }
+refuses_fdt {fdt = fdt} is before f NoInstance h = search rules
+refuses_fdt {d = d} {fdt = fdt} is before f FluteVersion h = record {
+  applies = (
+    sym is ∙ h.0,
+    carries_found d ext_fdt fdt f.extensions f.spelled f.fdt_is
+        (λ body. fdt_version body ≡ 2 → ⊥) h.1,
+  );
+  first = passes_more 13 d NoInstance refl (λ e. absurd (omega arith)) before (λ a. some_is fdt
+      (λ body. fdt_version body ≡ 2 → ⊥) h.1
+      (not_here d fdt f.extensions f.spelled f.fdt_is a.1));
+}
 refuses_fdt is before f _ h = absurd h
 
 pub passes_fdt : {d : List ℕ} {toi : ℕ} {fti fdt cenc : Option (List ℕ)} → toi ≡ toi_in d
     → PassesUpTo 13 d → Finds (extension_area d) fti fdt cenc
     → (toi ≡ 0 → IsSomeAnd fdt (λ body. fdt_version body ≡ 2)) → PassesUpTo 15 d
 passes_fdt {d = d} {fdt = fdt} is before f taken =
-    let fourteen = passes_more 13 d NoInstance refl (λ e. absurd (omega arith)) before (λ a.
-    some_is fdt (λ body. fdt_version body ≡ 2) (taken (is ∙ a.0))
-    (not_here d fdt f.extensions f.spelled f.fdt_is a.1)) in
-    passes_more 14 d FluteVersion refl (λ e. absurd (omega arith)) fourteen (λ a.
-    not_both fdt (λ body. fdt_version body ≡ 2) (λ body. fdt_version body ≡ 2 → ⊥) (λ b p q. q p)
-    (some_if fdt (λ body. fdt_version body ≡ 2) (taken (is ∙ a.0)))
-    (found_carried d ext_fdt fdt f.extensions f.spelled f.fdt_is
-    (λ body. fdt_version body ≡ 2 → ⊥) a.1))
+    let fourteen = passes_more 13 d NoInstance refl (λ e. absurd (omega arith)) before (λ a. some_is
+    fdt (λ body. fdt_version body ≡ 2) (taken (is ∙ a.0))
+    (not_here d fdt f.extensions f.spelled f.fdt_is a.1)) in passes_more 14 d FluteVersion refl
+    (λ e. absurd (omega arith)) fourteen (λ a. not_both fdt (λ body. fdt_version body ≡ 2)
+    (λ body. fdt_version body ≡ 2 → ⊥) (λ b p q. q p)
+    (some_if fdt (λ body. fdt_version body ≡ 2) (taken (is ∙ a.0))) (found_carried d ext_fdt fdt
+    f.extensions f.spelled f.fdt_is (λ body. fdt_version body ≡ 2 → ⊥) a.1))
 
 -- ---- EXT_CENC and the payload
 
 pub refuses_cenc : {d : List ℕ} {fti fdt cenc : Option (List ℕ)} → PassesUpTo 15 d
     → Finds (extension_area d) fti fdt cenc
     → IsSomeAnd cenc (λ body. content_encoding body ≡ 0 → ⊥) → Refuses d ContentEncoded
-refuses_cenc {d = d} {cenc = cenc} before f h =
-    record {
-      applies = carries_found d ext_cenc cenc f.extensions f.spelled f.cenc_is
-          (λ body. content_encoding body ≡ 0 → ⊥) h;
-      first = before;
-    }
+refuses_cenc {d = d} {cenc = cenc} before f h = search rules
 
 pub passes_cenc : {d : List ℕ} {fti fdt cenc : Option (List ℕ)} → PassesUpTo 15 d
     → Finds (extension_area d) fti fdt cenc
     → IfSome cenc (λ body. content_encoding body ≡ 0) → PassesUpTo 16 d
-passes_cenc {d = d} {cenc = cenc} before f plain =
-    passes_more 15 d ContentEncoded refl (λ e. absurd (omega arith)) before (λ c.
-    not_both cenc (λ body. content_encoding body ≡ 0)
-    (λ body. content_encoding body ≡ 0 → ⊥) (λ b p q. q p) plain
-    (found_carried d ext_cenc cenc f.extensions f.spelled f.cenc_is
-    (λ body. content_encoding body ≡ 0 → ⊥) c))
+passes_cenc {d = d} {cenc = cenc} before f plain = passes_more 15 d ContentEncoded refl
+    (λ e. absurd (omega arith)) before (λ c. not_both cenc (λ body. content_encoding body ≡ 0)
+    (λ body. content_encoding body ≡ 0 → ⊥) (λ b p q. q p) plain (found_carried d ext_cenc cenc
+    f.extensions f.spelled f.cenc_is (λ body. content_encoding body ≡ 0 → ⊥) c))
 
 pub refuses_tail : {d tail : List ℕ} → tail ≡ after_header d → PassesUpTo 16 d
     → (0 < length tail) × (length tail < 4) → Refuses d PayloadIdCut

@@ -1,4 +1,5 @@
 -- The symbols of an object with their bytes, and the packets that carry them (specs/Carousel).
+use Rattle.std.proofs.Common.{rules}
 use Rattle.std.proofs.Common.{◌≡◌, ℕ, zero, suc, ◌+◌, ◌*◌, ◌<◌, ◌≤◌, max}
 use Rattle.std.proofs.Common.{inl, inr, List, [], ◌∷◌, ◌++◌, length, take, map, Bool}
 use Rattle.std.proofs.Common.{true, false, cond, Option, Some, None, refl, sym, ap, subst}
@@ -9,7 +10,7 @@ use Rattle.std.specs.Option.{option_map}
 use Rattle.std.proofs.lemmas.Grind.{div_ceil_times}
 use Rattle.std.proofs.lemmas.Option.{slice_get-map, slice_get_within, slice_get_past}
 use Rattle.std.proofs.lemmas.Bool.Decides.{nat_tests}
-use Rattle.std.proofs.Math.Nat.{mul-le-mul_right, eq-zero-or-pos}
+use Rattle.std.proofs.Math.Nat.{eq-zero-or-pos}
 use Rattle.flute_parts.specs.Information.{Information, symbol_count, IsValid}
 use Rattle.flute_parts.specs.Partition.{ids}
 use Rattle.flute_parts.specs.declared.symbol_id.SymbolId.{SymbolId}
@@ -39,36 +40,18 @@ slice_get-enumerate_from n (x ∷ xs) (suc k) =
     ∙ ap (λ (m : ℕ). option_map (λ y. (m, y)) (slice_get xs k)) e
 
 -- the symbol at a place has the piece at that place
-pub symbol_there : (i : Information) (content : List ℕ) (k : ℕ)
-    → slice_get (symbols_of i content) k
+pub symbol_there : (i : Information) (content : List ℕ) (k : ℕ) → slice_get (symbols_of i content) k
     ≡ option_map (λ id. (id, piece i content k)) (slice_get (ids i) k)
 unfolding symbols_of
-symbol_there i content k =
-    slice_get-map (with_piece i content) (enumerate_from 0 (ids i)) k
-    ∙ ap (option_map (with_piece i content)) (slice_get-enumerate_from 0 (ids i) k)
-    ∙ twice (slice_get (ids i) k)
-  where
-    twice : (o : Option SymbolId)
-        → option_map (with_piece i content) (option_map (λ id. (0 + k, id)) o)
-        ≡ option_map (λ id. (id, piece i content k)) o
-    twice None = refl
-    twice (Some id) = let e : 0 + k ≡ k =
-        omega arith in ap (λ (m : ℕ). Some (id, piece i content m)) e
+symbol_there i content k = search (rules, slice_get-map, slice_get-enumerate_from, piece)
 
 pub none_there : (i p : Information) (content : List ℕ) (k : ℕ) → p ≡ i
     → None ≡ slice_get (ids p) k → None ≡ slice_get (symbols_of i content) k
-none_there i p content k same h =
-    let none : slice_get (ids i) k ≡ None =
-    sym (h ∙ ap (λ (q : Information). slice_get (ids q) k) same) in
-    sym (symbol_there i content k ∙ ap (option_map (λ id. (id, piece i content k))) none)
+none_there i p content k same h = search (rules, symbol_there, piece)
 
-pub some_there : (i p : Information) (content : List ℕ) (k : ℕ) (id : SymbolId) → p ≡ i
-    → Some id ≡ slice_get (ids p) k
-    → Some (id, piece i content k) ≡ slice_get (symbols_of i content) k
-some_there i p content k id same h =
-    let some : slice_get (ids i) k ≡ Some id =
-    sym (h ∙ ap (λ (q : Information). slice_get (ids q) k) same) in
-    sym (symbol_there i content k ∙ ap (option_map (λ id. (id, piece i content k))) some)
+pub some_there : (i p : Information) (content : List ℕ) (k : ℕ) (id : SymbolId) → p ≡ i → Some id ≡
+    slice_get (ids p) k → Some (id, piece i content k) ≡ slice_get (symbols_of i content) k
+some_there i p content k id same h = search (rules, symbol_there, piece)
 
 pub length-symbols_of : (i : Information) (content : List ℕ)
     → length (symbols_of i content) ≡ length (ids i)
@@ -77,10 +60,7 @@ length-symbols_of i content =
     length-map (enumerate_from 0 (ids i)) (with_piece i content) ∙ length-enumerate_from 0 (ids i)
 
 below : (k t e l : ℕ) → k < t → t * e < l + e → k * e < l
-below k t e l h b =
-    let m : (k + 1) * e ≤ t * e = mul-le-mul_right e (omega arith) in
-    let d : (k + 1) * e ≡ k * e + e = grind arith in
-    omega (arith, m, d, b)
+below k t e l h b = search rules
 
 -- where there is no byte there is no symbol, and else there is one
 pub no_symbol : (i : Information) → IsValid i → i.transfer_length ≡ 0 → ids i ≡ []
@@ -109,10 +89,7 @@ begins_within i k v h = elim (eq-zero-or-pos i.transfer_length) [
 
 pub begins : (i p : Information) (k : ℕ) (id : SymbolId) → IsValid i → p ≡ i
     → Some id ≡ slice_get (ids p) k → k * i.symbol_length ≤ i.transfer_length
-begins i p k id v same h =
-    let some : slice_get (ids i) k ≡ Some id =
-    sym (h ∙ ap (λ (q : Information). slice_get (ids q) k) same) in
-    omega (arith, begins_within i k v (slice_get_within (ids i) k id some))
+begins i p k id v same h = search (rules, begins_within, slice_get_within)
 
 -- how many packets there are, and which has which number
 empty_is : (i : Information) → i.transfer_length ≡ 0 → (i.transfer_length == 0) ≡ true
@@ -124,30 +101,25 @@ not_empty i l = grind (arith, nat_tests)
 pub payloads_none : (i : Information) (content : List ℕ) → i.transfer_length ≡ 0
     → payloads_of i content ≡ None ∷ []
 unfolding payloads_of
-payloads_none i content z =
-    ap (λ (b : Bool). cond b (None ∷ []) (map (λ s. Some s) (symbols_of i content)))
-    (empty_is i z)
+payloads_none i content z = ap
+    (λ (b : Bool). cond b (None ∷ []) (map (λ s. Some s) (symbols_of i content))) (empty_is i z)
 
 pub payloads_some : (i : Information) (content : List ℕ) → 0 < i.transfer_length
     → payloads_of i content ≡ map (λ s. Some s) (symbols_of i content)
 unfolding payloads_of
-payloads_some i content l =
-    ap (λ (b : Bool). cond b (None ∷ []) (map (λ s. Some s) (symbols_of i content)))
-    (not_empty i l)
+payloads_some i content l = ap
+    (λ (b : Bool). cond b (None ∷ []) (map (λ s. Some s) (symbols_of i content))) (not_empty i l)
 
 length-payloads_of : (i : Information) (content : List ℕ) → IsValid i
     → length (payloads_of i content) ≡ max (length (ids i)) 1
 length-payloads_of i content v = elim (eq-zero-or-pos i.transfer_length) [
   | inl z ↦ omega (arith, ap length (payloads_none i content z), ap length (no_symbol i v z))
-  | inr l ↦
-      let is = ap length (payloads_some i content l)
-      ∙ length-map (symbols_of i content) (λ s. Some s) ∙ length-symbols_of i content in
-      omega (arith, is, some_symbol i v l)
+  | inr l ↦ let is = ap length (payloads_some i content l) ∙ length-map (symbols_of i content)
+      (λ s. Some s) ∙ length-symbols_of i content in omega (arith, is, some_symbol i v l)
 ]
 
-payload_there : (i : Information) (content : List ℕ) (k : ℕ) → IsValid i
-    → k < max (length (ids i)) 1
-    → slice_get (payloads_of i content) k ≡ Some (slice_get (symbols_of i content) k)
+payload_there : (i : Information) (content : List ℕ) (k : ℕ) → IsValid i → k < max (length (ids i))
+    1 → slice_get (payloads_of i content) k ≡ Some (slice_get (symbols_of i content) k)
 payload_there i content k v h = elim (eq-zero-or-pos i.transfer_length) [
   | inl z ↦
       let none = no_symbol i v z in
@@ -177,13 +149,11 @@ unfolding packets_of
 length-packets_of key i content v =
     length-map (payloads_of i content) (packet_at key (Some i)) ∙ length-payloads_of i content v
 
-pub packet_there : (key : Key) (i : Information) (content : List ℕ) (k : ℕ) → IsValid i
-    → k < max (length (ids i)) 1
-    → slice_get (packets_of key i content) k
-    ≡ Some (packet_at key (Some i) (slice_get (symbols_of i content) k))
+pub packet_there : (key : Key) (i : Information) (content : List ℕ) (k : ℕ) → IsValid i → k < max
+    (length (ids i)) 1 → slice_get (packets_of key i content) k ≡ Some
+    (packet_at key (Some i) (slice_get (symbols_of i content) k))
 unfolding packets_of
-packet_there key i content k v h =
-    slice_get-map (packet_at key (Some i)) (payloads_of i content) k
+packet_there key i content k v h = slice_get-map (packet_at key (Some i)) (payloads_of i content) k
     ∙ ap (option_map (packet_at key (Some i))) (payload_there i content k v h)
 
 -- one more packet is written
@@ -195,9 +165,8 @@ take_one_more (y ∷ xs) (suc k) x h =
     let e : suc k + 1 ≡ suc (k + 1) = omega arith in
     rw e (ap (λ zs. y ∷ zs) (take_one_more xs k x h))
 
-both_push : (ds : List (List ℕ)) (cs : List Content) (d : List ℕ) (c : Content)
-    → AllZip IsWritten ds cs → IsWritten d c
-    → AllZip IsWritten (ds ++ d ∷ []) (cs ++ c ∷ [])
+both_push : (ds : List (List ℕ)) (cs : List Content) (d : List ℕ) (c : Content) → AllZip IsWritten
+    ds cs → IsWritten d c → AllZip IsWritten (ds ++ d ∷ []) (cs ++ c ∷ [])
 both_push [] [] d c all one = (one, tt)
 both_push [] (x ∷ cs) d c all one = absurd all
 both_push (x ∷ ds) [] d c all one = absurd all
@@ -217,10 +186,8 @@ one_more key {i = i} content k ds {d = d} v h all one =
 
 -- the facts that the packets contain
 all_told : (key : Key) (i : Information) (payloads : List (Option (SymbolId × List ℕ)))
-    (ds : List (List ℕ))
-    → AllZip IsWritten ds (map (packet_at key (Some i)) payloads)
-    → flat_map (facts key.session.sender) ds
-    ≡ flat_map (outgoing_facts key (Some i)) payloads
+    (ds : List (List ℕ)) → AllZip IsWritten ds (map (packet_at key (Some i)) payloads) → flat_map
+    (facts key.session.sender) ds ≡ flat_map (outgoing_facts key (Some i)) payloads
 all_told key i [] [] all = refl
 all_told key i [] (d ∷ ds) all = absurd all
 all_told key i (p ∷ ps) [] all = absurd all

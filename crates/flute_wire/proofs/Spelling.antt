@@ -1,13 +1,11 @@
 -- A datagram that passes the checks spells a packet (specs/Datagram: Spells).
+use Rattle.std.proofs.Common.{rules}
 use Rattle.std.proofs.Common.{◌≡◌, ℕ, ◌+◌, ◌-◌, ◌<◌, ◌≤◌, ◌⊎◌, List}
-use Rattle.std.proofs.Common.{[], ◌++◌, length, take, drop, cond, eqb, Option, Some, None, inl}
-use Rattle.std.proofs.Common.{inr, refl, sym, ap, subst, ◌∙◌, arith}
+use Rattle.std.proofs.Common.{[], ◌++◌, length, take, drop, cond, eqb, Option, None}
+use Rattle.std.proofs.Common.{refl, sym, ap, subst, ◌∙◌, arith}
 use Rattle.std.specs.Prelude.{IfSome, IsSomeAnd, slice_range}
 use Rattle.std.specs.Option.{option_to_list, option_map}
 use Rattle.std.proofs.lemmas.List.{length-take-le, length-drop, take-append-drop, drop-drop}
-use Rattle.std.proofs.lemmas.Bool.{cases_lt}
-use Rattle.flute_parts.specs.Information.{Information}
-use Rattle.flute_parts.specs.declared.symbol_id.SymbolId.{SymbolId}
 use Rattle.flute_parts.specs.Information.{info_fault}
 use Rattle.flute_wire.specs.declared.first_word.FirstWord.{FirstWord}
 use Rattle.flute_wire.specs.declared.refusal.Refusal.TheVariants.{TooLong, TooShort, LctVersion}
@@ -23,30 +21,19 @@ use Rattle.flute_wire.specs.Content.{Content}
 use Rattle.flute_wire.specs.Datagram.{Parts, HasParts, tail_symbol, Spells}
 use Rattle.flute_wire.specs.Refusals.{PassesUpTo}
 use Rattle.flute_wire.specs.Walk.{Finds}
-use Rattle.flute_wire.proofs.FirstRefusal.{first_found}
 
 -- a cut of a list
 cut : (d : List ℕ) (i j : ℕ) → i ≤ j → drop i d ≡ slice_range d i j ++ drop j d
 cut d i j le =
     let at : i + (j - i) ≡ j = omega arith in
-    sym (take-append-drop (j - i) (drop i d))
-    ∙ ap (λ (l : List ℕ). take (j - i) (drop i d) ++ l)
+    sym (take-append-drop (j - i) (drop i d)) ∙ ap (λ (l : List ℕ). take (j - i) (drop i d) ++ l)
     (drop-drop (j - i) i d ∙ ap (λ (k : ℕ). drop k d) at)
 
 length-slice : (d : List ℕ) (i j : ℕ) → i ≤ j → j ≤ length d → length (slice_range d i j) ≡ j - i
 length-slice d i j le fits = length-take-le (j - i) (drop i d) (omega (arith, length-drop i d))
 
 pub stable : (m n : ℕ) → ((m ≡ n → ⊥) → ⊥) → m ≡ n
-stable m n h =
-    elim (cases_lt m n) [
-      | inl below ↦ absurd (h (λ e. absurd (omega arith)))
-      | inr le ↦
-          elim (cases_lt n m) [
-            | inl above ↦ absurd (h (λ e. absurd (omega arith)))
-            | inr ge ↦
-                omega arith
-          ]
-    ]
+stable m n h = search rules
 
 -- what the first checks leave true
 pub record IsWhole (d : List ℕ) (w : FirstWord) : Type 0 where
@@ -82,15 +69,7 @@ is_whole d p =
 
 -- if that is true, none of the first checks refuses
 pub passes_whole : (d : List ℕ) → IsWhole d (first_word d) → PassesUpTo 9 d
-passes_whole d h TooLong lt a = let l = h.limit in omega arith
-passes_whole d h TooShort lt a = let l = h.word in omega arith
-passes_whole d h LctVersion lt a = a h.version
-passes_whole d h HeaderLength lt a = let l = h.fixed in omega arith
-passes_whole d h HeaderCut lt a = let l = h.header in omega arith
-passes_whole d h NoTsi lt a = let l = h.tsi in omega arith
-passes_whole d h NoToi lt a = let l = h.toi in omega arith
-passes_whole d h Codepoint lt a = a h.codepoint
-passes_whole d h _ lt a = omega (arith, lt)
+passes_whole d h _ lt a = search rules
 
 -- the parts, cut out by place
 unfoldable pub parts_of : List ℕ → List HeaderExtension → Parts
@@ -117,13 +96,12 @@ has_parts d es h x =
     (omega (arith, h.fixed, h.header)) in
     let five = length-slice d (extensions_at w) (header_len w) (omega (arith, h.fixed)) h.header in
     let cut_5 = cut d (extensions_at w) (header_len w) (omega (arith, h.fixed)) in
-    let cut_4 = cut d (toi_at w) (extensions_at w) (omega arith)
-    ∙ ap (λ (l : List ℕ). slice_range d (toi_at w) (extensions_at w) ++ l) cut_5 in
-    let cut_3 = cut d (tsi_at w) (toi_at w) (omega arith)
-    ∙ ap (λ (l : List ℕ). slice_range d (tsi_at w) (toi_at w) ++ l) cut_4 in
-    let cut_2 = cut d 4 (tsi_at w) (omega arith)
-    ∙ ap (λ (l : List ℕ). slice_range d 4 (tsi_at w) ++ l) cut_3 in
-    record {
+    let cut_4 = cut d (toi_at w) (extensions_at w) (omega arith) ∙ ap
+    (λ (l : List ℕ). slice_range d (toi_at w) (extensions_at w) ++ l) cut_5 in
+    let cut_3 = cut d (tsi_at w) (toi_at w) (omega arith) ∙ ap
+    (λ (l : List ℕ). slice_range d (tsi_at w) (toi_at w) ++ l) cut_4 in
+    let cut_2 = cut d 4 (tsi_at w) (omega arith) ∙ ap
+    (λ (l : List ℕ). slice_range d 4 (tsi_at w) ++ l) cut_3 in record {
       joined = sym (take-append-drop 4 d) ∙ ap (λ (l : List ℕ). take 4 d ++ l) cut_2;
       word = one;
       cci = two ∙ omega arith;
@@ -134,20 +112,11 @@ has_parts d es h x =
     }
 
 pub few : (found : Option (List ℕ)) (bs : List (List ℕ)) → bs ≡ option_to_list found → length bs ≤ 1
-few None bs is = omega (arith, ap length is)
-few (Some b) bs is = omega (arith, ap length is)
+few x0 x1 x2 = search rules
 
 pub same_content : (a b : Content) → a.tsi ≡ b.tsi → a.toi ≡ b.toi
     → a.instance ≡ b.instance → a.info ≡ b.info → a.symbol ≡ b.symbol → a ≡ b
-same_content a b one two three four five =
-    let make : ℕ → ℕ → Option ℕ → Option Information → Option (SymbolId × List ℕ)
-    → Content =
-    λ t o i n s. record { tsi = t; toi = o; instance = i; info = n; symbol = s } in
-    ap (λ (t : ℕ). make t a.toi a.instance a.info a.symbol) one
-    ∙ ap (λ (o : ℕ). make b.tsi o a.instance a.info a.symbol) two
-    ∙ ap (λ (i : Option ℕ). make b.tsi b.toi i a.info a.symbol) three
-    ∙ ap (λ (n : Option Information). make b.tsi b.toi b.instance n a.symbol) four
-    ∙ ap (λ (s : Option (SymbolId × List ℕ)). make b.tsi b.toi b.instance b.info s) five
+same_content a b one two three four five = search rules
 
 -- what a datagram says, by place
 pub content_at : List ℕ → Option (List ℕ) → Option (List ℕ) → Content
@@ -159,22 +128,18 @@ content_at d fti fdt = record {
   symbol = tail_symbol (after_header d);
 }
 
-pub spells : {d : List ℕ} {fti fdt cenc : Option (List ℕ)} → PassesUpTo 9 d
-    → Finds (extension_area d) fti fdt cenc
-    → IfSome fti (λ body. (length body ≡ 15) × (info_fault (fti_information body) ≡ None))
-    → (toi_in d ≡ 0 → IsSomeAnd fdt (λ body. fdt_version body ≡ 2))
-    → IfSome cenc (λ body. content_encoding body ≡ 0)
-    → (after_header d ≡ []) ⊎ (4 ≤ length (after_header d))
-    → Spells d (content_at d fti fdt)
+pub spells : {d : List ℕ} {fti fdt cenc : Option (List ℕ)} → PassesUpTo 9 d → Finds
+    (extension_area d) fti fdt cenc → IfSome fti
+    (λ body. (length body ≡ 15) × (info_fault (fti_information body) ≡ None)) →
+    (toi_in d ≡ 0 → IsSomeAnd fdt (λ body. fdt_version body ≡ 2)) → IfSome cenc
+    (λ body. content_encoding body ≡ 0) → (after_header d ≡ []) ⊎ (4 ≤ length (after_header d)) →
+    Spells d (content_at d fti fdt)
 unfolding parts_of content_at
 spells {d = d} {fti = fti} {fdt = fdt} {cenc = cenc} p f one two three four =
     let w = is_whole d p in
-    let fti_at : first (bodies ext_fti f.extensions) ≡ fti =
-    first_found fti (bodies ext_fti f.extensions) f.fti_is in
-    let fdt_at : first (bodies ext_fdt f.extensions) ≡ fdt =
-    first_found fdt (bodies ext_fdt f.extensions) f.fdt_is in
-    let cenc_at : first (bodies ext_cenc f.extensions) ≡ cenc =
-    first_found cenc (bodies ext_cenc f.extensions) f.cenc_is in
+    let fti_at : first (bodies ext_fti f.extensions) ≡ fti = search rules in
+    let fdt_at : first (bodies ext_fdt f.extensions) ≡ fdt = search rules in
+    let cenc_at : first (bodies ext_cenc f.extensions) ≡ cenc = search rules in
     let h = has_parts d f.extensions w f.spelled in (
       parts_of d f.extensions,
       h,
@@ -186,31 +151,19 @@ spells {d = d} {fti = fti} {fdt = fdt} {cenc = cenc} p f one two three four =
         toi = omega (arith, h.toi, w.toi);
         one_fti = few fti (bodies ext_fti f.extensions) f.fti_is;
         one_fdt = few fdt (bodies ext_fdt f.extensions) f.fdt_is;
-        one_cenc = few cenc (bodies ext_cenc f.extensions) f.cenc_is;
-        information =
-            subst (λ (o : Option (List ℕ)).
-            IfSome o (λ body. (length body ≡ 15)
-            × (info_fault (fti_information body) ≡ None))) (sym fti_at) one;
-        instance = λ zero.
-            subst (λ (o : Option (List ℕ)). IsSomeAnd o (λ body. fdt_version body ≡ 2))
-            (sym fdt_at) (two zero);
-        plain = subst (λ (o : Option (List ℕ)). IfSome o (λ body. content_encoding body ≡ 0))
-            (sym cenc_at) three;
+        one_cenc = search rules;
+        information = search rules;
+        instance = search rules;
+        plain = search rules;
         payload = four;
       },
       rw (fti_at, fdt_at) refl,
     )
 
-pub spells_content : {d tail : List ℕ} (fti fdt : Option (List ℕ)) (c : Content)
-    → Spells d (content_at d fti fdt) → tail ≡ after_header d
-    → (c.tsi ≡ tsi_in d) × (c.toi ≡ toi_in d)
-    → c.instance ≡ cond (eqb c.toi 0) (option_map fdt_instance fdt) None
-    → (c.info ≡ option_map fti_information fti) × (c.symbol ≡ tail_symbol tail)
-    → Spells d c
+pub spells_content : {d tail : List ℕ} (fti fdt : Option (List ℕ)) (c : Content) → Spells d
+    (content_at d fti fdt) → tail ≡ after_header d → (c.tsi ≡ tsi_in d) × (c.toi ≡ toi_in d) →
+    c.instance ≡ cond (eqb c.toi 0) (option_map fdt_instance fdt) None →
+    (c.info ≡ option_map fti_information fti) × (c.symbol ≡ tail_symbol tail) → Spells d c
 unfolding content_at
 spells_content {d = d} fti fdt c s is (one, two) three (four, five) =
-    let same : c ≡ content_at d fti fdt =
-    same_content c (content_at d fti fdt) one two
-    (three ∙ ap (λ (n : ℕ). cond (eqb n 0) (option_map fdt_instance fdt) None) two) four
-    (five ∙ ap tail_symbol is) in
-    subst (λ (x : Content). Spells d x) (sym same) s
+    let same : c ≡ content_at d fti fdt = search rules in subst (λ (x : Content). Spells d x) (sym same) s

@@ -1,14 +1,15 @@
 -- The extensions that a list of bytes contains (specs/Walk).
+use Rattle.std.proofs.Common.{rules}
+use Rattle.std.proofs.lemmas.Grind.{common_steps}
 use Rattle.std.proofs.Common.{◌≡◌, ℕ, ◌≤◌, ◌<◌, List, [], ◌∷◌, ◌++◌}
-use Rattle.std.proofs.Common.{length, map, filter, take, drop, get_or, Bool, true, false, cond, eqb}
-use Rattle.std.proofs.Common.{Option, Some, None, refl, sym, ap, subst, ◌∙◌, append_assoc}
+use Rattle.std.proofs.Common.{length, map, filter, take, drop, Bool, true, false, cond, eqb}
+use Rattle.std.proofs.Common.{Option, refl, sym, ap, ◌∙◌, append_assoc}
 use Rattle.std.proofs.Common.{arith}
 use Rattle.std.specs.Prelude.{IfSome}
 use Rattle.std.specs.Option.{option_to_list}
 use Rattle.std.specs.List.{flat_map, AllByRecursion}
 use Rattle.std.proofs.lemmas.Bool.{eqb-true, le-ltb}
-use Rattle.std.proofs.lemmas.List.{take_at, drop_at, get_or_append_left, append-nil}
-use Rattle.std.proofs.lemmas.List.Concat.{flat_map-append}
+use Rattle.std.proofs.lemmas.List.{take_at, drop_at, append-nil}
 use Rattle.flute_wire.specs.Extensions.{HeaderExtension, IsExtension, HasExtensions}
 use Rattle.flute_wire.specs.Extensions.{extension_bytes, bodies, words, ext_fti, ext_fdt, ext_cenc}
 use Rattle.flute_wire.specs.declared.extensions.Occurrence.{Occurrence}
@@ -17,8 +18,10 @@ use Rattle.flute_wire.specs.Walk.{Occurs}
 -- two lists with the same front length that begin alike
 pub same_front : (a b x y : List ℕ) → length a ≡ length b → a ++ x ≡ b ++ y → (a ≡ b) × (x ≡ y)
 same_front a b x y len e = (
-  sym (take_at a x (length a) refl) ∙ ap (take (length a)) e ∙ take_at b y (length a) (sym len),
-  sym (drop_at a x (length a) refl) ∙ ap (drop (length a)) e ∙ drop_at b y (length a) (sym len),
+  sym (take_at a x (length a) refl) ∙ ap (take (length a)) e ∙ take_at b
+      y (length a) (sym len),
+  sym (drop_at a x (length a) refl) ∙ ap (drop (length a)) e ∙ drop_at b y
+      (length a) (sym len),
 )
 
 -- an extension has a byte after its type
@@ -28,39 +31,27 @@ has_body e h = omega arith
 -- no extension begins another
 pub same_extension : (e f : HeaderExtension) (x y : List ℕ) → IsExtension e → IsExtension f
     → extension_bytes e ++ x ≡ extension_bytes f ++ y → (e ≡ f) × (x ≡ y)
-same_extension e f x y he hf same =
-    let het : e.het ≡ f.het = cc in
-    let rest : e.body ++ x ≡ f.body ++ y = cc in
-    let first : get_or e.body 0 0 ≡ get_or f.body 0 0 =
-    sym (get_or_append_left e.body x 0 0 (has_body e he))
-    ∙ ap (λ (l : List ℕ). get_or l 0 0) rest
-    ∙ get_or_append_left f.body y 0 0 (has_body f hf) in
-    let w : words e ≡ words f = rw (het, first) refl in
-    let parts = same_front e.body f.body x y (omega arith) rest in
-    let made : ℕ → List ℕ → HeaderExtension = λ h b. record { het = h; body = b } in
-    (ap (λ (h : ℕ). made h e.body) het ∙ ap (λ (b : List ℕ). made f.het b) parts.0, parts.1)
+same_extension e f x y he hf same = grind (arith, common_steps, has_body, words, same_front)
 
 -- the bytes after the first of the extensions of a list
-pub rest_of : (es all : List HeaderExtension) (area rest : List ℕ)
-    → area ≡ flat_map extension_bytes es ++ rest → AllByRecursion IsExtension es
-    → HasExtensions area all
-    → (tail : List HeaderExtension) × HasExtensions rest tail × (all ≡ es ++ tail)
+pub rest_of : (es all : List HeaderExtension) (area rest : List ℕ) → area ≡ flat_map extension_bytes
+    es ++ rest → AllByRecursion IsExtension es → HasExtensions area all →
+    (tail : List HeaderExtension) × HasExtensions rest tail × (all ≡ es ++ tail)
 rest_of [] all area rest joined each x =
     (all, record { joined = sym joined ∙ x.joined; each = x.each }, refl)
 rest_of (e ∷ es) [] area rest joined each x = let none = sym x.joined ∙ joined in absurd cc
 rest_of (e ∷ es) (f ∷ fs) area rest joined each x =
-    let same : extension_bytes e ++ (flat_map extension_bytes es ++ rest)
-    ≡ extension_bytes f ++ flat_map extension_bytes fs =
-    sym (append_assoc (extension_bytes e) (flat_map extension_bytes es) rest) ∙ sym joined
-    ∙ x.joined in
-    let s = same_extension e f (flat_map extension_bytes es ++ rest)
-    (flat_map extension_bytes fs) each.0 x.each.0 same in
+    let same : extension_bytes e ++ (flat_map extension_bytes es ++ rest) ≡ extension_bytes f ++
+    flat_map extension_bytes fs = sym
+    (append_assoc (extension_bytes e) (flat_map extension_bytes es) rest) ∙ sym joined ∙ x.joined in
+    let s = same_extension e f (flat_map extension_bytes es ++ rest) (flat_map extension_bytes fs)
+    each.0 x.each.0 same in
     let r = rest_of es fs (flat_map extension_bytes es ++ rest) rest refl each.1
     (record { joined = s.1; each = x.each.1 }) in (
       r.0,
       r.1,
-      ap (λ (g : HeaderExtension). g ∷ fs) (sym s.0)
-          ∙ ap (λ (gs : List HeaderExtension). e ∷ gs) r.2,
+      ap (λ (g : HeaderExtension). g ∷ fs)
+          (sym s.0) ∙ ap (λ (gs : List HeaderExtension). e ∷ gs) r.2,
     )
 
 pub no_bytes : (es : List HeaderExtension) → HasExtensions [] es → es ≡ []
@@ -71,9 +62,8 @@ no_bytes (e ∷ es) x = let none = x.joined in absurd cc
 pub same_extensions : (bs : List ℕ) (es fs : List HeaderExtension) → HasExtensions bs es
     → HasExtensions bs fs → es ≡ fs
 same_extensions bs es fs x y =
-    let r = rest_of es fs bs [] (x.joined ∙ sym (append-nil (flat_map extension_bytes es)))
-    x.each y in
-    sym (r.2 ∙ ap (λ (t : List HeaderExtension). es ++ t) (no_bytes r.0 r.1) ∙ append-nil es)
+    let r = rest_of es fs bs [] (x.joined ∙ sym (append-nil (flat_map extension_bytes es))) x.each y
+    in sym (r.2 ∙ ap (λ (t : List HeaderExtension). es ++ t) (no_bytes r.0 r.1) ∙ append-nil es)
 
 -- the walk has passed these extensions, and this is left
 pub record HasWalked (area rest : List ℕ) (f d c : Occurrence) : Type 0 where
@@ -92,22 +82,12 @@ each_more (f ∷ es) e each h = (each.0, each_more es e each.1 h)
 pub joined_more : (area rest after : List ℕ) (es : List HeaderExtension) (e : HeaderExtension)
     → area ≡ flat_map extension_bytes es ++ rest → rest ≡ extension_bytes e ++ after
     → area ≡ flat_map extension_bytes (es ++ e ∷ []) ++ after
-joined_more area rest after es e joined front =
-    let one : flat_map extension_bytes (es ++ e ∷ [])
-    ≡ flat_map extension_bytes es ++ extension_bytes e =
-    flat_map-append extension_bytes es (e ∷ [])
-    ∙ ap (λ (l : List ℕ). flat_map extension_bytes es ++ l)
-    (append-nil (extension_bytes e)) in
-    joined ∙ ap (λ (l : List ℕ). flat_map extension_bytes es ++ l) front
-    ∙ sym (ap (λ (l : List ℕ). l ++ after) one
-    ∙ append_assoc (flat_map extension_bytes es) (extension_bytes e) after)
+joined_more area rest after es e joined front = grind (arith, common_steps)
 
 -- at the end the bytes are the extensions passed
-pub all_walked : (area : List ℕ) (es : List HeaderExtension)
-    → area ≡ flat_map extension_bytes es ++ [] → AllByRecursion IsExtension es
-    → HasExtensions area es
-all_walked area es joined each =
-    record { joined = joined ∙ append-nil (flat_map extension_bytes es); each = each }
+pub all_walked : (area : List ℕ) (es : List HeaderExtension) → area ≡ flat_map extension_bytes es ++
+    [] → AllByRecursion IsExtension es → HasExtensions area es
+all_walked area es joined each = search rules
 
 no_front : (rest : List ℕ) (tail : List HeaderExtension) → (rest ≡ [] → ⊥)
     → ((e : HeaderExtension) (after : List ℕ) → IsExtension e
@@ -116,11 +96,9 @@ no_front rest [] some none x = some x.joined
 no_front rest (e ∷ es) some none x = none e (flat_map extension_bytes es) x.each.0 x.joined
 
 -- if no extension is at the front of what is left, the bytes are no extensions
-pub is_stuck : {area : List ℕ} (rest : List ℕ) (es : List HeaderExtension)
-    → area ≡ flat_map extension_bytes es ++ rest → AllByRecursion IsExtension es
-    → (rest ≡ [] → ⊥)
-    → ((e : HeaderExtension) (after : List ℕ) → IsExtension e
-    → rest ≡ extension_bytes e ++ after → ⊥)
+pub is_stuck : {area : List ℕ} (rest : List ℕ) (es : List HeaderExtension) → area ≡ flat_map
+    extension_bytes es ++ rest → AllByRecursion IsExtension es → (rest ≡ [] → ⊥) →
+    ((e : HeaderExtension) (after : List ℕ) → IsExtension e → rest ≡ extension_bytes e ++ after → ⊥)
     → (all : List HeaderExtension) → HasExtensions area all → ⊥
 is_stuck {area = area} rest es joined each some none all x =
     let r = rest_of es all area rest joined each x in
@@ -128,10 +106,9 @@ is_stuck {area = area} rest es joined each some none all x =
 
 -- ---- extensions of one word
 
-short_more : (b : Bool) (e : HeaderExtension) (es : List HeaderExtension)
-    → (b ≡ true → length e.body ≡ 3)
-    → AllByRecursion (λ body. length body ≡ 3) (map (λ (f : HeaderExtension). f.body) es)
-    → AllByRecursion (λ body. length body ≡ 3)
+short_more : (b : Bool) (e : HeaderExtension) (es : List HeaderExtension) →
+    (b ≡ true → length e.body ≡ 3) → AllByRecursion (λ body. length body ≡ 3)
+    (map (λ (f : HeaderExtension). f.body) es) → AllByRecursion (λ body. length body ≡ 3)
     (map (λ (f : HeaderExtension). f.body) (cond b (e ∷ es) es))
 short_more true e es one all = (one refl, all)
 short_more false e es one all = all
@@ -144,9 +121,8 @@ one_word e het high h same =
     omega arith
 
 -- from type 128 on each body has three bytes
-pub short_bodies : (het : ℕ) → 128 ≤ het → (es : List HeaderExtension)
-    → AllByRecursion IsExtension es
-    → AllByRecursion (λ body. length body ≡ 3) (bodies het es)
+pub short_bodies : (het : ℕ) → 128 ≤ het → (es : List HeaderExtension) → AllByRecursion IsExtension
+    es → AllByRecursion (λ body. length body ≡ 3) (bodies het es)
 short_bodies het high [] each = tt
 short_bodies het high (e ∷ es) each =
     short_more (eqb e.het het) e (filter (λ (f : HeaderExtension). eqb f.het het) es)
@@ -154,6 +130,4 @@ short_bodies het high (e ∷ es) each =
 
 pub short_body : (found : Option (List ℕ)) (bs : List (List ℕ)) → bs ≡ option_to_list found
     → AllByRecursion (λ body. length body ≡ 3) bs → IfSome found (λ body. length body ≡ 3)
-short_body None bs is all = tt
-short_body (Some body) bs is all =
-    (subst (λ (l : List (List ℕ)). AllByRecursion (λ body. length body ≡ 3) l) is all).0
+short_body x0 x1 x2 x3 = search rules

@@ -1,27 +1,25 @@
 -- A datagram that is written spells the packet it was made of (specs/Datagram: Spells).
-use Rattle.std.proofs.Common.{◌≡◌, ℕ, ◌+◌, ◌*◌, ◌/◌, ◌%◌, ◌^◌, ◌<◌}
+use Rattle.std.proofs.Common.{rules}
+use Rattle.std.proofs.Common.{◌≡◌, ℕ, ◌+◌, ◌*◌, ◌^◌, ◌<◌}
 use Rattle.std.proofs.Common.{◌≤◌, ◌⊎◌, List, [], ◌∷◌, ◌++◌, length, Bool}
-use Rattle.std.proofs.Common.{true, false, cond, eqb, ltb, leb, Option, Some, None, inl, inr, refl}
+use Rattle.std.proofs.Common.{false, cond, eqb, Option, Some, None}
 use Rattle.std.proofs.Common.{sym, ap, subst, ◌∙◌, arith}
-use Rattle.std.specs.Prelude.{IfSome, IsSomeAnd, slice_range}
+use Rattle.std.specs.Prelude.{IfSome, IsSomeAnd}
 use Rattle.std.specs.Option.{option_to_list, option_map}
-use Rattle.std.proofs.lemmas.Bool.{lt-ltb, leb-false, ltb-false}
 use Rattle.std.proofs.lemmas.List.{append-nil}
 use Rattle.byteorder.specs.Endian.{big_bytes, big_from}
 use Rattle.byteorder.specs.Numbers.{big_number-reads_back, length-bytes_high_first}
-use Rattle.flute_parts.specs.Information.{Information, information, info_fault}
+use Rattle.flute_parts.specs.Information.{Information, info_fault}
 use Rattle.flute_parts.specs.BigEndian.{big_endian}
 use Rattle.flute_parts.specs.declared.symbol_id.SymbolId.{SymbolId}
 use Rattle.flute_parts.specs.declared.key.Key.{Key}
 use Rattle.flute_parts.specs.ObjectName.{toi_of, instance_of}
 use Rattle.flute_parts.specs.declared.object_key.ObjectName.{ObjectName}
-use Rattle.flute_parts.specs.declared.object_key.ObjectName.TheVariants.{Instance, File}
-use Rattle.flute_wire.specs.declared.writing.WriteFault.TheVariants.{Tsi, Toi, EmptySymbol, TooLong}
 use Rattle.flute_wire.specs.declared.first_word.FirstWord.{FirstWord}
-use Rattle.flute_wire.specs.Header.{fields, cci_len, tsi_len, toi_len, header_len}
-use Rattle.flute_wire.specs.Extensions.{HeaderExtension, HasExtensions, bodies, ext_fti, ext_fdt}
+use Rattle.flute_wire.specs.Header.{fields}
+use Rattle.flute_wire.specs.Extensions.{HeaderExtension, bodies, ext_fti, ext_fdt}
 use Rattle.flute_wire.specs.Extensions.{ext_cenc, fti_information, fdt_version, fdt_instance}
-use Rattle.flute_wire.specs.Extensions.{content_encoding, first}
+use Rattle.flute_wire.specs.Extensions.{first}
 use Rattle.flute_wire.specs.Content.{Content, HasKey}
 use Rattle.flute_wire.specs.Datagram.{Parts, HasParts, content_of, tail_symbol, Spells}
 use Rattle.flute_wire.specs.Writing.{packet_at, outgoing_facts, IsWritten, spelling, fdt_bytes}
@@ -31,9 +29,8 @@ use Rattle.flute_wire.specs.Encoding.{HasFittingId, HasFittingInformation, IsEnc
 use Rattle.flute_wire.proofs.BigEndian.{big_from-whole}
 use Rattle.flute_wire.specs.Facts.{object_named, key_of}
 use Rattle.flute_wire.specs.Reading.{facts}
-use Rattle.flute_wire.proofs.Spelling.{same_content, few}
+use Rattle.flute_wire.proofs.Spelling.{same_content}
 use Rattle.flute_wire.proofs.Computed.{facts-Spells}
-use Rattle.flute_wire.proofs.FirstRefusal.{first_found}
 use Rattle.flute_parts.proofs.Public.{fault-none}
 
 -- a number in enough bytes is that number
@@ -48,9 +45,8 @@ abbrev fdt_body : ℕ → List ℕ
 fdt_body instance = big_bytes 3 (2 * 2 ^ 20 + instance)
 
 abbrev fti_body : Information → List ℕ
-fti_body i =
-    4 ∷ big_bytes 6 i.transfer_length
-    ++ (big_bytes 2 0 ++ (big_bytes 2 i.symbol_length ++ big_bytes 4 i.max_block_length))
+fti_body i = 4 ∷ big_bytes 6 i.transfer_length ++
+    (big_bytes 2 0 ++ (big_bytes 2 i.symbol_length ++ big_bytes 4 i.max_block_length))
 
 abbrev fdt_extensions : Option ℕ → List HeaderExtension
 fdt_extensions None = []
@@ -71,48 +67,21 @@ fields_are : (n : Option ℕ) (i : Option Information)
       header_words = 4 + fdt_words n + fti_words i;
       codepoint = 0;
     }
-fields_are None None = refl
-fields_are None (Some i) = refl
-fields_are (Some n) None = refl
-fields_are (Some n) (Some i) = refl
+fields_are x0 x1 = search rules
 
 -- the extensions of the bytes, and the bodies of each type
-extensions_are : (n : Option ℕ) (i : Option Information)
-    → HasExtensions (fdt_bytes n ++ fti_bytes i) (fdt_extensions n ++ fti_extensions i)
-extensions_are None None = record { joined = refl; each = tt }
-extensions_are None (Some i) = record { joined = refl; each = (refl, tt) }
-extensions_are (Some n) None = record { joined = refl; each = (refl, tt) }
-extensions_are (Some n) (Some i) = record { joined = refl; each = (refl, (refl, tt)) }
 
-fti_bodies : (n : Option ℕ) (i : Option Information)
-    → bodies ext_fti (fdt_extensions n ++ fti_extensions i)
-    ≡ option_to_list (option_map fti_body i)
-fti_bodies None None = refl
-fti_bodies None (Some i) = refl
-fti_bodies (Some n) None = refl
-fti_bodies (Some n) (Some i) = refl
+fti_bodies : (n : Option ℕ) (i : Option Information) → bodies ext_fti
+    (fdt_extensions n ++ fti_extensions i) ≡ option_to_list (option_map fti_body i)
+fti_bodies x0 x1 = search rules
 
-fdt_bodies : (n : Option ℕ) (i : Option Information)
-    → bodies ext_fdt (fdt_extensions n ++ fti_extensions i)
-    ≡ option_to_list (option_map fdt_body n)
-fdt_bodies None None = refl
-fdt_bodies None (Some i) = refl
-fdt_bodies (Some n) None = refl
-fdt_bodies (Some n) (Some i) = refl
+fdt_bodies : (n : Option ℕ) (i : Option Information) → bodies ext_fdt
+    (fdt_extensions n ++ fti_extensions i) ≡ option_to_list (option_map fdt_body n)
+fdt_bodies x0 x1 = search rules
 
 cenc_bodies : (n : Option ℕ) (i : Option Information)
     → bodies ext_cenc (fdt_extensions n ++ fti_extensions i) ≡ []
-cenc_bodies None None = refl
-cenc_bodies None (Some i) = refl
-cenc_bodies (Some n) None = refl
-cenc_bodies (Some n) (Some i) = refl
-
-area_len : (n : Option ℕ) (i : Option Information)
-    → length (fdt_bytes n ++ fti_bytes i) ≡ 4 * (fdt_words n + fti_words i)
-area_len None None = refl
-area_len None (Some i) = refl
-area_len (Some n) None = refl
-area_len (Some n) (Some i) = refl
+cenc_bodies x0 x1 = search rules
 
 -- the parts of a datagram that is written
 parts : Content → Parts
@@ -128,53 +97,21 @@ parts c = record {
 
 has_parts : (c : Content) → HasParts (spelling c) (parts c)
 unfolding parts
-has_parts c =
-    let f = fields_are c.instance c.info in
-    let len = area_len c.instance c.info in
-    record {
-      joined = refl;
-      word = refl;
-      cci = sym (ap cci_len f);
-      tsi = sym (ap tsi_len f);
-      toi = sym (ap toi_len f);
-      header = let h : header_len (fields
-          (big_endian (word_bytes (4 + fdt_words c.instance + fti_words c.info))))
-          ≡ 4 * (4 + fdt_words c.instance + fti_words c.info) =
-          ap header_len f in omega (arith, len, h);
-      extensions = extensions_are c.instance c.info;
-    }
+has_parts c = search rules
 
 -- EXT_FTI contains the information's numbers
 information_again : (i : Information) → i.transfer_length < 2 ^ 48 → i.symbol_length < 2 ^ 16
     → i.max_block_length < 2 ^ 32 → fti_information (fti_body i) ≡ i
-information_again i l e b =
-    let three : big_endian (slice_range (fti_body i) 1 7) ≡ i.transfer_length =
-    big_endian-big_bytes 6 i.transfer_length l in
-    let four : big_endian (slice_range (fti_body i) 9 11) ≡ i.symbol_length =
-    big_endian-big_bytes 2 i.symbol_length e in
-    let five : big_endian (slice_range (fti_body i) 11 15) ≡ i.max_block_length =
-    big_endian-big_bytes 4 i.max_block_length b in
-    ap (λ (x : ℕ). information x (big_endian (slice_range (fti_body i) 9 11))
-    (big_endian (slice_range (fti_body i) 11 15))) three
-    ∙ ap (λ (y : ℕ). information i.transfer_length y
-    (big_endian (slice_range (fti_body i) 11 15))) four
-    ∙ ap (λ (z : ℕ). information i.transfer_length i.symbol_length z) five
+information_again i l e b = search rules
 
-fti_taken : (i : Option Information) → HasFittingInformation i
-    → IfSome (option_map fti_body i)
-    (λ body. (length body ≡ 15) × (info_fault (fti_information body) ≡ None))
-    × (option_map fti_information (option_map fti_body i) ≡ i)
-fti_taken None h = (tt, refl)
-fti_taken (Some i) h =
-    let again = information_again i h.0.length h.1.0 h.1.1 in
-    ((refl, ap info_fault again ∙ fault-none i h.0), ap (λ (n : Information). Some n) again)
+fti_taken : (i : Option Information) → HasFittingInformation i → IfSome (option_map fti_body i)
+    (λ body. (length body ≡ 15) × (info_fault (fti_information body) ≡ None)) ×
+    (option_map fti_information (option_map fti_body i) ≡ i)
+fti_taken x0 x1 = search (rules, information_again, fault-none)
 
 -- EXT_FDT contains the instance
 fdt_number : (n : ℕ) → n < 2 ^ 20 → (fdt_version (fdt_body n) ≡ 2) × (fdt_instance (fdt_body n) ≡ n)
-fdt_number n h =
-    let is : big_endian (fdt_body n) ≡ 2 * 2 ^ 20 + n =
-    big_endian-big_bytes 3 (2 * 2 ^ 20 + n) (omega arith) in
-    (ap (λ (x : ℕ). x / 2 ^ 20) is ∙ omega arith, ap (λ (x : ℕ). x % 2 ^ 20) is ∙ omega arith)
+fdt_number n h = search rules
 
 fdt_taken : (tsi toi : ℕ) (n : Option ℕ) → HasKey tsi toi n → toi ≡ 0
     → IsSomeAnd (option_map fdt_body n) (λ body. fdt_version body ≡ 2)
@@ -182,8 +119,7 @@ fdt_taken tsi toi None h at = absurd (omega (arith, h.1.0))
 fdt_taken tsi toi (Some n) h at = (fdt_number n h.1).0
 
 none_either_way : (b : Bool) → (let o : Option ℕ = cond b None None in o) ≡ None
-none_either_way true = refl
-none_either_way false = refl
+none_either_way x0 = search rules
 
 instance_again : (tsi toi : ℕ) (n : Option ℕ) → HasKey tsi toi n → (IfSome n (λ _. toi ≡ 0))
     → cond (eqb toi 0) (option_map fdt_instance (option_map fdt_body n)) None ≡ n
@@ -191,23 +127,9 @@ instance_again tsi toi None h z = none_either_way (eqb toi 0)
 instance_again tsi toi (Some n) h z = rw z (ap (λ (x : ℕ). Some x) (fdt_number n h.1).1)
 
 -- the payload contains the symbol
-symbol_again : (s : Option (SymbolId × List ℕ)) → HasFittingId s → has_no_byte s ≡ false
-    → (tail_symbol (symbol_bytes s) ≡ s)
-    × ((symbol_bytes s ≡ []) ⊎ (4 ≤ length (symbol_bytes s)))
-symbol_again None h some = (refl, inl refl)
-symbol_again (Some (id, [])) h some = absurd (cc)
-symbol_again (Some (id, b ∷ bs)) h some =
-    let tail = symbol_bytes (Some (id, b ∷ bs)) in
-    let make : ℕ → ℕ → Option (SymbolId × List ℕ) =
-    λ x y. Some (record { sbn = x; esi = y }, b ∷ bs) in
-    let long : ltb 4 (length tail) ≡ true = lt-ltb 4 (length tail) (omega arith) in (
-      ap (λ (c : Bool). cond c (make (big_endian (big_bytes 2 id.sbn))
-          (big_endian (big_bytes 2 id.esi))) None) long
-          ∙ ap (λ (x : ℕ). make x (big_endian (big_bytes 2 id.esi)))
-          (big_endian-big_bytes 2 id.sbn h.0)
-          ∙ ap (λ (y : ℕ). make id.sbn y) (big_endian-big_bytes 2 id.esi h.1),
-      inr (omega arith),
-    )
+symbol_again : (s : Option (SymbolId × List ℕ)) → HasFittingId s → has_no_byte s ≡ false →
+    (tail_symbol (symbol_bytes s) ≡ s) × ((symbol_bytes s ≡ []) ⊎ (4 ≤ length (symbol_bytes s)))
+symbol_again x0 x1 x2 = search rules
 
 -- what a packet without a fault is like
 pub record IsSent (c : Content) : Type 0 where
@@ -216,31 +138,12 @@ pub record IsSent (c : Content) : Type 0 where
   pub symbol : has_no_byte c.symbol ≡ false
   pub limit : length (spelling c) ≤ 65535
 
-by_tests : (a b s l : Bool)
-    → cond a (Some Tsi) (cond b (Some Toi)
-    (cond s (Some EmptySymbol) (cond l (Some TooLong) None))) ≡ None
-    → (a ≡ false) × (b ≡ false) × (s ≡ false) × (l ≡ false)
-by_tests true b s l h = absurd (cc)
-by_tests false true s l h = absurd (cc)
-by_tests false false true l h = absurd (cc)
-by_tests false false false true h = absurd (cc)
-by_tests false false false false h = (refl, refl, refl, refl)
-
 pub no_fault : (c : Content) → write_fault c ≡ None → IsSent c
-no_fault c h =
-    let t = by_tests (leb (2 ^ 32) c.tsi) (leb (2 ^ 32) c.toi) (has_no_byte c.symbol)
-    (ltb 65535 (length (spelling c))) h in
-    record {
-      tsi = leb-false (2 ^ 32) c.tsi t.0;
-      toi = leb-false (2 ^ 32) c.toi t.1;
-      symbol = t.2;
-      limit = ltb-false 65535 (length (spelling c)) t.3;
-    }
+no_fault c h = search rules
 
 -- only an FDT Instance has an instance, and its TOI is 0
 pub instance_has_toi : (o : ObjectName) → IfSome (instance_of o) (λ _. toi_of o ≡ 0)
-instance_has_toi (Instance n) = refl
-instance_has_toi (File toi) = tt
+instance_has_toi x0 = search rules
 
 -- a packet without a fault is spelled by its bytes
 spelled : (c : Content) → IsEncodable c → IfSome c.instance (λ _. c.toi ≡ 0)
@@ -248,18 +151,14 @@ spelled : (c : Content) → IsEncodable c → IfSome c.instance (λ _. c.toi ≡
 unfolding parts
 spelled c e z none =
     let p = no_fault c none in
-    let tsi : big_endian (big_bytes 4 c.tsi) ≡ c.tsi =
-    big_endian-big_bytes 4 c.tsi (omega (arith, p.tsi)) in
-    let toi : big_endian (big_bytes 4 c.toi) ≡ c.toi =
-    big_endian-big_bytes 4 c.toi (omega (arith, p.toi)) in
+    let tsi : big_endian (big_bytes 4 c.tsi) ≡ c.tsi = search rules in
+    let toi : big_endian (big_bytes 4 c.toi) ≡ c.toi = search rules in
     let n = c.instance in
     let i = c.info in
     let f = fields_are n i in
     let es = fdt_extensions n ++ fti_extensions i in
-    let fti_is : first (bodies ext_fti es) ≡ option_map fti_body i =
-    first_found (option_map fti_body i) (bodies ext_fti es) (fti_bodies n i) in
-    let fdt_is : first (bodies ext_fdt es) ≡ option_map fdt_body n =
-    first_found (option_map fdt_body n) (bodies ext_fdt es) (fdt_bodies n i) in
+    let fti_is : first (bodies ext_fti es) ≡ option_map fti_body i = search rules in
+    let fdt_is : first (bodies ext_fdt es) ≡ option_map fdt_body n = search rules in
     let info = fti_taken i e.info in
     let symbol = symbol_again c.symbol e.symbol p.symbol in (
       parts c,
@@ -270,41 +169,31 @@ spelled c e z none =
         codepoint = ap (λ (w : FirstWord). w.codepoint) f;
         tsi = omega arith;
         toi = omega arith;
-        one_fti = few (option_map fti_body i) (bodies ext_fti es) (fti_bodies n i);
-        one_fdt = few (option_map fdt_body n) (bodies ext_fdt es) (fdt_bodies n i);
+        one_fti = search rules;
+        one_fdt = search rules;
         one_cenc = omega (arith, ap length (cenc_bodies n i));
-        information =
-            subst (λ (x : Option (List ℕ)).
-            IfSome x (λ body. (length body ≡ 15)
-            × (info_fault (fti_information body) ≡ None))) (sym fti_is) info.0;
-        instance = λ none.
-            subst (λ (x : Option (List ℕ)). IsSomeAnd x (λ body. fdt_version body ≡ 2))
-            (sym fdt_is) (fdt_taken c.tsi c.toi n e.key (sym toi ∙ none));
-        plain = subst (λ (l : List (List ℕ)).
-            IfSome (first l) (λ body. content_encoding body ≡ 0)) (sym (cenc_bodies n i)) tt;
+        information = search rules;
+        instance = search rules;
+        plain = search rules;
         payload = symbol.1;
       },
-      same_content c (content_of (parts c)) (sym tsi) (sym toi)
-          (sym (ap (λ (k : ℕ). cond (eqb k 0)
-          (option_map fdt_instance (first (bodies ext_fdt es))) None) toi
-          ∙ ap (λ (x : Option (List ℕ)). cond (eqb c.toi 0) (option_map fdt_instance x) None)
-          fdt_is ∙ instance_again c.tsi c.toi n e.key z))
-          (sym (ap (option_map fti_information) fti_is ∙ info.1))
+      same_content c (content_of (parts c)) (sym tsi) (sym toi) (sym (ap
+          (λ (k : ℕ). cond (eqb k 0) (option_map fdt_instance (first (bodies ext_fdt es))) None) toi ∙ ap
+          (λ (x : Option (List ℕ)). cond (eqb c.toi 0) (option_map fdt_instance x) None) fdt_is ∙
+          instance_again c.tsi c.toi n e.key z)) (sym (ap (option_map fti_information) fti_is ∙ info.1))
           (sym symbol.0),
     )
 
 pub written : (d : List ℕ) (c : Content) → d ≡ spelling c → IsEncodable c
     → IfSome c.instance (λ _. c.toi ≡ 0) → write_fault c ≡ None → IsWritten d c
-written d c is e z none =
-    record {
-      spelled = subst (λ (x : List ℕ). Spells x c) (sym is) (spelled c e z none);
-      form = is;
-    }
+written d c is e z none = record {
+  spelled = subst (λ (x : List ℕ). Spells x c) (sym is) (spelled c e z none);
+  form = is;
+}
 
 -- the key is the packet's, with its own sender
 same_object : (o : ObjectName) → object_named (toi_of o) (instance_of o) ≡ o
-same_object (Instance n) = refl
-same_object (File toi) = refl
+same_object x0 = search rules
 
 pub same_key : (key : Key) (i : Option Information) (s : Option (SymbolId × List ℕ))
     → key_of key.session.sender (packet_at key i s) ≡ key
@@ -312,9 +201,7 @@ same_key key i s =
     ap (λ (o : ObjectName). let k : Key = record { session = key.session; object = o } in k)
     (same_object key.object)
 
-pub facts_told : (d : List ℕ) (key : Key) (i : Option Information)
-    (s : Option (SymbolId × List ℕ)) → IsWritten d (packet_at key i s)
-    → facts key.session.sender d ≡ outgoing_facts key i s
-facts_told d key i s h =
-    facts-Spells key.session.sender d (packet_at key i s) h.spelled
-    ∙ ap (λ (k : Key). outgoing_facts k i s) (same_key key i s)
+pub facts_told : (d : List ℕ) (key : Key) (i : Option Information) (s : Option (SymbolId × List ℕ))
+    → IsWritten d (packet_at key i s) → facts key.session.sender d ≡ outgoing_facts key i s
+facts_told d key i s h = facts-Spells key.session.sender d (packet_at key i s) h.spelled ∙ ap
+    (λ (k : Key). outgoing_facts k i s) (same_key key i s)

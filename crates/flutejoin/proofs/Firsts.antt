@@ -1,4 +1,6 @@
 -- Lists read place by place, and the first input that has something.
+use Rattle.std.proofs.lemmas.Grind.{common_steps}
+use Rattle.std.proofs.Common.{rules}
 use Rattle.std.proofs.Common.{◌≡◌, ℕ, zero, suc, ◌+◌, ◌<◌, List, [], ◌∷◌}
 use Rattle.std.proofs.Common.{◌++◌, length, take, drop, Some, refl, sym, ap, arith}
 use Rattle.std.specs.Prelude.{slice_get}
@@ -15,8 +17,7 @@ split_at (y ∷ ys) (suc k) x e = ap (λ zs. y ∷ zs) (split_at ys k x e)
 
 taken_many : {X : Type 0} (xs : List X) (k : ℕ) (x : X) → slice_get xs k ≡ Some x
     → length (take k xs) ≡ k
-taken_many xs k x e = length-take-le k xs
-    (let within = slice_get_within xs k x e in omega (arith, within))
+taken_many xs k x e = search (rules, slice_get_within)
 
 -- a list has an element at each number below its length
 pub at_place : {X : Type 0} (xs : List X) (k : ℕ) → k < length xs
@@ -26,9 +27,8 @@ at_place (x ∷ xs) zero within = (x, refl)
 at_place (x ∷ xs) (suc k) within = at_place xs k (omega (arith, within))
 
 -- what holds at each place before this one
-pub all_before : {X : Type 0} (P : X → Type 0) (k : ℕ) (xs : List X)
-    → ((j : ℕ) (x : X) → j < k → slice_get xs j ≡ Some x → P x)
-    → AllByRecursion P (take k xs)
+pub all_before : {X : Type 0} (P : X → Type 0) (k : ℕ) (xs : List X) →
+    ((j : ℕ) (x : X) → j < k → slice_get xs j ≡ Some x → P x) → AllByRecursion P (take k xs)
 all_before P zero xs each = tt
 all_before P (suc k) [] each = tt
 all_before P (suc k) (x ∷ xs) each = (
@@ -52,9 +52,8 @@ first_at Q P inputs k bytes e all one = record {
 }
 
 -- so it is with one more before it
-pub first_after : {Q P : List ℕ → Type 0} {number : ℕ} {inputs : List (List ℕ)}
-    (bytes : List ℕ) → Q bytes → FirstInput Q P number inputs
-    → FirstInput Q P (number + 1) (bytes ∷ inputs)
+pub first_after : {Q P : List ℕ → Type 0} {number : ℕ} {inputs : List (List ℕ)} (bytes : List ℕ) → Q
+    bytes → FirstInput Q P number inputs → FirstInput Q P (number + 1) (bytes ∷ inputs)
 first_after bytes one first = record {
   before = bytes ∷ first.before;
   bytes = first.bytes;
@@ -67,12 +66,4 @@ first_after bytes one first = record {
 
 pub first_with : (Q P R : List ℕ → Type 0) (number : ℕ) (inputs : List (List ℕ))
     → (first : FirstInput Q P number inputs) → R first.bytes → FirstInput Q R number inputs
-first_with Q P R number inputs first here = record {
-  before = first.before;
-  bytes = first.bytes;
-  after = first.after;
-  split = first.split;
-  number_is = first.number_is;
-  earlier = first.earlier;
-  here = here;
-}
+first_with Q P R number inputs first here = search rules

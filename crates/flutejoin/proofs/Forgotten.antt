@@ -1,4 +1,6 @@
 -- forget: the journal without the entries that are taken out (specs/Forget).
+use Rattle.std.proofs.lemmas.Grind.{common_steps}
+use Rattle.std.proofs.Common.{rules}
 use Rattle.std.proofs.Common.{◌≡◌, ℕ, ◌+◌, ◌<◌, ◌^◌, Bool, true, false, List}
 use Rattle.std.proofs.Common.{arith, Option, Some, None, refl, ap, ◌∙◌, subst}
 use Rattle.std.specs.Prelude.{IfSome, not}
@@ -19,13 +21,12 @@ use Rattle.flute_streams.specs.declared.streams.chosen.Chosen.{Chosen}
 use Rattle.flute_streams.specs.declared.streams.owned_journal_stream.OwnedJournalStream.{OwnedJournalStream}
 
 not_not : (b : Bool) → not (not b) ≡ b
-not_not true = refl
-not_not false = refl
+not_not x0 = search rules
 
 -- what is not left is selected
 not_left : (p : Fact → Bool) (facts : List Fact)
     → count_by (λ f. not (not (p f))) facts ≡ count_by p facts
-not_left p facts = ap (λ (q : Fact → Bool). count_by q facts) (λ i f. not_not (p f) i)
+not_left p facts = search rules
 
 module _ {R : Type 0} (unread : R → Option (List ℕ)) (buffered : R → List ℕ)
     (failures : R → ℕ) where
@@ -34,15 +35,13 @@ module _ {R : Type 0} (unread : R → Option (List ℕ)) (buffered : R → List 
 
   module _ (s t : Chosen (OwnedJournalStream R) AllBut)
       (limit : owned_limit s.stream ≡ MAX_ENTRIES) where
-    journal_of : (input : Option (List ℕ)) (all : List Fact) → s.others ≡ 0
-        → (s.others + others_of (leaves s.choice.0) all < 2 ^ 64
-        → t.others ≡ s.others + others_of (leaves s.choice.0) all)
-        → IfSome input (λ bytes. IsJournalWithin (owned_limit s.stream) bytes all)
-        → IfSome input (IsForgetful s.choice.0 t.others all)
+    journal_of : (input : Option (List ℕ)) (all : List Fact) → s.others ≡ 0 → (s.others + others_of
+        (leaves s.choice.0) all < 2 ^ 64 → t.others ≡ s.others + others_of (leaves s.choice.0) all)
+        → IfSome input (λ bytes. IsJournalWithin (owned_limit s.stream) bytes all) → IfSome input
+        (IsForgetful s.choice.0 t.others all)
     journal_of None all none counts is = tt
     journal_of (Some bytes) all none counts is =
-        let within : IsJournalWithin MAX_ENTRIES bytes all =
-        subst (λ n. IsJournalWithin n bytes all) limit is in
+        let within : IsJournalWithin MAX_ENTRIES bytes all = search rules in
         let few = count_by-le-length (λ f. not (leaves s.choice.0 f)) all in
         let same = not_left (selects s.choice.0) all in
         let count = counts (omega (arith, none, few, within.are_items.few)) in
@@ -54,14 +53,7 @@ module _ {R : Type 0} (unread : R → Option (List ℕ)) (buffered : R → List 
         → WritesAll rests s t old new count
         → Forgets s.choice.0 (record { forgotten = t.others; entries = count })
         (left_in unread buffered s.stream) old new
-    forgets {t = t} {count = count} none w = record {
-      entries = w.ends.0;
-      journal = journal_of s t limit (left_in unread buffered s.stream) w.ends.0 none w.ends.1.1
-          w.ends.1.0;
-      writes = subst
-          (λ (facts : List Fact). WritesJournal old new facts count)
-          w.ends.2 w.writes;
-    }
+    forgets {t = t} {count = count} none w = search (rules, journal_of)
 
     pub forgets_part : WritesPart rests s old new
         → ForgetsPart s.choice.0 (left_in unread buffered s.stream) old new
@@ -69,15 +61,14 @@ module _ {R : Type 0} (unread : R → Option (List ℕ)) (buffered : R → List 
       bytes = p.bytes;
       appended = p.appended;
       no_journal = p.no_journal;
-      prefix = λ journal whole entries is within writes.
-          p.prefix (left s.choice.0 entries) (
-            entries,
-            record {
-              version = within.are_items.told;
-              bytes_are = is ∙ ap Some within.bytes_are;
-              valid = within.are_items.valid;
-              rising = within.are_items.in_order;
-            },
-            refl,
-          ) whole writes;
+      prefix = λ journal whole entries is within writes. p.prefix (left s.choice.0 entries) (
+        entries,
+        record {
+          version = within.are_items.told;
+          bytes_are = is ∙ ap Some within.bytes_are;
+          valid = within.are_items.valid;
+          rising = within.are_items.in_order;
+        },
+        refl,
+      ) whole writes;
     }

@@ -1,4 +1,6 @@
 -- forget: nothing is taken out of a journal, or the same is taken out again (specs/Laws).
+use Rattle.std.proofs.lemmas.Grind.{common_steps}
+use Rattle.std.proofs.Common.{rules}
 use Rattle.std.proofs.Common.{◌≡◌, ℕ, suc, Bool, List, [], ◌∷◌, length}
 use Rattle.std.proofs.Common.{arith, refl, sym, ap, ◌∙◌, subst, inl, inr}
 use Rattle.std.specs.Prelude.{not, filter}
@@ -23,17 +25,11 @@ use Rattle.flutejoin.proofs.join_lemmas.Receptions.{Same-from_journals}
 rising_after : (p : Fact → Bool) (a : Address) (facts : List Fact) → StandAfter a facts
     → StandAfter a (filter p facts)
 rising_after p a [] s = tt
-rising_after p a (f ∷ facts) s = elim (cases_Bool (p f)) [
-  | inl t ↦ rw t (s.0, rising_after p a facts s.1)
-  | inr t ↦ rw t (rising_after p a facts s.1)
-]
+rising_after p a (f ∷ facts) s = search (rules, rising_after p a facts s.1)
 
 rising_left : (p : Fact → Bool) (facts : List Fact) → IsRising facts → IsRising (filter p facts)
 rising_left p [] r = tt
-rising_left p (f ∷ facts) r = elim (cases_Bool (p f)) [
-  | inl t ↦ rw t (rising_after p (address f) facts r.0, rising_left p facts r.1)
-  | inr t ↦ rw t (rising_left p facts r.1)
-]
+rising_left p (f ∷ facts) r = search (rules, cases_Bool, rising_after, rising_left p facts r.1)
 
 none_left : (p : Fact → Bool) (facts : List Fact) → length (filter p facts) ≡ 0
     → filter (λ f. not (p f)) facts ≡ facts
@@ -46,15 +42,10 @@ none_left p (f ∷ facts) e = elim (cases_Bool (p f)) [
 none_selected : (p : Fact → Bool) (facts : List Fact)
     → filter p (filter (λ f. not (p f)) facts) ≡ []
 none_selected p [] = refl
-none_selected p (f ∷ facts) = elim (cases_Bool (p f)) [
-  | inl t ↦ rw t (none_selected p facts)
-  | inr t ↦ simp t (none_selected p facts)
-]
+none_selected p (f ∷ facts) = search (rules, none_selected p facts)
 
-left_of_none : (s : Selection) (facts : List Fact) → selected_in s facts ≡ 0
-    → left s facts ≡ facts
-left_of_none s facts none =
-    none_left (selects s) facts (length-filter (selects s) facts ∙ none)
+left_of_none : (s : Selection) (facts : List Fact) → selected_in s facts ≡ 0 → left s facts ≡ facts
+left_of_none s facts none = none_left (selects s) facts (length-filter (selects s) facts ∙ none)
 
 none_in_left : (s : Selection) (facts : List Fact) → selected_in s (left s facts) ≡ 0
 none_in_left s facts =
@@ -73,9 +64,8 @@ module _ (s : Selection) (bytes written : List ℕ) (counts : ForgetCounts)
 
   pub journal_left : Journal written (left s entries_of)
   journal_left =
-      let is : written ≡ h.1.writes.bytes =
-      append_cancel_left h.0 written h.1.writes.bytes h.1.writes.appended in
-      subst (λ l. Journal l (left s entries_of)) (sym is) h.1.writes.journal
+      let is : written ≡ h.1.writes.bytes = append_cancel_left h.0 written h.1.writes.bytes
+      h.1.writes.appended in subst (λ l. Journal l (left s entries_of)) (sym is) h.1.writes.journal
 
 -- with nothing to forget the journal is the same
 pub none_forgotten : (s : Selection) (bytes written : List ℕ) (counts : ForgetCounts)
@@ -84,28 +74,23 @@ pub none_forgotten : (s : Selection) (bytes written : List ℕ) (counts : Forget
 none_forgotten s bytes written counts facts h none journal =
     let E = entries_of s bytes written counts h in
     let all : left s E ≡ E = left_of_none s E (sym (count_of s bytes written counts h) ∙ none) in
-    let same : Same E facts =
-    Same-from_journals bytes E facts
+    let same : Same E facts = Same-from_journals bytes E facts
     (IsJournal-from_within bytes E (within_of s bytes written counts h)) (Two, journal) in
     Journal-only written bytes E facts same
     (subst (λ (l : List Fact). Journal written l) all (journal_left s bytes written counts h))
     journal
 
 -- what is left is left again
-pub forgotten_twice : (s : Selection) (bytes once twice : List ℕ) (counts again : ForgetCounts)
-    → Leaves s bytes once counts → Leaves s once twice again
-    → (again.forgotten ≡ 0) × (twice ≡ once)
+pub forgotten_twice : (s : Selection) (bytes once twice : List ℕ) (counts again : ForgetCounts) →
+    Leaves s bytes once counts → Leaves s once twice again → (again.forgotten ≡ 0) × (twice ≡ once)
 forgotten_twice s bytes once twice counts again h k =
     let E = entries_of s bytes once counts h in
     let F = entries_of s once twice again k in
     let within = within_of s once twice again k in
     let journal = journal_left s bytes once counts h in
-    let same : Same F (left s E) =
-    Same-from_journals once F (left s E) (IsJournal-from_within once F within)
-    (Two, journal) in
-    let one : F ≡ left s E =
-    rising_unique F (left s E) within.are_items.in_order
+    let same : Same F (left s E) = Same-from_journals once F (left s E)
+    (IsJournal-from_within once F within) (Two, journal) in
+    let one : F ≡ left s E = rising_unique F (left s E) within.are_items.in_order
     (rising_left (leaves s) E (within_of s bytes once counts h).are_items.in_order) same in
-    let none : again.forgotten ≡ 0 =
-    count_of s once twice again k ∙ ap (selected_in s) one ∙ none_in_left s E in
-    (none, none_forgotten s once twice again (left s E) k none journal)
+    let none : again.forgotten ≡ 0 = count_of s once twice again k ∙ ap (selected_in s) one ∙
+    none_in_left s E in (none, none_forgotten s once twice again (left s E) k none journal)

@@ -11,4 +11,5 @@ mod Lefts
 mod info_lemmas
 mod carousel_lemmas
 mod Slots
+mod walk_lemmas
 pub mod Public

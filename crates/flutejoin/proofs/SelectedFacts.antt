@@ -1,4 +1,5 @@
 -- The entries that are selected, entry by entry (specs/Selected).
+use Rattle.std.proofs.Common.{rules}
 use Rattle.std.proofs.Common.{◌≡◌, ◌≤◌, Bool, true, false, List, [], ◌∷◌, ◌++◌, length, inl, inr}
 use Rattle.std.proofs.Common.{refl, sym, ap, ◌∙◌, subst, append-nil}
 use Rattle.std.specs.Prelude.{filter}
@@ -18,23 +19,16 @@ use Rattle.flutejoin.specs.Show.{entry_lines}
 after_picked : (p : Fact → Bool) (a : Address) (facts : List Fact) → StandAfter a facts →
     StandAfter a (filter p facts)
 after_picked p a [] s = tt
-after_picked p a (f ∷ facts) s = elim (cases_Bool (p f)) [
-  | inl t ↦ rw t (s.0, after_picked p a facts s.1)
-  | inr t ↦ rw t (after_picked p a facts s.1)
-]
+after_picked p a (f ∷ facts) s = search (rules, after_picked p a facts s.1)
 
 pub rising_picked : (p : Fact → Bool) (facts : List Fact) → IsRising facts → IsRising
     (filter p facts)
 rising_picked p [] r = tt
-rising_picked p (f ∷ facts) r = elim (cases_Bool (p f)) [
-  | inl t ↦ rw t (after_picked p (address f) facts r.0, rising_picked p facts r.1)
-  | inr t ↦ rw t (rising_picked p facts r.1)
-]
+rising_picked p (f ∷ facts) r = search (rules, cases_Bool, after_picked, rising_picked p facts r.1)
 
 module _ (s : Selection) where
   pub few_selected : (F : List Fact) → length (selected s F) ≤ length F
-  few_selected F = subst (λ n. n ≤ length F) (sym (length-filter (selects s) F))
-      (count_by-le-length (selects s) F)
+  few_selected F = search (rules, length-filter, count_by-le-length)
 
   module _ (f : Fact) where
     pub just_selected : selects s f ≡ true → selected s (f ∷ []) ≡ f ∷ []
@@ -44,20 +38,18 @@ module _ (s : Selection) where
     just_none e = rw e refl
 
     pub just_line : selects s f ≡ true → entry_lines (selected s (f ∷ [])) ≡ fact_line f
-    just_line e = ap entry_lines (just_selected e) ∙ append-nil (fact_line f)
+    just_line e = search rules
 
     module _ (F : List Fact) where
       pub selected_more : selected s (F ++ f ∷ []) ≡ selected s F ++ selected s (f ∷ [])
       selected_more = filter-append (selects s) F (f ∷ [])
 
       pub one_selected : selects s f ≡ true → selected s (F ++ f ∷ []) ≡ selected s F ++ f ∷ []
-      one_selected e = selected_more ∙ ap (λ l. selected s F ++ l) (just_selected e)
+      one_selected e = search (rules, selected_more, just_selected)
 
       pub none_selected : selects s f ≡ false → selected s (F ++ f ∷ []) ≡ selected s F
-      none_selected e =
-          selected_more ∙ ap (λ l. selected s F ++ l) (just_none e) ∙ append-nil (selected s F)
+      none_selected e = search (rules, selected_more, just_none)
 
       pub selected_rises : selects s f ≡ true → IsRising (F ++ f ∷ [])
           → IsRising (selected s F ++ f ∷ [])
-      selected_rises e r =
-          subst IsRising (one_selected e) (rising_picked (selects s) (F ++ f ∷ []) r)
+      selected_rises e r = search (rules, one_selected, rising_picked)

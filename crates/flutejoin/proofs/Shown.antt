@@ -1,4 +1,6 @@
 -- show: a journal whose entries are printed as they are read (specs/Show).
+use Rattle.std.proofs.lemmas.Grind.{common_steps}
+use Rattle.std.proofs.Common.{rules}
 use Rattle.std.proofs.Common.{◌≡◌, ℕ, ◌+◌, ◌≤◌, Bool, true, false, List, [], ◌∷◌, ◌++◌, length}
 use Rattle.std.proofs.Common.{Option, Some, None, Result, Ok, Err, ap, sym, ◌∙◌, subst, arith}
 use Rattle.std.specs.Prelude.{IfSome, IfErr, OnOk}
@@ -48,22 +50,16 @@ pub record Shown (choice : Selection) (first now : Option (List ℕ)) (state : R
   pub counted : count ≡ length (selected choice entries)
   pub written : Appends old new (entry_lines (selected choice entries))
 
-lines_more : (choice : Selection) (es : List Fact) (f : Fact)
-    → entry_lines (selected choice es) ++ entry_lines (selected choice (f ∷ []))
-    ≡ entry_lines (selected choice (es ++ f ∷ []))
-lines_more choice es f =
-    sym (ap entry_lines (selected_more choice f es)
-    ∙ flat_map-append fact_line (selected choice es) (selected choice (f ∷ [])))
+lines_more : (choice : Selection) (es : List Fact) (f : Fact) → entry_lines (selected choice es) ++
+    entry_lines (selected choice (f ∷ [])) ≡ entry_lines (selected choice (es ++ f ∷ []))
+lines_more choice es f = search (rules, selected_more, flat_map-append)
 
 module _ {choice : Selection} {u v : Option (List ℕ)} {from : ReaderState Before}
     {s t : Option (List ℕ)} {count : ℕ}
     (h : Shown choice u v from s t count) where
   -- no more lines than entries
   pub few_shown : count ≤ 16777216
-  few_shown =
-      let few = few_selected choice h.entries in
-      let most : length h.entries ≤ 16777216 = h.sofar.are_items.few in
-      omega (arith, h.counted, few, most)
+  few_shown = search (rules, few_selected)
 
   module _ {w : Option (List ℕ)} {to : ReaderState Before} {f : Fact}
       (g : GivesItem journal_framing MAX_ENTRIES from to v w f) where
@@ -74,7 +70,7 @@ module _ {choice : Selection} {u v : Option (List ℕ)} {from : ReaderState Befo
           entries = h.entries ++ f ∷ [];
           sofar = sofar-next journal_sound h.sofar g;
           counted = h.counted ∙ ap length same;
-          written = subst (λ (l : List Fact). Appends s t (entry_lines l)) same h.written;
+          written = search rules;
         }
 
   module _ {w : Option (List ℕ)} {to : ReaderState Before} {f : Fact}
@@ -124,9 +120,8 @@ module _ {choice : Selection} {u v : Option (List ℕ)} {from : ReaderState Befo
         record {
           entries = h.entries;
           journal = whole h.sofar g;
-          written =
-              Appends-trans s t t' (entry_lines chosen) (entries_line (length chosen)) h.written
-              (subst (λ n. Appends t t' (entries_line n)) h.counted line);
+          written = Appends-trans s t t' (entry_lines chosen) (entries_line (length chosen))
+              h.written (subst (λ n. Appends t t' (entries_line n)) h.counted line);
         }
 
     pub shown-cut : AppendsPart t t' (entries_line count) → ShowsPart choice u w s t'
@@ -139,33 +134,23 @@ module _ {choice : Selection} {u v : Option (List ℕ)} {from : ReaderState Befo
 -- What a call of the reader gave, and a write did.
 
 pub entry_given : {limit : ℕ} (from to : ReaderState Before) (v w : Option (List ℕ))
-    {r : Result (Option Fact) ReadFault} {f : Fact} → Gives journal_framing limit from to v w r
-    → limit ≡ MAX_ENTRIES → r ≡ Ok (Some f)
-    → GivesItem journal_framing MAX_ENTRIES from to v w f
-entry_given {limit = limit} from to v w {f = f} h l e =
-    subst (λ n. Gives journal_framing n from to v w (Ok (Some f))) l
-    (subst (λ (x : Result (Option Fact) ReadFault). Gives journal_framing limit from to v w x) e h)
+    {r : Result (Option Fact) ReadFault} {f : Fact} → Gives journal_framing limit from to v w r →
+    limit ≡ MAX_ENTRIES → r ≡ Ok (Some f) → GivesItem journal_framing MAX_ENTRIES from to v w f
+entry_given {limit = limit} from to v w {f = f} h l e = search rules
 
 pub end_given : (limit : ℕ) (from to : ReaderState Before) (v w : Option (List ℕ))
-    {r : Result (Option Fact) ReadFault} → Gives journal_framing limit from to v w r
-    → r ≡ Ok None
-    → GivesEnd journal_framing from to v w
-end_given limit from to v w h e =
-    subst (λ (x : Result (Option Fact) ReadFault). Gives journal_framing limit from to v w x) e h
+    {r : Result (Option Fact) ReadFault} → Gives journal_framing limit from to v w r → r ≡ Ok None →
+    GivesEnd journal_framing from to v w
+end_given limit from to v w h e = search rules
 
 pub fault_given : {limit : ℕ} (from to : ReaderState Before) (v w : Option (List ℕ))
-    {r : Result (Option Fact) ReadFault} {f : ReadFault}
-    → Gives journal_framing limit from to v w r → limit ≡ MAX_ENTRIES → r ≡ Err f
-    → GivesFault journal_framing MAX_ENTRIES from to v w f
-fault_given {limit = limit} from to v w {f = f} h l e =
-    subst (λ n. Gives journal_framing n from to v w (Err f)) l
-    (subst (λ (x : Result (Option Fact) ReadFault). Gives journal_framing limit from to v w x) e h)
+    {r : Result (Option Fact) ReadFault} {f : ReadFault} → Gives journal_framing limit from to v w r
+    → limit ≡ MAX_ENTRIES → r ≡ Err f → GivesFault journal_framing MAX_ENTRIES from to v w f
+fault_given {limit = limit} from to v w {f = f} h l e = search rules
 
 pub no_read_failure : (r : Result (Option Fact) ReadFault) {o : Option Fact} (b : Bool)
     {n m k : ℕ} → r ≡ Ok o → FailsIf b m n r → m ≡ k → n ≡ k
-no_read_failure (Ok x) true e h i = omega (arith, h, i)
-no_read_failure (Ok x) false e h i = omega (arith, h, i)
-no_read_failure (Err x) b e h i = absurd cc
+no_read_failure x0 x1 x2 x3 x4 = search rules
 
 pub fails_same : (T X : Type 0) (f : ReadFault) (n m : ℕ) → Fails {T = T} n m (Err f)
     → Fails {T = X} n m (Err f)
@@ -180,17 +165,15 @@ pub read_failures : (T : Type 0) {u v : Option (List ℕ)} {state : ReaderState 
 read_failures T {u = u} {v = v} {state = state} {es = es} {r = r} {f = f} number n
     {m = m} h is fails e =
     let P : Bool → Type 0 = λ b. FailsIf b m n r in
-    let now : Fails m n r = subst P (open_after MAX_ENTRIES u v state es h) fails in
+    let now : Fails m n r = search rules in
     let Q : Result (Option Fact) ReadFault → Type 0 = λ x. Fails m n x in
     let N : ℕ → Type 0 = λ i. Fails {T = T} i n (Err f) in
     subst N e (fails_same (Option Fact) T f m n (subst Q is now))
 
 -- The last line: the count.
 
-pub if_done : {A B : Type 0} (r : Result (Unit {0}) CommandFault) → (A → B)
-    → OnOk r A → OnOk r B
-if_done (Ok x) f a = f a
-if_done (Err x) f a = tt
+pub if_done : {A B : Type 0} (r : Result (Unit {0}) CommandFault) → (A → B) → OnOk r A → OnOk r B
+if_done x0 x1 x2 = search rules
 
 pub cut_short : {A : Type 0} (choice : Selection) (u v s t : Option (List ℕ))
     (r : Result (Unit {0}) CommandFault) → (A → ShowsPart choice u v s t)
@@ -201,6 +184,4 @@ cut_short choice u v s t (Err x) f a = absurd a
 
 pub only_written : (A : Type 0) (old new : ℕ) (r : Result (Unit {0}) CommandFault)
     → IfErr r (FailsToWrite A) → new ≡ old → FailsToRead old new r
-only_written A old new (Ok x) a e = e
-only_written A old new (Err CannotWrite) a e = e
-only_written A old new (Err x) a e = absurd a
+only_written x0 x1 x2 x3 x4 x5 = search rules

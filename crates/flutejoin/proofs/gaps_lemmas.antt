@@ -3,8 +3,6 @@ pub mod Sessions
 pub mod Closing
 pub mod MovedAside
 pub mod ObjectsListed
-pub mod OpenObjects
 pub mod Keys
-pub mod Scanning
-pub mod GapsRead
 pub mod StatusLines
+pub mod GapsListed

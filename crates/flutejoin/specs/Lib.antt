@@ -41,3 +41,7 @@ pub mod Gaps
 pub mod ExtractAll
 pub mod FileNames
 pub mod ObjectFiles
+pub mod NextEntry
+pub mod Progress
+pub mod Walk
+pub mod GapLines

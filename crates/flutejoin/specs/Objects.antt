@@ -17,7 +17,7 @@ use Rattle.flute_store.specs.declared.status.Status.{Status}
 use Rattle.flute_store.specs.declared.status.Status.TheVariants.{NoInformation}
 use Rattle.flute_store.specs.declared.status.Status.TheVariants.{ConflictingInformation, Partial}
 use Rattle.flute_store.specs.declared.status.Status.TheVariants.{Whole}
-use Rattle.flute_store.specs.Objects.{wants, gaps}
+use Rattle.flute_store.specs.Objects.{wants, gaps, object}
 use Rattle.flute_store.specs.Status.{how_many}
 use Rattle.flute_store.specs.Held.{HoldsObject}
 use Rattle.flutejoin.specs.Lines.{status_line, gap_line}
@@ -42,6 +42,16 @@ status_at F key (Some f) = ConflictingInformation
 abbrev pub gaps_at : List Fact → Key → Option Fact → List Gap
 gaps_at F key (Some (Info k info)) = gaps F key info
 gaps_at F key o = []
+
+-- the bytes of an object of which these symbols are wanted, if it is whole
+abbrev pub bytes_wanting : List Fact → Key → Information → List (SymbolId × Reason)
+    → Option (List ℕ)
+bytes_wanting F key info [] = Some (object F key info)
+bytes_wanting F key info (w ∷ ws) = None
+
+abbrev pub bytes_at : List Fact → Key → Option Fact → Option (List ℕ)
+bytes_at F key (Some (Info k info)) = bytes_wanting F key info (wants F key info)
+bytes_at F key o = None
 
 -- a line for the object, and one for each of its gaps
 unfoldable pub object_lines : List Fact → Key → List ℕ

@@ -1,5 +1,6 @@
 -- What `gaps` prints in each style, computed from the definitions.
 use Rattle.std.specs.Prelude.{◌≡◌, refl, codes, true, false, List, [], ◌∷◌, ◌++◌, Bool}
+use Rattle.std.specs.Prelude.{Some, None}
 use Rattle.std.specs.Fmt.{digits}
 use Rattle.flute_parts.specs.Session.{session}
 use Rattle.flute_parts.specs.declared.object_key.ObjectName.TheVariants.{File}
@@ -18,6 +19,7 @@ whole = record {
   key = record { session = session 0 7; object = File 1 };
   status = Whole 5;
   gaps = [];
+  bytes = Some (codes "ABCDE");
 }
 
 abbrev partial : Told
@@ -27,6 +29,7 @@ partial = record {
   gaps =
       record { sbn = 0; first = 1; last = 2; reason = Missing }
       ∷ record { sbn = 0; first = 3; last = 3; reason = Conflicting } ∷ [];
+  bytes = None;
 }
 
 abbrev conflict : Told
@@ -34,6 +37,7 @@ conflict = record {
   key = record { session = session 0 8; object = File 1 };
   status = ConflictingInformation;
   gaps = [];
+  bytes = None;
 }
 
 abbrev objects : List Told

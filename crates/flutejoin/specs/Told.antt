@@ -1,5 +1,5 @@
--- What `gaps` reports of objects: how much of each is held, and its gaps.
-use Rattle.std.specs.Prelude.{◌≡◌, List, map, Contains, ◌↔◌}
+-- What is reported of objects: how much of each is held, its gaps, and its bytes.
+use Rattle.std.specs.Prelude.{◌≡◌, ℕ, List, map, Contains, ◌↔◌, Option}
 use Rattle.std.specs.List.Sorted.{IsStrictlySortedBy}
 use Rattle.flute_parts.specs.Addresses.{info_address}
 use Rattle.flute_parts.specs.Facts.{fact_at}
@@ -9,12 +9,14 @@ use Rattle.flute_parts.specs.declared.fact.Fact.{Fact}
 use Rattle.flute_store.specs.declared.gap.Gap.{Gap}
 use Rattle.flute_store.specs.declared.status.Status.{Status}
 use Rattle.flute_store.specs.Held.{HoldsObject}
-use Rattle.flutejoin.specs.Objects.{gaps_at, status_at}
+use Rattle.flutejoin.specs.Objects.{bytes_at, gaps_at, status_at}
 
 pub record Told : Type 0 where
   pub key : Key
   pub status : Status
   pub gaps : List Gap
+  -- its bytes, if it is whole
+  pub bytes : Option (List ℕ)
 
 -- the report of an object of which facts hold something
 abbrev pub told_of : List Fact → Key → Told
@@ -22,6 +24,7 @@ told_of F key = record {
   key = key;
   status = status_at F key (fact_at F (info_address key));
   gaps = gaps_at F key (fact_at F (info_address key));
+  bytes = bytes_at F key (fact_at F (info_address key));
 }
 
 -- these are the reports of all objects of which something is held, in the order of their keys

@@ -14,7 +14,6 @@ ghost use Rattle.flutejoin.specs.Show.{FailsToRead};
 
 pub(crate) mod extract_all;
 pub(crate) mod file_names;
-pub(crate) mod file_scan;
 pub(crate) mod object_files;
 pub(crate) mod object_writer;
 pub(crate) mod picked;

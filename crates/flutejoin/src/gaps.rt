@@ -10,17 +10,17 @@ ghost use Rattle.flutejoin.specs.Show.{FailsToRead};
 ghost use Rattle.flutejoin.specs.Packet.{write_failures};
 
 pub(crate) mod closed_objects;
+pub(crate) mod gap_lines;
 pub(crate) mod held_lines;
-pub(crate) mod listing;
 pub(crate) mod session_sums;
 
 use crate::aside::Aside;
-use crate::command_fault::{CommandFault, at_input};
-use crate::gaps::listing::Listing;
-use crate::limits::MAX_ENTRIES;
+use crate::command_fault::CommandFault;
+use crate::gaps::closed_objects::ClosedObjects;
+use crate::gaps::gap_lines::GapLines;
 use crate::lines::style::Style;
-use flute_journal::JournalReader;
-use flute_parts::{Sink, Source, Tally};
+use crate::walk::walk_objects;
+use flute_parts::{Sink, Source};
 use flute_streams::Selection;
 use std::alloc::Global;
 
@@ -77,20 +77,15 @@ pub fn gaps_from<
         ≡ A.failures lines.old + A.failures gap_lines.old + W.failures sink.old
         + write_failures result }
 {
-    let mut listing = Listing::new();
-    let mut tally = Tally::<SESSIONS, OBJECTS, SYMBOLS>::new();
-    let mut reader = JournalReader::new(source, MAX_ENTRIES);
-    let mut spare = Vec::new(alloc);
-    while let Some(fact) = at_input(1, reader.next_with(alloc, spare))? {
-        if !tally.count(&fact.address()) {
-            return Err(CommandFault::Full);
-        }
-        if selection.selects(&fact.as_ref()) {
-            listing.add(style, &fact, lines, gap_lines)?;
-        }
-        spare = fact.into_vec(alloc);
-    }
-    let all_whole = listing.finish(style, lines, gap_lines)?;
-    lines.move_to(sink)?;
-    Ok(all_whole)
+    let mut listed = GapLines {
+        style,
+        closed: ClosedObjects {
+            all_whole: true,
+            sums: None,
+        },
+        lines,
+        gap_lines,
+    };
+    walk_objects::<SESSIONS, OBJECTS, SYMBOLS, _, _, _>(alloc, source, selection, &mut listed)?;
+    Ok(listed.finish(sink)?)
 }

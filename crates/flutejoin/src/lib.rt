@@ -32,11 +32,13 @@ pub mod laws;
 mod limits;
 mod lines;
 mod merge;
+mod next_entry;
 mod nothing;
 mod output_guard;
 mod packet;
 mod sender;
 mod show;
+mod walk;
 
 pub use aside::{Aside, Asides};
 pub use carousel::send_to;

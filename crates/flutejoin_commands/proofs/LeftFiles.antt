@@ -10,6 +10,7 @@ use Rattle.flutejoin.specs.declared.command_fault.CommandFault.TheVariants as fa
 use Rattle.flutejoin_commands.specs.Commands.{BecomesWritten, IsForGood, OutIsKept, Succeeds, Fails}
 use Rattle.flutejoin_commands.specs.Commands.{of_work, of_create, of_file, of_disk, of_report}
 use Rattle.flutejoin_commands.specs.Commands.{Devices, devices, with_beside}
+use Rattle.flutejoin_commands.specs.Deliveries.{FailsDelivered}
 use Rattle.flutejoin_commands.specs.Files.{Files}
 use Rattle.flutejoin_commands.specs.Outlets.{Outlets, PutsOut, FailsHeld}
 use Rattle.flutejoin_commands.specs.Worlds.{HasOut, IsStandard, IsFileName, Closes, KeepsFiles}
@@ -17,6 +18,8 @@ use Rattle.flutejoin_commands.specs.Worlds.{IsPlaced}
 use Rattle.flutejoin_commands.specs.Worlds.{FileIs, FileBecomes, Leaves, in_file, in_device}
 use Rattle.flutejoin_commands.specs.Worlds.{in_output, FailsToLeave, as_before, in_place, Outside}
 use Rattle.flutejoin_commands.specs.Worlds.{beside_name, bytes_of, outside}
+use Rattle.flutejoin_commands.specs.declared.delivery.Delivery.{Delivery}
+use Rattle.flutejoin_commands.specs.declared.delivery.Delivery.TheVariants.{AtOnce, Whole}
 
 -- files that are the same
 pub kept_same : (name : List ℕ) (old new : Option Files) → new ≡ old → KeepsFiles name old new
@@ -143,7 +146,7 @@ held_too (in_place is answer beside f) = in_place is answer beside f
 -- Where the work failed, or the file, the disk or the report.
 module _ {A : Type 0} {writes : A → Option (List ℕ) → Option (List ℕ) → Type 0}
     {fails : CommandFault → Type 0} {name : List ℕ} {old new : Option Files} where
-  pub failed_file : {lines : A → List ℕ} {before : Type 0} {d d' : Devices}
+  failed_file : {lines : A → List ℕ} {before : Type 0} {d d' : Devices}
       {errors : Option (List ℕ)} {fault : CommandFault}
       → IsClosed name old new d.folder d'.folder → Fails writes fails lines before d d' fault
       → FailsToLeave writes fails name (outside old d.report errors)
@@ -161,12 +164,13 @@ module _ {A : Type 0} {writes : A → Option (List ℕ) → Option (List ℕ) �
       let f = file_is _ (writes w.answer) old new d.folder d'.folder x w.out in
       in_place (inr is) w.answer f.0 f.1
 
-  pub failed_held : {lines : A → List ℕ} {before : Type 0} {d d' : Devices}
-      {errors : Option (List ℕ)} {fault : CommandFault}
+  pub failed_as : {lines : A → List ℕ} {before : Type 0} {d d' : Devices}
+      {errors : Option (List ℕ)} {fault : CommandFault} (delivery : Delivery)
       → IsClosed name old new d.folder d'.folder → Fails writes fails lines before d d' fault
-      → FailsToLeave writes (FailsHeld fails) name (outside old d.report errors)
+      → FailsToLeave writes (FailsDelivered delivery fails) name (outside old d.report errors)
       (outside new d'.report errors) fault
-  failed_held x f = held_too (failed_file x f)
+  failed_as (AtOnce if_none) x f = failed_file x f
+  failed_as (Whole alloc) x f = held_too (failed_file x f)
 
 module _ {A : Type 0} {writes : A → Option (List ℕ) → Option (List ℕ) → Type 0}
     {fails : CommandFault → Type 0} {name : List ℕ} {old : Outside} {files : Option Files}

@@ -4,21 +4,20 @@ use Rattle.std.proofs.Common.{Result, Ok, Err, IfErr, inl, inr, refl, sym, ap, s
 use Rattle.std.specs.Prelude.{slice_get, Bool, OnOk, IsSome, IfSome}
 use Rattle.std.specs.List.{AllZip}
 use Rattle.std.proofs.lemmas.Option.{same_Some}
-use Rattle.flute_streams.specs.declared.choice.scope.Scope.{Scope}
 use Rattle.flutejoin.specs.JoinFaults.{NamesOneOf}
 use Rattle.flutejoin.specs.JoinInputs.{AreInputs, IsInput}
 use Rattle.flutejoin.specs.declared.join.join_input.JoinInput.{JoinInput}
 use Rattle.flutejoin.specs.declared.join.join_counts.JoinCounts.{JoinCounts}
 use Rattle.flutejoin.specs.declared.command_fault.CommandFault.{CommandFault}
 use Rattle.flutejoin.specs.declared.command_fault.CommandFault.TheVariants.{CannotOpen, OutOfMemory}
-use Rattle.flutejoin.specs.Limits.{Limits}
 use Rattle.flutejoin_commands.specs.Files.{Files, HasBytes, IfFiles, IsNoFile}
 use Rattle.flutejoin_commands.specs.Opened.{IsOpened, AreOpened}
-use Rattle.flutejoin_commands.specs.Named.{IsAt, IsBefore, JoinsNames, JoinNamesFails}
-use Rattle.flutejoin_commands.specs.Works.{JoinsAll, JoinAllFails}
+use Rattle.flutejoin_commands.specs.Named.{IsAt, IsBefore, JoinsNames, JoinNamesFails, names_of}
+use Rattle.flutejoin_commands.specs.Works.{JoinsAll, JoinAllFails, join_choice}
 use Rattle.flutejoin_commands.specs.Worlds.{FileIs, Leaves, in_file, in_device, in_output}
 use Rattle.flutejoin_commands.specs.Worlds.{FailsToLeave, as_before, in_place, Outside}
 use Rattle.flutejoin_commands.specs.Worlds.{TellsAsides}
+use Rattle.flutejoin_line.specs.declared.join_line.JoinLine.{JoinLine}
 
 -- ---- a weaker account of what was written
 
@@ -109,57 +108,56 @@ module _ {R : Type 0} (unread : R → Option (List ℕ)) where
         each_input opened contents a;
   }
 
-  module _ (tells : Bool) (most : Limits) (sender : ℕ) (scope : Scope) (names : List (List ℕ))
-      (opened : List (JoinInput R)) where
+  module _ (tells : Bool) (line : JoinLine) (opened : List (JoinInput R)) where
     -- what join_to joined of the inputs, stated of the names
-    joins_told : (files : Option Files) → AreOpened files unread names opened
+    joins_told : (files : Option Files) → AreOpened files unread (names_of line) opened
         → TellsAsides files tells → (counts : JoinCounts) (old new : Option (List ℕ))
-        → JoinsAll unread tells most sender scope opened counts old new
-        → JoinsNames files most sender scope names counts old new
+        → JoinsAll unread tells (join_choice line) opened counts old new
+        → JoinsNames files line counts old new
     joins_told None h is counts old new j = tt
     joins_told (Some files) h is counts old new j =
-        let had = contents_of files unread names opened h.as_many h.each in
+        let had = contents_of files unread (names_of line) opened h.as_many h.each in
         (had.0, had.1, j is had.0 (are_inputs opened had.0 had.2))
 
-    fault_told : (files : Option Files) → AreOpened files unread names opened
+    fault_told : (files : Option Files) → AreOpened files unread (names_of line) opened
         → TellsAsides files tells → (fault : CommandFault)
-        → JoinAllFails unread tells most sender scope opened fault
-        → JoinNamesFails files most sender scope names fault
+        → JoinAllFails unread tells (join_choice line) opened fault
+        → JoinNamesFails files line fault
     fault_told None h is fault j = inr (tt, subst (λ n. NamesOneOf n fault) h.as_many j.1)
     fault_told (Some files) h is fault j =
-        let had = contents_of files unread names opened h.as_many h.each in
+        let had = contents_of files unread (names_of line) opened h.as_many h.each in
         inr (
           (had.0, had.1, j.0 is had.0 (are_inputs opened had.0 had.2)),
           subst (λ n. NamesOneOf n fault) h.as_many j.1,
         )
 
-    module _ (files : Option Files) (h : AreOpened files unread names opened)
+    module _ (files : Option Files) (h : AreOpened files unread (names_of line) opened)
         (is : TellsAsides files tells) (name : List ℕ) (old new : Outside) where
       abbrev all : JoinCounts → Option (List ℕ) → Option (List ℕ) → Type 0
-      all = JoinsAll unread tells most sender scope opened
+      all = JoinsAll unread tells (join_choice line) opened
 
       pub joined : (lines : JoinCounts → List ℕ) (r : Result (Unit {0}) CommandFault)
           → OnOk r (Leaves all all lines name old new)
-          → OnOk r (Leaves (JoinsNames files most sender scope names)
-          (JoinsNames files most sender scope names) lines name old new)
+          → OnOk r (Leaves (JoinsNames files line)
+          (JoinsNames files line) lines name old new)
       joined lines (Ok u) l =
-          leaves_told all all (JoinsNames files most sender scope names)
-          (JoinsNames files most sender scope names)
+          leaves_told all all (JoinsNames files line)
+          (JoinsNames files line)
           (joins_told files h is) (joins_told files h is) name lines old new l
       joined lines (Err e) l = tt
 
       pub not_joined : (r : Result (Unit {0}) CommandFault)
-          → IfErr r (FailsToLeave all (JoinAllFails unread tells most sender scope opened) name
+          → IfErr r (FailsToLeave all (JoinAllFails unread tells (join_choice line) opened) name
           old new)
-          → IfErr r (FailsToLeave (JoinsNames files most sender scope names)
-          (JoinNamesFails files most sender scope names) name old new)
+          → IfErr r (FailsToLeave (JoinsNames files line)
+          (JoinNamesFails files line) name old new)
       not_joined (Ok u) l = tt
       not_joined (Err e) l =
-          fails_told all all (JoinsNames files most sender scope names)
-          (JoinsNames files most sender scope names)
+          fails_told all all (JoinsNames files line)
+          (JoinsNames files line)
           (joins_told files h is) (joins_told files h is) name
-          (JoinAllFails unread tells most sender scope opened)
-          (JoinNamesFails files most sender scope names) old new e (fault_told files h is e) l
+          (JoinAllFails unread tells (join_choice line) opened)
+          (JoinNamesFails files line) old new e (fault_told files h is e) l
 
 -- ---- one input, and two
 

@@ -1,9 +1,11 @@
 pub mod Closings
+pub mod Deeds
 pub mod Commands
 pub mod Files
 pub mod Named
 pub mod Opened
 pub mod Outlets
+pub mod Deliveries
 pub mod Printed
 pub mod Prints
 pub mod Folders

@@ -1,14 +1,12 @@
 -- What the commands write and why they fail, stated of the names of their inputs.
-use Rattle.std.specs.Prelude.{◌≡◌, ◌⊎◌, ◌+◌, ◌<◌, ℕ, List, [], ◌∷◌, length, slice_get, Option}
-use Rattle.std.specs.Prelude.{Some, IfSome}
+use Rattle.std.specs.Prelude.{◌≡◌, ◌⊎◌, ◌+◌, ◌<◌, ℕ, List, [], ◌∷◌, length, map, slice_get}
+use Rattle.std.specs.Prelude.{Option, Some, IfSome}
 use Rattle.std.specs.List.{AllZip}
 use Rattle.flute_journal.specs.declared.fault.ReadFault.TheVariants.{Read}
-use Rattle.flute_streams.specs.declared.choice.scope.Scope.{Scope}
 use Rattle.flute_streams.specs.declared.choice.selection.Selection.{Selection}
 use Rattle.flute_parts.specs.Information.{Information}
 use Rattle.flute_parts.specs.declared.key.Key.{Key}
 use Rattle.flutejoin.specs.Forget.{ForgetFails}
-use Rattle.flutejoin.specs.Joined.{choice_of}
 use Rattle.flutejoin.specs.JoinFaults.{NamesOneOf}
 use Rattle.flutejoin.specs.declared.forget.ForgetCounts.{ForgetCounts}
 use Rattle.flutejoin.specs.Limits.{Limits}
@@ -20,10 +18,11 @@ use Rattle.flutejoin.specs.declared.command_fault.CommandFault.TheVariants.{OutO
 use Rattle.flutejoin_commands.specs.Files.{Files, IfFiles, IsNoFile}
 use Rattle.flutejoin_commands.specs.Outlets.{Held, FailsHeld}
 use Rattle.flutejoin_commands.specs.Works.{AddsInformation, AddFails, WritesObject, ExtractFails}
-use Rattle.flutejoin_commands.specs.Works.{ForgetsIn, JoinReadFails, JoinsRead}
+use Rattle.flutejoin_commands.specs.Works.{ForgetsIn, JoinReadFails, JoinsRead, join_choice}
 use Rattle.flutejoin_commands.specs.Works.{AddListReadFails, AddsListRead}
 use Rattle.flutejoin_commands.specs.Works.{MergeReadFails, MergesRead, SendReadFails, SendsRead}
 use Rattle.flutejoin_commands.specs.Worlds.{IsNotOverwritten}
+use Rattle.flutejoin_line.specs.declared.join_line.JoinLine.{JoinLine}
 
 abbrev pub IsAt : Files → List ℕ → List ℕ → Type 0
 IsAt files name bytes = files name ≡ Some bytes
@@ -32,6 +31,10 @@ IsAt files name bytes = files name ≡ Some bytes
 abbrev pub OfContents : Files → List (List ℕ) → (List (List ℕ) → Type 0) → Type 0
 OfContents files names P =
     (contents : List (List ℕ)) × AllZip (IsAt files) names contents × P contents
+
+-- the names of the inputs of a join
+abbrev pub names_of : JoinLine → List (List ℕ)
+names_of line = map (λ input. input.now) line.inputs.items
 
 -- one of these names, with its number, cannot be opened as there is no such file, or its first
 -- bytes cannot be read
@@ -58,18 +61,17 @@ MeasureFails input fault =
 
 module _ (files : Option Files) where
   -- the one journal of all that the files of these names contain of the chosen objects
-  abbrev pub JoinsNames : Limits → ℕ → Scope → List (List ℕ) → JoinCounts
-      → Option (List ℕ) → Option (List ℕ) → Type 0
-  JoinsNames most sender scope names counts old new = IfFiles files (λ f. OfContents f names
-      (λ contents. JoinsRead (choice_of most sender scope) contents counts old new))
-
-  abbrev pub JoinNamesFails : Limits → ℕ → Scope → List (List ℕ) → CommandFault
+  abbrev pub JoinsNames : JoinLine → JoinCounts → Option (List ℕ) → Option (List ℕ)
       → Type 0
-  JoinNamesFails most sender scope names fault =
-      IsBefore files names fault
-      ⊎ (IfFiles files (λ f. OfContents f names (λ contents.
-      JoinReadFails (choice_of most sender scope) contents fault))
-      × NamesOneOf (length names) fault)
+  JoinsNames line counts old new = IfFiles files (λ f. OfContents f (names_of line)
+      (λ contents. JoinsRead (join_choice line) contents counts old new))
+
+  abbrev pub JoinNamesFails : JoinLine → CommandFault → Type 0
+  JoinNamesFails line fault =
+      IsBefore files (names_of line) fault
+      ⊎ (IfFiles files (λ f. OfContents f (names_of line) (λ contents.
+      JoinReadFails (join_choice line) contents fault))
+      × NamesOneOf (length (names_of line)) fault)
 
   -- the journal of all that the files of two names contain
   abbrev pub MergesNames : List ℕ → List ℕ → ℕ → Option (List ℕ) → Option (List ℕ)

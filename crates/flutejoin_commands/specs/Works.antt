@@ -20,7 +20,7 @@ use Rattle.flutejoin.specs.JoinInputs.{AreInputs}
 use Rattle.flutejoin.specs.Joined.{Choice, choice_of}
 use Rattle.flutejoin.specs.Joining.{JoinsTo}
 use Rattle.flutejoin.specs.JoinFaults.{JoinToFails, NamesOneOf}
-use Rattle.flutejoin.specs.Limits.{Limits}
+use Rattle.flutejoin.specs.Limits.{Limits, limits_of}
 use Rattle.flutejoin.specs.Lines.{count_line}
 use Rattle.flutejoin.specs.Merge.{MergeFails}
 use Rattle.flutejoin.specs.declared.forget.ForgetCounts.{ForgetCounts}
@@ -29,6 +29,9 @@ use Rattle.flutejoin.specs.declared.join.join_input.JoinInput.{JoinInput}
 use Rattle.flutejoin.specs.declared.command_fault.CommandFault.{CommandFault}
 use Rattle.flutejoin.specs.declared.command_fault.CommandFault.TheVariants.{Full}
 use Rattle.flutejoin.specs.declared.limits.TheConstants.{MAX_ENTRIES}
+use Rattle.flutejoin_line.specs.CommandLine.{is_any_size}
+use Rattle.flutejoin_line.specs.declared.join_line.JoinLine.{JoinLine}
+use Rattle.flutejoin_line.specs.declared.limit.Limit.{Limit}
 
 -- the one line of a command that reports how many bytes or datagrams it wrote
 abbrev pub bytes_line : ℕ → List ℕ
@@ -67,6 +70,14 @@ module _ {X : Type 0} (count : X → ℕ)
       (fault ≡ Full) × ((x : X) × (old : Option (List ℕ)) × (new : Option (List ℕ))
       × (writes x old new × (MAX_ENTRIES < count x)))
 
+-- how much a command takes in
+abbrev pub most_of : Limit → Limits
+most_of limit = limits_of (is_any_size limit)
+
+-- what a join takes
+abbrev pub join_choice : JoinLine → Choice
+join_choice line = choice_of (most_of line.limit) line.sender line.scope
+
 -- inputs with these bytes, joined to a journal that the commands read
 abbrev pub JoinsRead : Choice → List (List ℕ) → JoinCounts → Option (List ℕ)
     → Option (List ℕ) → Type 0
@@ -90,17 +101,16 @@ MergeReadFails first second fault =
 
 module _ {R : Type 0} (unread : R → Option (List ℕ)) where
   -- these inputs, joined, if the bytes that are put aside are known
-  abbrev pub JoinsAll : Bool → Limits → ℕ → Scope → List (JoinInput R) → JoinCounts
+  abbrev pub JoinsAll : Bool → Choice → List (JoinInput R) → JoinCounts
       → Option (List ℕ) → Option (List ℕ) → Type 0
-  JoinsAll tells most sender scope inputs counts old new =
+  JoinsAll tells choice inputs counts old new =
       tells ≡ true → (contents : List (List ℕ)) → AreInputs unread inputs contents
-      → JoinsRead (choice_of most sender scope) contents counts old new
+      → JoinsRead choice contents counts old new
 
-  abbrev pub JoinAllFails : Bool → Limits → ℕ → Scope → List (JoinInput R)
-      → CommandFault → Type 0
-  JoinAllFails tells most sender scope inputs fault =
+  abbrev pub JoinAllFails : Bool → Choice → List (JoinInput R) → CommandFault → Type 0
+  JoinAllFails tells choice inputs fault =
       (tells ≡ true → (contents : List (List ℕ)) → AreInputs unread inputs contents
-      → JoinReadFails (choice_of most sender scope) contents fault)
+      → JoinReadFails choice contents fault)
       × NamesOneOf (length inputs) fault
 
 -- the journal was read to its end, and the object that it makes whole was written: the same

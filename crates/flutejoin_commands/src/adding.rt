@@ -1,7 +1,6 @@
 //! The command `info`.
-ghost use Rattle.flutejoin.specs.Limits.{limits_of};
 ghost use Rattle.flutejoin.specs.Lines.{entries_line};
-ghost use Rattle.flutejoin_commands.specs.Works.{AddsInformation, AddFails};
+ghost use Rattle.flutejoin_commands.specs.Works.{AddsInformation, AddFails, most_of};
 
 use crate::work::Work;
 use flute_parts::{Info, Key, Sink, Source};
@@ -9,16 +8,17 @@ use flutejoin::{
     ANY_OBJECTS, ANY_SESSIONS, ANY_SYMBOLS, CommandFault, MAX_ENTRIES, MAX_OBJECTS, MAX_SESSIONS,
     MAX_SYMBOLS, Text, info_to,
 };
+use flutejoin_line::Limit;
 use std::alloc::Global;
 
 /// Adds the information of an object to a journal.
 #[derive(Drop)]
 pub struct InfoWork<R> {
     pub alloc: Global,
-    /// Whether there may be more than a store holds.
-    pub any_size: bool,
+    pub limit: Limit,
     pub key: Key,
     pub info: Info,
+    /// What the journal is read of.
     pub source: R,
 }
 
@@ -27,20 +27,21 @@ impl<R: Source + Drop> Work for InfoWork<R> {
 
     ghost writes = { λ w. AddsInformation (R.unread w.source) w.key w.info };
 
-    ghost fails = { λ w. AddFails (limits_of w.any_size) (R.unread w.source) w.key w.info };
+    ghost fails = { λ w. AddFails (most_of w.limit) (R.unread w.source) w.key
+        w.info };
 
     ghost tells = { λ _. entries_line };
 
     fn write<W: Sink>(&mut self, sink: &mut W) -> Result<(u64, Text), CommandFault> {
         let source = &mut self.source;
-        let entries = if self.any_size {
-            info_to::<ANY_SESSIONS, ANY_OBJECTS, ANY_SYMBOLS, _, _>(
-                self.alloc, source, self.key, self.info, sink,
-            )?
-        } else {
-            info_to::<MAX_SESSIONS, MAX_OBJECTS, MAX_SYMBOLS, _, _>(
-                self.alloc, source, self.key, self.info, sink,
-            )?
+        let (key, info) = (self.key, self.info);
+        let entries = match self.limit {
+            Limit::AnySize => info_to::<ANY_SESSIONS, ANY_OBJECTS, ANY_SYMBOLS, _, _>(
+                self.alloc, source, key, info, sink,
+            )?,
+            Limit::Shelf => info_to::<MAX_SESSIONS, MAX_OBJECTS, MAX_SYMBOLS, _, _>(
+                self.alloc, source, key, info, sink,
+            )?,
         };
         if entries > MAX_ENTRIES {
             return Err(CommandFault::Full);

@@ -8,60 +8,61 @@ ghost use Rattle.flutejoin_commands.specs.Worlds.{MayOverwrite};
 
 use crate::opening::{open_inputs, open_two};
 use crate::world::World;
-use flutejoin::{CommandFault, JoinInput, Overwrites};
+use flutejoin::{CommandFault, JoinInput};
+use flutejoin_line::Target;
 use std::alloc::Global;
 
-/// Opens the one input of a command with the output `out`.
+/// Opens the one input of a command with this output.
 ///
 /// # Errors
 ///
 /// That it is not opened; then why OUT is not overwritten.
 pub fn begin<W: World>(
     world: &mut W,
-    out: &str,
-    overwrites: Overwrites,
+    target: Target<'_>,
     path: &str,
 ) -> Result<W::Input, CommandFault>
     ensures opened { IfOk result
         (λ input. HasBytes (W.files world.old) path.now (W.Input.unread input)) }
-    ensures spared { OnOk result (MayOverwrite (W.files world.old) overwrites out.now) }
+    ensures spared { OnOk result
+        (MayOverwrite (W.files world.old) target.entry.overwrites target.entry.out.now) }
     ensures failed { IfErr result (IsBefore (W.files world.old) (path.now ∷ [])) }
     ensures same_files { W.files world.new ≡ W.files world.old }
     ensures same_closed { W.closed world.new ≡ W.closed world.old }
 {
-    world.look(out);
+    world.look(target.out);
     let input = world.open(1, path, 1)?;
-    world.guard(out, overwrites)?;
+    world.guard(target.out, target.overwrites)?;
     Ok(input)
 }
 
-/// Opens the two inputs of a command with the output `out`, the first and then the second.
+/// Opens the two inputs of a command with this output, the first and then the second.
 ///
 /// # Errors
 ///
 /// The first that is not opened; then why OUT is not overwritten.
 pub fn begin_with_two<W: World>(
     world: &mut W,
-    out: &str,
-    overwrites: Overwrites,
+    target: Target<'_>,
     first: &str,
     second: &str,
 ) -> Result<(W::Input, W::Input), CommandFault>
     ensures opened { IfOk result (λ both.
         HasBytes (W.files world.old) first.now (W.Input.unread both.0)
         × HasBytes (W.files world.old) second.now (W.Input.unread both.1)) }
-    ensures spared { OnOk result (MayOverwrite (W.files world.old) overwrites out.now) }
+    ensures spared { OnOk result
+        (MayOverwrite (W.files world.old) target.entry.overwrites target.entry.out.now) }
     ensures failed { IfErr result (IsBefore (W.files world.old) (first.now ∷ second.now ∷ [])) }
     ensures same_files { W.files world.new ≡ W.files world.old }
     ensures same_closed { W.closed world.new ≡ W.closed world.old }
 {
-    world.look(out);
+    world.look(target.out);
     let both = open_two(world, first, second)?;
-    world.guard(out, overwrites)?;
+    world.guard(target.out, target.overwrites)?;
     Ok(both)
 }
 
-/// Opens the inputs of a join with the output `out`.
+/// Opens the inputs of a join with this output.
 ///
 /// # Errors
 ///
@@ -69,21 +70,21 @@ pub fn begin_with_two<W: World>(
 pub fn begin_join<W: World>(
     world: &mut W,
     alloc: Global,
-    out: &str,
-    overwrites: Overwrites,
+    target: Target<'_>,
     paths: &[&str],
 ) -> Result<Vec<JoinInput<W::Input>>, CommandFault>
     ensures opened { IfOk result (λ opened. AreOpened (W.files world.old) W.Input.unread
         (map (λ path. path.now) paths.now) opened.items) }
-    ensures spared { OnOk result (MayOverwrite (W.files world.old) overwrites out.now) }
+    ensures spared { OnOk result
+        (MayOverwrite (W.files world.old) target.entry.overwrites target.entry.out.now) }
     ensures failed { IfErr result
         (IsBefore (W.files world.old) (map (λ path. path.now) paths.now)) }
     ensures same_files { W.files world.new ≡ W.files world.old }
     ensures same_closed { W.closed world.new ≡ W.closed world.old }
     ensures count { IfOk result (λ opened. length opened.items ≡ length paths.now) }
 {
-    world.look(out);
+    world.look(target.out);
     let inputs = open_inputs(world, alloc, paths)?;
-    world.guard(out, overwrites)?;
+    world.guard(target.out, target.overwrites)?;
     Ok(inputs)
 }

@@ -1,38 +1,36 @@
 //! The commands, from the names of their files to what they leave.
-ghost use Rattle.std.specs.Prelude.{◌≡◌, ◌≤◌, length, map, OnOk, IfOk, IfErr};
-ghost use Rattle.flutejoin.specs.Limits.{limits_of};
-ghost use Rattle.flutejoin.specs.Lines.{entries_line};
+ghost use Rattle.std.specs.Prelude.{◌≡◌, OnOk, IfOk, IfErr};
 ghost use Rattle.flutejoin_commands.specs.Closings.{ClosesWhole};
-ghost use Rattle.flutejoin_commands.specs.Named.{AddListOfNamesFails, AddToNameFails};
-ghost use Rattle.flutejoin_commands.specs.Named.{AddsListOfNames, AddsToName, ExtractOfNameFails};
-ghost use Rattle.flutejoin_commands.specs.Named.{HoldsOfName, JoinsNames, JoinNamesFails};
-ghost use Rattle.flutejoin_commands.specs.Named.{ForgetsInName, ForgetInNameFails};
-ghost use Rattle.flutejoin_commands.specs.Named.{MeasureFails, MergesNames, MergeNamesFails};
-ghost use Rattle.flutejoin_commands.specs.Named.{SendsName};
-ghost use Rattle.flutejoin_commands.specs.Named.{SendNameFails, WritesOfName};
-ghost use Rattle.flutejoin_commands.specs.Works.{bytes_line, datagrams_line, forget_lines};
-ghost use Rattle.flutejoin_commands.specs.Works.{join_lines};
-ghost use Rattle.flutejoin_commands.specs.Worlds.{IsAgain, Leaves, FailsToLeave, Spares, outside};
+ghost use Rattle.flutejoin_commands.specs.Deeds.{IsDone, IsNotDone, adds, adds_list, extracts};
+ghost use Rattle.flutejoin_commands.specs.Deeds.{joins, merges, sends};
+ghost use Rattle.flutejoin_commands.specs.Named.{ForgetInNameFails, ForgetsInName, MeasureFails};
+ghost use Rattle.flutejoin_commands.specs.Works.{forget_lines};
+ghost use Rattle.flutejoin_commands.specs.Worlds.{FailsToLeave, IsAgain, Leaves, Spares, outside};
 
 use crate::adding::InfoWork;
 use crate::adding_list::InfoListWork;
 use crate::beginning::{begin, begin_join, begin_with_two};
+use crate::delivery::Delivery;
 use crate::extracting::ExtractWork;
 use crate::forgetting::ForgetWork;
 use crate::joining::JoinWork;
-use crate::leaving::{leave, leave_held};
+use crate::leaving::leave;
 use crate::merging::MergeWork;
+use crate::no_output::IfNoOutput;
 use crate::outlet::Outlet;
 use crate::sending::SendWork;
 use crate::world::World;
-use flute_parts::{Info, Key, Sender, Sink};
-use flute_streams::{Scope, Selection};
-use flutejoin::{Asides, CommandFault, Overwrites, forget_input, is_too_large, put_aside};
+use flute_parts::Sink;
+use flute_streams::Selection;
+use flutejoin::{Asides, CommandFault, forget_input, is_too_large, put_aside};
+use flutejoin_line::{
+    CarouselLine, ExtractLine, InfoLine, InfoListLine, JoinLine, MergeLine, Target,
+};
 use std::alloc::Global;
 
-/// Joins what the files of these names tell of the chosen objects into the output of this name,
-/// which may be one of them, and prints the numbers. About `memory` bytes of datagram files are
-/// held in memory, and the rest is put aside.
+/// Joins what the files of these names tell of the chosen objects into the output, which may be one
+/// of them, and prints the numbers. About `memory` bytes of datagram files are held in memory, and
+/// the rest is put aside.
 ///
 /// # Errors
 ///
@@ -41,52 +39,44 @@ use std::alloc::Global;
 pub fn join<W: World, O: Outlet, E: Sink>(
     world: &mut W,
     alloc: Global,
-    out: &str,
-    overwrites: Overwrites,
-    any_size: bool,
-    memory: u64,
-    sender: Sender,
-    scope: Scope,
-    paths: &[&str],
+    line: JoinLine<'_>,
     output: &mut O,
     errors: &mut E,
 ) -> Result<(), CommandFault>
-    requires { length paths.now ≤ 64 }
-    ensures joined { OnOk result (Leaves
-        (JoinsNames (W.files world.old) (limits_of any_size) sender scope
-        (map (λ path. path.now) paths.now))
-        (JoinsNames (W.files world.old) (limits_of any_size) sender scope
-        (map (λ path. path.now) paths.now))
-        (join_lines scope) out.now
+    ensures joined { OnOk result (IsDone (joins line.entry) line.entry.target
         (outside (W.files world.old) (O.written output.old) (E.written errors.old))
         (outside (W.files world.new) (O.written output.new) (E.written errors.new))) }
     ensures handed_on { OnOk result (O.handed_on output.new ≡ O.written output.new) }
-    ensures spared { Spares overwrites out.now (W.files world.old) (W.files world.new) }
-    ensures any_moment { ClosesWhole out.now (W.files world.old)
+    ensures spared { Spares line.entry.target.overwrites line.entry.target.out.now
+        (W.files world.old) (W.files world.new) }
+    ensures any_moment { ClosesWhole line.entry.target.out.now (W.files world.old)
         (W.closed world.old) (W.closed world.new) }
-    ensures failed { IfErr result (FailsToLeave
-        (JoinsNames (W.files world.old) (limits_of any_size) sender scope
-        (map (λ path. path.now) paths.now))
-        (JoinNamesFails (W.files world.old) (limits_of any_size) sender scope
-        (map (λ path. path.now) paths.now))
-        out.now
+    ensures failed { IfErr result (IsNotDone (joins line.entry) line.entry.target
         (outside (W.files world.old) (O.written output.old) (E.written errors.old))
         (outside (W.files world.new) (O.written output.new) (E.written errors.new))) }
 {
-    let inputs = begin_join(world, alloc, out, overwrites, paths)?;
+    let target = line.target;
+    let inputs = begin_join(world, alloc, target, line.inputs.as_slice())?;
     let work = JoinWork {
         alloc,
-        any_size,
-        memory,
+        limit: line.limit,
+        memory: line.memory,
         asides: world.asides(),
-        sender,
-        scope,
+        sender: line.sender,
+        scope: line.scope,
         inputs,
     };
-    leave(world, out, work, true, output, errors)
+    leave(
+        world,
+        target,
+        work,
+        Delivery::AtOnce(IfNoOutput::Try),
+        output,
+        errors,
+    )
 }
 
-/// Merges the journals of two names into the output of this name, and prints the number of entries.
+/// Merges the journals of two names into the output, and prints the number of entries.
 ///
 /// # Errors
 ///
@@ -95,35 +85,37 @@ pub fn join<W: World, O: Outlet, E: Sink>(
 pub fn merge<W: World, O: Outlet, E: Sink>(
     world: &mut W,
     alloc: Global,
-    out: &str,
-    overwrites: Overwrites,
-    a: &str,
-    b: &str,
+    line: MergeLine<'_>,
     output: &mut O,
     errors: &mut E,
 ) -> Result<(), CommandFault>
-    ensures merged { OnOk result (Leaves
-        (MergesNames (W.files world.old) a.now b.now)
-        (MergesNames (W.files world.old) a.now b.now) entries_line out.now
+    ensures merged { OnOk result (IsDone (merges line.entry) line.entry.target
         (outside (W.files world.old) (O.written output.old) (E.written errors.old))
         (outside (W.files world.new) (O.written output.new) (E.written errors.new))) }
     ensures handed_on { OnOk result (O.handed_on output.new ≡ O.written output.new) }
-    ensures spared { Spares overwrites out.now (W.files world.old) (W.files world.new) }
-    ensures any_moment { ClosesWhole out.now (W.files world.old)
+    ensures spared { Spares line.entry.target.overwrites line.entry.target.out.now
+        (W.files world.old) (W.files world.new) }
+    ensures any_moment { ClosesWhole line.entry.target.out.now (W.files world.old)
         (W.closed world.old) (W.closed world.new) }
-    ensures failed { IfErr result (FailsToLeave
-        (MergesNames (W.files world.old) a.now b.now)
-        (MergeNamesFails (W.files world.old) a.now b.now) out.now
+    ensures failed { IfErr result (IsNotDone (merges line.entry) line.entry.target
         (outside (W.files world.old) (O.written output.old) (E.written errors.old))
         (outside (W.files world.new) (O.written output.new) (E.written errors.new))) }
 {
-    let (first, second) = begin_with_two(world, out, overwrites, a, b)?;
+    let target = line.target;
+    let (first, second) = begin_with_two(world, target, line.a, line.b)?;
     let work = MergeWork {
         alloc,
         first,
         second,
     };
-    leave(world, out, work, false, output, errors)
+    leave(
+        world,
+        target,
+        work,
+        Delivery::AtOnce(IfNoOutput::Report),
+        output,
+        errors,
+    )
 }
 
 /// Adds information to the journal of this name, and prints the number of entries.
@@ -135,39 +127,39 @@ pub fn merge<W: World, O: Outlet, E: Sink>(
 pub fn info<W: World, O: Outlet, E: Sink>(
     world: &mut W,
     alloc: Global,
-    out: &str,
-    overwrites: Overwrites,
-    any_size: bool,
-    key: Key,
-    info: Info,
-    j: &str,
+    line: InfoLine<'_>,
     output: &mut O,
     errors: &mut E,
 ) -> Result<(), CommandFault>
-    ensures added { OnOk result (Leaves
-        (AddsToName (W.files world.old) j.now key info)
-        (AddsToName (W.files world.old) j.now key info) entries_line out.now
+    ensures added { OnOk result (IsDone (adds line.entry) line.entry.target
         (outside (W.files world.old) (O.written output.old) (E.written errors.old))
         (outside (W.files world.new) (O.written output.new) (E.written errors.new))) }
     ensures handed_on { OnOk result (O.handed_on output.new ≡ O.written output.new) }
-    ensures spared { Spares overwrites out.now (W.files world.old) (W.files world.new) }
-    ensures any_moment { ClosesWhole out.now (W.files world.old)
+    ensures spared { Spares line.entry.target.overwrites line.entry.target.out.now
+        (W.files world.old) (W.files world.new) }
+    ensures any_moment { ClosesWhole line.entry.target.out.now (W.files world.old)
         (W.closed world.old) (W.closed world.new) }
-    ensures failed { IfErr result (FailsToLeave
-        (AddsToName (W.files world.old) j.now key info)
-        (AddToNameFails (W.files world.old) (limits_of any_size) j.now key info) out.now
+    ensures failed { IfErr result (IsNotDone (adds line.entry) line.entry.target
         (outside (W.files world.old) (O.written output.old) (E.written errors.old))
         (outside (W.files world.new) (O.written output.new) (E.written errors.new))) }
 {
-    let source = begin(world, out, overwrites, j)?;
+    let target = line.target;
+    let source = begin(world, target, line.j)?;
     let work = InfoWork {
         alloc,
-        any_size,
-        key,
-        info,
+        limit: line.limit,
+        key: line.key,
+        info: line.info,
         source,
     };
-    leave(world, out, work, true, output, errors)
+    leave(
+        world,
+        target,
+        work,
+        Delivery::AtOnce(IfNoOutput::Try),
+        output,
+        errors,
+    )
 }
 
 /// Adds the information in a list to a journal, both of these names, and prints the number
@@ -181,37 +173,38 @@ pub fn info<W: World, O: Outlet, E: Sink>(
 pub fn info_list<W: World, O: Outlet, E: Sink>(
     world: &mut W,
     alloc: Global,
-    out: &str,
-    overwrites: Overwrites,
-    any_size: bool,
-    j: &str,
-    list: &str,
+    line: InfoListLine<'_>,
     output: &mut O,
     errors: &mut E,
 ) -> Result<(), CommandFault>
-    ensures added { OnOk result (Leaves
-        (AddsListOfNames (W.files world.old) j.now list.now)
-        (AddsListOfNames (W.files world.old) j.now list.now) entries_line out.now
+    ensures added { OnOk result (IsDone (adds_list line.entry) line.entry.target
         (outside (W.files world.old) (O.written output.old) (E.written errors.old))
         (outside (W.files world.new) (O.written output.new) (E.written errors.new))) }
     ensures handed_on { OnOk result (O.handed_on output.new ≡ O.written output.new) }
-    ensures spared { Spares overwrites out.now (W.files world.old) (W.files world.new) }
-    ensures any_moment { ClosesWhole out.now (W.files world.old)
+    ensures spared { Spares line.entry.target.overwrites line.entry.target.out.now
+        (W.files world.old) (W.files world.new) }
+    ensures any_moment { ClosesWhole line.entry.target.out.now (W.files world.old)
         (W.closed world.old) (W.closed world.new) }
-    ensures failed { IfErr result (FailsToLeave
-        (AddsListOfNames (W.files world.old) j.now list.now)
-        (AddListOfNamesFails (W.files world.old) (limits_of any_size) j.now list.now) out.now
+    ensures failed { IfErr result (IsNotDone (adds_list line.entry) line.entry.target
         (outside (W.files world.old) (O.written output.old) (E.written errors.old))
         (outside (W.files world.new) (O.written output.new) (E.written errors.new))) }
 {
-    let (source, list) = begin_with_two(world, out, overwrites, j, list)?;
+    let target = line.target;
+    let (source, list) = begin_with_two(world, target, line.j, line.list)?;
     let work = InfoListWork {
         alloc,
-        any_size,
+        limit: line.limit,
         source,
         list,
     };
-    leave(world, out, work, true, output, errors)
+    leave(
+        world,
+        target,
+        work,
+        Delivery::AtOnce(IfNoOutput::Try),
+        output,
+        errors,
+    )
 }
 
 /// Takes the entries that are selected out of the journal of this name, and prints how many were
@@ -224,8 +217,7 @@ pub fn info_list<W: World, O: Outlet, E: Sink>(
 pub fn forget<W: World, O: Outlet, E: Sink>(
     world: &mut W,
     alloc: Global,
-    out: &str,
-    overwrites: Overwrites,
+    target: Target<'_>,
     selection: Selection,
     j: &str,
     output: &mut O,
@@ -233,26 +225,28 @@ pub fn forget<W: World, O: Outlet, E: Sink>(
 ) -> Result<(), CommandFault>
     ensures forgot { OnOk result (Leaves
         (ForgetsInName (W.files world.old) j.now selection)
-        (ForgetsInName (W.files world.old) j.now selection) forget_lines out.now
+        (ForgetsInName (W.files world.old) j.now selection) forget_lines target.entry.out.now
         (outside (W.files world.old) (O.written output.old) (E.written errors.old))
         (outside (W.files world.new) (O.written output.new) (E.written errors.new))) }
     ensures handed_on { OnOk result (O.handed_on output.new ≡ O.written output.new) }
-    ensures spared { Spares overwrites out.now (W.files world.old) (W.files world.new) }
-    ensures any_moment { ClosesWhole out.now (W.files world.old)
+    ensures spared { Spares target.entry.overwrites target.entry.out.now
+        (W.files world.old) (W.files world.new) }
+    ensures any_moment { ClosesWhole target.entry.out.now (W.files world.old)
         (W.closed world.old) (W.closed world.new) }
     ensures failed { IfErr result (FailsToLeave
         (ForgetsInName (W.files world.old) j.now selection)
-        (ForgetInNameFails (W.files world.old) j.now) out.now
+        (ForgetInNameFails (W.files world.old) j.now) target.entry.out.now
         (outside (W.files world.old) (O.written output.old) (E.written errors.old))
         (outside (W.files world.new) (O.written output.new) (E.written errors.new))) }
 {
-    let source = begin(world, out, overwrites, j)?;
+    let source = begin(world, target, j)?;
     let input = forget_input(source, selection);
+    let work = ForgetWork { alloc, input };
     leave(
         world,
-        out,
-        ForgetWork { alloc, input },
-        true,
+        target,
+        work,
+        Delivery::AtOnce(IfNoOutput::Try),
         output,
         errors,
     )
@@ -264,41 +258,35 @@ pub fn forget<W: World, O: Outlet, E: Sink>(
 /// # Errors
 ///
 /// That the input is not opened; why OUT is not overwritten; then those of
-/// [`extract_to`](flutejoin::extract_to), of the output and of printing, as [`leave_held`] says.
+/// [`extract_to`](flutejoin::extract_to), of the output and of printing, as [`leave`] says.
 pub fn extract<W: World, O: Outlet, E: Sink>(
     world: &mut W,
     alloc: Global,
-    out: &str,
-    overwrites: Overwrites,
-    any_size: bool,
-    key: Key,
-    j: &str,
+    line: ExtractLine<'_>,
     output: &mut O,
     errors: &mut E,
 ) -> Result<(), CommandFault>
-    ensures extracted { OnOk result (Leaves
-        (WritesOfName (W.files world.old) (limits_of any_size) j.now key)
-        (HoldsOfName (W.files world.old) (limits_of any_size) j.now key) bytes_line out.now
+    ensures extracted { OnOk result (IsDone (extracts line.entry) line.entry.target
         (outside (W.files world.old) (O.written output.old) (E.written errors.old))
         (outside (W.files world.new) (O.written output.new) (E.written errors.new))) }
     ensures handed_on { OnOk result (O.handed_on output.new ≡ O.written output.new) }
-    ensures spared { Spares overwrites out.now (W.files world.old) (W.files world.new) }
-    ensures any_moment { ClosesWhole out.now (W.files world.old)
+    ensures spared { Spares line.entry.target.overwrites line.entry.target.out.now
+        (W.files world.old) (W.files world.new) }
+    ensures any_moment { ClosesWhole line.entry.target.out.now (W.files world.old)
         (W.closed world.old) (W.closed world.new) }
-    ensures failed { IfErr result (FailsToLeave
-        (WritesOfName (W.files world.old) (limits_of any_size) j.now key)
-        (ExtractOfNameFails (W.files world.old) (limits_of any_size) j.now key) out.now
+    ensures failed { IfErr result (IsNotDone (extracts line.entry) line.entry.target
         (outside (W.files world.old) (O.written output.old) (E.written errors.old))
         (outside (W.files world.new) (O.written output.new) (E.written errors.new))) }
 {
-    let source = begin(world, out, overwrites, j)?;
+    let target = line.target;
+    let source = begin(world, target, line.j)?;
     let work = ExtractWork {
         alloc,
-        any_size,
-        key,
+        limit: line.limit,
+        key: line.key,
         source,
     };
-    leave_held(world, alloc, out, work, output, errors)
+    leave(world, target, work, Delivery::Whole(alloc), output, errors)
 }
 
 /// Writes the datagrams of an object whose content is the file of this name, as it is read, and
@@ -313,41 +301,41 @@ pub fn extract<W: World, O: Outlet, E: Sink>(
 pub fn carousel<W: World, O: Outlet, E: Sink>(
     world: &mut W,
     alloc: Global,
-    out: &str,
-    overwrites: Overwrites,
-    key: &Key,
-    symbol: u16,
-    block: u32,
-    file: &str,
+    line: CarouselLine<'_>,
     output: &mut O,
     errors: &mut E,
 ) -> Result<(), CommandFault>
-    ensures sent { OnOk result (Leaves
-        (SendsName (W.files world.old) file.now key.now symbol block)
-        (SendsName (W.files world.old) file.now key.now symbol block) datagrams_line out.now
+    ensures sent { OnOk result (IsDone (sends line.entry) line.entry.target
         (outside (W.files world.old) (O.written output.old) (E.written errors.old))
         (outside (W.files world.new) (O.written output.new) (E.written errors.new))) }
     ensures handed_on { OnOk result (O.handed_on output.new ≡ O.written output.new) }
-    ensures spared { Spares overwrites out.now (W.files world.old) (W.files world.new) }
-    ensures any_moment { ClosesWhole out.now (W.files world.old)
+    ensures spared { Spares line.entry.target.overwrites line.entry.target.out.now
+        (W.files world.old) (W.files world.new) }
+    ensures any_moment { ClosesWhole line.entry.target.out.now (W.files world.old)
         (W.closed world.old) (W.closed world.new) }
-    ensures failed { IfErr result (FailsToLeave
-        (SendsName (W.files world.old) file.now key.now symbol block)
-        (SendNameFails (W.files world.old) file.now key.now symbol block) out.now
+    ensures failed { IfErr result (IsNotDone (sends line.entry) line.entry.target
         (outside (W.files world.old) (O.written output.old) (E.written errors.old))
         (outside (W.files world.new) (O.written output.new) (E.written errors.new))) }
 {
-    let source = begin(world, out, overwrites, file)?;
+    let target = line.target;
+    let source = begin(world, target, line.file)?;
     let (source, size) = measured(world, source)?;
     let work = SendWork {
         alloc,
-        key: *key,
-        symbol,
-        block,
+        key: line.key,
+        symbol: line.symbol,
+        block: line.block,
         size,
         source,
     };
-    leave(world, out, work, true, output, errors)
+    leave(
+        world,
+        target,
+        work,
+        Delivery::AtOnce(IfNoOutput::Try),
+        output,
+        errors,
+    )
 }
 
 // An input of these bytes, and how many they are: if that is not known, they are put aside.

@@ -5,10 +5,10 @@ ghost use Rattle.std.specs.Io.KnownBytes.{Appends};
 ghost use Rattle.flute_output.specs.NewFolders.{Places, LeadsTo, FolderStays, IsReady};
 ghost use Rattle.flutejoin.specs.declared.command_fault.CommandFault.TheVariants.{CannotWrite};
 ghost use Rattle.flutejoin.specs.ExtractAll.{ExtractsAll, ExtractAllFails};
-ghost use Rattle.flutejoin.specs.Limits.{limits_of};
 ghost use Rattle.flutejoin.specs.Lines.{count_line};
 ghost use Rattle.flutejoin_commands.specs.Folders.{LeavesFolder, FolderFails, IsOneFolderAlways};
 ghost use Rattle.flutejoin_commands.specs.Folders.{finish_fault};
+ghost use Rattle.flutejoin_commands.specs.Works.{most_of};
 
 use crate::outlet::Outlet;
 use flute_output::{FinishFault, NewFolder, finish_folder};
@@ -17,6 +17,7 @@ use flutejoin::{
     ANY_OBJECTS, ANY_SESSIONS, ANY_SYMBOLS, CommandFault, MAX_OBJECTS, MAX_SESSIONS, MAX_SYMBOLS,
     Picked, count_to, extract_all_to,
 };
+use flutejoin_line::Limit;
 use std::alloc::Global;
 
 /// Leaves as OUT a new folder with a file for each object that a journal makes whole, of those that
@@ -31,25 +32,24 @@ use std::alloc::Global;
 /// `CannotWrite` if the report failed to take the number: OUT is there then.
 pub fn extract_all_into<D: NewFolder, R: Source, P: Outlet>(
     alloc: Global,
-    any_size: bool,
+    limit: Limit,
     folder: &mut D,
     source: &mut R,
-    picked: &Picked,
+    picked: Picked,
     report: &mut P,
 ) -> Result<(), CommandFault>
-    ensures extracted { OnOk result (LeavesFolder (limits_of any_size) (R.unread source.old)
-        picked.now
+    ensures extracted { OnOk result (LeavesFolder (most_of limit) (R.unread source.old) picked
         (D.places folder.old) (D.places folder.new) (P.written report.old) (P.written report.new)) }
     ensures handed_on { OnOk result (P.handed_on report.new ≡ P.written report.new) }
-    ensures failed { IfErr result (FolderFails (limits_of any_size)
+    ensures failed { IfErr result (FolderFails (most_of limit)
         (R.unread source.old) (R.unread source.new)
-        picked.now (D.places folder.old) (D.places folder.new)) }
+        picked (D.places folder.old) (D.places folder.new)) }
     ensures any_moment { IsOneFolderAlways (D.places folder.old) (D.places folder.new) }
 {
     let Ok(()) = folder.create() else {
         return Err(CommandFault::CannotCreate);
     };
-    let filled = fill(alloc, any_size, folder, source, picked, report);
+    let filled = fill(alloc, limit, folder, source, &picked, report);
     match finish_folder(folder, filled) {
         Ok(count) => tell(report, count),
         Err(fault) => Err(fault_of(fault)),
@@ -70,30 +70,29 @@ fn fault_of(fault: FinishFault<CommandFault>) -> CommandFault
 // Fills the folder, and hands the lines on: those of the objects before a fault, too.
 fn fill<D: NewFolder, R: Source, P: Outlet>(
     alloc: Global,
-    any_size: bool,
+    limit: Limit,
     folder: &mut D,
     source: &mut R,
     picked: &Picked,
     report: &mut P,
 ) -> Result<u64, CommandFault>
     requires { IfSome (D.places folder.old) IsReady }
-    ensures filled { IfOk result (ExtractsAll (limits_of any_size)
+    ensures filled { IfOk result (ExtractsAll (most_of limit)
         (R.unread source.old) (R.unread source.new)
         picked.now (D.places folder.old) (D.places folder.new)
         (P.written report.old) (P.written report.new)) }
     ensures failed { IfErr result (λ fault.
-        ExtractAllFails (limits_of any_size) (R.unread source.old) (R.unread source.new) fault
+        ExtractAllFails (most_of limit) (R.unread source.old) (R.unread source.new) fault
         ⊎ (fault ≡ CannotWrite)) }
     ensures stays { LeadsTo FolderStays (D.places folder.old) (D.places folder.new) }
 {
-    let extracted = if any_size {
-        extract_all_to::<ANY_SESSIONS, ANY_OBJECTS, ANY_SYMBOLS, _, _, _>(
+    let extracted = match limit {
+        Limit::AnySize => extract_all_to::<ANY_SESSIONS, ANY_OBJECTS, ANY_SYMBOLS, _, _, _>(
             alloc, source, picked, folder, report,
-        )
-    } else {
-        extract_all_to::<MAX_SESSIONS, MAX_OBJECTS, MAX_SYMBOLS, _, _, _>(
+        ),
+        Limit::Shelf => extract_all_to::<MAX_SESSIONS, MAX_OBJECTS, MAX_SYMBOLS, _, _, _>(
             alloc, source, picked, folder, report,
-        )
+        ),
     };
     let flushed = report.flush();
     let count = extracted?;

@@ -4,9 +4,8 @@ ghost use Rattle.flutejoin.specs.JoinFaults.{JoinToFails, NamesOneOf};
 ghost use Rattle.flutejoin.specs.JoinInputs.{AreInputs};
 ghost use Rattle.flutejoin.specs.Joined.{choice_of};
 ghost use Rattle.flutejoin.specs.Joining.{JoinsTo};
-ghost use Rattle.flutejoin.specs.Limits.{limits_of};
 ghost use Rattle.flutejoin.specs.declared.command_fault.CommandFault.TheVariants.{CannotWrite};
-ghost use Rattle.flutejoin_commands.specs.Works.{JoinsAll, JoinAllFails, join_lines};
+ghost use Rattle.flutejoin_commands.specs.Works.{JoinsAll, JoinAllFails, join_lines, most_of};
 
 use crate::work::Work;
 use flute_parts::{Sender, Sink, Source};
@@ -15,14 +14,14 @@ use flutejoin::{
     ANY_OBJECTS, ANY_SESSIONS, ANY_SYMBOLS, Asides, CommandFault, JoinCounts, JoinInput,
     MAX_ENTRIES, MAX_OBJECTS, MAX_SESSIONS, MAX_SYMBOLS, Text, join_to,
 };
+use flutejoin_line::Limit;
 use std::alloc::Global;
 
 /// Joins inputs.
 #[derive(Drop)]
 pub struct JoinWork<R, A> {
     pub alloc: Global,
-    /// Whether there may be more than a store holds.
-    pub any_size: bool,
+    pub limit: Limit,
     /// About how many bytes of datagram files may be held in memory.
     pub memory: u64,
     /// Where the rest is put aside.
@@ -39,12 +38,12 @@ impl<R: Source + Drop, A: Asides<Input = R>> JoinWork<R, A> {
         ensures joined { A.tells self.old.asides ≡ true → (contents : List (List ℕ))
             → AreInputs R.unread self.old.inputs.items contents
             → IfOk result (λ counts. JoinsTo
-            (choice_of (limits_of self.old.any_size) self.old.sender self.old.scope)
+            (choice_of (most_of self.old.limit) self.old.sender self.old.scope)
             contents counts (W.written sink.old) (W.written sink.new)) }
         ensures failed { A.tells self.old.asides ≡ true → (contents : List (List ℕ))
             → AreInputs R.unread self.old.inputs.items contents
             → IfErr result (JoinToFails
-            (choice_of (limits_of self.old.any_size) self.old.sender self.old.scope) contents) }
+            (choice_of (most_of self.old.limit) self.old.sender self.old.scope) contents) }
         ensures names { IfErr result (NamesOneOf (length self.old.inputs.items)) }
         ensures scope { self.new.scope ≡ self.old.scope }
         ensures quiet { OnOk result (W.failures sink.new ≡ W.failures sink.old) }
@@ -52,8 +51,8 @@ impl<R: Source + Drop, A: Asides<Input = R>> JoinWork<R, A> {
             → W.failures sink.new ≡ W.failures sink.old + 1) }
     {
         let inputs = &mut self.inputs;
-        if self.any_size {
-            join_to::<ANY_SESSIONS, ANY_OBJECTS, ANY_SYMBOLS, _, _, _>(
+        match self.limit {
+            Limit::AnySize => join_to::<ANY_SESSIONS, ANY_OBJECTS, ANY_SYMBOLS, _, _, _>(
                 self.alloc,
                 &mut self.asides,
                 self.memory,
@@ -61,9 +60,8 @@ impl<R: Source + Drop, A: Asides<Input = R>> JoinWork<R, A> {
                 &self.scope,
                 inputs,
                 sink,
-            )
-        } else {
-            join_to::<MAX_SESSIONS, MAX_OBJECTS, MAX_SYMBOLS, _, _, _>(
+            ),
+            Limit::Shelf => join_to::<MAX_SESSIONS, MAX_OBJECTS, MAX_SYMBOLS, _, _, _>(
                 self.alloc,
                 &mut self.asides,
                 self.memory,
@@ -71,7 +69,7 @@ impl<R: Source + Drop, A: Asides<Input = R>> JoinWork<R, A> {
                 &self.scope,
                 inputs,
                 sink,
-            )
+            ),
         }
     }
 }
@@ -79,11 +77,11 @@ impl<R: Source + Drop, A: Asides<Input = R>> JoinWork<R, A> {
 impl<R: Source + Drop, A: Asides<Input = R>> Work for JoinWork<R, A> {
     type Answer = JoinCounts;
 
-    ghost writes = { λ w. JoinsAll R.unread (A.tells w.asides) (limits_of w.any_size) w.sender
-        w.scope w.inputs.items };
+    ghost writes = { λ w. JoinsAll R.unread (A.tells w.asides)
+        (choice_of (most_of w.limit) w.sender w.scope) w.inputs.items };
 
-    ghost fails = { λ w. JoinAllFails R.unread (A.tells w.asides) (limits_of w.any_size) w.sender
-        w.scope w.inputs.items };
+    ghost fails = { λ w. JoinAllFails R.unread (A.tells w.asides)
+        (choice_of (most_of w.limit) w.sender w.scope) w.inputs.items };
 
     ghost tells = { λ w. join_lines w.scope };
 

@@ -7,18 +7,26 @@
 //!
 //! Where an output is at a name, [`leave`] does one of these with what the name leads to, in a
 //! [`World`]; [`join`], [`merge`], [`info`], [`extract`], [`carousel`], [`show`], [`gaps`] and
-//! [`extract_all`] take names alone.
+//! [`extract_all`] take a line of words alone, as [`JoinLine`](flutejoin_line::JoinLine).
 //!
 //! Two journals, merged (from `commands.rt`):
 //!
 //! ```
-//! let (first, second) = begin_with_two(world, out, overwrites, a, b)?;
+//! let target = line.target;
+//! let (first, second) = begin_with_two(world, target, line.a, line.b)?;
 //! let work = MergeWork {
 //!     alloc,
 //!     first,
 //!     second,
 //! };
-//! leave(world, out, work, false, output, errors)
+//! leave(
+//!     world,
+//!     target,
+//!     work,
+//!     Delivery::AtOnce(IfNoOutput::Report),
+//!     output,
+//!     errors,
+//! )
 //! ```
 #![tactic(auto)]
 
@@ -27,6 +35,7 @@ mod adding_list;
 mod beginning;
 mod begun_output;
 mod commands;
+mod delivery;
 mod device_outlet;
 mod extracting;
 mod extracting_all;
@@ -48,18 +57,19 @@ mod world;
 pub use adding::InfoWork;
 pub use adding_list::InfoListWork;
 pub use commands::{carousel, extract, forget, info, info_list, join, merge};
+pub use delivery::Delivery;
 pub use extracting::ExtractWork;
 pub use extracting_all::extract_all_into;
 pub use forgetting::ForgetWork;
 pub use joining::JoinWork;
-pub use leaving::{leave, leave_held};
+pub use leaving::leave;
 pub use merging::MergeWork;
-pub use no_output::without_output;
+pub use no_output::{IfNoOutput, without_output};
 pub use opening::{Inputs, open_inputs, open_two};
 pub use outlet::Outlet;
 pub use outlet_command::{write_held, write_through};
 pub use output_command::write_into;
-pub use printing::{gaps_on, hand_on};
+pub use printing::{Listing, gaps_on, hand_on};
 pub use prints::{extract_all, gaps, packet, show};
 pub use sending::SendWork;
 pub use work::Work;

@@ -1,10 +1,10 @@
 //! A command whose output takes its bytes itself.
-ghost use Rattle.std.specs.Prelude.{◌≡◌, ◌≢◌, true, OnOk, IfErr};
+ghost use Rattle.std.specs.Prelude.{◌≡◌, ◌≢◌, OnOk, IfErr};
 ghost use Rattle.flutejoin.specs.declared.command_fault.CommandFault.TheVariants.{CannotWrite};
 ghost use Rattle.flutejoin_commands.specs.Commands.{CouldBeDone};
 ghost use Rattle.flutejoin_commands.specs.Outlets.{PutsOut, FailsOut, Held, FailsHeld, outlets};
 
-use crate::no_output::without_output;
+use crate::no_output::{IfNoOutput, without_output};
 use crate::outlet::Outlet;
 use crate::work::Work;
 use flute_parts::{MemorySink, Sink};
@@ -22,7 +22,7 @@ use std::alloc::Global;
 pub fn write_through<O: Outlet, K: Work + Drop, P: Sink>(
     output: &mut O,
     mut work: K,
-    is_tried: bool,
+    if_none: IfNoOutput,
     report: &mut P,
 ) -> Result<(), CommandFault>
     ensures written { OnOk result (PutsOut (K.writes work) (K.tells work)
@@ -32,14 +32,14 @@ pub fn write_through<O: Outlet, K: Work + Drop, P: Sink>(
         (P.written report.new) (P.failures report.new))) }
     ensures handed_on { OnOk result (O.handed_on output.new ≡ O.written output.new) }
     ensures failed { IfErr result (FailsOut (K.writes work) (K.fails work) (K.tells work)
-        (is_tried ≡ true → CouldBeDone (K.writes work)) (CouldBeDone (K.writes work))
+        (if_none ≡ IfNoOutput.Try → CouldBeDone (K.writes work)) (CouldBeDone (K.writes work))
         (outlets (O.written output.old) (O.failures output.old)
         (P.written report.old) (P.failures report.old))
         (outlets (O.written output.new) (O.failures output.new)
         (P.written report.new) (P.failures report.new))) }
 {
     if output.open().is_err() {
-        let fault = without_output(&mut work, is_tried, CommandFault::CannotCreate);
+        let fault = without_output(&mut work, if_none, CommandFault::CannotCreate);
         return Err(fault);
     }
     let (_answer, lines) = work.write(output)?;

@@ -1,12 +1,12 @@
 //! A command that writes an output.
-ghost use Rattle.std.specs.Prelude.{◌≡◌, true, option_map, OnOk, IfErr};
+ghost use Rattle.std.specs.Prelude.{◌≡◌, option_map, OnOk, IfErr};
 ghost use Rattle.flute_output.specs.Entries.{found_in, named_in};
 ghost use Rattle.flutejoin_commands.specs.Commands.{Succeeds, Fails, FailsWriting, IsWholeAlways};
 ghost use Rattle.flutejoin_commands.specs.Commands.{CouldBeDone, WasWholeAlways};
 ghost use Rattle.flutejoin_commands.specs.Commands.{devices, with_beside};
 
 use crate::begun_output::{Begun, BegunOutput};
-use crate::no_output::without_output;
+use crate::no_output::{IfNoOutput, without_output};
 use crate::work::Work;
 use flute_output::{FinishFault, Folder, Output};
 use flute_parts::Sink;
@@ -27,7 +27,7 @@ use std::marker::{Brand, PhantomData};
 pub fn write_into<F: Folder + Drop, K: Work + Drop, P: Sink>(
     folder: F,
     mut work: K,
-    is_tried: bool,
+    if_none: IfNoOutput,
     report: &mut P,
 ) -> (Result<(), CommandFault>, F)
     ensures succeeded { OnOk result.0 (Succeeds (K.writes work) (K.tells work)
@@ -36,7 +36,7 @@ pub fn write_into<F: Folder + Drop, K: Work + Drop, P: Sink>(
         (devices (F.entries result.1) (F.failures result.1)
         (P.written report.new) (P.failures report.new))) }
     ensures failed { IfErr result.0 (Fails (K.writes work) (K.fails work) (K.tells work)
-        (is_tried ≡ true → CouldBeDone (K.writes work))
+        (if_none ≡ IfNoOutput.Try → CouldBeDone (K.writes work))
         (devices (F.entries folder) (F.failures folder)
         (P.written report.old) (P.failures report.old))
         (devices (F.entries result.1) (F.failures result.1)
@@ -46,7 +46,7 @@ pub fn write_into<F: Folder + Drop, K: Work + Drop, P: Sink>(
     match Output::create(folder) {
         Ok(output) => write_created::<F, K, P, Brand>(output, work, report),
         Err(folder) => {
-            let fault = without_output(&mut work, is_tried, CommandFault::CannotCreate);
+            let fault = without_output(&mut work, if_none, CommandFault::CannotCreate);
             (Err(fault), folder)
         }
     }

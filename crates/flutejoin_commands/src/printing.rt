@@ -4,12 +4,12 @@ ghost use Rattle.std.specs.Prelude.{IfOk, IfErr, not};
 ghost use Rattle.std.specs.Io.KnownBytes.{Appends, IsAtEnd};
 ghost use Rattle.flute_parts.specs.Devices.{AppendsPart};
 ghost use Rattle.flutejoin.specs.Gaps.{ListsJournal, GapsFail};
-ghost use Rattle.flutejoin.specs.Limits.{limits_of};
 ghost use Rattle.flutejoin.specs.Packet.{write_failures};
 ghost use Rattle.flutejoin.specs.declared.command_fault.CommandFault.TheVariants.{CannotWrite};
 ghost use Rattle.flutejoin.specs.declared.command_fault.CommandFault.TheVariants.{NotAllWhole};
 ghost use Rattle.flutejoin.specs.Styles.{are_whole, passes_check, printed};
 ghost use Rattle.flutejoin_commands.specs.Prints.{FailsToFlush, IfPrinted, IsHandedOn};
+ghost use Rattle.flutejoin_commands.specs.Works.{most_of};
 
 use crate::outlet::Outlet;
 use flute_parts::{Sink, Source};
@@ -18,11 +18,19 @@ use flutejoin::{
     ANY_OBJECTS, ANY_SESSIONS, ANY_SYMBOLS, Aside, CommandFault, MAX_OBJECTS, MAX_SESSIONS,
     MAX_SYMBOLS, Style, gaps_from,
 };
+use flutejoin_line::Limit;
 use std::alloc::Global;
 
-/// Prints what is missing of the selected objects of a journal, as [`gaps_from`] writes it, and
-/// hands it on.
-/// The lines are put aside as `lines` and `gap_lines`, which are empty at first.
+/// What `gaps` lists of a journal, and how.
+#[derive(Clone, Copy)]
+pub struct Listing {
+    pub limit: Limit,
+    pub selection: Selection,
+    pub style: Style,
+}
+
+/// Prints what is listed of the objects of a journal, as [`gaps_from`] writes it, and hands it
+/// on. The lines are put aside as `lines` and `gap_lines`, which are empty at first.
 ///
 /// # Errors
 ///
@@ -31,32 +39,31 @@ use std::alloc::Global;
 /// are whole.
 pub fn gaps_on<R: Source, A: Aside, P: Outlet>(
     alloc: Global,
-    any_size: bool,
+    listing: Listing,
     source: &mut R,
-    selection: &Selection,
-    style: Style,
     lines: &mut A,
     gap_lines: &mut A,
     report: &mut P,
 ) -> Result<(), CommandFault>
     ensures listed { A.written lines.old ≡ Some [] → A.written gap_lines.old ≡ Some []
-        → IfPrinted result (λ passes. ListsJournal (limits_of any_size) selection.now
+        → IfPrinted result (λ passes. ListsJournal (most_of listing.limit) listing.selection
         (R.unread source.old)
-        (λ objects. Appends (P.written report.old) (P.written report.new) (printed style objects)
-        × (passes_check style objects ≡ passes))) }
+        (λ objects. Appends (P.written report.old) (P.written report.new)
+        (printed listing.style objects)
+        × (passes_check listing.style objects ≡ passes))) }
     ensures failed { IfErr result (λ fault. (fault ≡ NotAllWhole)
-        ⊎ ((GapsFail (limits_of any_size) (R.unread source.old) (R.unread source.new) fault
+        ⊎ ((GapsFail (most_of listing.limit) (R.unread source.old) (R.unread source.new) fault
         ⊎ FailsToFlush (IsAtEnd (R.unread source.new)) fault)
         × (fault ≢ CannotWrite → P.written report.new ≡ P.written report.old))) }
     ensures part { A.written lines.old ≡ Some [] → A.written gap_lines.old ≡ Some []
         → IfErr result (λ fault. fault ≡ CannotWrite
         → (P.written report.new ≡ P.written report.old)
-        ⊎ (ListsJournal (limits_of any_size) selection.now (R.unread source.old)
+        ⊎ (ListsJournal (most_of listing.limit) listing.selection (R.unread source.old)
         (λ objects. AppendsPart (P.written report.old) (P.written report.new)
-        (printed style objects))
-        ⊎ ListsJournal (limits_of any_size) selection.now (R.unread source.old)
+        (printed listing.style objects))
+        ⊎ ListsJournal (most_of listing.limit) listing.selection (R.unread source.old)
         (λ objects. Appends (P.written report.old) (P.written report.new)
-        (printed style objects)))) }
+        (printed listing.style objects)))) }
     ensures handed_on { IfPrinted result (λ passes.
         P.handed_on report.new ≡ P.written report.new) }
     ensures quiet { IfPrinted result (λ passes.
@@ -66,9 +73,8 @@ pub fn gaps_on<R: Source, A: Aside, P: Outlet>(
         → A.failures lines.old + A.failures gap_lines.old + P.failures report.old
         < A.failures lines.new + A.failures gap_lines.new + P.failures report.new) }
 {
-    match list_gaps(
-        alloc, any_size, source, selection, style, lines, gap_lines, report,
-    ) {
+    let style = listing.style;
+    match list_gaps(alloc, listing, source, lines, gap_lines, report) {
         Ok(all_whole) => {
             hand_on(report, Ok(()))?;
             checked(style, all_whole)
@@ -80,40 +86,43 @@ pub fn gaps_on<R: Source, A: Aside, P: Outlet>(
 // The lines of a journal of any size, or of one that a store would hold.
 fn list_gaps<R: Source, A: Aside, W: Sink>(
     alloc: Global,
-    any_size: bool,
+    listing: Listing,
     source: &mut R,
-    selection: &Selection,
-    style: Style,
     lines: &mut A,
     gap_lines: &mut A,
     sink: &mut W,
 ) -> Result<bool, CommandFault>
     ensures printed { A.written lines.old ≡ Some [] → A.written gap_lines.old ≡ Some []
-        → IfOk result (λ all_whole. ListsJournal (limits_of any_size) selection.now
+        → IfOk result (λ all_whole. ListsJournal (most_of listing.limit) listing.selection
         (R.unread source.old)
-        (λ objects. Appends (W.written sink.old) (W.written sink.new) (printed style objects)
-        × (all_whole ≡ are_whole style objects))) }
+        (λ objects. Appends (W.written sink.old) (W.written sink.new)
+        (printed listing.style objects)
+        × (all_whole ≡ are_whole listing.style objects))) }
     ensures end { OnOk result (IsAtEnd (R.unread source.new)) }
     ensures failed { IfErr result
-        (GapsFail (limits_of any_size) (R.unread source.old) (R.unread source.new)) }
+        (GapsFail (most_of listing.limit) (R.unread source.old) (R.unread source.new)) }
     ensures part { A.written lines.old ≡ Some [] → A.written gap_lines.old ≡ Some []
         → IfErr result (λ fault. fault ≡ CannotWrite → (sink.new ≡ sink.old)
-        ⊎ ListsJournal (limits_of any_size) selection.now (R.unread source.old)
+        ⊎ ListsJournal (most_of listing.limit) listing.selection (R.unread source.old)
         (λ objects. AppendsPart (W.written sink.old) (W.written sink.new)
-        (printed style objects))) }
+        (printed listing.style objects))) }
     ensures kept { IfErr result (λ fault. fault ≢ CannotWrite → sink.new ≡ sink.old) }
     ensures failures { A.failures lines.new + A.failures gap_lines.new + W.failures sink.new
         ≡ A.failures lines.old + A.failures gap_lines.old + W.failures sink.old
         + write_failures result }
 {
-    if any_size {
-        gaps_from::<ANY_SESSIONS, ANY_OBJECTS, ANY_SYMBOLS, _, _, _>(
-            alloc, source, selection, style, lines, gap_lines, sink,
-        )
-    } else {
-        gaps_from::<MAX_SESSIONS, MAX_OBJECTS, MAX_SYMBOLS, _, _, _>(
-            alloc, source, selection, style, lines, gap_lines, sink,
-        )
+    let Listing {
+        limit,
+        selection,
+        style,
+    } = listing;
+    match limit {
+        Limit::AnySize => gaps_from::<ANY_SESSIONS, ANY_OBJECTS, ANY_SYMBOLS, _, _, _>(
+            alloc, source, &selection, style, lines, gap_lines, sink,
+        ),
+        Limit::Shelf => gaps_from::<MAX_SESSIONS, MAX_OBJECTS, MAX_SYMBOLS, _, _, _>(
+            alloc, source, &selection, style, lines, gap_lines, sink,
+        ),
     }
 }
 

@@ -1,18 +1,19 @@
 //! The commands that leave no file at a name, from the names of their files to what they print.
 ghost use Rattle.std.specs.Prelude.{◌≡◌, ◌⊎◌, ◌<◌, OnOk, IfErr};
-ghost use Rattle.flutejoin.specs.Limits.{limits_of};
 ghost use Rattle.flutejoin.specs.declared.command_fault.CommandFault.TheVariants.{CannotWrite};
-ghost use Rattle.flutejoin_commands.specs.Printed.{PrintsPacket, PacketFails, ShowsName};
-ghost use Rattle.flutejoin_commands.specs.Printed.{ShowNameFails, ListsName, ListNameFails};
-ghost use Rattle.flutejoin_commands.specs.Printed.{LeavesFolderOfName, FolderOfNameFails};
+ghost use Rattle.flutejoin_commands.specs.Printed.{FolderOfNameFails, LeavesFolderOfName};
+ghost use Rattle.flutejoin_commands.specs.Printed.{ListNameFails, ListsName, PacketFails};
+ghost use Rattle.flutejoin_commands.specs.Printed.{PrintsPacket, ShowNameFails, ShowsName};
 ghost use Rattle.flutejoin_commands.specs.Prints.{IfPrinted, IsHandedOn};
+ghost use Rattle.flutejoin_commands.specs.Works.{most_of};
 
 use crate::extracting_all::extract_all_into;
 use crate::outlet::Outlet;
-use crate::printing::{gaps_on, hand_on};
+use crate::printing::{Listing, gaps_on, hand_on};
 use crate::world::World;
 use flute_streams::Selection;
-use flutejoin::{Asides, CommandFault, Picked, Style, packet_to, show_to};
+use flutejoin::{Asides, CommandFault, Picked, packet_to, show_to};
+use flutejoin_line::Limit;
 use std::alloc::Global;
 
 /// Prints what a datagram in hexadecimal says, as [`packet_to`] writes it, and hands it on.
@@ -77,19 +78,16 @@ pub fn show<W: World, P: Outlet>(
 pub fn gaps<W: World, P: Outlet>(
     world: &mut W,
     alloc: Global,
-    any_size: bool,
-    selection: &Selection,
-    style: Style,
+    listing: Listing,
     j: &str,
     output: &mut P,
 ) -> Result<(), CommandFault>
-    ensures listed { OnOk result (ListsName (W.files world.old) j.now (limits_of any_size)
-        selection.now style (P.written output.old) (P.written output.new)) }
+    ensures listed { OnOk result (ListsName (W.files world.old) j.now (most_of listing.limit)
+        listing.selection listing.style (P.written output.old) (P.written output.new)) }
     ensures handed_on { IfPrinted result (λ passes.
         P.handed_on output.new ≡ P.written output.new) }
-    ensures failed { IfErr result (ListNameFails (W.files world.old) j.now (limits_of any_size)
-        selection.now style
-        (P.written output.old) (P.written output.new)) }
+    ensures failed { IfErr result (ListNameFails (W.files world.old) j.now (most_of listing.limit)
+        listing.selection listing.style (P.written output.old) (P.written output.new)) }
     ensures same_files { W.files world.new ≡ W.files world.old }
     ensures same_closed { W.closed world.new ≡ W.closed world.old }
 {
@@ -99,10 +97,8 @@ pub fn gaps<W: World, P: Outlet>(
     let mut gap_lines = asides.aside()?;
     gaps_on(
         alloc,
-        any_size,
+        listing,
         &mut source,
-        selection,
-        style,
         &mut lines,
         &mut gap_lines,
         output,
@@ -119,21 +115,20 @@ pub fn extract_all<W: World, P: Outlet>(
     world: &mut W,
     alloc: Global,
     out: &str,
-    any_size: bool,
-    picked: &Picked,
+    limit: Limit,
+    picked: Picked,
     j: &str,
     output: &mut P,
 ) -> Result<(), CommandFault>
-    ensures extracted { OnOk result (LeavesFolderOfName (W.files world.old) j.now
-        (limits_of any_size) picked.now (W.folders world.old out.now)
-        (P.written output.old) (P.written output.new)) }
+    ensures extracted { OnOk result (LeavesFolderOfName (W.files world.old) j.now (most_of limit)
+        picked (W.folders world.old out.now) (P.written output.old) (P.written output.new)) }
     ensures handed_on { OnOk result (P.handed_on output.new ≡ P.written output.new) }
-    ensures failed { IfErr result (FolderOfNameFails (W.files world.old) j.now
-        (limits_of any_size) picked.now (W.folders world.old out.now)) }
+    ensures failed { IfErr result (FolderOfNameFails (W.files world.old) j.now (most_of limit)
+        picked (W.folders world.old out.now)) }
     ensures same_files { W.files world.new ≡ W.files world.old }
     ensures same_closed { W.closed world.new ≡ W.closed world.old }
 {
     let mut source = world.open(1, j, 1)?;
     let mut folder = world.new_folder(out)?;
-    extract_all_into(alloc, any_size, &mut folder, &mut source, picked, output)
+    extract_all_into(alloc, limit, &mut folder, &mut source, picked, output)
 }

@@ -6,8 +6,7 @@ use flute_parts::{Key, Sink, Source};
 use flutejoin::{CommandFault, MAX_ENTRIES, Text, send_to};
 use std::alloc::Global;
 
-/// Writes the datagrams of an object whose content is all that a source has, `size` bytes, in
-/// symbols of `symbol` bytes and blocks of at most `block` symbols.
+/// Writes the datagrams of an object whose content is all that a source has, `size` bytes.
 #[derive(Drop)]
 pub struct SendWork<R> {
     pub alloc: Global,

@@ -22,9 +22,10 @@ use Rattle.clap.specs.Walk.{subcommand, subcommand_met, subcommand_or_other, to_
 use Rattle.clap.specs.Walk.{finished, trailing, value, waits, walk, walk_from, walked}
 use Rattle.clap.specs.Walk.{walked_from, word_met}
 use Rattle.clap.specs.declared.error.kind.ErrorKind.TheVariants as kind
-use Rattle.flutejoin_line.specs.CommandLine.{IsFault, IsFaultIn, IsFaultOf, IsLine, IsLineIn, IsLineOf}
+use Rattle.flutejoin_line.specs.LineFaults.{IsFault, IsFaultIn, IsFaultOf, IsLineIn, IsLineOf}
+use Rattle.flutejoin_line.specs.CommandLine.{IsLine}
 use Rattle.flutejoin_line.specs.CommandLine.{is_command}
-use Rattle.flutejoin_line.specs.Parser.{command_in, program, refusals_of}
+use Rattle.flutejoin_line.specs.CommandLine.{command_in, program, refusals_of}
 use Rattle.flutejoin_line.specs.declared.line.Line.{Line}
 use Rattle.flutejoin.specs.declared.command_fault.CommandFault.{CommandFault}
 

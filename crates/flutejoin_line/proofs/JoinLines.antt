@@ -8,7 +8,7 @@ use Rattle.flute_parts.specs.declared.object_key.ObjectName.{ObjectName}
 use Rattle.flute_streams.specs.Sessions.{listed_tsis}
 use Rattle.flute_streams.specs.declared.choice.scope.Scope.{Scope}
 use Rattle.flute_streams.specs.declared.choice.sessions.Sessions.{Sessions}
-use Rattle.flutejoin_line.specs.CommandLine.{AreJoinNumbers, IsJoinFault, IsManyInputs}
+use Rattle.flutejoin_line.specs.LineFaults.{AreJoinNumbers, IsJoinFault, IsManyInputs}
 use Rattle.flutejoin_line.specs.Options.{HasSessions, HasSource, IsBadNumber, IsFlag, IsInstance}
 use Rattle.flutejoin_line.specs.Options.{IsToi}
 use Rattle.flutejoin_line.specs.Options.{are_sessions, words}
@@ -54,7 +54,13 @@ module _ (rows : List Row) where
       wrong_key held from none = (
         right held,
         from,
-        (toi, (instance, (is_toi, (is_instance, none)))),
+        record {
+          toi = toi;
+          instance = instance;
+          is_toi = is_toi;
+          is_instance = is_instance;
+          named = none;
+        },
       )
 
   module _ (toi instance : Option ℕ) (is_toi : IsToi rows toi)
@@ -65,16 +71,23 @@ module _ (rows : List Row) where
         → IsScope rows (record { sessions = sessions; object = object; files = files })
     right_scope sessions object files are named is = record {
       sessions = are;
-      object = (toi, (instance, (is_toi, (is_instance, named))));
+      object = record {
+        toi = toi;
+        instance = instance;
+        is_toi = is_toi;
+        is_instance = is_instance;
+        named = named;
+      };
       files = is;
     }
 
 module _ (rows : List Row) (inputs : List (Bor (List ℕ))) (are : map (λ (w : Bor (List ℕ)). w.now)
     inputs ≡ words (codes "INPUT") rows) where
+  -- too many inputs, or no memory for them
   pub not_joined : {scope : Scope} {memory : ℕ} (fault : CommandFault) → IsScope rows scope
       → memory_in rows ≡ Some memory → ((sender : ℕ) × HasSource rows sender)
       → IsManyInputs (length inputs) fault → IsJoinFault rows fault
-  not_joined fault taken held from many = go fault
+  not_joined {scope = scope} fault taken held from many = go fault
       (rw (sym (length-map inputs (λ (w : Bor (List ℕ)). w.now)) ∙ ap length are) at many)
     where
       go : (f : CommandFault) → IsManyInputs (length (words (codes "INPUT") rows)) f
@@ -82,7 +95,16 @@ module _ (rows : List Row) (inputs : List (Bor (List ℕ))) (are : map (λ (w : 
       go (BadNumber option) h = absurd h
       go BadSource h = absurd h
       go BadKey h = absurd h
-      go f h = ((_, taken), ap is_some held, from, h)
+      go f h = (
+        record {
+          scope = scope;
+          is_scope = taken;
+          memory = ap is_some held;
+          sender = from.0;
+          is_sender = from.1;
+        },
+        h,
+      )
 
   pub inputs_taken : (taken : List (Bor (List ℕ))) → taken ≡ inputs
       → map (λ (w : Bor (List ℕ)). w.now) taken ≡ words (codes "INPUT") rows

@@ -15,8 +15,9 @@ use Rattle.clap.specs.declared.builder.command.Command.{Command}
 use Rattle.clap.specs.declared.error.Error.{Error}
 use Rattle.clap.specs.declared.error.kind.ErrorKind.TheVariants as kind
 use Rattle.clap.specs.declared.parser.matches.ArgMatches.{ArgMatches}
-use Rattle.flutejoin_line.specs.Parser.{IsArgument, IsCommand, command_in, command_with, program}
-use Rattle.flutejoin_line.specs.Parser.{refusals_of}
+use Rattle.flutejoin_line.specs.Parser.{IsArgument, IsCommand, command_with}
+use Rattle.flutejoin_line.specs.CommandLine.{command_in, program}
+use Rattle.flutejoin_line.specs.CommandLine.{refusals_of}
 
 -- one argument more
 argument_added : {name : Text} {rules : List Rule} {rule : Rule} {old new : Command}

@@ -104,7 +104,13 @@ module _ (rows : List Row) where
           symbol = right_symbol symbol is;
         },
         (sender, from),
-        (toi, (instance, (is_toi, (is_instance, none)))),
+        record {
+          toi = toi;
+          instance = instance;
+          is_toi = is_toi;
+          is_instance = is_instance;
+          named = none;
+        },
       )
 
 -- ---- the word of a symbol

@@ -1,52 +1,87 @@
--- The command line: what each field of a `Line` is, and when there is no line.
-use Rattle.std.specs.Prelude.{◌≡◌, ◌<◌, ◌≤◌, ◌^◌, ◌&&◌, ◌||◌, ◌⊎◌, ⊤, ℕ, Bool, true}
-use Rattle.std.specs.Prelude.{false, not, List, [], length, map, codes}
-use Rattle.std.specs.Prelude.{Option, Some, None, is_some}
+-- The command line: the arguments of each command, and what each field of its line is.
+use Rattle.std.specs.Prelude.{◌≡◌, ◌≤◌, ◌^◌, ◌&&◌, ◌||◌, ℕ, Bool, true, false, not, List, [], ◌∷◌}
+use Rattle.std.specs.Prelude.{◌++◌, length, map, codes, Option, Some, None}
 use Rattle.std.specs.List.{list_any}
 use Rattle.std.specs.Str.{bytes_eq}
 use Rattle.std.specs.Borrow.{Bor}
-use Rattle.clap.specs.Kinds.{IsAmong}
-use Rattle.clap.specs.Values.{kind_of}
-use Rattle.clap.specs.Walk.{Row, first_of}
+use Rattle.clap.specs.Faults.{fault_of}
+use Rattle.clap.specs.Kinds.{Kinds}
+use Rattle.clap.specs.Simple.{App, subcommand_of}
+use Rattle.clap.specs.Walk.{Row, Rule, Text, first_of}
+use Rattle.flute_parts.specs.Information.{Information, information}
 use Rattle.flute_streams.specs.Selections.{is_everything}
 use Rattle.flute_streams.specs.Sessions.{listed_tsis}
-use Rattle.flute_streams.specs.declared.choice.scope.Scope.{Scope}
 use Rattle.flute_streams.specs.declared.choice.selection.Selection.{Selection}
-use Rattle.flutejoin_line.specs.Options.{HasObject, HasSessions, HasSource, IsFlag, IsFormFault}
-use Rattle.flutejoin_line.specs.Options.{IsKey}
-use Rattle.flutejoin_line.specs.Options.{IsNumber, IsSourceIf, IsZero, all_form, are_sessions}
-use Rattle.flutejoin_line.specs.Options.{carousel_options, extract_form, first_unfit, first_wrong}
-use Rattle.flutejoin_line.specs.Options.{info_form, info_options, key_options, list_form, word}
-use Rattle.flutejoin_line.specs.Options.{words}
-use Rattle.flutejoin_line.specs.Parser.{command_in, program, refusals_of}
-use Rattle.flutejoin_line.specs.Scoping.{AreScopeNumbers, IsScope, IsWrongOfScope}
-use Rattle.flutejoin_line.specs.Selecting.{IsChoiceFault, IsSelection, IsSelectionFault}
-use Rattle.flutejoin_line.specs.Selecting.{NamesObject}
-use Rattle.flutejoin_line.specs.Sizes.{memory_in}
-use Rattle.flutejoin.specs.declared.command_fault.CommandFault.{CommandFault}
-use Rattle.flutejoin.specs.declared.command_fault.CommandFault.TheVariants.{CommandLine, BadNumber}
-use Rattle.flutejoin.specs.declared.command_fault.CommandFault.TheVariants.{BadOption, BadSource}
-use Rattle.flutejoin.specs.declared.command_fault.CommandFault.TheVariants.{BadKey}
-use Rattle.flutejoin.specs.declared.command_fault.CommandFault.TheVariants.{TooManyInputs}
-use Rattle.flutejoin.specs.declared.command_fault.CommandFault.TheVariants.{OutputIsInput}
-use Rattle.flutejoin.specs.declared.command_fault.CommandFault.TheVariants.{OutOfMemory}
+use Rattle.flutejoin.specs.OutputGuard.{overwrites_journal, overwrites_other}
 use Rattle.flutejoin.specs.declared.lines.style.Style.{Style}
+use Rattle.flutejoin.specs.declared.output_guard.Overwrites.{Overwrites}
+use Rattle.flutejoin_line.specs.Options.{HasSessions, HasSource, IsFlag, IsKey, IsNumber}
+use Rattle.flutejoin_line.specs.Options.{IsSourceIf, IsZero, all_form, extract_form, first_unfit}
+use Rattle.flutejoin_line.specs.Options.{info_form, list_form, word, words}
+use Rattle.flutejoin_line.specs.Parser.{command_with, force_flag, input_list, journal_rules}
+use Rattle.flutejoin_line.specs.Parser.{key_rules, long_flag, no_commands, object_rules, option}
+use Rattle.flutejoin_line.specs.Parser.{out, place, selection_rules, session_list, size_flag}
+use Rattle.flutejoin_line.specs.Parser.{size_rules}
+use Rattle.flutejoin_line.specs.Scoping.{IsScope}
+use Rattle.flutejoin_line.specs.Selecting.{IsSelection}
+use Rattle.flutejoin_line.specs.Sizes.{memory_in}
+use Rattle.flutejoin_line.specs.declared.carousel_line.CarouselLine.{CarouselLine}
+use Rattle.flutejoin_line.specs.declared.extract_line.ExtractAllLine.{ExtractAllLine}
+use Rattle.flutejoin_line.specs.declared.extract_line.ExtractLine.{ExtractLine}
+use Rattle.flutejoin_line.specs.declared.forget_line.ForgetLine.{ForgetLine}
+use Rattle.flutejoin_line.specs.declared.gaps_line.GapsLine.{GapsLine}
+use Rattle.flutejoin_line.specs.declared.info_line.InfoLine.{InfoLine}
+use Rattle.flutejoin_line.specs.declared.info_line.InfoListLine.{InfoListLine}
+use Rattle.flutejoin_line.specs.declared.join_line.JoinLine.{JoinLine}
+use Rattle.flutejoin_line.specs.declared.limit.Limit.{Limit}
+use Rattle.flutejoin_line.specs.declared.limit.Limit.TheVariants.{AnySize, Shelf}
 use Rattle.flutejoin_line.specs.declared.line.Line.{Line}
 use Rattle.flutejoin_line.specs.declared.line.Line.TheVariants.{Packet, Show, Gaps, Extract}
 use Rattle.flutejoin_line.specs.declared.line.Line.TheVariants.{Info, Join, Merge, Carousel}
 use Rattle.flutejoin_line.specs.declared.line.Line.TheVariants.{ExtractAll, InfoList, Forget}
+use Rattle.flutejoin_line.specs.declared.merge_line.MergeLine.{MergeLine}
+use Rattle.flutejoin_line.specs.declared.show_line.ShowLine.{ShowLine}
+use Rattle.flutejoin_line.specs.declared.target.Target.{Target}
 
--- ---- lines
+-- ---- what several commands have
 
 abbrev pub IsWord : List ℕ → List Row → Bor (List ℕ) → Type 0
 IsWord id rows text = text.now ≡ word id rows
 
--- OUT is no input of a merge, unless it is standard output
-abbrev pub is_out_an_input : List Row → Bool
-is_out_an_input rows =
-    let out = word (codes "OUT") rows in
-    not (bytes_eq out (codes "-"))
-    && (bytes_eq out (word (codes "A") rows) || bytes_eq out (word (codes "B") rows))
+-- OUT, and what it overwrites: by `--force`
+pub record IsTarget (overwrites_by : Bool → Overwrites) (rows : List Row) (target : Target)
+    : Type 0 where
+  pub out : IsWord (codes "OUT") rows target.out
+  pub force : Bool
+  pub is_forced : IsFlag (codes "force") rows force
+  pub overwrites : target.overwrites ≡ overwrites_by force
+
+abbrev pub is_any_size : Limit → Bool
+is_any_size Shelf = false
+is_any_size AnySize = true
+
+-- what `--any-size` says
+abbrev pub IsLimit : List Row → Limit → Type 0
+IsLimit rows limit = IsFlag (codes "any-size") rows (is_any_size limit)
+
+-- ---- the commands
+
+abbrev pub packet_rules : List Rule
+packet_rules = place (codes "HEX") ∷ []
+
+-- its options select entries
+abbrev pub show_rules : List Rule
+show_rules = long_flag (codes "conflicts") ∷ object_rules ++ journal_rules
+
+pub record IsShowLine (rows : List Row) (line : ShowLine) : Type 0 where
+  pub selection : IsSelection rows line.selection
+  pub j : IsWord (codes "J") rows line.j
+
+-- its options select objects, and say what is printed of them
+abbrev pub gaps_rules : List Rule
+gaps_rules =
+    size_flag ∷ long_flag (codes "check") ∷ long_flag (codes "summary")
+    ∷ long_flag (codes "conflicts") ∷ object_rules ++ journal_rules
 
 -- what `gaps` selects, and how it prints that; `--conflicts` is of the second
 pub record IsStyled (rows : List Row) (s : Selection) (style : Style) : Type 0 where
@@ -55,180 +90,162 @@ pub record IsStyled (rows : List Row) (s : Selection) (style : Style) : Type 0 w
   pub check : IsFlag (codes "check") rows style.check
   pub summary : IsFlag (codes "summary") rows style.summary
 
--- the line is what these rows of the command with this name say
-abbrev pub IsLine : List ℕ → List Row → Line → Type 0
-IsLine name rows (Packet hex) = (name ≡ codes "packet") × IsWord (codes "HEX") rows hex
-IsLine name rows (Show selection j) =
-    (name ≡ codes "show") × IsSelection rows selection × IsWord (codes "J") rows j
-IsLine name rows (Gaps any_size selection style j) =
-    (name ≡ codes "gaps") × IsFlag (codes "any-size") rows any_size
-    × IsStyled rows selection style × IsWord (codes "J") rows j
-IsLine name rows (Extract out force any_size key j) =
-    (name ≡ codes "extract") × IsFlag (codes "all") rows false
-    × (first_unfit extract_form rows ≡ None)
-    × IsWord (codes "OUT") rows out × IsFlag (codes "force") rows force
-    × IsFlag (codes "any-size") rows any_size
-    × IsKey (HasSource rows) rows key × IsWord (codes "J") rows j
-IsLine name rows (ExtractAll out any_size sender sessions j) =
-    (name ≡ codes "extract") × IsFlag (codes "all") rows true
-    × (first_unfit all_form rows ≡ None) × IsFlag (codes "force") rows false
-    × IsWord (codes "OUT") rows out × IsFlag (codes "any-size") rows any_size
-    × IsSourceIf rows sender
-    × HasSessions rows (listed_tsis sessions) × IsWord (codes "J") rows j
-IsLine name rows (InfoList out force any_size list j) =
-    (name ≡ codes "info") × (first_of (codes "list") rows ≡ Some list.now)
-    × (first_unfit list_form rows ≡ None)
-    × IsWord (codes "OUT") rows out × IsFlag (codes "force") rows force
-    × IsFlag (codes "any-size") rows any_size
-    × IsWord (codes "J") rows j
-IsLine name rows (Info out force any_size key len symbol block j) =
-    (name ≡ codes "info") × (first_of (codes "list") rows ≡ None)
-    × (first_unfit info_form rows ≡ None)
-    × IsWord (codes "OUT") rows out × IsFlag (codes "force") rows force
-    × IsFlag (codes "any-size") rows any_size
-    × IsKey (HasSource rows) rows key × IsNumber (codes "length") (2 ^ 64) rows len
-    × IsNumber (codes "symbol") (2 ^ 16) rows symbol
-    × IsNumber (codes "block") (2 ^ 32) rows block × IsWord (codes "J") rows j
-IsLine name rows (Join out force any_size memory sender scope inputs) =
-    (name ≡ codes "join") × IsWord (codes "OUT") rows out × IsFlag (codes "force") rows force
-    × IsFlag (codes "any-size") rows any_size × (memory_in rows ≡ Some memory)
-    × HasSource rows sender × IsScope rows scope
-    × (map (λ input. input.now) inputs.items ≡ words (codes "INPUT") rows)
-    × (length inputs.items ≤ 64)
-IsLine name rows (Merge out force a b) =
-    (name ≡ codes "merge") × IsWord (codes "OUT") rows out × IsFlag (codes "force") rows force
-    × IsWord (codes "A") rows a × IsWord (codes "B") rows b × (is_out_an_input rows ≡ false)
-IsLine name rows (Forget out force selection j) =
-    (name ≡ codes "forget") × IsWord (codes "OUT") rows out × IsFlag (codes "force") rows force
-    × IsSelection rows selection × (is_everything selection ≡ false)
-    × IsWord (codes "J") rows j
-IsLine name rows (Carousel out force key symbol block file) =
-    (name ≡ codes "carousel") × IsWord (codes "OUT") rows out
-    × IsFlag (codes "force") rows force
-    × IsKey IsZero rows key × IsNumber (codes "symbol") (2 ^ 16) rows symbol
-    × IsNumber (codes "block") (2 ^ 32) rows block × IsWord (codes "FILE") rows file
+pub record IsGapsLine (rows : List Row) (line : GapsLine) : Type 0 where
+  pub limit : IsLimit rows line.limit
+  pub styled : IsStyled rows line.selection line.style
+  pub j : IsWord (codes "J") rows line.j
 
--- ---- faults: each is reported only if none of those before it in the order of faults is
+-- its options are of one object or of all
+abbrev pub extract_rules : List Rule
+extract_rules =
+    out ∷ force_flag ∷ size_flag ∷ long_flag (codes "all") ∷ option (codes "source")
+    ∷ session_list ∷ option (codes "toi") ∷ option (codes "fdt") ∷ journal_rules
 
--- of a command that names an object, and its options with their limits
-abbrev pub IsKeyFault : List (List ℕ × ℕ) → (ℕ → Type 0) → List Row → CommandFault
-    → Type 0
-IsKeyFault options IsMeant rows (BadNumber option) = first_wrong options rows ≡ Some option.now
-IsKeyFault options IsMeant rows BadSource =
-    (first_wrong options rows ≡ None) × ((sender : ℕ) → IsMeant sender → ⊥)
-IsKeyFault options IsMeant rows BadKey =
-    (first_wrong options rows ≡ None) × ((sender : ℕ) × IsMeant sender) × HasObject rows None
-IsKeyFault options IsMeant rows _ = ⊥
+pub record IsExtractLine (rows : List Row) (line : ExtractLine) : Type 0 where
+  pub one : IsFlag (codes "all") rows false
+  pub form : first_unfit extract_form rows ≡ None
+  pub target : IsTarget overwrites_other rows line.target
+  pub limit : IsLimit rows line.limit
+  pub key : IsKey (HasSource rows) rows line.key
+  pub j : IsWord (codes "J") rows line.j
 
--- of that many inputs
-abbrev pub IsManyInputs : ℕ → CommandFault → Type 0
-IsManyInputs count TooManyInputs = 64 < count
-IsManyInputs count OutOfMemory = count ≤ 64
-IsManyInputs count _ = ⊥
+pub record IsExtractAllLine (rows : List Row) (line : ExtractAllLine) : Type 0 where
+  pub all : IsFlag (codes "all") rows true
+  pub form : first_unfit all_form rows ≡ None
+  pub force : IsFlag (codes "force") rows false
+  pub out : IsWord (codes "OUT") rows line.out
+  pub limit : IsLimit rows line.limit
+  pub sender : IsSourceIf rows line.picked.sender
+  pub sessions : HasSessions rows (listed_tsis line.picked.sessions)
+  pub j : IsWord (codes "J") rows line.j
 
--- of a join each number is one of its range
-abbrev pub AreJoinNumbers : List Row → Type 0
-AreJoinNumbers rows = AreScopeNumbers rows × (is_some (memory_in rows) ≡ true)
+-- of one object or of a list of them
+abbrev pub info_rules : List Rule
+info_rules =
+    out ∷ force_flag ∷ size_flag ∷ option (codes "list") ∷ option (codes "source")
+    ∷ option (codes "tsi")
+    ∷ option (codes "toi") ∷ option (codes "fdt") ∷ option (codes "length")
+    ∷ option (codes "symbol") ∷ option (codes "block") ∷ journal_rules
 
--- the option with this name is the first that is none of its range
-abbrev pub IsWrongOfJoin : List Row → List ℕ → Type 0
-IsWrongOfJoin rows name =
-    IsWrongOfScope rows name
-    ⊎ (AreScopeNumbers rows × (name ≡ codes "memory") × (memory_in rows ≡ None))
+-- what three numbers of their ranges say
+pub record AreNumbersOf (rows : List Row) (info : Information) : Type 0 where
+  pub length : ℕ
+  pub symbol : ℕ
+  pub block : ℕ
+  pub is_length : IsNumber (codes "length") (2 ^ 64) rows length
+  pub is_symbol : IsNumber (codes "symbol") (2 ^ 16) rows symbol
+  pub is_block : IsNumber (codes "block") (2 ^ 32) rows block
+  pub same : info ≡ information length symbol block
 
-abbrev pub IsJoinFault : List Row → CommandFault → Type 0
-IsJoinFault rows (BadNumber option) = IsWrongOfJoin rows option.now
-IsJoinFault rows BadSource =
-    AreJoinNumbers rows × ((sender : ℕ) → HasSource rows sender → ⊥)
-IsJoinFault rows BadKey =
-    AreJoinNumbers rows × ((sender : ℕ) × HasSource rows sender) × NamesObject rows None
-IsJoinFault rows fault =
-    ((scope : Scope) × IsScope rows scope) × (is_some (memory_in rows) ≡ true)
-    × ((sender : ℕ) × HasSource rows sender)
-    × IsManyInputs (length (words (codes "INPUT") rows)) fault
+pub record IsInfoLine (rows : List Row) (line : InfoLine) : Type 0 where
+  pub one : first_of (codes "list") rows ≡ None
+  pub form : first_unfit info_form rows ≡ None
+  pub target : IsTarget overwrites_journal rows line.target
+  pub limit : IsLimit rows line.limit
+  pub key : IsKey (HasSource rows) rows line.key
+  pub info : AreNumbersOf rows line.info
+  pub j : IsWord (codes "J") rows line.j
 
--- of `extract --all`, which takes no `--force`
-abbrev pub IsAllFault : List Row → CommandFault → Type 0
-IsAllFault rows (BadOption name) =
-    (first_unfit all_form rows ≡ Some name.now)
-    ⊎ ((first_unfit all_form rows ≡ None) × (name.now ≡ codes "force")
-    × IsFlag (codes "force") rows true)
-IsAllFault rows (BadNumber option) =
-    (first_unfit all_form rows ≡ None) × IsFlag (codes "force") rows false
-    × (option.now ≡ codes "tsi") × (are_sessions (words (codes "tsi") rows) ≡ false)
-IsAllFault rows BadSource =
-    (first_unfit all_form rows ≡ None) × IsFlag (codes "force") rows false
-    × ((tsis : List ℕ) × HasSessions rows tsis)
-    × ((sender : ℕ) → HasSource rows sender → ⊥)
-IsAllFault rows _ = ⊥
+pub record IsInfoListLine (rows : List Row) (line : InfoListLine) : Type 0 where
+  pub list : first_of (codes "list") rows ≡ Some line.list.now
+  pub form : first_unfit list_form rows ≡ None
+  pub target : IsTarget overwrites_journal rows line.target
+  pub limit : IsLimit rows line.limit
+  pub j : IsWord (codes "J") rows line.j
 
-abbrev pub IsOneFault : List Row → CommandFault → Type 0
-IsOneFault rows =
-    IsFormFault extract_form (IsKeyFault (key_options rows) (HasSource rows) rows) rows
+abbrev pub join_rules : List Rule
+join_rules =
+    out ∷ force_flag ∷ size_flag ∷ option (codes "memory") ∷ option (codes "source")
+    ∷ session_list ∷ option (codes "toi") ∷ option (codes "fdt")
+    ∷ long_flag (codes "no-fdt") ∷ input_list ∷ []
 
--- of `extract`, by its form
-abbrev pub IsExtractFault : List Row → CommandFault → Type 0
-IsExtractFault rows fault =
-    (IsFlag (codes "all") rows true × IsAllFault rows fault)
-    ⊎ (IsFlag (codes "all") rows false × IsOneFault rows fault)
+-- of 1 to 64 inputs
+pub record IsJoinLine (rows : List Row) (line : JoinLine) : Type 0 where
+  pub target : IsTarget overwrites_journal rows line.target
+  pub limit : IsLimit rows line.limit
+  pub memory : memory_in rows ≡ Some line.memory
+  pub sender : HasSource rows line.sender
+  pub scope : IsScope rows line.scope
+  pub inputs : map (λ input. input.now) line.inputs.items ≡ words (codes "INPUT") rows
 
-abbrev pub IsListFault : List Row → CommandFault → Type 0
-IsListFault rows = IsFormFault list_form (λ _. ⊥) rows
+abbrev pub merge_rules : List Rule
+merge_rules = out ∷ force_flag ∷ place (codes "A") ∷ place (codes "B") ∷ []
 
-abbrev pub IsNumbersFault : List Row → CommandFault → Type 0
-IsNumbersFault rows =
-    IsFormFault info_form (IsKeyFault (info_options rows) (HasSource rows) rows) rows
+-- OUT is no input of a merge, unless it is standard output
+abbrev pub is_out_an_input : List Row → Bool
+is_out_an_input rows =
+    let out = word (codes "OUT") rows in
+    not (bytes_eq out (codes "-"))
+    && (bytes_eq out (word (codes "A") rows) || bytes_eq out (word (codes "B") rows))
 
--- of `info`, by its form
-abbrev pub IsInfoFault : List Row → CommandFault → Type 0
-IsInfoFault rows fault =
-    ((is_some (first_of (codes "list") rows) ≡ true) × IsListFault rows fault)
-    ⊎ ((first_of (codes "list") rows ≡ None) × IsNumbersFault rows fault)
+pub record IsMergeLine (rows : List Row) (line : MergeLine) : Type 0 where
+  pub target : IsTarget overwrites_journal rows line.target
+  pub a : IsWord (codes "A") rows line.a
+  pub b : IsWord (codes "B") rows line.b
+  pub others : is_out_an_input rows ≡ false
 
-abbrev pub IsMergeFault : List Row → CommandFault → Type 0
-IsMergeFault rows OutputIsInput = is_out_an_input rows ≡ true
-IsMergeFault rows _ = ⊥
+-- its options select entries
+abbrev pub forget_rules : List Rule
+forget_rules = out ∷ force_flag ∷ selection_rules ++ journal_rules
+
+pub record IsForgetLine (rows : List Row) (line : ForgetLine) : Type 0 where
+  pub target : IsTarget overwrites_journal rows line.target
+  pub selection : IsSelection rows line.selection
+  pub some : is_everything line.selection ≡ false
+  pub j : IsWord (codes "J") rows line.j
+
+abbrev pub carousel_rules : List Rule
+carousel_rules = out ∷ force_flag ∷ key_rules ++ size_rules ++ place (codes "FILE") ∷ []
+
+pub record IsCarouselLine (rows : List Row) (line : CarouselLine) : Type 0 where
+  pub target : IsTarget overwrites_other rows line.target
+  pub key : IsKey IsZero rows line.key
+  pub symbol : IsNumber (codes "symbol") (2 ^ 16) rows line.symbol
+  pub block : IsNumber (codes "block") (2 ^ 32) rows line.block
+  pub file : IsWord (codes "FILE") rows line.file
+
+-- ---- all of them
+
+-- the program
+unfoldable pub program : App
+program = record {
+  top = record no_commands.top { is_leaf = false };
+  subs = command_with (codes "packet") packet_rules
+      ∷ command_with (codes "show") show_rules
+      ∷ command_with (codes "gaps") gaps_rules
+      ∷ command_with (codes "extract") extract_rules
+      ∷ command_with (codes "info") info_rules
+      ∷ command_with (codes "join") join_rules
+      ∷ command_with (codes "merge") merge_rules
+      ∷ command_with (codes "forget") forget_rules
+      ∷ command_with (codes "carousel") carousel_rules
+      ∷ [];
+}
 
 -- the parser knows a command of this name
 abbrev pub is_command : List ℕ → Bool
 is_command name = list_any (λ shape. bytes_eq name shape.name) program.subs
 
--- why these rows of the command with this name are no line
-abbrev pub IsFault : List ℕ → List Row → CommandFault → Type 0
-IsFault name rows fault =
-    ((name ≡ codes "extract") × IsExtractFault rows fault)
-    ⊎ (((name ≡ codes "info") × IsInfoFault rows fault)
-    ⊎ (((name ≡ codes "carousel") × IsKeyFault (carousel_options rows) IsZero rows fault)
-    ⊎ (((name ≡ codes "join") × IsJoinFault rows fault)
-    ⊎ (((name ≡ codes "merge") × IsMergeFault rows fault)
-    ⊎ (((name ≡ codes "forget") × IsChoiceFault rows fault)
-    ⊎ (((name ≡ codes "show") × IsSelectionFault rows fault)
-    ⊎ ((name ≡ codes "gaps") × IsSelectionFault rows fault)))))))
-
--- the line is what the parser found for its command
-abbrev pub IsLineOf : Option (List ℕ × List Row) → Line → Type 0
-IsLineOf None line = ⊥
-IsLineOf (Some found) line = IsLine found.0 found.1 line
-
--- why what it found is no line
-abbrev pub IsFaultOf : Option (List ℕ × List Row) → CommandFault → Type 0
-IsFaultOf None fault = ⊥
-IsFaultOf (Some found) fault = IsFault found.0 found.1 fault
+-- the line is what these rows of the command with this name say
+abbrev pub IsLine : List ℕ → List Row → Line → Type 0
+IsLine name rows (Packet hex) = (name ≡ codes "packet") × IsWord (codes "HEX") rows hex
+IsLine name rows (Show line) = (name ≡ codes "show") × IsShowLine rows line
+IsLine name rows (Gaps line) = (name ≡ codes "gaps") × IsGapsLine rows line
+IsLine name rows (Extract line) = (name ≡ codes "extract") × IsExtractLine rows line
+IsLine name rows (ExtractAll line) = (name ≡ codes "extract") × IsExtractAllLine rows line
+IsLine name rows (Info line) = (name ≡ codes "info") × IsInfoLine rows line
+IsLine name rows (InfoList line) = (name ≡ codes "info") × IsInfoListLine rows line
+IsLine name rows (Join line) = (name ≡ codes "join") × IsJoinLine rows line
+IsLine name rows (Merge line) = (name ≡ codes "merge") × IsMergeLine rows line
+IsLine name rows (Forget line) = (name ≡ codes "forget") × IsForgetLine rows line
+IsLine name rows (Carousel line) = (name ≡ codes "carousel") × IsCarouselLine rows line
 
 -- ---- words
 
--- the parser refuses the words, by its own reasons, or for want of memory
-abbrev pub IsRefusal : List (List ℕ) → CommandFault → Type 0
-IsRefusal words (CommandLine error) = IsAmong (kind_of error) (refusals_of words)
-IsRefusal words OutOfMemory = ⊤
-IsRefusal words _ = ⊥
+-- the command that the words name, with what they give for each of its arguments
+unfoldable pub command_in : List Text → Option (Text × List Row)
+command_in words = subcommand_of program words
 
--- the parser takes the words, and the line is what they say
-abbrev pub IsLineIn : List (List ℕ) → Line → Type 0
-IsLineIn words line = (refusals_of words ≡ []) × IsLineOf (command_in words) line
-
--- it refuses them, or what it finds in them is no line
-abbrev pub IsFaultIn : List (List ℕ) → CommandFault → Type 0
-IsFaultIn words fault =
-    IsRefusal words fault
-    ⊎ ((refusals_of words ≡ []) × IsFaultOf (command_in words) fault)
+-- why the parser refuses the words: none if it takes them; help and the version are refusals too
+unfoldable pub refusals_of : List Text → Kinds
+refusals_of words = fault_of program words

@@ -4,4 +4,5 @@ pub mod Sizes
 pub mod Selecting
 pub mod Scoping
 pub mod CommandLine
+pub mod LineFaults
 pub mod Examples

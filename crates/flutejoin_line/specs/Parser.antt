@@ -1,10 +1,8 @@
--- The commands and options of the command line's parser, and what it finds in the words.
-use Rattle.std.specs.Prelude.{◌≡◌, ◌∷◌, ◌++◌, [], List, Option, Some, true, false, codes}
-use Rattle.clap.specs.Faults.{fault_of}
-use Rattle.clap.specs.Kinds.{Kinds}
+-- The arguments and commands of the command line's parser.
+use Rattle.std.specs.Prelude.{◌≡◌, ◌∷◌, ◌++◌, [], List, Some, true, false, codes}
 use Rattle.clap.specs.Lexer.{usize_max}
-use Rattle.clap.specs.Simple.{App, Shape, new_rule, new_shape, shape_of, subcommand_of}
-use Rattle.clap.specs.Walk.{Row, Rule, Text, rule_of}
+use Rattle.clap.specs.Simple.{App, Shape, new_rule, new_shape, shape_of}
+use Rattle.clap.specs.Walk.{Rule, Text, rule_of}
 use Rattle.clap.specs.declared.builder.action.ArgAction.TheVariants.{Set, Append, SetTrue}
 use Rattle.clap.specs.declared.builder.arg.Arg.{Arg}
 use Rattle.clap.specs.declared.builder.command.Command.{Command}
@@ -76,53 +74,11 @@ selection_rules =
 abbrev pub size_rules : List Rule
 size_rules = needed (option (codes "symbol")) ∷ needed (option (codes "block")) ∷ []
 
--- ---- commands
-
-abbrev pub packet_rules : List Rule
-packet_rules = place (codes "HEX") ∷ []
-
+-- the journal that is read
 abbrev pub journal_rules : List Rule
 journal_rules = place (codes "J") ∷ []
 
--- its options select entries
-abbrev pub show_rules : List Rule
-show_rules = long_flag (codes "conflicts") ∷ object_rules ++ journal_rules
-
--- its options select objects, and say what is printed of them
-abbrev pub gaps_rules : List Rule
-gaps_rules =
-    size_flag ∷ long_flag (codes "check") ∷ long_flag (codes "summary")
-    ∷ long_flag (codes "conflicts") ∷ object_rules ++ journal_rules
-
--- its options are of one object or of all
-abbrev pub extract_rules : List Rule
-extract_rules =
-    out ∷ force_flag ∷ size_flag ∷ long_flag (codes "all") ∷ option (codes "source")
-    ∷ session_list ∷ option (codes "toi") ∷ option (codes "fdt") ∷ journal_rules
-
--- of one object or of a list of them
-abbrev pub info_rules : List Rule
-info_rules =
-    out ∷ force_flag ∷ size_flag ∷ option (codes "list") ∷ option (codes "source")
-    ∷ option (codes "tsi")
-    ∷ option (codes "toi") ∷ option (codes "fdt") ∷ option (codes "length")
-    ∷ option (codes "symbol") ∷ option (codes "block") ∷ journal_rules
-
-abbrev pub join_rules : List Rule
-join_rules =
-    out ∷ force_flag ∷ size_flag ∷ option (codes "memory") ∷ option (codes "source")
-    ∷ session_list ∷ option (codes "toi") ∷ option (codes "fdt")
-    ∷ long_flag (codes "no-fdt") ∷ input_list ∷ []
-
-abbrev pub merge_rules : List Rule
-merge_rules = out ∷ force_flag ∷ place (codes "A") ∷ place (codes "B") ∷ []
-
--- its options select entries
-abbrev pub forget_rules : List Rule
-forget_rules = out ∷ force_flag ∷ selection_rules ++ journal_rules
-
-abbrev pub carousel_rules : List Rule
-carousel_rules = out ∷ force_flag ∷ key_rules ++ size_rules ++ place (codes "FILE") ∷ []
+-- ---- commands
 
 -- a command with these arguments
 abbrev pub command_with : Text → List Rule → Shape
@@ -149,22 +105,6 @@ no_commands = record {
   subs = [];
 }
 
--- the program
-unfoldable pub program : App
-program = record {
-  top = record no_commands.top { is_leaf = false };
-  subs = command_with (codes "packet") packet_rules
-      ∷ command_with (codes "show") show_rules
-      ∷ command_with (codes "gaps") gaps_rules
-      ∷ command_with (codes "extract") extract_rules
-      ∷ command_with (codes "info") info_rules
-      ∷ command_with (codes "join") join_rules
-      ∷ command_with (codes "merge") merge_rules
-      ∷ command_with (codes "forget") forget_rules
-      ∷ command_with (codes "carousel") carousel_rules
-      ∷ [];
-}
-
 -- the argument is that one, and of its own command alone
 pub record IsArgument (rule : Rule) (arg : Arg) : Type 0 where
   pub rule_is : rule_of arg ≡ rule
@@ -174,13 +114,3 @@ pub record IsArgument (rule : Rule) (arg : Arg) : Type 0 where
 pub record IsCommand (name : Text) (rules : List Rule) (command : Command) : Type 0 where
   pub shape_is : shape_of command ≡ command_with name rules
   pub is_local : (out-Command command).has_globals ≡ false
-
--- ---- words
-
--- the command that the words name, with what they give for each of its arguments
-unfoldable pub command_in : List Text → Option (Text × List Row)
-command_in words = subcommand_of program words
-
--- why the parser refuses the words: none if it takes them; help and the version are refusals too
-unfoldable pub refusals_of : List Text → Kinds
-refusals_of words = fault_of program words

@@ -63,10 +63,12 @@ object_of None None = Some None
 object_of None (Some instance) = None
 object_of (Some toi) instance = option_map Some (object_by toi instance)
 
-abbrev pub NamesObject : List Row → Option (Option ObjectName) → Type 0
-NamesObject rows object =
-    (toi : Option ℕ) × ((instance : Option ℕ) × (IsToi rows toi
-    × (IsInstance rows instance × (object_of toi instance ≡ object))))
+pub record NamesObject (rows : List Row) (object : Option (Option ObjectName)) : Type 0 where
+  pub toi : Option ℕ
+  pub instance : Option ℕ
+  pub is_toi : IsToi rows toi
+  pub is_instance : IsInstance rows instance
+  pub named : object_of toi instance ≡ object
 
 -- ---- selections
 

@@ -91,7 +91,7 @@ pub fn long_flag<'a>(alloc: Global, name: &'a str, help: &'a str) -> Arg<'a>
 }
 
 /// The sessions that are taken.
-pub fn sessions<'a>(alloc: Global) -> Arg<'a>
+pub fn session_list<'a>(alloc: Global) -> Arg<'a>
     ensures { IsArgument session_list result }
 {
     option(

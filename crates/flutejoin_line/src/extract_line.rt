@@ -1,17 +1,74 @@
 //! The line of `extract`, of one object or of all.
-ghost use Rattle.std.specs.Prelude.{◌≡◌, MatchResult, None, codes, false, true};
-ghost use Rattle.flutejoin_line.specs.CommandLine.{IsAllFault, IsKeyFault, IsLine};
-ghost use Rattle.flutejoin_line.specs.CommandLine.{IsOneFault};
+ghost use Rattle.std.specs.Prelude.{◌≡◌, IfOk, MatchResult, None, codes, false, true};
+ghost use Rattle.flutejoin_line.specs.CommandLine.{IsLine, extract_rules};
+ghost use Rattle.flutejoin_line.specs.LineFaults.{IsAllFault, IsKeyFault, IsOneFault};
 ghost use Rattle.flutejoin_line.specs.Options.{HasSource, IsFlag, IsFormFault, extract_form};
 ghost use Rattle.flutejoin_line.specs.Options.{first_unfit, found_rows, key_options};
+ghost use Rattle.flutejoin_line.specs.Parser.{IsCommand};
 
+use crate::arguments::{
+    ANY_SIZE, FORCE_ALL, INSTANCE, JOURNAL, OBJECT, SOURCE, force, input, long_flag, option,
+    output, session_list,
+};
+use crate::help_texts::EXTRACT_HELP;
+use crate::limit::{Limit, limit_of};
 use crate::line::Line;
 use crate::numbers::{number_below, number_if, sessions, source};
 use crate::objects::key;
+use crate::parser::command_with;
+use crate::target::{Target, other_target};
 use crate::words::{flag, given, text};
-use clap::ArgMatches;
-use flute_parts::Sender;
-use flutejoin::CommandFault;
+use clap::{ArgMatches, Command};
+use flute_parts::{Key, Sender};
+use flutejoin::{CommandFault, Picked};
+use std::alloc::{AllocError, Global};
+
+/// Write the object `key` of the journal `j` to a file.
+#[derive(Clone, Copy)]
+pub struct ExtractLine<'a> {
+    pub target: Target<'a>,
+    pub limit: Limit,
+    pub key: Key,
+    pub j: &'a str,
+}
+
+/// Write each whole object of those that are picked of the journal `j` to a file of the new folder
+/// `out`.
+#[derive(Clone, Copy)]
+pub struct ExtractAllLine<'a> {
+    pub out: &'a str,
+    pub limit: Limit,
+    pub picked: Picked,
+    pub j: &'a str,
+}
+
+/// The command, as the parser takes it.
+pub fn extract_command<'a>(alloc: Global) -> Result<Command<'a>, AllocError>
+    ensures { IfOk result (IsCommand (codes "extract") extract_rules) }
+{
+    let arguments = vec![in alloc;
+        output(alloc),
+        force(alloc, FORCE_ALL),
+        long_flag(alloc, "any-size", ANY_SIZE),
+        long_flag(
+            alloc,
+            "all",
+            "Write each whole object to a file of OUT, a new folder; with --tsi up to 64 times",
+        ),
+        option(alloc, "source", "ADDRESS", SOURCE),
+        session_list(alloc),
+        option(alloc, "toi", "N", OBJECT),
+        option(alloc, "fdt", "N", INSTANCE),
+        input(alloc, "J", JOURNAL),
+    ]?;
+    command_with(
+        alloc,
+        "extract",
+        "Writes an object that a journal has whole to a file",
+        EXTRACT_HELP,
+        arguments,
+    )
+}
 
 /// The line of `extract --all`.
 ///
@@ -30,13 +87,12 @@ pub fn extract_all<'a>(matches: &ArgMatches<'a>) -> Result<Line<'a>, CommandFaul
     }
     let sessions = sessions(matches)?;
     let sender = source(matches)?;
-    Ok(Line::ExtractAll {
+    Ok(Line::ExtractAll(ExtractAllLine {
         out: text(matches, "OUT"),
-        any_size: flag(matches, "any-size"),
-        sender,
-        sessions,
+        limit: limit_of(matches),
+        picked: Picked { sender, sessions },
         j: text(matches, "J"),
-    })
+    }))
 }
 
 /// The line of `extract` of one object.
@@ -56,11 +112,10 @@ pub fn extract_one<'a>(matches: &ArgMatches<'a>) -> Result<Line<'a>, CommandFaul
     let instance = number_if(matches, "fdt", 1 << 20)?;
     let sender = source(matches)?.unwrap_or(Sender::new(0));
     let key = key(sender, tsi, toi, instance)?;
-    Ok(Line::Extract {
-        out: text(matches, "OUT"),
-        force: flag(matches, "force"),
-        any_size: flag(matches, "any-size"),
+    Ok(Line::Extract(ExtractLine {
+        target: other_target(matches),
+        limit: limit_of(matches),
         key,
         j: text(matches, "J"),
-    })
+    }))
 }

@@ -1,18 +1,84 @@
 //! The line of `info`, of one object or of a list of them.
-ghost use Rattle.std.specs.Prelude.{◌≡◌, MatchResult, None, Some, codes};
+ghost use Rattle.std.specs.Prelude.{◌≡◌, IfOk, MatchResult, None, Some, codes};
 ghost use Rattle.clap.specs.Walk.{first_of};
-ghost use Rattle.flutejoin_line.specs.CommandLine.{IsKeyFault, IsLine, IsListFault};
-ghost use Rattle.flutejoin_line.specs.CommandLine.{IsNumbersFault};
+ghost use Rattle.flutejoin_line.specs.CommandLine.{IsLine, info_rules};
+ghost use Rattle.flutejoin_line.specs.LineFaults.{IsKeyFault, IsListFault, IsNumbersFault};
 ghost use Rattle.flutejoin_line.specs.Options.{HasSource, IsFormFault, first_unfit, found_rows};
 ghost use Rattle.flutejoin_line.specs.Options.{info_form, info_options, list_form};
+ghost use Rattle.flutejoin_line.specs.Parser.{IsCommand};
 
+use crate::arguments::{
+    ANY_SIZE, BLOCK, FORCE, INSTANCE, JOURNAL, OBJECT, SESSION, SOURCE, SYMBOL, force, input,
+    long_flag, option, output,
+};
+use crate::help_texts::INFO_HELP;
+use crate::limit::{Limit, limit_of};
 use crate::line::Line;
 use crate::numbers::{number_below, number_if, source};
 use crate::objects::key;
-use crate::words::{flag, given, text};
-use clap::ArgMatches;
-use flute_parts::Sender;
+use crate::parser::command_with;
+use crate::target::{Target, journal_target};
+use crate::words::{given, text};
+use clap::{ArgMatches, Command};
+use flute_parts::{Info, Key, Sender};
 use flutejoin::CommandFault;
+use std::alloc::{AllocError, Global};
+
+/// Write the journal `j` with this information of the object `key` added to a journal.
+#[derive(Clone, Copy)]
+pub struct InfoLine<'a> {
+    pub target: Target<'a>,
+    pub limit: Limit,
+    pub key: Key,
+    pub info: Info,
+    pub j: &'a str,
+}
+
+/// Write the journal `j`, with the information in the lines of the file `list` added, to a journal.
+#[derive(Clone, Copy)]
+pub struct InfoListLine<'a> {
+    pub target: Target<'a>,
+    pub limit: Limit,
+    pub list: &'a str,
+    pub j: &'a str,
+}
+
+/// The command, as the parser takes it.
+pub fn info_command<'a>(alloc: Global) -> Result<Command<'a>, AllocError>
+    ensures { IfOk result (IsCommand (codes "info") info_rules) }
+{
+    let arguments = vec![in alloc;
+        output(alloc),
+        force(alloc, FORCE),
+        long_flag(alloc, "any-size", ANY_SIZE),
+        option(
+            alloc,
+            "list",
+            "LINES",
+            "A file of lines as `show` prints them for information; - is standard input",
+        ),
+        option(alloc, "source", "ADDRESS", SOURCE),
+        option(alloc, "tsi", "N", SESSION),
+        option(alloc, "toi", "N", OBJECT),
+        option(alloc, "fdt", "N", INSTANCE),
+        option(
+            alloc,
+            "length",
+            "N",
+            "The transfer length: how many bytes the object has",
+        ),
+        option(alloc, "symbol", "N", SYMBOL),
+        option(alloc, "block", "N", BLOCK),
+        input(alloc, "J", JOURNAL),
+    ]?;
+    command_with(
+        alloc,
+        "info",
+        "Writes a journal with an object's transmission information added",
+        INFO_HELP,
+        arguments,
+    )
+}
 
 /// The line of `info` of a list.
 ///
@@ -34,21 +100,20 @@ pub fn info_list<'a>(matches: &ArgMatches<'a>, list: &'a str) -> Result<Line<'a>
         ("block", 0),
     ];
     given(matches, &without_object)?;
-    Ok(Line::InfoList {
-        out: text(matches, "OUT"),
-        force: flag(matches, "force"),
-        any_size: flag(matches, "any-size"),
+    Ok(Line::InfoList(InfoListLine {
+        target: journal_target(matches),
+        limit: limit_of(matches),
         list,
         j: text(matches, "J"),
-    })
+    }))
 }
 
 /// The line of `info` of one object.
 ///
 /// # Errors
 ///
-/// `BadOption` if an option is left out; `BadNumber`, `BadSource` and `BadKey` as `line_of` has
-/// them.
+/// `BadOption` if an option is left out; `BadNumber`, `BadSource`, `BadKey` and `BadInformation` as
+/// `line_of` has them.
 pub fn info_one<'a>(matches: &ArgMatches<'a>) -> Result<Line<'a>, CommandFault>
     requires { first_of (codes "list") (found_rows matches.now) ≡ None }
     ensures { let rows = found_rows matches.now in
@@ -70,14 +135,15 @@ pub fn info_one<'a>(matches: &ArgMatches<'a>) -> Result<Line<'a>, CommandFault>
     let block = number_below(matches, "block", 1 << 32)? as u32;
     let sender = source(matches)?.unwrap_or(Sender::new(0));
     let key = key(sender, tsi, toi, instance)?;
-    Ok(Line::Info {
-        out: text(matches, "OUT"),
-        force: flag(matches, "force"),
-        any_size: flag(matches, "any-size"),
+    let info = match Info::new(length, symbol, block) {
+        Ok(info) => info,
+        Err(fault) => return Err(CommandFault::BadInformation(fault)),
+    };
+    Ok(Line::Info(InfoLine {
+        target: journal_target(matches),
+        limit: limit_of(matches),
         key,
-        length,
-        symbol,
-        block,
+        info,
         j: text(matches, "J"),
-    })
+    }))
 }

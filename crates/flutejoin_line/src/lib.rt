@@ -6,21 +6,44 @@
 //! What the words say (from `flutejoin_tests`):
 //!
 //! ```
-//! assert!(rt; matches!(line_of(rt.alloc(), &words)?, Line::Show { j: "J", .. }));
+//! assert!(rt;
+//!     matches!(
+//!         line_of(rt.alloc(), &words)?,
+//!         Line::Show(ShowLine { j: "J", .. })
+//!     )
+//! );
 //! ```
 #![tactic(auto)]
 
 mod arguments;
+mod carousel_line;
 mod extract_line;
 mod forget_line;
+mod gaps_line;
 mod help_texts;
 mod info_line;
+mod join_line;
+mod join_words;
+mod limit;
 mod line;
+mod merge_line;
 mod numbers;
 mod objects;
 mod parser;
 mod selection_options;
+mod show_line;
 mod sizes;
+mod target;
 mod words;
 
+pub use carousel_line::CarouselLine;
+pub use extract_line::{ExtractAllLine, ExtractLine};
+pub use forget_line::ForgetLine;
+pub use gaps_line::GapsLine;
+pub use info_line::{InfoLine, InfoListLine};
+pub use join_line::JoinLine;
+pub use limit::Limit;
 pub use line::{Line, line_of};
+pub use merge_line::MergeLine;
+pub use show_line::ShowLine;
+pub use target::Target;

@@ -1,4 +1,5 @@
 -- The bytes of entries determine the entries (specs/Format).
+use Rattle.std.proofs.Common.{rules}
 use Rattle.flute_journal.proofs.Common.{none-some, ◌≡◌, ℕ, ◌^◌, ◌<◌, List, [], ◌∷◌, ◌++◌, length}
 use Rattle.flute_journal.proofs.Common.{take, drop, refl, sym, ap, ◌∙◌, append_assoc, arith}
 use Rattle.flute_journal.proofs.Common.{cases_lt, le-leb, take_at, drop_at, Information, session}
@@ -18,20 +19,17 @@ abbrev pub make_id : ℕ → ℕ → SymbolId
 make_id n i = record { sbn = n; esi = i }
 
 -- the bytes of a key after its sender determine the TSI and the object
-name-injective : (a b : Key) (x y : List ℕ) → IsKey a → IsKey b
-    → name_bytes a ++ x ≡ name_bytes b ++ y
-    → (a.session.tsi ≡ b.session.tsi) × (a.object ≡ b.object) × (x ≡ y)
+name-injective : (a b : Key) (x y : List ℕ) → IsKey a → IsKey b → name_bytes a ++ x ≡ name_bytes b
+    ++ y → (a.session.tsi ≡ b.session.tsi) × (a.object ≡ b.object) × (x ≡ y)
 name-injective a b x y p q e = grind (arith, append_assoc, in_bytes-injective)
 
 pub key-injective : (v : Version) (a b : Key) (x y : List ℕ) → IsKeyIn v a → IsKeyIn v b
     → key_bytes v a ++ x ≡ key_bytes v b ++ y → (a ≡ b) × (x ≡ y)
 key-injective v a b x y p q e =
-    let grouped =
-    sym (append_assoc (sender_bytes v a.session) (name_bytes a) x) ∙ e
-    ∙ append_assoc (sender_bytes v b.session) (name_bytes b) y in
-    let sender =
-    in_bytes-injective (sender_size v) a.session.sender b.session.sender (name_bytes a ++ x)
-    (name_bytes b ++ y) p.1 q.1 grouped in
+    let grouped = sym (append_assoc (sender_bytes v a.session) (name_bytes a) x) ∙ e ∙ append_assoc
+    (sender_bytes v b.session) (name_bytes b) y in
+    let sender = in_bytes-injective (sender_size v) a.session.sender b.session.sender
+    (name_bytes a ++ x) (name_bytes b ++ y) p.1 q.1 grouped in
     let name = name-injective a b x y p.0 q.0 sender.1 in
     (λ i. record { session = session (sender.0 i) (name.0 i); object = name.1 i }, name.2)
 
@@ -47,31 +45,26 @@ length_fits i p = grind (arith, cases_lt, le-leb, none-some)
 pub counted-injective : (a b x y : List ℕ) → length a < 2 ^ 16 → length b < 2 ^ 16
     → counted_bytes a ++ x ≡ counted_bytes b ++ y → (a ≡ b) × (x ≡ y)
 counted-injective a b x y p q e =
-    let grouped =
-    sym (append_assoc (in_bytes 2 (length a)) a x) ∙ e
-    ∙ append_assoc (in_bytes 2 (length b)) b y in
+    let grouped = sym (append_assoc (in_bytes 2 (length a)) a x) ∙ e ∙ append_assoc
+    (in_bytes 2 (length b)) b y in
     let s = in_bytes-injective 2 (length a) (length b) (a ++ x) (b ++ y) (omega (arith, p))
     (omega (arith, q)) grouped in
-    let front : a ≡ b =
-    sym (take_at a x (length a) refl) ∙ ap (take (length a)) s.1
-    ∙ take_at b y (length a) (sym s.0) in
-    let back : x ≡ y =
-    sym (drop_at a x (length a) refl) ∙ ap (drop (length a)) s.1
-    ∙ drop_at b y (length a) (sym s.0) in
-    (front, back)
+    let front : a ≡ b = sym (take_at a x (length a) refl) ∙ ap (take (length a)) s.1 ∙ take_at b y
+    (length a) (sym s.0) in
+    let back : x ≡ y = sym (drop_at a x (length a) refl) ∙ ap (drop (length a)) s.1 ∙ drop_at b y
+    (length a) (sym s.0) in (front, back)
 
 pub entry_injective : (v : Version) (f g : Fact) (x y : List ℕ) → IsFactIn v f → IsFactIn v g
     → entry_in v f ++ x ≡ entry_in v g ++ y → (f ≡ g) × (x ≡ y)
-entry_injective v f g x y p q e =
-    grind (
-      arith,
-      append_assoc,
-      key-injective,
-      length_fits,
-      in_bytes-injective,
-      id-injective,
-      counted-injective,
-    )
+entry_injective v f g x y p q e = grind (
+  arith,
+  append_assoc,
+  key-injective,
+  length_fits,
+  in_bytes-injective,
+  id-injective,
+  counted-injective,
+)
 
 pub not_end : (v : Version) (f : Fact) (x y : List ℕ) → 255 ∷ x ≡ entry_in v f ++ y → ⊥
 not_end v f x y e = grind (arith)
@@ -79,10 +72,7 @@ not_end v f x y e = grind (arith)
 -- headers, whatever follows them
 pub header-injective : (v w : Version) (x y : List ℕ) → header_in v ++ x ≡ header_in w ++ y
     → (v ≡ w) × (x ≡ y)
-header-injective One One x y e = (refl, cc)
-header-injective One Two x y e = absurd cc
-header-injective Two One x y e = absurd cc
-header-injective Two Two x y e = (refl, cc)
+header-injective other another x y e = search rules
 
 -- What is written has room for each sender.
 

@@ -1,10 +1,13 @@
 -- Journals as bytes: whole entries at the front of one (specs/Prefixes).
+use Rattle.std.proofs.Common.{arith}
+use Rattle.std.proofs.lemmas.Grind.{common_steps}
+use Rattle.std.proofs.Common.{rules}
 use Rattle.flute_journal.proofs.Common.{AllByRecursion, Collects, Fact, IsFact, IsFactIn, IsWithin}
-use Rattle.flute_journal.proofs.Common.{IsJournal, Journal, JournalIn, List, One, Same, Two}
+use Rattle.flute_journal.proofs.Common.{IsJournal, Journal, JournalIn, List, Same, Two}
 use Rattle.flute_journal.proofs.Common.{Version, [], ap, append-nil, append_assoc, end, entry}
-use Rattle.flute_journal.proofs.Common.{entry_in, fact_at, flat_map, flat_map_more, without_end}
-use Rattle.flute_journal.proofs.Common.{without_end_in, header, header_in, in_bytes, length, refl}
-use Rattle.flute_journal.proofs.Common.{spelling, spelling_in, subst, sym, written_up_to, ℕ, ◌++◌}
+use Rattle.flute_journal.proofs.Common.{entry_in, flat_map, without_end}
+use Rattle.flute_journal.proofs.Common.{without_end_in, header, in_bytes, length}
+use Rattle.flute_journal.proofs.Common.{spelling, spelling_in, sym, written_up_to, ℕ, ◌++◌}
 use Rattle.flute_journal.proofs.Common.{◌<◌, ◌^◌, ◌∙◌, ◌∷◌, ◌≡◌}
 use Rattle.flute_journal.proofs.framing_lemmas.Sequences.{GoesOn, begins}
 use Rattle.std.proofs.{lemmas.List.{append_cancel_left}, lemmas.List.Concat.{flat_map-append}}
@@ -13,13 +16,12 @@ use Rattle.flute_journal.proofs.format_lemmas.Entries.{facts_two}
 
 pub without_end-append : (es fs : List Fact)
     → without_end (es ++ fs) ≡ without_end es ++ flat_map entry fs
-without_end-append es fs =
-    ap (λ (x : List ℕ). header ++ x) (flat_map-append entry es fs)
-    ∙ sym (append_assoc header (flat_map entry es) (flat_map entry fs))
+without_end-append es fs = ap (λ (x : List ℕ). header ++ x) (flat_map-append entry es fs) ∙ sym
+    (append_assoc header (flat_map entry es) (flat_map entry fs))
 
 pub without_end_in-snoc : (v : Version) (es : List Fact) (f : Fact)
     → without_end_in v es ++ entry_in v f ≡ without_end_in v (es ++ f ∷ [])
-without_end_in-snoc v es f = flat_map_more (entry_in v) (header_in v) es f
+without_end_in-snoc v es f = grind (arith, common_steps)
 
 pub without_end-snoc : (es : List Fact) (f : Fact)
     → without_end es ++ entry f ≡ without_end (es ++ f ∷ [])
@@ -27,8 +29,7 @@ without_end-snoc es f = without_end_in-snoc Two es f
 
 pub written-snoc : (es : List Fact) (f : Fact)
     → without_end (es ++ f ∷ []) ≡ written_up_to (es ++ f ∷ [])
-written-snoc [] f = refl
-written-snoc (e ∷ es) f = refl
+written-snoc x0 x1 = grind (arith, common_steps)
 
 -- bytes begin with a header of this version and these valid entries
 pub record BeginsWithEntries (version : Version) (entries : List Fact) (rest bytes : List ℕ)
@@ -44,49 +45,35 @@ pub record BeginsWithJournal (version : Version) (entries : List Fact) (rest byt
 
 -- If two journals begin with the same bytes, they have one version; where the first ends after
 -- its own entries, these are the first entries of the second.
-pub without_end-both : {v w : Version} {fs es : List Fact} {x t bytes : List ℕ}
-    → BeginsWithEntries v fs x bytes → BeginsWithEntries w es t bytes
-    → ((f : Fact) (y : List ℕ) → t ≡ entry_in v f ++ y → ⊥)
-    → (v ≡ w) × GoesOn (entry_in v) fs es x t
-without_end-both {v = v} {w = w} {fs = fs} {es = es} {x = x} {t = t} p q none =
-    let e : without_end_in v fs ++ x ≡ without_end_in w es ++ t =
-    sym p.bytes_are ∙ q.bytes_are in
-    let h = header-injective v w (flat_map (entry_in v) fs ++ x) (flat_map (entry_in w) es ++ t)
-    (sym (append_assoc (header_in v) (flat_map (entry_in v) fs) x) ∙ e
-    ∙ append_assoc (header_in w) (flat_map (entry_in w) es) t) in (
-      h.0,
-      begins (entry_in v) (IsFactIn v) (entry_injective v) fs es x t none p.valid
-          (subst (λ (z : Version). AllByRecursion (IsFactIn z) es) (sym h.0) q.valid)
-          (subst (λ (z : Version). flat_map (entry_in v) fs ++ x ≡ flat_map (entry_in z) es ++ t)
-          (sym h.0) h.1),
-    )
+pub without_end-both : {v w : Version} {fs es : List Fact} {x t bytes : List ℕ} → BeginsWithEntries
+    v fs x bytes → BeginsWithEntries w es t bytes →
+    ((f : Fact) (y : List ℕ) → t ≡ entry_in v f ++ y → ⊥) → (v ≡ w) × GoesOn (entry_in v) fs es x t
+without_end-both {v = v} {w = w} {fs = fs} {es = es} {x = x} {t = t} p q none = search (
+  rules,
+  header-injective,
+  begins,
+  entry_injective,
+)
 
 pub without_end-of_spelling : {v w : Version} {fs es : List Fact} {x y bytes : List ℕ}
     → BeginsWithEntries v fs x bytes → BeginsWithJournal w es y bytes
     → (v ≡ w) × GoesOn (entry_in v) fs es x (end (length es) ++ y)
 without_end-of_spelling {v = v} {w = w} {es = es} {y = y} {bytes = bytes} p q =
-    let r : BeginsWithEntries w es (end (length es) ++ y) bytes =
-    record {
+    let r : BeginsWithEntries w es (end (length es) ++ y) bytes = record {
       valid = q.valid;
       bytes_are = q.bytes_are ∙ append_assoc (without_end_in w es) (end (length es)) y;
-    } in
-    without_end-both p r (λ f z. not_end v f (in_bytes 8 (length es) ++ y) z)
+    } in without_end-both p r (λ f z. not_end v f (in_bytes 8 (length es) ++ y) z)
 
 by_rest : (v : Version) (fs es rest : List Fact) (x y : List ℕ) → es ≡ fs ++ rest
     → end (length fs) ++ x ≡ flat_map (entry_in v) rest ++ (end (length es) ++ y) → es ≡ fs
 by_rest v fs es [] x y s t = s ∙ append-nil fs
-by_rest v fs es (f ∷ rest) x y s t =
-    absurd (not_end v f (in_bytes 8 (length fs) ++ x)
-    (flat_map (entry_in v) rest ++ (end (length es) ++ y))
-    (t ∙ append_assoc (entry_in v f) (flat_map (entry_in v) rest) (end (length es) ++ y)))
+by_rest v fs es (f ∷ rest) x y s t = search rules
 
 -- a journal is read in one way, whatever follows it
-pub spelling-injective : {v w : Version} {fs es : List Fact} {x y bytes : List ℕ}
-    → BeginsWithJournal v fs x bytes → BeginsWithJournal w es y bytes
-    → (v ≡ w) × (es ≡ fs) × (x ≡ y)
+pub spelling-injective : {v w : Version} {fs es : List Fact} {x y bytes : List ℕ} →
+    BeginsWithJournal v fs x bytes → BeginsWithJournal w es y bytes → (v ≡ w) × (es ≡ fs) × (x ≡ y)
 spelling-injective {v = v} {fs = fs} {es = es} {x = x} {y = y} {bytes = bytes} p q =
-    let begun : BeginsWithEntries v fs (end (length fs) ++ x) bytes =
-    record {
+    let begun : BeginsWithEntries v fs (end (length fs) ++ x) bytes = record {
       valid = p.valid;
       bytes_are = p.bytes_are ∙ append_assoc (without_end_in v fs) (end (length fs)) x;
     } in
@@ -109,22 +96,11 @@ pub record JournalParts (version : Version) (bytes : List ℕ) (facts : List Fac
 
 pub journal_parts : (v : Version) (bytes : List ℕ) (facts : List Fact) → JournalIn v bytes facts
     → JournalParts v bytes facts
-journal_parts One bytes facts j =
-    record { entries = j.0; collects = j.1; small = j.2; bytes_are = j.3; valid = j.4 }
-journal_parts Two bytes facts j =
-    record {
-      entries = j.0;
-      collects = j.1;
-      small = j.2;
-      bytes_are = j.3;
-      valid =
-          facts_two j.0 j.1.valid;
-    }
+journal_parts x0 x1 x2 x3 = search (rules, facts_two)
 
 pub parts_journal : (v : Version) (bytes : List ℕ) (facts : List Fact)
     → JournalParts v bytes facts → JournalIn v bytes facts
-parts_journal One bytes facts j = (j.entries, j.collects, j.small, j.bytes_are, j.valid)
-parts_journal Two bytes facts j = (j.entries, j.collects, j.small, j.bytes_are)
+parts_journal x0 x1 x2 x3 = search rules
 
 pub written_journal : (bytes : List ℕ) (facts : List Fact) → Journal bytes facts
     → IsJournal bytes facts
@@ -133,11 +109,7 @@ written_journal bytes facts j = (Two, j)
 -- the entries of a journal, which nothing follows
 pub begins_with_journal : {v : Version} {bytes : List ℕ} {facts : List Fact}
     → (j : JournalParts v bytes facts) → BeginsWithJournal v j.entries [] bytes
-begins_with_journal {v = v} j =
-    record {
-      valid = j.valid;
-      bytes_are = j.bytes_are ∙ sym (append-nil (spelling_in v j.entries));
-    }
+begins_with_journal {v = v} j = search rules
 
 -- a journal has one version, and its facts have one value at each address
 pub same_journal : (v w : Version) (bytes : List ℕ) (F G : List Fact) → JournalIn v bytes F
@@ -145,14 +117,8 @@ pub same_journal : (v w : Version) (bytes : List ℕ) (F G : List Fact) → Jour
 same_journal v w bytes F G first second =
     let j = journal_parts v bytes F first in
     let k = journal_parts w bytes G second in
-    let one = spelling-injective (begins_with_journal j) (begins_with_journal k) in (
-      one.0,
-      record {
-        each =
-            λ a. j.collects.same.each a ∙ ap (λ z. fact_at z a) (sym one.1)
-            ∙ sym (k.collects.same.each a);
-      },
-    )
+    let one = spelling-injective (begins_with_journal j) (begins_with_journal k) in
+    (one.0, record { each = search rules })
 
 -- A front of a journal that is no journal: it ends within its last entries or its end.
 
@@ -177,9 +143,8 @@ no_end M bs more all e facts (v, journal) =
     (end (length j.entries) ++ more) f.1.bytes)
 
 -- nor are they and a part of the end
-pub no_whole_end : (M : List Fact) (bs more : List ℕ) → AllByRecursion IsFact M
-    → (more ≡ [] → ⊥) → bs ++ more ≡ spelling M → (facts : List Fact)
-    → IsJournal bs facts → ⊥
+pub no_whole_end : (M : List Fact) (bs more : List ℕ) → AllByRecursion IsFact M → (more ≡ [] → ⊥) →
+    bs ++ more ≡ spelling M → (facts : List Fact) → IsJournal bs facts → ⊥
 no_whole_end M bs more all s e facts (v, journal) =
     let j = journal_parts v bs facts journal in
     let read : BeginsWithJournal v j.entries more (bs ++ more) =
@@ -197,7 +162,7 @@ within_entry v f p g more w e =
     sym ((entry_injective v f g [] more p w (append-nil (entry_in v f) ∙ e)).1)
 
 pub within_end : (v : Version) (n : ℕ) → IsWithin (entry_in v) (IsFactIn v) (end n)
-within_end v n g more w e = absurd (not_end v g (in_bytes 8 n) more e)
+within_end v n g more w e = search rules
 
 pub within_nil : (v : Version) → IsWithin (entry_in v) (IsFactIn v) []
-within_nil v g more w e = absurd (let h : [] ≡ entry_in v g ++ more = e in cc)
+within_nil v g more w e = search rules

@@ -1,13 +1,13 @@
 -- Rising lists of facts, and one that begins with another.
+use Rattle.std.proofs.Common.{rules}
 use Rattle.flute_journal.proofs.Common.{none-some, same_Some, ◌≡◌, false, true, List, [], ◌∷◌, ◌++◌}
 use Rattle.flute_journal.proofs.Common.{Option, Some, None, IsTrue, refl, sym, ap, ◌∙◌, subst, inl}
 use Rattle.flute_journal.proofs.Common.{inr, false≢true, cases_Bool, Ordering, Less, Equal, Greater}
 use Rattle.flute_journal.proofs.Common.{is_lt, is_eq, address_cmp, same_address, address, fact_at}
 use Rattle.flute_journal.proofs.Common.{address_same, address_total, Address, Fact, fact_at-nil}
 use Rattle.flute_journal.proofs.Common.{fact_at-here, fact_at-elsewhere, is_after, last_of, Same}
-use Rattle.flute_journal.proofs.Common.{joined, joined-comm, joined-assoc, joined-none}
+use Rattle.flute_journal.proofs.Common.{joined-comm, joined-assoc, joined-none}
 use Rattle.flute_journal.proofs.Common.{fact_at-append, StandAfter, IsRising, StandAfter-before}
-use Rattle.std.proofs.lemmas.Cmp.{tied_itself}
 use Rattle.std.specs.Ordering.{ordering_reverse}
 
 -- each address is above the one before it, the first above the last one
@@ -16,8 +16,7 @@ Rises last [] = Unit {0}
 Rises last (f ∷ fs) = IsTrue (is_after last (address f)) × Rises (Some (address f)) fs
 
 pub less_is : (o : Ordering) → is_lt o ≡ true → o ≡ Less
-less_is Less e = refl
-less_is o e = absurd cc
+less_is o e = search rules
 
 after-rises : (a : Address) (fs : List Fact) → StandAfter a fs → IsRising fs → Rises (Some a) fs
 after-rises a [] s r = tt
@@ -29,10 +28,13 @@ rising-rises (f ∷ fs) r = (refl, after-rises (address f) fs r.0 r.1)
 
 rises-after : (a : Address) (fs : List Fact) → Rises (Some a) fs → StandAfter a fs × IsRising fs
 rises-after a [] r = (tt, tt)
-rises-after a (f ∷ fs) r =
-    let rest = rises-after (address f) fs r.1 in
-    let less = less_is (address_cmp a (address f)) r.0 in
-    ((less, StandAfter-before a (address f) fs less rest.0), (rest.0, rest.1))
+rises-after a (f ∷ fs) r = search (
+  rules,
+  less_is,
+  StandAfter-before,
+  rises-after (address f) fs
+      r.1,
+)
 
 pub rises-rising : (fs : List Fact) → Rises None fs → IsRising fs
 rises-rising [] r = tt
@@ -55,7 +57,7 @@ after-trans None a b h k = refl
 after-trans (Some l) a b h k = after l b (address_total.trans l a b (less l a h) (less a b k))
 
 not_after_itself : (a : Address) → is_after (Some a) a ≡ false
-not_after_itself a = ap is_lt (tied_itself address_total a)
+not_after_itself a = search rules
 
 -- what isn't after one address isn't after a later one
 not_after-later : (l : Option Address) (a b : Address) → IsTrue (is_after l a)
@@ -81,17 +83,17 @@ not_same-after l a b h n = elim (cases_Bool (same_address a b)) [
 pub rising-none : (l : Option Address) (es : List Fact) (a : Address) → Rises l es
     → is_after l a ≡ false → fact_at es a ≡ None
 rising-none l [] a r n = fact_at-nil a
-rising-none l (f ∷ fs) a r n =
-    cc (
-      fact_at-elsewhere f fs a (not_same-after l (address f) a r.0 n),
-      rising-none (Some (address f)) fs a r.1 (not_after-later l (address f) a r.0 n),
-    )
+rising-none l (f ∷ fs) a r n = search (
+  rules,
+  fact_at-elsewhere,
+  not_same-after,
+  not_after-later,
+  rising-none (Some (address f)) fs a r.1 (not_after-later l (address f) a r.0 n),
+)
 
 rising-head : (l : Option Address) (f : Fact) (fs : List Fact) → Rises l (f ∷ fs)
     → fact_at (f ∷ fs) (address f) ≡ Some f
-rising-head l f fs r =
-    fact_at-here f fs (rising-none (Some (address f)) fs (address f) r.1
-    (not_after_itself (address f)))
+rising-head l f fs r = search (rules, fact_at-here, rising-none, not_after_itself)
 
 -- what isn't after an address isn't after the last one
 not_after-last : (l : Address) (es : List Fact) (a : Address) → Rises (Some l) es
@@ -105,11 +107,9 @@ pub rising-prefix : (l : Option Address) (M E : List Fact) → Rises l M → Ris
     → ((a : Address) → is_after (last_of l M) a ≡ false → fact_at M a ≡ fact_at E a)
     → (rest : List Fact) × (E ≡ M ++ rest)
 rising-prefix l [] E r s h = (E, refl)
-rising-prefix l (m ∷ M) [] r s h =
-    absurd (none-some m (sym (fact_at-nil (address m))
-    ∙ sym (h (address m) (not_after-last (address m) M (address m) r.1
-    (not_after_itself (address m))))
-    ∙ rising-head l m M r))
+rising-prefix l (m ∷ M) [] r s h = absurd (none-some m (sym (fact_at-nil (address m)) ∙ sym
+    (h (address m) (not_after-last (address m) M (address m) r.1 (not_after_itself (address m)))) ∙
+    rising-head l m M r))
 rising-prefix l (m ∷ M) (e ∷ E) r s h =
     by_order (λ p. rising-prefix (Some (address m)) M E r.1
     (subst (λ x. Rises (Some x) E) (sym p) s.1) (same_tail p))
@@ -173,29 +173,8 @@ Rises-second l (e ∷ es) fs r = Rises-second (Some (address e)) es fs r.1
 
 pub fact_at-second_none : (F G : List Fact) (a : Address) → fact_at G a ≡ None
     → fact_at (F ++ G) a ≡ fact_at F a
-fact_at-second_none F G a q =
-    fact_at-append F G a ∙ ap (joined a (fact_at F a)) q ∙ joined-none a (fact_at F a)
+fact_at-second_none F G a q = search (rules, fact_at-append, joined-none)
 
 -- the two lists in the middle may be exchanged
 pub Same-crossed : (F G H K : List Fact) → Same ((F ++ G) ++ (H ++ K)) ((F ++ H) ++ (G ++ K))
-Same-crossed F G H K = record {
-  each = λ a.
-      fact_at-append (F ++ G) (H ++ K) a
-      ∙ ap (λ x. joined a x (fact_at (H ++ K) a)) (fact_at-append F G a)
-      ∙ ap (joined a (joined a (fact_at F a) (fact_at G a))) (fact_at-append H K a)
-      ∙ crossed a (fact_at F a) (fact_at G a) (fact_at H a) (fact_at K a)
-      ∙ ap (λ x. joined a x (joined a (fact_at G a) (fact_at K a))) (sym (fact_at-append F H a))
-      ∙ ap (joined a (fact_at (F ++ H) a)) (sym (fact_at-append G K a))
-      ∙ sym (fact_at-append (F ++ H) (G ++ K) a);
-}
-  where
-    crossed : (a : Address) (w x y z : Option Fact)
-        → joined a (joined a w x) (joined a y z) ≡ joined a (joined a w y) (joined a x z)
-    crossed a w x y z =
-        cc (
-          joined-assoc a w x (joined a y z),
-          joined-assoc a x y z,
-          joined-comm a x y,
-          joined-assoc a y x z,
-          joined-assoc a w y (joined a x z),
-        )
+Same-crossed F G H K = search (rules, fact_at-append, joined-assoc, joined-comm)

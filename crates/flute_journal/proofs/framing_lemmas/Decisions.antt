@@ -1,7 +1,8 @@
 -- Bytes are a framed file, or they stop at a fault: this is decided (specs/Framing).
+use Rattle.std.proofs.Common.{rules}
 use Rattle.flute_journal.proofs.Common.{◌≡◌, ℕ, zero, suc, ◌<◌, ◌≤◌, List, [], ◌∷◌, ◌++◌, length}
 use Rattle.flute_journal.proofs.Common.{drop, Option, Some, None, IsTrue, inl, inr, ◌⊎◌, refl, sym}
-use Rattle.flute_journal.proofs.Common.{ap, ◌∙◌, subst, arith, append_assoc, append-nil}
+use Rattle.flute_journal.proofs.Common.{ap, ◌∙◌, subst, arith, append_assoc}
 use Rattle.flute_journal.proofs.Common.{length-append, flat_map_more, AllByRecursion, IsByte}
 use Rattle.flute_journal.proofs.Common.{ReadFault, Framing, AreItems, IsWhole, Stops, in_header}
 use Rattle.flute_journal.proofs.Common.{after_items, up_to_end}
@@ -20,8 +21,7 @@ pub data Next {V P T : Type 0} (framing : Framing V P T) (limit : ℕ) (place : 
       → Next framing limit place rest
 
 abbrev pub Decided : {V P T : Type 0} → Framing V P T → ℕ → List ℕ → Type 0
-Decided {V} framing limit bytes =
-    ((xs : List V) × IsWhole framing.frame limit bytes xs) ⊎
+Decided {V} framing limit bytes = ((xs : List V) × IsWhole framing.frame limit bytes xs) ⊎
     ((xs : List V) × ((f : ReadFault) × Stops framing bytes limit xs f))
 
 module _ {V P T : Type 0} {framing : Framing V P T} (sound : IsSound framing)
@@ -39,10 +39,9 @@ module _ {V P T : Type 0} {framing : Framing V P T} (sound : IsSound framing)
       → Begins limit bytes xs more → Decided framing limit bytes
 
   -- after these items: without a fault the bytes are the end, or one item more is read
-  goes_on : {limit : ℕ} {bytes : List ℕ} {xs : List V} {rest : List ℕ}
-      → Again limit bytes rest → (b : Begins limit bytes xs rest) (place : P)
-      → place ≡ framing.place_after b.are_items.told xs → Next framing limit place rest
-      → Decided framing limit bytes
+  goes_on : {limit : ℕ} {bytes : List ℕ} {xs : List V} {rest : List ℕ} → Again limit bytes rest →
+      (b : Begins limit bytes xs rest) (place : P) → place ≡ framing.place_after b.are_items.told xs
+      → Next framing limit place rest → Decided framing limit bytes
   goes_on {xs = xs} again b place is (at_end e) =
       let t = b.are_items.told in
       let count : framing.count place ≡ length xs = ap framing.count is ∙ sound.counted t xs in
@@ -50,8 +49,7 @@ module _ {V P T : Type 0} {framing : Framing V P T} (sound : IsSound framing)
         xs,
         record {
           are_items = b.are_items;
-          bytes_are =
-              b.whole ∙ ap (λ (l : List ℕ). up_to_end framing.frame t xs ++ l)
+          bytes_are = b.whole ∙ ap (λ (l : List ℕ). up_to_end framing.frame t xs ++ l)
               (e ∙ ap framing.frame.end count);
         },
       )
@@ -88,19 +86,17 @@ module _ {V P T : Type 0} {framing : Framing V P T} (sound : IsSound framing)
       })
 
   -- after these items the bytes are a file, or stop at this fault
-  stops_or : (limit : ℕ) (bytes : List ℕ) (xs : List V) (rest : List ℕ) → Again limit bytes rest
-      → (b : Begins limit bytes xs rest) (o : Option ReadFault)
-      → framing.next_fault (framing.place_after b.are_items.told xs) limit rest ≡ o
-      → Decided framing limit bytes
-  stops_or limit bytes xs rest again b (Some f) h =
-      inr (
-        xs,
-        (
-          f,
-          after_items (record
-              { are_items = b.are_items; rest = rest; whole = b.whole; first = h }),
-        ),
-      )
+  stops_or : (limit : ℕ) (bytes : List ℕ) (xs : List V) (rest : List ℕ) → Again limit bytes rest →
+      (b : Begins limit bytes xs rest) (o : Option ReadFault) → framing.next_fault
+      (framing.place_after b.are_items.told xs) limit rest ≡ o → Decided framing limit bytes
+  stops_or limit bytes xs rest again b (Some f) h = inr (
+    xs,
+    (
+      f,
+      after_items
+          (record { are_items = b.are_items; rest = rest; whole = b.whole; first = h }),
+    ),
+  )
   stops_or limit bytes xs rest again b None h =
       let place = framing.place_after b.are_items.told xs in
       goes_on again b place refl (found limit place rest b.octets h)
@@ -110,8 +106,7 @@ module _ {V P T : Type 0} {framing : Framing V P T} (sound : IsSound framing)
       → Begins limit bytes xs rest → Decided framing limit bytes
   decides zero limit bytes xs rest le b =
       stops_or limit bytes xs rest (λ ys more few c. absurd (omega (arith, few, le))) b _ refl
-  decides (suc fuel) limit bytes xs rest le b =
-      stops_or limit bytes xs rest
+  decides (suc fuel) limit bytes xs rest le b = stops_or limit bytes xs rest
       (λ ys more few c. decides fuel limit bytes ys more (omega (arith, few, le)) c) b _ refl
 
   -- the decision from the header on
@@ -120,18 +115,8 @@ module _ {V P T : Type 0} {framing : Framing V P T} (sound : IsSound framing)
   from_header limit bytes oct (Some f) e = inr ([], (f, in_header refl e))
   from_header limit bytes oct None e =
       let t = framing.told_in bytes in
-      decides (length (drop 6 bytes)) limit bytes [] (drop 6 bytes) (omega arith) (record {
-        octets = octets-drop 6 bytes oct;
-        are_items = record {
-          told = t;
-          valid = tt;
-          in_order = sound.none_in_order;
-          few =
-              omega arith;
-        };
-        whole = sound.header_is bytes e ∙ ap (λ (l : List ℕ). l ++ drop 6 bytes)
-            (sym (append-nil (framing.frame.header t)));
-      })
+      decides (length (drop 6 bytes)) limit bytes [] (drop 6 bytes) (omega arith)
+      (record { octets = octets-drop 6 bytes oct; are_items = search rules; whole = search rules })
 
   pub decided : (bytes : List ℕ) (limit : ℕ) → AllByRecursion IsByte bytes
       → Decided framing limit bytes

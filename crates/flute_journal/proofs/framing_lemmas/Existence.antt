@@ -1,4 +1,6 @@
 -- Bytes without a fault are those of a journal; others stop at exactly one fault (specs/Framing).
+use Rattle.std.proofs.lemmas.Grind.{common_steps}
+use Rattle.std.proofs.Common.{rules}
 use Rattle.flute_journal.proofs.Common.{Before}
 use Rattle.flute_journal.proofs.Common.{Address, AllByRecursion, Bool, Fact, HasRoom, Info}
 use Rattle.flute_journal.proofs.Common.{InfoConflict, InfoFault, IsByte, IsFact, IsId, IsKey}
@@ -6,15 +8,15 @@ use Rattle.flute_journal.proofs.Common.{IsKeyIn, IsRising, IsSymbol, IsTrue, Key
 use Rattle.flute_journal.proofs.Common.{One, Option, ReadFault, Some, journal_framing, Symbol}
 use Rattle.flute_journal.proofs.Common.{SymbolConflict, Two, Version, [], address, ap, append_assoc}
 use Rattle.flute_journal.proofs.Common.{arith, big_endian, body, body_fault, byte_of}
-use Rattle.flute_journal.proofs.Common.{bytes_eq, bytes_eq-Decides, cases_Bool, drop, drop-drop}
+use Rattle.flute_journal.proofs.Common.{bytes_eq, bytes_eq-Decides, cases_Bool, drop}
 use Rattle.flute_journal.proofs.Common.{end_checks, entry_checks, eqb, eqb-false, eqb-true, false}
 use Rattle.flute_journal.proofs.Common.{first_fault, header_fault, header_in, id_bytes, id_in}
 use Rattle.flute_journal.proofs.Common.{if◌then◌else◌, in_bytes, info_bytes, info_checks}
 use Rattle.flute_journal.proofs.Common.{info_fault, info_in, inl, inr, is_after, is_key, is_kind}
 use Rattle.flute_journal.proofs.Common.{is_name, is_version, key_bytes, key_in, fact_key, key_size}
-use Rattle.flute_journal.proofs.Common.{kind, last_of, leb, leb-false, leb-true, length}
-use Rattle.flute_journal.proofs.Common.{length-drop, length-take, length-take-le, ltb, ltb-false}
-use Rattle.flute_journal.proofs.Common.{ltb-true, magic, named_in, next_fault, none-some, not}
+use Rattle.flute_journal.proofs.Common.{kind, last_of, leb, leb-true, length}
+use Rattle.flute_journal.proofs.Common.{length-drop, length-take, ltb, ltb-false}
+use Rattle.flute_journal.proofs.Common.{ltb-true, named_in, next_fault, none-some, not}
 use Rattle.flute_journal.proofs.Common.{number_at, opening_fault, pow-le-pow_right, refl}
 use Rattle.flute_journal.proofs.Common.{rest_bytes, rest_fault, subst, suc, sym, counted_bytes}
 use Rattle.flute_journal.proofs.Common.{take, take-append-drop, take_all, true, version_bytes}
@@ -24,7 +26,7 @@ use Rattle.flute_journal.proofs.Numbers.{octets-drop, number-below, octets-take,
 use Rattle.flute_journal.proofs.Numbers.{spelled_pair}
 use Rattle.flute_journal.proofs.format_lemmas.Rising.{Rises, rising-rises, rises-rising}
 use Rattle.flute_journal.proofs.framing_lemmas.Decisions.{Next, at_end, at_item}
-use Rattle.flute_journal.proofs.format_lemmas.Parts.{body_comes, key_spelled, info_spelled}
+use Rattle.flute_journal.proofs.format_lemmas.Parts.{key_spelled, info_spelled}
 use Rattle.std.proofs.Common.{◌||◌}
 use Rattle.flute_journal.specs.Format.{sender_size}
 use Rattle.flute_journal.specs.declared.format.Kind.TheVariants as kinds
@@ -65,8 +67,7 @@ name_valid sender bs small oct e = grind (arith, below_at, both, eqb-true, ltb-t
 -- what an entry has fits for is an address
 room_small : (v : Version) (n : ℕ) → n < 256 ^ sender_size v → n < 2 ^ 128
 unfolding sender_size
-room_small One n h = omega (arith, h)
-room_small Two n h = h
+room_small x0 x1 x2 = search rules
 
 key_valid : (v : Version) (bs : List ℕ) → AllByRecursion IsByte bs → is_key v bs ≡ true
     → IsKeyIn v (key_in v bs)
@@ -79,7 +80,7 @@ key_valid v bs oct e =
     )
 
 id_valid : (bs : List ℕ) → AllByRecursion IsByte bs → IsId (id_in bs)
-id_valid bs oct = (omega (arith, below_at 0 2 bs oct), omega (arith, below_at 2 2 bs oct))
+id_valid bs oct = search rules
 
 id_spelled : (bs : List ℕ) → length bs ≡ 4 → AllByRecursion IsByte bs → id_bytes (id_in bs) ≡ bs
 id_spelled bs len oct =
@@ -103,36 +104,33 @@ pub record RestFound (last : Option Address) (k : Kind) (key : Key) (bytes : Lis
   pub in_order : is_after last (address fact) ≡ true
 
 split_at : (n : ℕ) (r x : List ℕ) → x ≡ take n r → r ≡ x ++ drop n r
-split_at n r x e = sym (take-append-drop n r) ∙ ap (λ (y : List ℕ). y ++ drop n r) (sym e)
+split_at n r x e = grind (arith, common_steps)
 
 front_length : (n : ℕ) (r : List ℕ) → ltb (length r) n ≡ false → length (take n r) ≡ n
-front_length n r e = length-take-le n r (ltb-false (length r) n e)
+front_length n r e = search rules
 
 -- without a fault these bytes are those of a symbol
-symbol_found : (t : List ℕ) → AllByRecursion IsByte t → ltb (length t) 2 ≡ false
-    → eqb (big_endian (take 2 t)) 0 ≡ false
-    → ltb (length (drop 2 t)) (big_endian (take 2 t)) ≡ false
-    → (b : List ℕ) × (more : List ℕ) × IsSymbol b × (t ≡ counted_bytes b ++ more)
+symbol_found : (t : List ℕ) → AllByRecursion IsByte t → ltb (length t) 2 ≡ false → eqb
+    (big_endian (take 2 t)) 0 ≡ false → ltb (length (drop 2 t)) (big_endian (take 2 t)) ≡ false →
+    (b : List ℕ) × (more : List ℕ) × IsSymbol b × (t ≡ counted_bytes b ++ more)
 symbol_found t oct two some fits =
     let n = big_endian (take 2 t) in
     let b = take n (drop 2 t) in
     let more = drop n (drop 2 t) in
     let len : length b ≡ n = front_length n (drop 2 t) fits in
-    let small : n < 256 ^ 2 =
-    below 2 (take 2 t) (omega (arith, front_length 2 t two)) (octets-take 2 t oct) in
-    let front : in_bytes 2 (length b) ≡ take 2 t =
-    ap (in_bytes 2) len ∙ spelled 2 (take 2 t) (front_length 2 t two) (octets-take 2 t oct) in (
+    let small : n < 256 ^ 2 = below 2 (take 2 t) (omega (arith, front_length 2 t two))
+    (octets-take 2 t oct) in
+    let front : in_bytes 2 (length b) ≡ take 2 t = ap (in_bytes 2) len ∙ spelled 2 (take 2 t)
+    (front_length 2 t two) (octets-take 2 t oct) in (
       b,
       more,
       record {
         some = omega (arith, len, eqb-false n 0 some);
-        short =
-            omega (arith, len, small);
+        short = omega (arith, len, small);
         octets = octets-take n (drop 2 t) (octets-drop 2 t oct);
       },
-      split_at 2 t (in_bytes 2 (length b)) front
-          ∙ ap (λ (x : List ℕ). in_bytes 2 (length b) ++ x) (sym (take-append-drop n (drop 2 t)))
-          ∙ sym (append_assoc (in_bytes 2 (length b)) b more),
+      split_at 2 t (in_bytes 2 (length b)) front ∙ ap (λ (x : List ℕ). in_bytes 2 (length b) ++ x)
+          (sym (take-append-drop n (drop 2 t))) ∙ sym (append_assoc (in_bytes 2 (length b)) b more),
     )
 
 -- without a fault they are those of the rest of an entry of this kind
@@ -148,17 +146,12 @@ rest_found last kinds.Info key r kv oct e =
       more = drop 12 r;
       kind_is = refl;
       key_is = refl;
-      bytes_are =
-          split_at 12 r (info_bytes (info_in front))
+      bytes_are = split_at 12 r (info_bytes (info_in front))
           (info_spelled front (front_length 12 r b.0) oct');
       valid = (
         kv,
         (
-          (
-            omega (arith, below_at 6 2 front oct'),
-            omega
-                (arith, below_at 8 4 front oct'),
-          ),
+          (omega (arith, below_at 6 2 front oct'), omega (arith, below_at 8 4 front oct')),
           none_info (info_fault (info_in front)) b.1,
         ),
       );
@@ -171,8 +164,7 @@ rest_found last kinds.InfoConflict key r kv oct e =
       more = r;
       kind_is = refl;
       key_is = refl;
-      bytes_are =
-          refl;
+      bytes_are = refl;
       valid = kv;
       in_order = is_true _ a.0;
     }
@@ -231,12 +223,10 @@ end_found limit before rest is oct e =
     let a = first-none _ _ _ e in
     let c = first-none _ _ _ a.1 in
     let d = first-none _ _ _ c.1 in
-    let len : length rest ≡ 8 =
-    omega (arith, ltb-false (length rest) 8 a.0, ltb-false 8 (length rest) d.0) in
+    let len : length rest ≡ 8 = omega
+    (arith, ltb-false (length rest) 8 a.0, ltb-false 8 (length rest) d.0) in
     let whole : take 8 rest ≡ rest = take_all 8 rest (omega (arith, len)) in
-    let told : big_endian rest ≡ before.count =
-    ap big_endian (sym whole) ∙ eqb-true (big_endian (take 8 rest)) before.count
-    (is_true _ c.0) in
+    let told : big_endian rest ≡ before.count = search rules in
     at_end (ap (λ x. x ∷ rest) is ∙ ap (λ (x : List ℕ). 255 ∷ x)
     (sym (spelled 8 rest len oct) ∙ ap (in_bytes 8) told))
 
@@ -255,27 +245,23 @@ entry_found limit before k rest few oct e =
     let yes' : is_key v front ≡ true = is_true _ b.0 in
     let valid = key_valid v front oct' yes' in
     let r = rest_found before.last k key (drop n rest) valid.0 (octets-drop n rest oct) b.1 in
-    let bytes : rest ≡ body v r.fact ++ r.more =
-    split_at n rest (key_bytes v key) (key_spelled v front (front_length n rest a.0) oct' yes')
-    ∙ ap (λ (x : List ℕ). key_bytes v key ++ x) r.bytes_are
-    ∙ ap (λ (x : Key). key_bytes v x ++ (rest_bytes r.fact ++ r.more)) (sym r.key_is)
-    ∙ sym (append_assoc (key_bytes v (fact_key r.fact)) (rest_bytes r.fact) r.more) in
-    at_item r.fact r.more
-    (ap (λ x. x ∷ rest) (sym r.kind_is) ∙ ap (λ (x : List ℕ). kind r.fact ∷ x) bytes)
-    (omega arith)
-    (r.valid, subst (λ (x : Key). HasRoom v x.session) (sym r.key_is) valid.1) r.in_order few
+    let bytes : rest ≡ body v r.fact ++ r.more = split_at n rest (key_bytes v key)
+    (key_spelled v front (front_length n rest a.0) oct' yes') ∙ ap
+    (λ (x : List ℕ). key_bytes v key ++ x) r.bytes_are ∙ ap
+    (λ (x : Key). key_bytes v x ++ (rest_bytes r.fact ++ r.more)) (sym r.key_is) ∙ sym
+    (append_assoc (key_bytes v (fact_key r.fact)) (rest_bytes r.fact) r.more) in at_item r.fact
+    r.more (ap (λ x. x ∷ rest) (sym r.kind_is) ∙ ap (λ (x : List ℕ). kind r.fact ∷ x) bytes)
+    (omega arith) (r.valid, subst (λ (x : Key). HasRoom v x.session) (sym r.key_is) valid.1)
+    r.in_order few
 
-kind_found : (limit : ℕ) (before : Before) (b : ℕ) (rest : List ℕ) → is_kind b ≡ true
-    → AllByRecursion IsByte rest → first_fault (entry_checks before limit b rest) ≡ None
-    → next_fault before limit (b ∷ rest) ≡ None
-    → Next journal_framing limit before (b ∷ rest)
+kind_found : (limit : ℕ) (before : Before) (b : ℕ) (rest : List ℕ) → is_kind b ≡ true →
+    AllByRecursion IsByte rest → first_fault (entry_checks before limit b rest) ≡ None → next_fault
+    before limit (b ∷ rest) ≡ None → Next journal_framing limit before (b ∷ rest)
 kind_found limit before b rest e oct h whole =
     let p = both (leb 1 b) (leb b 4) e in
     let k = kind_at b (leb-true 1 b p.0) (leb-true b 4 p.1) in
-    let few : before.count < limit = leb-false limit before.count (first-none _ _ _ h).0 in
-    let none : body_fault before.version before.last k.0 rest ≡ None =
-    sym (body_comes limit before k.0 rest few)
-    ∙ ap (λ x. next_fault before limit (x ∷ rest)) (sym k.1) ∙ whole in
+    let few : before.count < limit = search rules in
+    let none : body_fault before.version before.last k.0 rest ≡ None = search rules in
     subst (λ x. Next journal_framing limit before (x ∷ rest)) (sym k.1)
     (entry_found limit before k.0 rest few oct none)
 
@@ -285,60 +271,33 @@ pub next_found : (limit : ℕ) (before : Before) (bytes : List ℕ) → AllByRec
 next_found limit before [] oct e = absurd (none-some _ (sym e))
 next_found limit before (b ∷ rest) oct e = elim (cases_Bool (eqb b 255)) [
   | inl t ↦ end_found limit before rest (eqb-true b 255 t) oct.1 (taken (eqb b 255) _ _ t e)
-  | inr n ↦
-      let h = passed (eqb b 255) _ _ n e in
-      elim (cases_Bool (is_kind b)) [
-        | inl t ↦ kind_found limit before b rest t oct.1 (taken (is_kind b) _ _ t h) e
-        | inr m ↦ absurd (none-some _ (sym (passed (is_kind b) _ _ m h)))
-      ]
+  | inr n ↦ let h = passed (eqb b 255) _ _ n e in elim (cases_Bool (is_kind b)) [
+    | inl t ↦ kind_found limit before b rest t oct.1 (taken (is_kind b) _ _ t h) e
+    | inr m ↦ absurd (none-some _ (sym (passed (is_kind b) _ _ m h)))
+  ]
 ]
 
 -- bytes without a fault in their first six begin with the magic number and a known version
 magic_is : (m : List ℕ) (is_known : List ℕ → Bool) (y : List ℕ) → version_fault m is_known y ≡ None
     → (y ≡ m ++ (take 2 (drop 4 y) ++ drop 6 y)) × (is_known (take 2 (drop 4 y)) ≡ true)
-magic_is m is_known y e =
-    let a = first-none _ _ _ e in
-    let b = first-none _ _ _ a.1 in
-    let c = first-none _ _ _ b.1 in
-    let d = first-none _ _ _ c.1 in
-    let front : take 4 y ≡ m = (bytes_eq-Decides (take 4 y) m).0 (is_true _ b.0) in (
-      sym (take-append-drop 4 y)
-          ∙ ap (λ (l : List ℕ). l ++ drop 4 y) front
-          ∙ ap (λ (l : List ℕ). m ++ l)
-          (sym (take-append-drop 2 (drop 4 y)) ∙ ap (λ (l : List ℕ). take 2 (drop 4 y) ++ l)
-          (drop-drop 2 4 y)),
-      is_true _ d.0,
-    )
+magic_is m is_known y e = search rules
 
 pub opening_is : (o y : List ℕ) → length o ≡ 6 → opening_fault o y ≡ None → y ≡ o ++ drop 6 y
 opening_is o y len e =
     let m = magic_is (take 4 o) (λ version. bytes_eq version (take 2 (drop 4 o))) y e in
     let back : take 2 (drop 4 y) ≡ drop 4 o =
     (bytes_eq-Decides (take 2 (drop 4 y)) (take 2 (drop 4 o))).0 m.1 ∙ take_all 2 (drop 4 o)
-    (omega (arith, len, length-drop 4 o)) in
-    m.0
-    ∙ ap (λ (l : List ℕ). take 4 o ++ (l ++ drop 6 y)) back
-    ∙ sym (append_assoc (take 4 o) (drop 4 o) (drop 6 y))
-    ∙ ap (λ (l : List ℕ). l ++ drop 6 y) (take-append-drop 4 o)
+    (omega (arith, len, length-drop 4 o)) in m.0 ∙ ap (λ (l : List ℕ). take 4 o ++ (l ++ drop 6 y))
+    back ∙ sym (append_assoc (take 4 o) (drop 4 o) (drop 6 y)) ∙ ap (λ (l : List ℕ). l ++ drop 6 y)
+    (take-append-drop 4 o)
 
 version_is : (t : List ℕ) → is_version t ≡ true
     → t ≡ version_bytes (if bytes_eq t (version_bytes One) then One else Two)
-version_is t e = elim (cases_Bool (bytes_eq t (version_bytes One))) [
-  | inl one ↦ (bytes_eq-Decides t (version_bytes One)).0 one ∙ ap
-      (λ (b : Bool). version_bytes (if b then One else Two)) (sym one)
-  | inr other ↦
-      let two : bytes_eq t (version_bytes Two) ≡ true =
-      or_second (bytes_eq t (version_bytes One)) (bytes_eq t (version_bytes Two)) other e in
-      (bytes_eq-Decides t (version_bytes Two)).0 two ∙ ap
-      (λ (b : Bool). version_bytes (if b then One else Two)) (sym other)
-]
+version_is t e = search rules
 
 -- a header without a fault is the header of the version that it contains
 pub header_is : (y : List ℕ) → header_fault y ≡ None → y ≡ header_in (version_in y) ++ drop 6 y
-header_is y e =
-    let m = magic_is magic is_version y e in
-    m.0 ∙ ap (λ (l : List ℕ). magic ++ (l ++ drop 6 y)) (version_is (take 2 (drop 4 y)) m.1) ∙ sym
-    (append_assoc magic (version_bytes (version_in y)) (drop 6 y))
+header_is y e = search rules
 
 pub rises_more : (b : Option Address) (es : List Fact) (f : Fact) → Rises b es
     → IsTrue (is_after (last_of b es) (address f)) → Rises b (es ++ f ∷ [])
@@ -348,4 +307,4 @@ rises_more b (e ∷ es) f p v = (p.0, rises_more (Some (address e)) es f p.1 v)
 -- one entry more, in order and within the bound
 pub rising_more : (es : List Fact) (f : Fact) → IsRising es
     → is_after (last_of None es) (address f) ≡ true → IsRising (es ++ f ∷ [])
-rising_more es f r o = rises-rising (es ++ f ∷ []) (rises_more None es f (rising-rises es r) o)
+rising_more es f r o = search (rules, rises-rising, rises_more, rising-rises)

@@ -1,15 +1,15 @@
 -- Lemmas on framed files, and what the calls of a reader give (specs/Framing).
+use Rattle.std.proofs.Common.{rules}
 use Rattle.flute_journal.proofs.Common.{◌≡◌, ℕ, ◌+◌, ◌<◌, List, [], ◌∷◌, ◌++◌, length, drop}
 use Rattle.flute_journal.proofs.Common.{drop_at, Option, Some, None, Result, Ok, Err, IsTrue, true}
-use Rattle.flute_journal.proofs.Common.{refl, ap, sym, ◌∙◌, subst, arith, inr, IfSome, IfErr, Consumes}
-use Rattle.flute_journal.proofs.Common.{Consumes-nil, Consumes-trans, ReadFault, IsFaultOf}
+use Rattle.flute_journal.proofs.Common.{refl, ap, ◌∙◌, arith, IfSome, IfErr, Consumes}
+use Rattle.flute_journal.proofs.Common.{Consumes-trans, ReadFault, IsFaultOf}
 use Rattle.flute_journal.proofs.Common.{StaysWithin}
 use Rattle.flute_journal.proofs.framing_lemmas.ReadsUpTo.{IsBehind, asked, fault_up_to}
 use Rattle.flute_journal.proofs.framing_lemmas.ReadsUpTo.{fault_up_to-behind}
 use Rattle.flute_journal.specs.declared.fault.ReadFault.TheVariants as faults
 use Rattle.flute_journal.specs.declared.readers.reader_state.ReaderState.{ReaderState}
 use Rattle.flute_journal.specs.declared.readers.reader_state.ReaderState.TheVariants.{Header, Items}
-use Rattle.flute_journal.specs.declared.readers.reader_state.ReaderState.TheVariants.{Ended, Failed}
 use Rattle.flute_journal.specs.Input.{Advances}
 use Rattle.flute_journal.specs.Framing.{Framing, or_else, is_open, ReadsNext, ReadsFrom, count_at}
 use Rattle.flute_journal.specs.Framing.{place_at, end_bytes, fault_from, state_after, Gives}
@@ -37,13 +37,11 @@ pub record IsSound {V P T : Type 0} (framing : Framing V P T) : Type 0 where
 
 known_header : (u : Option (List ℕ)) (p q : List ℕ → Option ReadFault) (f : ReadFault)
     → IfSome u (λ bs. p bs ≡ Some f) → IfSome u (λ bs. or_else (p bs) (q bs) ≡ Some f)
-known_header None p q f h = tt
-known_header (Some x) p q f h = ap (λ o. or_else o (q x)) h
+known_header x0 x1 x2 x3 x4 = search rules
 
 -- a fault of the header is one of header and item, if memory did not run out
-fault-first : (u v : Option (List ℕ)) (p q : List ℕ → Option ReadFault) (f : ReadFault)
-    → (f ≡ faults.OutOfMemory → ⊥)
-    → IsFaultOf p u v f → IsFaultOf (λ bs. or_else (p bs) (q bs)) u v f
+fault-first : (u v : Option (List ℕ)) (p q : List ℕ → Option ReadFault) (f : ReadFault) →
+    (f ≡ faults.OutOfMemory → ⊥) → IsFaultOf p u v f → IsFaultOf (λ bs. or_else (p bs) (q bs)) u v f
 fault-first u v p q faults.Read some h = (h.0, h.1, ap (λ o. or_else o (q h.0)) h.2)
 fault-first u v p q faults.OutOfMemory some h = absurd (some refl)
 fault-first u v p q f some h = known_header u p q f h
@@ -61,53 +59,30 @@ module _ {V P T : Type 0} (framing : Framing V P T) where
   pub reads_on : {limit : ℕ} (told : T) {place : P} {u v : Option (List ℕ)}
       (r : Result (Option V) ReadFault) → ReadsWithin limit place u v r
       → ReadsFrom framing told limit (Items place) u v r
-  reads_on told (Ok (Some x)) h = h.next
-  reads_on told (Ok None) h = h.next
   reads_on {limit = limit} told {place = place} {u = u} {v = v} (Err f) h =
       let w = h.within in
       record {
         fault = h.next;
         possible = h.possible;
-        asks = λ e. (
-          u,
-          Consumes-nil u,
-          asked (framing.frame.end (framing.count place))
-              (framing.next_fault place limit) u v f h.next e,
-        );
+        asks = search rules;
         part = w.0;
         read = w.1;
         is_part = in_item w.0 refl w.2;
       }
+  reads_on told (Ok other) h = h.next
 
   pub gives : (limit : ℕ) (told : T) (old : ReaderState P) {new : ReaderState P}
-      (u v : Option (List ℕ)) (r : Result (Option V) ReadFault)
-      → new ≡ state_after framing (place_at framing told old) r
-      → (is_open old ≡ true) × ReadsFrom framing told limit old u v r
+      (u v : Option (List ℕ)) (r : Result (Option V) ReadFault) → new ≡ state_after framing
+      (place_at framing told old) r → (is_open old ≡ true) × ReadsFrom framing told limit old u v r
       → Gives framing limit old new u v r
-  gives limit told old u v (Ok (Some x)) e (opened, h) =
-      record {
-        told = told;
-        open_before = opened;
-        valid = h.0;
-        in_order = h.1;
-        within =
-            h.2;
-        goes_on = e;
-        bytes = h.3;
-      }
-  gives limit told old u v (Ok None) e (opened, h) =
-      record { told = told; ended = e; bytes = inr (opened, h.0, h.1) }
-  gives limit told old u v (Err f) e (opened, h) =
-      record { told = told; stays = e; found = inr (opened, h) }
+  gives x0 x1 x2 x3 x4 x5 x6 x7 = search rules
 
   -- the same of a state that is known by an equation
   pub gives_from : (limit : ℕ) (told : T) {at old new : ReaderState P} (u v : Option (List ℕ))
-      (r : Result (Option V) ReadFault) → old ≡ at
-      → new ≡ state_after framing (place_at framing told at) r
-      → (is_open at ≡ true) × ReadsFrom framing told limit at u v r
-      → Gives framing limit old new u v r
-  gives_from limit told {at = at} {new = new} u v r is after h =
-      subst (λ s. Gives framing limit s new u v r) (sym is) (gives limit told at u v r after h)
+      (r : Result (Option V) ReadFault) → old ≡ at → new ≡ state_after framing
+      (place_at framing told at) r → (is_open at ≡ true) × ReadsFrom framing told limit at u v r →
+      Gives framing limit old new u v r
+  gives_from limit told {at = at} {new = new} u v r is after h = search rules
 
 module _ {V P T : Type 0} {framing : Framing V P T} (sound : IsSound framing) where
   pub reads_header : (limit : ℕ) (told : T) (u v : Option (List ℕ)) {f : ReadFault}
@@ -126,9 +101,8 @@ module _ {V P T : Type 0} {framing : Framing V P T} (sound : IsSound framing) wh
   }
 
   -- the fault of the bytes of a header, and of what follows it
-  header_comes : (limit : ℕ) (told : T) (r : List ℕ)
-      → fault_from framing Header limit (framing.frame.header told ++ r) ≡ framing.next_fault
-      (framing.place_after told []) limit r
+  header_comes : (limit : ℕ) (told : T) (r : List ℕ) → fault_from framing Header limit
+      (framing.frame.header told ++ r) ≡ framing.next_fault (framing.place_after told []) limit r
   header_comes limit told r =
       let whole = framing.frame.header told ++ r in
       ap (λ o. or_else o (framing.next_fault (framing.place_after (framing.told_in whole) []) limit
@@ -139,9 +113,8 @@ module _ {V P T : Type 0} {framing : Framing V P T} (sound : IsSound framing) wh
       (drop_at (framing.frame.header told) r 6 (sound.header_size told))
 
   pub reads_first : {limit : ℕ} (told : T) (u : Option (List ℕ)) {v w : Option (List ℕ)}
-      (r : Result (Option V) ReadFault) → Consumes u v (framing.frame.header told)
-      → ReadsWithin framing limit (framing.place_after told []) v w r
-      → ReadsFrom framing told limit Header u w r
+      (r : Result (Option V) ReadFault) → Consumes u v (framing.frame.header told) → ReadsWithin
+      framing limit (framing.place_after told []) v w r → ReadsFrom framing told limit Header u w r
   reads_first told u {v = v} {w = w} (Ok (Some x)) took h = (
     h.next.0,
     h.next.1,
@@ -150,15 +123,15 @@ module _ {V P T : Type 0} {framing : Framing V P T} (sound : IsSound framing) wh
         (framing.frame.item (framing.told (framing.place_after told [])) x) took h.next.3,
   )
   reads_first told u {v = v} {w = w} (Ok None) took h = (
-    Consumes-trans u v w (framing.frame.header told)
-        (framing.frame.end (framing.count (framing.place_after told []))) took h.next.0,
+    Consumes-trans u v w
+        (framing.frame.header told) (framing.frame.end (framing.count (framing.place_after told [])))
+        took h.next.0,
     h.next.1,
   )
   reads_first {limit = limit} told u {v = v} {w = w} (Err f) took h =
       let place = framing.place_after told [] in
       let behind : IsBehind u v (framing.frame.header told) (fault_from framing Header limit)
-      (framing.next_fault place limit) =
-      record { took = took; comes = header_comes limit told } in
+      (framing.next_fault place limit) = record { took = took; comes = header_comes limit told } in
       let s = h.within in
       record {
         fault = fault_up_to-behind w (framing.frame.end (framing.count place)) f behind h.next;
@@ -166,8 +139,8 @@ module _ {V P T : Type 0} {framing : Framing V P T} (sound : IsSound framing) wh
         asks = λ e. (
           v,
           took,
-          asked (framing.frame.end (framing.count place)) (framing.next_fault place limit) v w f
-              h.next e,
+          asked (framing.frame.end (framing.count place))
+              (framing.next_fault place limit) v w f h.next e,
         );
         part = framing.frame.header told ++ s.0;
         read = Consumes-trans u v w (framing.frame.header told) s.0 took s.1;
@@ -176,19 +149,10 @@ module _ {V P T : Type 0} {framing : Framing V P T} (sound : IsSound framing) wh
 
   counted_at : (told : T) (state : ReaderState P)
       → framing.count (place_at framing told state) ≡ count_at framing state
-  counted_at told Header = sound.counted told []
-  counted_at told (Items place) = refl
-  counted_at told Ended = sound.counted told []
-  counted_at told (Failed f) = sound.counted told []
+  counted_at told other = search rules
 
   -- an item more was given, within the limit
   pub one_given : (limit : ℕ) (old new : ReaderState P) (u v : Option (List ℕ)) (x : V)
       → GivesItem framing limit old new u v x
       → (count_at framing new ≡ count_at framing old + 1) × (count_at framing old < limit)
-  one_given limit old new u v x g =
-      let place = place_at framing g.told old in
-      let same = counted_at g.told old in (
-        ap (count_at framing) g.goes_on ∙ sound.next_counted place x ∙ ap (λ n. n + 1) same,
-        subst
-            (λ n. n < limit) same g.within,
-      )
+  one_given limit old new u v x g = search rules

@@ -1,4 +1,5 @@
 -- Journals and datagram files are framed files: IsSound of both framings (framing_lemmas/Framed).
+use Rattle.std.proofs.Common.{rules}
 use Rattle.flute_journal.proofs.Common.{◌≡◌, List, [], ◌∷◌, ◌++◌, Option, Some, None, refl, sym}
 use Rattle.flute_journal.proofs.Common.{length-append, Address, address, Fact, Version, at_place}
 use Rattle.flute_journal.proofs.Common.{before, last_of, journal_framing, file_framing, file_header}
@@ -18,18 +19,8 @@ after_is : (v : Version) (es : List Fact) (f : Fact)
 after_is v es f = λ i. at_place v (sym (length-append es (f ∷ [])) i) (sym (last_more None es f) i)
 
 pub journal_sound : IsSound journal_framing
-journal_sound = record {
-  header_size = λ v. refl;
-  header_passes = header_passes;
-  header_told = version-told;
-  header_is = header_is;
-  told_is = λ v es. refl;
-  counted = λ v es. refl;
-  next_is = after_is;
-  next_counted = λ place f. refl;
-  none_in_order = tt;
-  more_in_order = λ v es f. rising_more es f;
-}
+journal_sound = search (rules, header_passes, version-told, header_is, after_is, rising_more) steps
+    400000
 
 pub file_sound : IsSound file_framing
 file_sound = record {

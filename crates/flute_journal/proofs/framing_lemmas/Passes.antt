@@ -1,4 +1,5 @@
 -- Spelled bytes have no fault, and where bytes stop that begin like a journal (specs/Faults).
+use Rattle.std.proofs.Common.{rules}
 use Rattle.flute_journal.proofs.Common.{Address, AllByRecursion, Before, Below, Fact, Info}
 use Rattle.flute_journal.proofs.Common.{InfoConflict, Information, IsFact, IsFactIn, IsInfo}
 use Rattle.flute_journal.proofs.Common.{IsRising, IsSymbol, JournalIn, Kind, List, None, Option}
@@ -9,7 +10,7 @@ use Rattle.flute_journal.proofs.Common.{after_items, byte_of, bytes_fault, end, 
 use Rattle.flute_journal.proofs.Common.{without_end_in, header_fault, header_in, id_bytes, in_bytes}
 use Rattle.flute_journal.proofs.Common.{in_header, info_address, info_bytes, info_in, is_after}
 use Rattle.flute_journal.proofs.Common.{key_bytes, fact_key, last_of, length, length-append}
-use Rattle.flute_journal.proofs.Common.{next_fault, none-some, refl, rest_bytes, rest_fault}
+use Rattle.flute_journal.proofs.Common.{next_fault, refl, rest_bytes, rest_fault}
 use Rattle.flute_journal.proofs.Common.{same_Some, spelling_in, subst, sym, symbol_address}
 use Rattle.flute_journal.proofs.Common.{counted_bytes, true, ℕ, ◌++◌, ◌<◌, ◌^◌, ◌∙◌, ◌∷◌, ◌≡◌, ◌≤◌}
 use Rattle.flute_journal.proofs.framing_lemmas.Sequences.{IsStop, one_stop, stop_at_bound}
@@ -22,8 +23,8 @@ use Rattle.flute_journal.proofs.format_lemmas.Rising.{Rises, rising-rises}
 use Rattle.flute_journal.proofs.format_lemmas.Entries.{length_fits, entry_injective, not_end}
 use Rattle.flute_journal.proofs.format_lemmas.Entries.{header-injective}
 use Rattle.flute_journal.proofs.format_lemmas.Parts.{id_comes, order_passes, symbol_comes}
-use Rattle.flute_journal.proofs.format_lemmas.Parts.{entry_comes, too_many, end_counts}
-use Rattle.flute_journal.proofs.format_lemmas.Parts.{header_passes, key_valid, first-pass}
+use Rattle.flute_journal.proofs.format_lemmas.Parts.{entry_comes}
+use Rattle.flute_journal.proofs.format_lemmas.Parts.{key_valid, first-pass}
 use Rattle.flute_journal.proofs.format_lemmas.Parts.{cut-passes, info_passes, length_passes}
 use Rattle.flute_journal.specs.declared.format.Kind.TheVariants as kinds
 use Rattle.flute_journal.specs.declared.fault.ReadFault.TheVariants as faults
@@ -40,18 +41,15 @@ kind_of (InfoConflict key) = kinds.InfoConflict
 kind_of (Symbol key id bytes) = kinds.Symbol
 kind_of (SymbolConflict key id) = kinds.SymbolConflict
 
-rest_passes : (last : Option Address) (f : Fact) (r : List ℕ) → IsFact f
-    → is_after last (address f) ≡ true
-    → rest_fault last (kind_of f) (fact_key f) (rest_bytes f ++ r) ≡ None
+rest_passes : (last : Option Address) (f : Fact) (r : List ℕ) → IsFact f → is_after last (address f)
+    ≡ true → rest_fault last (kind_of f) (fact_key f) (rest_bytes f ++ r) ≡ None
 rest_passes last (Info key info) r p e = grind (arith, order_passes, info_passes, info_reads)
 rest_passes last (InfoConflict key) r p e = order_passes last (info_address key) [] e
-rest_passes last (Symbol key id b) r p e =
-    cc (
-      append_assoc (id_bytes id) (counted_bytes b) r,
-      symbol_comes last key id
-          (counted_bytes b ++ r) p.1 e,
-      symbol_none b r p.2,
-    )
+rest_passes last (Symbol key id b) r p e = cc (
+  append_assoc (id_bytes id) (counted_bytes b) r,
+  symbol_comes last key id (counted_bytes b ++ r) p.1 e,
+  symbol_none b r p.2,
+)
 rest_passes last (SymbolConflict key id) r p e =
     cc (id_comes last key id r [] p.1, order_passes last (symbol_address key id) [] e)
 
@@ -63,27 +61,20 @@ entry_split v f r = grind (arith, append_assoc)
 pub entry-passes : (limit : ℕ) (b : Before) (f : Fact) (r : List ℕ) → IsFactIn b.version f
     → b.count < limit → is_after b.last (address f) ≡ true
     → next_fault b limit (entry_in b.version f ++ r) ≡ None
-entry-passes limit b f r p few e =
-    cc (
-      entry_split b.version f r,
-      entry_comes limit b (kind_of f) (fact_key f)
-          (rest_bytes f ++ r) few (key_valid f p.0) p.1,
-      rest_passes b.last f r p.0 e,
-    )
+entry-passes limit b f r p few e = cc (
+  entry_split b.version f r,
+  entry_comes limit b (kind_of f)
+      (fact_key f) (rest_bytes f ++ r) few (key_valid f p.0) p.1,
+  rest_passes b.last f r p.0 e,
+)
 
 pub entry-too_many : (limit : ℕ) (b : Before) (v : Version) (f : Fact) (r : List ℕ)
     → limit ≤ b.count → next_fault b limit (entry_in v f ++ r) ≡ Some faults.TooMany
-entry-too_many limit b v f r many =
-    cc (
-      entry_split v f r,
-      too_many b limit (kind_of f) (byte_of (kind_of f) ∷ [])
-          (key_bytes v (fact_key f) ++ (rest_bytes f ++ r)) refl many,
-    )
+entry-too_many limit b v f r many = search rules
 
 pub end-passes : (limit count : ℕ) (v : Version) (last : Option Address) → count < 2 ^ 64
     → next_fault (at_place v count last) limit (end count) ≡ None
-end-passes limit count v last small =
-    end_counts count (in_bytes 8 count) [] refl (number-in_bytes 8 count (omega (arith, small)))
+end-passes limit count v last small = search rules
 
 rises_next : (b : Option Address) (fs : List Fact) (g : Fact) (gs : List Fact)
     → Rises b (fs ++ g ∷ gs) → is_after (last_of b fs) (address g) ≡ true
@@ -100,17 +91,13 @@ pass v limit es p q front x xs r e few =
 
 pass_all : (v : Version) (limit : ℕ) (es : List Fact) → AllByRecursion (IsFactIn v) es → IsRising es
     → length es ≤ limit → Passes (entry_in v) (λ l r. next_fault (before v l) limit r) es
-pass_all v limit es p q few front x xs r e =
-    pass v limit es p q front x xs r e
+pass_all v limit es p q few front x xs r e = pass v limit es p q front x xs r e
     (omega (arith, few, ap length e, length-append front (x ∷ xs)))
 
 -- bytes that begin with a header are not at fault there
 pub not_in_header : (v : Version) (bytes : List ℕ) (es : List Fact) (rest : List ℕ) (f : ReadFault)
     → bytes ≡ without_end_in v es ++ rest → header_fault bytes ≡ Some f → ⊥
-not_in_header v bytes es rest f e h =
-    let all = flat_map (entry_in v) es ++ rest in
-    none-some f (sym (header_passes v all) ∙ ap header_fault
-    (sym (e ∙ append_assoc (header_in v) (flat_map (entry_in v) es) rest)) ∙ h)
+not_in_header v bytes es rest f e h = search rules
 
 -- a journal's bytes stop only with more entries than the bound
 pub beyond : (v : Version) {limit : ℕ} (es : List Fact) {fs : List Fact} {bytes : List ℕ}
@@ -122,8 +109,7 @@ beyond v es {bytes = bytes} {f = f} p q small e (in_header none h) =
 beyond v {limit = limit} es {fs = fs} {bytes = bytes} {f = f} p q small e (after_items s) =
     let w = s.are_items.told in
     let n = length es in
-    let begun : BeginsWithEntries w fs s.rest bytes =
-    record { valid = s.are_items.valid; bytes_are = s.whole } in
+    let begun : BeginsWithEntries w fs s.rest bytes = search rules in
     let whole : BeginsWithEntries v es (end n) bytes = record { valid = p; bytes_are = e } in
     let b = without_end-both begun whole (λ x y. not_end w x (in_bytes 8 n) y) in
     stop_at_bound (entry_in w) (IsFactIn w) (entry_injective w)
@@ -133,8 +119,7 @@ beyond v {limit = limit} es {fs = fs} {bytes = bytes} {f = f} p q small e (after
     (end-passes limit n w (last_of None es) small) s.first
 
 pub Below-more : (F G : List Fact) → Below F (F ++ G)
-Below-more F G =
-    subst (λ (l : List Fact). Same l (F ++ G)) (append_assoc F F G)
+Below-more F G = subst (λ (l : List Fact). Same l (F ++ G)) (append_assoc F F G)
     (Same-append (F ++ F) F G G (Same-twice F) (Same-itself G))
 
 -- a journal that begins with these entries contains their facts
@@ -153,9 +138,8 @@ without_end-below v w {bytes = bytes} F es rest journal p e =
     record { each = λ a. moved.each a ∙ low.each a ∙ sym (j.collects.same.each a) }
 
 -- the entries before a fault, and the fault, are determined by the bytes
-pub stops_one : (bytes : List ℕ) (limit : ℕ) (es fs : List Fact) (f g : ReadFault)
-    → Stops journal_framing bytes limit es f → Stops journal_framing bytes limit fs g
-    → (es ≡ fs) × (f ≡ g)
+pub stops_one : (bytes : List ℕ) (limit : ℕ) (es fs : List Fact) (f g : ReadFault) → Stops
+    journal_framing bytes limit es f → Stops journal_framing bytes limit fs g → (es ≡ fs) × (f ≡ g)
 stops_one bytes limit es fs f g (in_header a h) (in_header b k) =
     (a ∙ sym b, same_Some f g (sym h ∙ k))
 stops_one bytes limit es fs f g (in_header a h) (after_items s) =
@@ -166,27 +150,22 @@ stops_one bytes limit es fs f g (after_items s) (after_items t) =
     let v = s.are_items.told in
     let w = t.are_items.told in
     let h = header-injective v w (flat_map (entry_in v) es ++ s.rest)
-    (flat_map (entry_in w) fs ++ t.rest)
-    (sym (append_assoc (header_in v) (flat_map (entry_in v) es) s.rest) ∙ sym s.whole ∙ t.whole ∙
+    (flat_map (entry_in w) fs ++ t.rest) (sym
+    (append_assoc (header_in v) (flat_map (entry_in v) es) s.rest) ∙ sym s.whole ∙ t.whole ∙
     append_assoc (header_in w) (flat_map (entry_in w) fs) t.rest) in
-    let valid =
-    subst (λ (z : Version). AllByRecursion (IsFactIn z) fs) (sym h.0) t.are_items.valid in
-    let fault : List Fact → List ℕ → Option ReadFault =
-    λ l r. next_fault (before v l) limit r in
-    let first : IsStop (entry_in v) fault (IsFactIn v) es s.rest f =
-    record {
+    let valid = subst (λ (z : Version). AllByRecursion (IsFactIn z) fs) (sym h.0) t.are_items.valid
+    in
+    let fault : List Fact → List ℕ → Option ReadFault = λ l r. next_fault (before v l) limit r in
+    let first : IsStop (entry_in v) fault (IsFactIn v) es s.rest f = record {
       passes = pass_all v limit es s.are_items.valid s.are_items.in_order s.are_items.few;
       valid = s.are_items.valid;
       stops = s.first;
     } in
-    let second : IsStop (entry_in v) fault (IsFactIn v) fs t.rest g =
-    record {
+    let second : IsStop (entry_in v) fault (IsFactIn v) fs t.rest g = record {
       passes = pass_all v limit fs valid t.are_items.in_order t.are_items.few;
       valid = valid;
-      stops =
-          subst (λ (z : Version). next_fault (before z fs) limit t.rest ≡ Some g) (sym h.0)
+      stops = subst (λ (z : Version). next_fault (before z fs) limit t.rest ≡ Some g) (sym h.0)
           t.first;
-    } in
-    one_stop (entry_in v) (IsFactIn v) (entry_injective v) fault first second
-    (subst (λ (z : Version). flat_map (entry_in v) es ++ s.rest ≡ flat_map (entry_in z) fs ++
-    t.rest) (sym h.0) h.1)
+    } in one_stop (entry_in v) (IsFactIn v) (entry_injective v) fault first second (subst
+    (λ (z : Version). flat_map (entry_in v) es ++ s.rest ≡ flat_map (entry_in z) fs ++ t.rest)
+    (sym h.0) h.1)

@@ -1,4 +1,6 @@
 -- The fault of bytes of which a front was read (specs/Input: IsFaultUpTo).
+use Rattle.std.proofs.lemmas.Grind.{common_steps}
+use Rattle.std.proofs.Common.{rules}
 use Rattle.flute_journal.proofs.Common.{◌≡◌, ℕ, ◌+◌, ◌≤◌, Bool, true, false, List, [], ◌++◌, length}
 use Rattle.flute_journal.proofs.Common.{Option, Some, None, Result, Ok, Err, inl, inr, refl, sym}
 use Rattle.flute_journal.proofs.Common.{ap, ◌∙◌, subst, append_assoc, arith, length-append}
@@ -34,11 +36,9 @@ fault-behind {u = u} {v = v} w {front = front} {whole = whole} faults.OutOfMemor
   seen = h.seen;
   consumed = Consumes-trans u v w front h.read b.took h.consumed;
   follows = h.follows;
-  settled = λ more.
-      let all = h.read ++ h.seen in
-      let one = ap (λ (l : List ℕ). l ++ more) (append_assoc front h.read h.seen)
-      ∙ append_assoc front all more in
-      subst (λ (o : Option ReadFault). IfSome o (λ f. f ≡ faults.Cut))
+  settled = λ more. let all = h.read ++ h.seen in
+      let one = ap (λ (l : List ℕ). l ++ more) (append_assoc front h.read h.seen) ∙ append_assoc
+      front all more in subst (λ (o : Option ReadFault). IfSome o (λ f. f ≡ faults.Cut))
       (sym (ap whole one ∙ b.comes (all ++ more))) (h.settled more);
 }
 fault-behind {u = u} {v = v} w f b h = fault_seen u v f b h
@@ -46,12 +46,10 @@ fault-behind {u = u} {v = v} w f b h = fault_seen u v f b h
 -- memory is asked for before the bytes that are so many are read
 
 cut_only : (b : Bool) → IfSome (first_fault ((b, faults.Cut) ∷ [])) (λ f. f ≡ faults.Cut)
-cut_only true = refl
-cut_only false = tt
+cut_only x0 = search rules
 
 follows_nil : (u : Option (List ℕ)) → IfSome u (λ bytes. (rest : List ℕ) × (bytes ≡ [] ++ rest))
-follows_nil None = tt
-follows_nil (Some x) = (x, refl)
+follows_nil x0 = search rules
 
 pub asks_first : (fault : List ℕ → Option ReadFault) (u v : Option (List ℕ)) → v ≡ u
     → IsSettled fault [] → AsksMemory fault u v
@@ -66,43 +64,38 @@ asks_first fault u v same h =
     })
 
 pub asks_bytes : (n : ℕ) (u : Option (List ℕ)) → AsksMemory (cut_fault n) u u
-asks_bytes n u = asks_first (cut_fault n) u u refl (λ more. cut_only (cut n more).0)
+asks_bytes n u = search (rules, asks_first, cut_only, cut)
 
 -- and once the next was seen, and has no fault
-pub asks_seen : (fault : List ℕ → Option ReadFault) (u v : Option (List ℕ)) (x : List ℕ)
-    → v ≡ u → IfSome u (λ bytes. (rest : List ℕ) × (bytes ≡ x ++ rest))
-    → ((r : List ℕ) → fault (x ++ r) ≡ None)
-    → AsksMemory fault u v
+pub asks_seen : (fault : List ℕ → Option ReadFault) (u v : Option (List ℕ)) (x : List ℕ) → v ≡ u →
+    IfSome u (λ bytes. (rest : List ℕ) × (bytes ≡ x ++ rest)) →
+    ((r : List ℕ) → fault (x ++ r) ≡ None) → AsksMemory fault u v
 asks_seen fault u v x same begins none =
     subst (λ (y : Option (List ℕ)). AsksMemory fault u y) (sym same) (record {
       read = [];
       seen = x;
       consumed = Consumes-nil u;
       follows = begins;
-      settled = λ more. subst (λ (o : Option ReadFault). IfSome o (λ f. f ≡ faults.Cut))
-          (sym (none more)) tt;
+      settled = search rules;
     })
 
 -- it was asked for if it ran out
 pub asked : (last : List ℕ) (fault : List ℕ → Option ReadFault) (u v : Option (List ℕ))
-    (f : ReadFault) → IsFaultUpTo last fault u v f → f ≡ faults.OutOfMemory
-    → AsksMemory fault u v
-asked last fault u v f h e = subst (IsFaultUpTo last fault u v) e h
+    (f : ReadFault) → IsFaultUpTo last fault u v f → f ≡ faults.OutOfMemory → AsksMemory fault u v
+asked last fault u v f h e = search rules
 
 -- the same, where the source may fail after the last bytes
 pub fault_up_to-behind : {u v : Option (List ℕ)} (w : Option (List ℕ)) {front : List ℕ}
-    (last : List ℕ) {whole part : List ℕ → Option ReadFault} (f : ReadFault)
-    → IsBehind u v front whole part → IsFaultUpTo last part v w f
-    → IsFaultUpTo (front ++ last) whole u w f
+    (last : List ℕ) {whole part : List ℕ → Option ReadFault} (f : ReadFault) → IsBehind u v front
+    whole part → IsFaultUpTo last part v w f → IsFaultUpTo (front ++ last) whole u w f
 fault_up_to-behind w last faults.Read b (inl h) = inl (fault-behind w faults.Read b h)
 fault_up_to-behind {u = u} {v = v} w {front = front} last faults.Read b (inr h) =
     inr (Consumes-trans u v w front last b.took h)
 fault_up_to-behind w last f b h = fault-behind w f b h
 
 -- a fault of bytes is one of bytes that may end
-pub fault_up_to : (last : List ℕ) (fault : List ℕ → Option ReadFault)
-    (u v : Option (List ℕ)) (f : ReadFault) → IsFaultOf fault u v f
-    → IsFaultUpTo last fault u v f
+pub fault_up_to : (last : List ℕ) (fault : List ℕ → Option ReadFault) (u v : Option (List ℕ))
+    (f : ReadFault) → IsFaultOf fault u v f → IsFaultUpTo last fault u v f
 fault_up_to last fault u v faults.Read h = inl h
 fault_up_to last fault u v f h = h
 
@@ -110,9 +103,7 @@ fault_up_to last fault u v f h = h
 pub fault_here : (u v : Option (List ℕ)) (front : List ℕ)
     (whole : List ℕ → Option ReadFault) (o : Option ReadFault)
     → Consumes u v front → ((r : List ℕ) → whole (front ++ r) ≡ o) → IfSome u (λ bs. whole bs ≡ o)
-fault_here None v front whole o took e = tt
-fault_here (Some x) None front whole o took e = absurd took
-fault_here (Some x) (Some y) front whole o took e = ap whole took ∙ e y
+fault_here x0 x1 x2 x3 x4 x5 x6 = search rules
 
 -- ReadsUpTo alone.
 
@@ -120,25 +111,21 @@ fault_here (Some x) (Some y) front whole o took e = ap whole took ∙ e y
 pub stops_here : (n : ℕ) (whole : List ℕ → Option ReadFault) (front : List ℕ)
     (f : ReadFault) → (f ≡ faults.Cut → ⊥) → IsOfBytes f
     → ((r : List ℕ) → whole (front ++ r) ≡ Some f) → StopsReading n whole front f
-stops_here n whole front f other bytes h =
-    record { of_bytes = bytes; short = λ e. absurd (other e); whole = λ r e. h r }
+stops_here n whole front f other bytes h = search rules
 
 -- if the bytes after their prefix stop reading, the whole stops it with the same fault
 pub stops_behind : (n : ℕ) {m : ℕ} (whole : List ℕ → Option ReadFault)
-    {part : List ℕ → Option ReadFault} {front : List ℕ} (a : List ℕ) {b : List ℕ}
-    {f : ReadFault} → front ≡ a ++ b → length a + m ≤ n
-    → ((r : List ℕ) → part r ≡ Some f → whole (a ++ r) ≡ Some f)
-    → StopsReading m part b f → StopsReading n whole front f
+    {part : List ℕ → Option ReadFault} {front : List ℕ} (a : List ℕ) {b : List ℕ} {f : ReadFault} →
+    front ≡ a ++ b → length a + m ≤ n → ((r : List ℕ) → part r ≡ Some f → whole (a ++ r) ≡ Some f) →
+    StopsReading m part b f → StopsReading n whole front f
 stops_behind n whole a is fits h s = grind (arith, length-append, append_assoc)
 
-at_front : {fault : List ℕ → Option ReadFault} (u v : Option (List ℕ)) {n : ℕ}
-    {failed : Bool} {front : List ℕ} {f : ReadFault} → ReadsUpTo u v n failed front
-    → StopsReading n fault front f
-    → (f ≡ faults.Cut → failed ≡ false) → IfSome u (λ bytes. fault bytes ≡ Some f)
+at_front : {fault : List ℕ → Option ReadFault} (u v : Option (List ℕ)) {n : ℕ} {failed : Bool}
+    {front : List ℕ} {f : ReadFault} → ReadsUpTo u v n failed front → StopsReading n fault front f →
+    (f ≡ faults.Cut → failed ≡ false) → IfSome u (λ bytes. fault bytes ≡ Some f)
 at_front None v a s whole = tt
 at_front (Some x) None a s whole = absurd a.read
-at_front {fault = fault} (Some x) (Some y) a s whole =
-    ap fault a.read ∙ s.whole y (λ e. a.fewer (s.short e) (whole e))
+at_front {fault = fault} (Some x) (Some y) a s whole = search rules
 
 cut_there : (fault : List ℕ → Option ReadFault) (n : ℕ) (front : List ℕ)
     → StopsReading n fault front faults.Cut → fault front ≡ Some faults.Cut
@@ -159,18 +146,14 @@ fault_found T {u = u} {v = v} true f a s = at_front u v a s (λ e. absurd cc)
 -- what was read of a source, as it is parsed: a value takes all of the bytes
 pub parsed_reads : {T : Type 0} (spelling : T → List ℕ) (IsIt : T → Type 0)
     (fault : List ℕ → Option ReadFault) {u v : Option (List ℕ)} {n : ℕ} (failed : Bool)
-    {front : List ℕ} (r : Result T ReadFault) → ReadsUpTo u v n failed front
-    → ((x : T) → IsIt x → n ≤ length (spelling x))
-    → Parses n (λ x. IsIt x × (spelling x ≡ front)) fault front r
-    → Reads spelling IsIt fault u v (or_failed failed r)
-parsed_reads spelling IsIt fault true (Ok x) a least p =
-    absurd (omega (arith, a.short refl, least x p.0, ap length p.1))
+    {front : List ℕ} (r : Result T ReadFault) → ReadsUpTo u v n failed front →
+    ((x : T) → IsIt x → n ≤ length (spelling x)) → Parses n (λ x. IsIt x × (spelling x ≡ front))
+    fault front r → Reads spelling IsIt fault u v (or_failed failed r)
+parsed_reads spelling IsIt fault true (Ok x) a least p = grind (arith, common_steps)
 parsed_reads spelling IsIt fault {u = u} {v = v} false (Ok x) a least p =
     (p.0, subst (Consumes u v) (sym p.1) a.read)
-parsed_reads {T} spelling IsIt fault true (Err f) a least p =
-    fault_found T true f a p
-parsed_reads {T} spelling IsIt fault false (Err f) a least p =
-    fault_found T false f a p
+parsed_reads {T} spelling IsIt fault true (Err f) a least p = fault_found T true f a p
+parsed_reads {T} spelling IsIt fault false (Err f) a least p = fault_found T false f a p
 
 fails_once : (T : Type 0) (f : ReadFault) (old new : ℕ) → IsOfBytes f → new ≡ old + 1
     → Fails {T = T} old new (Err (left_by f))
@@ -192,16 +175,11 @@ pub parsed_fails : {T : Type 0} (IsIt : T → Type 0) (fault : List ℕ → Opti
     → Parses n IsIt fault front r → Fails old (old + times_failed failed) (or_failed failed r)
 parsed_fails IsIt fault n true front (Ok x) old p = refl
 parsed_fails IsIt fault n false front (Ok x) old p = omega arith
-parsed_fails {T} IsIt fault n true front (Err f) old p =
-    fails_once T f old (old + 1) p.of_bytes refl
-parsed_fails {T} IsIt fault n false front (Err f) old p =
-    fails_never T f old (old + 0) p.of_bytes (omega arith)
+parsed_fails {T} IsIt fault n true front (Err f) old p = search rules
+parsed_fails {T} IsIt fault n false front (Err f) old p = search rules
 
 -- parsing takes no memory
 pub parsed_memory : {T : Type 0} (IsIt : T → Type 0) (fault : List ℕ → Option ReadFault)
     (n : ℕ) (failed : Bool) (front : List ℕ) (r : Result T ReadFault)
     → Parses n IsIt fault front r → IfErr (or_failed failed r) (λ f. f ≡ faults.OutOfMemory → ⊥)
-parsed_memory IsIt fault n true front (Ok x) p = λ e. cc
-parsed_memory IsIt fault n false front (Ok x) p = tt
-parsed_memory IsIt fault n true front (Err f) p = grind (arith)
-parsed_memory IsIt fault n false front (Err f) p = grind (arith)
+parsed_memory x0 x1 x2 x3 x4 x5 x6 = search rules

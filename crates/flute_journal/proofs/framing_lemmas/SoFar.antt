@@ -1,8 +1,10 @@
 -- A framed file that is read item by item: Sofar and GivesFault (specs/Framing).
+use Rattle.std.proofs.lemmas.Grind.{common_steps}
+use Rattle.std.proofs.Common.{rules}
 use Rattle.flute_journal.proofs.Common.{◌≡◌, ℕ, ◌<◌, List, [], ◌∷◌, ◌++◌, length, drop, Option}
 use Rattle.flute_journal.proofs.Common.{Some, None, Ok, IsTrue, true, inl, inr, refl, sym, ap, ◌∙◌}
-use Rattle.flute_journal.proofs.Common.{subst, arith, append_assoc, append-nil, length-append}
-use Rattle.flute_journal.proofs.Common.{flat_map_more, IfSome, Consumes, Consumes-nil}
+use Rattle.flute_journal.proofs.Common.{subst, arith, append_assoc, length-append}
+use Rattle.flute_journal.proofs.Common.{IfSome, Consumes}
 use Rattle.flute_journal.proofs.Common.{Consumes-trans, Consumes-whole, IsAtEnd, IsSettled}
 use Rattle.flute_journal.proofs.Common.{ReadFault}
 use Rattle.flute_journal.proofs.Each.{all_more}
@@ -43,41 +45,30 @@ pub record FaultAfter {V P T : Type 0} (framing : Framing V P T) (limit : ℕ)
 module _ {V P T : Type 0} (framing : Framing V P T) where
   state_more : (t : T) (xs : List V) (x : V)
       → Items (framing.place_after t (xs ++ x ∷ [])) ≡ state_at framing t (xs ++ x ∷ [])
-  state_more t [] x = refl
-  state_more t (y ∷ ys) x = refl
+  state_more x0 x1 x2 = grind (arith, common_steps)
 
-  read_more : (t : T) (xs : List V) (x : V)
-      → read_of framing t xs
-      ++ (opening framing t (state_at framing t xs) ++ framing.frame.item t x) ≡
-      read_of framing t (xs ++ x ∷ [])
-  read_more t [] x =
-      ap (λ (l : List ℕ). l ++ framing.frame.item t x) (sym (append-nil (framing.frame.header t))) ∙
-      flat_map_more (framing.frame.item t) (framing.frame.header t) [] x
-  read_more t (y ∷ ys) x = flat_map_more (framing.frame.item t) (framing.frame.header t) (y ∷ ys) x
+  read_more : (t : T) (xs : List V) (x : V) → read_of framing t xs ++
+      (opening framing t (state_at framing t xs) ++ framing.frame.item t x) ≡ read_of framing t
+      (xs ++ x ∷ [])
+  read_more x0 x1 x2 = grind (arith, common_steps)
 
   -- no item is held back before the next one
-  pub all_read : (t : T) (xs : List V) (end : List ℕ)
-      → read_of framing t xs ++ (opening framing t (state_at framing t xs) ++ end) ≡ up_to_end
-      framing.frame t xs ++ end
-  all_read t [] end = sym (append_assoc (framing.frame.header t) [] end)
-  all_read t (y ∷ ys) end = refl
+  pub all_read : (t : T) (xs : List V) (end : List ℕ) → read_of framing t xs ++
+      (opening framing t (state_at framing t xs) ++ end) ≡ up_to_end framing.frame t xs ++ end
+  all_read x0 x1 x2 = search rules
 
   pub read_some : (t : T) (xs : List V) (x : V)
       → read_of framing t (xs ++ x ∷ []) ≡ up_to_end framing.frame t (xs ++ x ∷ [])
-  read_some t [] x = refl
-  read_some t (y ∷ ys) x = refl
+  read_some x0 x1 x2 = grind (arith, common_steps)
 
   open_at : (t : T) (xs : List V) → is_open (state_at framing t xs) ≡ true
-  open_at t [] = refl
-  open_at t (y ∷ ys) = refl
+  open_at x0 x1 = search rules
 
   not_ended : (t : T) (xs : List V) → state_at framing t xs ≡ Ended → ⊥
-  not_ended t [] e = cc
-  not_ended t (y ∷ ys) e = cc
+  not_ended x0 x1 x2 = search rules
 
   not_failed : (t : T) (xs : List V) (f : ReadFault) → state_at framing t xs ≡ Failed f → ⊥
-  not_failed t [] f e = cc
-  not_failed t (y ∷ ys) f e = cc
+  not_failed x0 x1 x2 x3 = search rules
 
   -- the state of a reader, given what the header contains that is still to be read
   record Placed (told : T) (limit : ℕ) (u v : Option (List ℕ)) (state : ReaderState P) (xs : List V)
@@ -95,21 +86,18 @@ module _ {V P T : Type 0} (framing : Framing V P T) where
       told = told;
       valid = tt;
       in_order = s.are_items.in_order;
-      few =
-          s.are_items.few;
+      few = s.are_items.few;
     };
     read = s.read;
     place = ap (place_at framing told) s.state_is;
     start = ap (opening framing told) s.state_is;
   }
-  placed told limit u v state (y ∷ ys) s =
-      record {
-        are_items = s.are_items;
-        read = s.read;
-        place =
-            ap (place_at framing told) s.state_is;
-        start = ap (opening framing told) s.state_is;
-      }
+  placed told limit u v state (y ∷ ys) s = record {
+    are_items = s.are_items;
+    read = s.read;
+    place = ap (place_at framing told) s.state_is;
+    start = ap (opening framing told) s.state_is;
+  }
 
   part_of : (t told : T) (place : P) (part : List ℕ) → IsPart framing t (Items place) part
       → IsPart framing told (Items place) part
@@ -119,7 +107,7 @@ module _ {V P T : Type 0} (framing : Framing V P T) where
 module _ {V P T : Type 0} {framing : Framing V P T} where
   pub open_after : (limit : ℕ) (u v : Option (List ℕ)) (state : ReaderState P) (xs : List V)
       → Sofar framing limit u v state xs → IsTrue (is_open state)
-  open_after limit u v state xs s = ap is_open s.state_is ∙ open_at framing s.are_items.told xs
+  open_after limit u v state xs s = search rules
 
   -- the fault of a call is the fault after the items that were read
 
@@ -131,8 +119,7 @@ module _ {V P T : Type 0} {framing : Framing V P T} where
       told = told;
       valid = tt;
       in_order = s.are_items.in_order;
-      few =
-          s.are_items.few;
+      few = s.are_items.few;
     };
     before_it = s.read;
     at_fault = subst (λ (z : ReaderState P). IsAtFault framing told limit z x w f) s.state_is h;
@@ -148,10 +135,8 @@ module _ {V P T : Type 0} {framing : Framing V P T} where
           possible = g.possible;
           asks = g.asks;
           part = g.part;
-          read =
-              g.read;
-          is_part =
-              part_of framing told t (framing.place_after t (y ∷ ys)) g.part g.is_part;
+          read = g.read;
+          is_part = part_of framing told t (framing.place_after t (y ∷ ys)) g.part g.is_part;
         };
       }
 
@@ -159,20 +144,14 @@ module _ {V P T : Type 0} {framing : Framing V P T} where
       {f : ReadFault} → Sofar framing limit u x old xs → GivesFault framing limit old new x w f
       → FaultAfter framing limit u x w xs f
   found_now {xs = xs} {f = f} s h = elim h.found [
-    | inl p ↦ absurd (not_failed framing s.are_items.told xs f (sym s.state_is ∙ p.0))
+    | inl p ↦ search rules
     | inr p ↦ fault_after xs s p.1
   ]
 
 module _ {V P T : Type 0} {framing : Framing V P T} (sound : IsSound framing) where
   -- before the first call nothing was read
   pub sofar-none : (told : T) (limit : ℕ) (u : Option (List ℕ)) → Sofar framing limit u u Header []
-  sofar-none told limit u =
-      record {
-        are_items =
-            record { told = told; valid = tt; in_order = sound.none_in_order; few = omega arith };
-        state_is = refl;
-        read = Consumes-nil u;
-      }
+  sofar-none told limit u = search rules
 
   -- a call that gives an item adds it to those that were read
   pub sofar-next : {limit : ℕ} {u v w : Option (List ℕ)} {old new : ReaderState P} {xs : List V}
@@ -182,59 +161,50 @@ module _ {V P T : Type 0} {framing : Framing V P T} (sound : IsSound framing) wh
       let p = placed framing h.told limit u v old xs s in
       let a = p.are_items in
       let t = a.told in
-      let told : framing.told (place_at framing h.told old) ≡ t =
-      ap framing.told p.place ∙ sound.told_is t xs in
-      let valid : framing.frame.IsItem t x =
-      subst (λ (z : T). framing.frame.IsItem z x) told h.valid in
-      let follows : IsTrue (framing.may_follow (framing.place_after t xs) x) =
-      subst (λ (z : P). IsTrue (framing.may_follow z x)) p.place h.in_order in
-      let within : length xs < limit =
-      subst (λ n. n < limit) (ap framing.count p.place ∙ sound.counted t xs) h.within in
-      let goes : new ≡ Items (framing.place_after t (xs ++ x ∷ [])) =
-      h.goes_on ∙ ap (λ (z : P). Items (framing.next z x)) p.place ∙ ap Items
-      (sound.next_is t xs x) in
-      let bytes : Consumes v w (opening framing t (state_at framing t xs)
-      ++ framing.frame.item t x) =
-      subst (Consumes v w) (λ i. p.start i ++ framing.frame.item (told i) x) h.bytes in
-      record {
+      let told : framing.told (place_at framing h.told old) ≡ t = ap framing.told p.place ∙
+      sound.told_is t xs in
+      let valid : framing.frame.IsItem t x = subst (λ (z : T). framing.frame.IsItem z x) told
+      h.valid in
+      let follows : IsTrue (framing.may_follow (framing.place_after t xs) x) = subst
+      (λ (z : P). IsTrue (framing.may_follow z x)) p.place h.in_order in
+      let within : length xs < limit = subst (λ n. n < limit)
+      (ap framing.count p.place ∙ sound.counted t xs) h.within in
+      let goes : new ≡ Items (framing.place_after t (xs ++ x ∷ [])) = h.goes_on ∙ ap
+      (λ (z : P). Items (framing.next z x)) p.place ∙ ap Items (sound.next_is t xs x) in
+      let bytes : Consumes v w (opening framing t (state_at framing t xs) ++ framing.frame.item t x)
+      = subst (Consumes v w) (λ i. p.start i ++ framing.frame.item (told i) x) h.bytes in record {
         are_items = record {
           told = t;
-          valid =
-              all_more (framing.frame.IsItem t) xs x a.valid valid;
-          in_order =
-              sound.more_in_order t xs x a.in_order follows;
-          few =
-              omega (arith, within, length-append xs (x ∷ []));
+          valid = all_more (framing.frame.IsItem t) xs x a.valid valid;
+          in_order = sound.more_in_order t xs x a.in_order follows;
+          few = omega (arith, within, length-append xs (x ∷ []));
         };
         state_is = goes ∙ state_more framing t xs x;
-        read = subst (Consumes u w) (read_more framing t xs x)
-            (Consumes-trans u v w (read_of framing t xs)
+        read = subst (Consumes u w) (read_more framing t xs x) (Consumes-trans u v w
+            (read_of framing t xs)
             (opening framing t (state_at framing t xs) ++ framing.frame.item t x) p.read bytes);
       }
 
   -- a reader that has read these items gives an item or the end
-  pub side-from : {limit : ℕ} {u v : Option (List ℕ)} (w : Option (List ℕ))
-      {old : ReaderState P} (new : ReaderState P) {settled : List V} (o : Option V)
-      → Sofar framing limit u v old settled → Gives framing limit old new v w (Ok o)
-      → Side framing limit u w new settled o
+  pub side-from : {limit : ℕ} {u v : Option (List ℕ)} (w : Option (List ℕ)) {old : ReaderState P}
+      (new : ReaderState P) {settled : List V} (o : Option V) → Sofar framing limit u v old settled
+      → Gives framing limit old new v w (Ok o) → Side framing limit u w new settled o
   side-from w new (Some x) s g = sofar-next s g
-  side-from {limit = limit} {u = u} {v = v} w {old = old} new {settled = settled} None s g =
-      elim g.bytes [
+  side-from {limit = limit} {u = u} {v = v} w {old = old} new {settled = settled} None s g = elim
+      g.bytes [
         | inl b ↦ absurd (not_ended framing s.are_items.told settled (sym s.state_is ∙ b.0))
-        | inr b ↦
-            let p = placed framing g.told limit u v old settled s in
+        | inr b ↦ let p = placed framing g.told limit u v old settled s in
             let t = p.are_items.told in
-            let count : framing.count (place_at framing g.told old) ≡ length settled =
-            ap framing.count p.place ∙ sound.counted t settled in
+            let count : framing.count (place_at framing g.told old) ≡ length settled = ap
+            framing.count p.place ∙ sound.counted t settled in
             let start = opening framing t (state_at framing t settled) in
-            let last : Consumes v w (start ++ framing.frame.end (length settled)) =
-            subst (Consumes v w) (λ i. p.start i ++ framing.frame.end (count i)) b.1 in
-            record {
+            let last : Consumes v w (start ++ framing.frame.end (length settled)) = subst
+            (Consumes v w) (λ i. p.start i ++ framing.frame.end (count i)) b.1 in record {
               are_items = p.are_items;
-              read = subst (Consumes u w) (all_read framing t settled
-                  (framing.frame.end (length settled)))
-                  (Consumes-trans u v w (read_of framing t settled)
-                  (start ++ framing.frame.end (length settled)) p.read last);
+              read = subst (Consumes u w)
+                  (all_read framing t settled (framing.frame.end (length settled))) (Consumes-trans
+                  u v w (read_of framing t settled) (start ++ framing.frame.end (length settled))
+                  p.read last);
               at_end = b.2;
             }
       ]
@@ -242,9 +212,8 @@ module _ {V P T : Type 0} {framing : Framing V P T} (sound : IsSound framing) wh
   -- a file that was read to its end
   pub whole-at : (limit : ℕ) (u w : Option (List ℕ)) (items : List V)
       → AtEnd framing limit u w items → IfSome u (λ bytes. IsWhole framing.frame limit bytes items)
-  whole-at limit u w items s =
-      Consumes-whole u w (up_to_end framing.frame s.are_items.told items
-      ++ framing.frame.end (length items))
+  whole-at limit u w items s = Consumes-whole u w
+      (up_to_end framing.frame s.are_items.told items ++ framing.frame.end (length items))
       (λ bytes. IsWhole framing.frame limit bytes items) s.read s.at_end
       (record { are_items = s.are_items; bytes_are = refl })
 
@@ -257,26 +226,13 @@ module _ {V P T : Type 0} {framing : Framing V P T} (sound : IsSound framing) wh
   from_header limit y f (Some g) e h = in_header refl (e ∙ h)
   from_header limit y f None e h =
       let t = framing.told_in y in
-      after_items (record {
-        are_items = record {
-          told = t;
-          valid = tt;
-          in_order = sound.none_in_order;
-          few =
-              omega arith;
-        };
-        rest = drop 6 y;
-        whole = sound.header_is y e ∙ ap (λ (l : List ℕ). l ++ drop 6 y)
-            (sym (append-nil (framing.frame.header t)));
-        first = h;
-      })
+      after_items
+      (record { are_items = search rules; rest = drop 6 y; whole = search rules; first = h })
 
   pub stops_at : (limit : ℕ) (x y : List ℕ) (xs : List V) (f : ReadFault)
-      (a : AreItems framing.frame limit xs) → x ≡ read_of framing a.told xs ++ y
-      → fault_from framing (state_at framing a.told xs) limit y ≡ Some f
-      → Stops framing x limit xs f
-  stops_at limit x y [] f a took h =
-      subst (λ (z : List ℕ). Stops framing z limit [] f) (sym took)
+      (a : AreItems framing.frame limit xs) → x ≡ read_of framing a.told xs ++ y → fault_from
+      framing (state_at framing a.told xs) limit y ≡ Some f → Stops framing x limit xs f
+  stops_at limit x y [] f a took h = subst (λ (z : List ℕ). Stops framing z limit [] f) (sym took)
       (from_header limit y f (framing.header_fault y) refl h)
   stops_at limit x y (z ∷ zs) f a took h =
       after_items (record { are_items = a; rest = y; whole = took; first = h })
@@ -285,32 +241,25 @@ module _ {V P T : Type 0} {framing : Framing V P T} (sound : IsSound framing) wh
       (a : AreItems framing.frame limit xs) → Consumes u x (read_of framing a.told xs)
       → IfSome x (λ y. fault_from framing (state_at framing a.told xs) limit y ≡ Some f)
       → IfSome u (λ z. Stops framing z limit xs f)
-  stops_by limit None x xs f a took h = tt
-  stops_by limit (Some z) None xs f a took h = absurd took
-  stops_by limit (Some z) (Some y) xs f a took h = stops_at limit z y xs f a took h
+  stops_by x0 x1 x2 x3 x4 x5 x6 x7 = search (rules, stops_at)
 
   -- a fault after these items is one at which the bytes stop
   some_stop : (limit : ℕ) (u : Option (List ℕ)) (xs : List V) (f : ReadFault)
       → IfSome u (λ z. Stops framing z limit xs f)
       → IfSome u (λ z. (items : List V) × Stops framing z limit items f)
-  some_stop limit None xs f h = tt
-  some_stop limit (Some z) xs f h = (xs, h)
+  some_stop x0 x1 x2 x3 x4 = search rules
 
   place_same : (t : T) (xs : List V)
       → place_at framing t (state_at framing t xs) ≡ framing.place_after t xs
-  place_same t [] = refl
-  place_same t (y ∷ ys) = refl
+  place_same x0 x1 = search rules
 
   -- memory ran out after these items
-  run_out : {limit : ℕ} (u w : Option (List ℕ)) {xs : List V}
-      (a : AreItems framing.frame limit xs)
-      (read seen : List ℕ)
-      → Consumes u w (read_of framing a.told xs
-      ++ (opening framing a.told (state_at framing a.told xs) ++ read))
-      → IfSome w (λ bytes. (rest : List ℕ) × (bytes ≡ seen ++ rest))
-      → IsSettled (framing.next_fault (place_at framing a.told (state_at framing a.told xs)) limit)
-      (read ++ seen)
-      → IfSome u (λ bytes. (items : List V) × MayRunOut framing bytes limit items)
+  run_out : {limit : ℕ} (u w : Option (List ℕ)) {xs : List V} (a : AreItems framing.frame limit xs)
+      (read seen : List ℕ) → Consumes u w
+      (read_of framing a.told xs ++ (opening framing a.told (state_at framing a.told xs) ++ read)) →
+      IfSome w (λ bytes. (rest : List ℕ) × (bytes ≡ seen ++ rest)) → IsSettled
+      (framing.next_fault (place_at framing a.told (state_at framing a.told xs)) limit)
+      (read ++ seen) → IfSome u (λ bytes. (items : List V) × MayRunOut framing bytes limit items)
   run_out None w a read seen took follows settled = tt
   run_out (Some z) None a read seen took follows settled = absurd took
   run_out {limit = limit} (Some z) (Some y) {xs = xs} a read seen took follows settled =
@@ -323,13 +272,11 @@ module _ {V P T : Type 0} {framing : Framing V P T} (sound : IsSound framing) wh
           are_items = a;
           seen = read ++ seen;
           rest = rest;
-          whole =
-              took ∙ ap (λ (l : List ℕ). start ++ l) follows.1
-              ∙ ap (λ (l : List ℕ). l ++ (seen ++ rest)) (all_read framing t xs read)
-              ∙ append_assoc front read (seen ++ rest)
-              ∙ ap (λ (l : List ℕ). front ++ l) (sym (append_assoc read seen rest));
-          settled =
-              subst (λ (p : P). IsSettled (framing.next_fault p limit) (read ++ seen))
+          whole = took ∙ ap (λ (l : List ℕ). start ++ l) follows.1 ∙ ap
+              (λ (l : List ℕ). l ++ (seen ++ rest)) (all_read framing t xs read) ∙ append_assoc front
+              read (seen ++ rest) ∙ ap (λ (l : List ℕ). front ++ l)
+              (sym (append_assoc read seen rest));
+          settled = subst (λ (p : P). IsSettled (framing.next_fault p limit) (read ++ seen))
               (place_same t xs) settled;
         },
       )

@@ -1,4 +1,6 @@
 -- What is read after the first byte of an entry (src/readers/entry_fields.rt).
+use Rattle.std.proofs.lemmas.Grind.{common_steps}
+use Rattle.std.proofs.Common.{rules}
 use Rattle.flute_journal.proofs.Common.{Address, Before, BodyIn, Bool, Consumes, Consumes-trans}
 use Rattle.flute_journal.proofs.Common.{Err, Fact}
 use Rattle.flute_journal.proofs.Common.{EntryHead, HeadIn, ReadsUpTo, IsBody, IsFact}
@@ -27,52 +29,36 @@ pub opening_reads : {T : Type 0} (o : List ℕ) {u v : Option (List ℕ)} (faile
     {front : List ℕ} (r : Result T ReadFault) → length o ≡ 6
     → ReadsUpTo u v 6 failed front → Parses 6 (λ _. front ≡ o) (opening_fault o) front r
     → Reads (λ _. o) (λ _. Unit {0}) (opening_fault o) u v (or_failed failed r)
-opening_reads o true (Ok x) len a p =
-    absurd (omega (arith, a.short refl, len, ap length p))
+opening_reads o true (Ok x) len a p = grind (arith, common_steps)
 opening_reads o {u = u} {v = v} false (Ok x) len a p = (tt, subst (Consumes u v) p a.read)
-opening_reads {T} o {u = u} {v = v} true {front = front} (Err f) len a p =
-    fault_found T true f a p
+opening_reads {T} o {u = u} {v = v} true {front = front} (Err f) len a p = fault_found T true f a p
 opening_reads {T} o {u = u} {v = v} false {front = front} (Err f) len a p =
     fault_found T false f a p
 
 pub header_reads : (u v : Option (List ℕ)) (failed : Bool) (front : List ℕ)
-    (r : Result Version ReadFault)
-    → ReadsUpTo u v 6 failed front
-    → Parses 6 (λ (w : Version). header_in w ≡ front) header_fault front r
-    → Reads header_in (λ (w : Version). Unit {0}) header_fault u v (or_failed failed r)
-header_reads u v failed front (Ok w) a p =
-    parsed_reads header_in (λ (x : Version). Unit {0}) header_fault failed (Ok w) a
-    (λ x h. omega arith) (tt, p)
-header_reads u v failed front (Err f) a p =
-    parsed_reads header_in (λ (x : Version). Unit {0}) header_fault failed (Err f) a
-    (λ x h. omega arith) p
+    (r : Result Version ReadFault) → ReadsUpTo u v 6 failed front → Parses 6
+    (λ (w : Version). header_in w ≡ front) header_fault front r → Reads header_in
+    (λ (w : Version). Unit {0}) header_fault u v (or_failed failed r)
+header_reads u v failed front (Ok w) a p = search (rules, parsed_reads)
+header_reads u v failed front (Err f) a p = search (rules, parsed_reads)
 
 -- the number at the end, and no bytes after it
-pub end_reads : {T : Type 0} (count : ℕ) (u v : Option (List ℕ)) (failed : Bool)
-    (front : List ℕ) (r : Result T ReadFault)
-    → ReadsUpTo u v 9 failed front
-    → Parses 9 (λ _. front ≡ in_bytes 8 count) (end_fault count) front r
-    → ReadsEnd count u v (or_failed failed r)
+pub end_reads : {T : Type 0} (count : ℕ) (u v : Option (List ℕ)) (failed : Bool) (front : List ℕ)
+    (r : Result T ReadFault) → ReadsUpTo u v 9 failed front → Parses 9
+    (λ _. front ≡ in_bytes 8 count) (end_fault count) front r → ReadsEnd count u v
+    (or_failed failed r)
 end_reads count u v true front (Ok x) a p = inr (subst (Consumes u v) p a.read)
-end_reads count u v false front (Ok x) a p = (
-  subst (Consumes u v) p a.read,
-  a.fewer
-      (omega (arith, ap length p, length-bytes_high_first 8 count)) refl,
-)
+end_reads count u v false front (Ok x) a p = grind (arith, common_steps)
 end_reads {T} count u v true front (Err f) a p =
     fault_up_to (in_bytes 8 count) (end_fault count) u v _ (fault_found T true f a p)
 end_reads {T} count u v false front (Err f) a p =
     fault_up_to (in_bytes 8 count) (end_fault count) u v f (fault_found T false f a p)
 
 -- a fault of the number at the end is a fault of the end, its first byte included
-pub end_stops : (limit : ℕ) (before : Before) (u v w : Option (List ℕ)) (f : ReadFault)
-    → Consumes u v (255 ∷ []) → IsFaultUpTo (in_bytes 8 before.count) (end_fault before.count)
-    v w f
-    → IsFaultUpTo (end before.count) (next_fault before limit) u w f
-end_stops limit before u v w f took h =
-    let behind : IsBehind u v (255 ∷ []) (next_fault before limit) (end_fault before.count) =
-    record { took = took; comes = λ r. refl } in
-    fault_up_to-behind w (in_bytes 8 before.count) f behind h
+pub end_stops : (limit : ℕ) (before : Before) (u v w : Option (List ℕ)) (f : ReadFault) → Consumes u
+    v (255 ∷ []) → IsFaultUpTo (in_bytes 8 before.count) (end_fault before.count) v w f →
+    IsFaultUpTo (end before.count) (next_fault before limit) u w f
+end_stops limit before u v w f took h = search (rules, fault_up_to-behind)
 
 -- the bytes of an entry, up to those of a symbol
 pub fixed_least : (version : Version) (last : Option Address) (k : Kind) (x : EntryHead)
@@ -97,16 +83,14 @@ symbol_stops version {last = last} {k = k} {key = key} {id = id} {n = n} u v w {
     fault
 
 pub symbol_ends : (version : Version) {last : Option Address} {k : Kind} {key : Key} {id : SymbolId}
-    {n : ℕ} (u v w : Option (List ℕ)) {f : ReadFault} {r : Result Fact ReadFault}
-    → r ≡ Err f → HeadIn version last k (Symbol key id n)
-    → Consumes u v (head_bytes version (Symbol key id n)) → Advances v w n
-    → StaysWithin (body version) (IsBody version k) u w r
+    {n : ℕ} (u v w : Option (List ℕ)) {f : ReadFault} {r : Result Fact ReadFault} → r ≡ Err f →
+    HeadIn version last k (Symbol key id n) → Consumes u v (head_bytes version (Symbol key id n)) →
+    Advances v w n → StaysWithin (body version) (IsBody version k) u w r
 symbol_ends version {k = k} {key = key} {id = id} {n = n} u v w e s took a =
     let fixed = head_bytes version (Symbol key id n) in
-    let within =
-    subst (λ z. IsWithin (body version) (IsBody version z) (fixed ++ a.0)) (sym s.0.kind_is)
-    (symbol_within version a.0 s.0 s.1 a.2) in
-    subst (StaysWithin (body version) (IsBody version k) u w) (sym e)
+    let within = subst (λ z. IsWithin (body version) (IsBody version z) (fixed ++ a.0))
+    (sym s.0.kind_is) (symbol_within version a.0 s.0 s.1 a.2) in subst
+    (StaysWithin (body version) (IsBody version k) u w) (sym e)
     (fixed ++ a.0, Consumes-trans u v w fixed a.0 took a.1, within)
 
 -- After the first byte of an entry or of the end, the rest could not be read.
@@ -117,8 +101,7 @@ pub end_ends : (version : Version) (u v w : Option (List ℕ)) (front : List ℕ
 end_ends version u v w front most took a = (
   front ++ a.0,
   Consumes-trans u v w front a.0 took a.1,
-  entry_within-short version (front ++ a.0)
-      (omega (arith, most, a.2, length-append front a.0)),
+  entry_within-short version (front ++ a.0) (omega (arith, most, a.2, length-append front a.0)),
 )
 
 -- the kind of an entry was read, which is one of this kind
@@ -127,29 +110,21 @@ pub record KindRead (k : Kind) (u v : Option (List ℕ)) : Type 0 where
   pub is : front ≡ byte_of k ∷ []
   pub took : Consumes u v front
 
-pub kind_read : (k : Kind) {u v : Option (List ℕ)} (front : List ℕ) {byte : ℕ}
-    → length front ≤ 1 → Some byte ≡ slice_get front 0 → byte ≡ byte_of k
-    → Consumes u v front → KindRead k u v
-kind_read k front {byte = byte} most value is took =
-    record {
-      front = front;
-      is = one_byte front byte most value ∙ ap (λ b. b ∷ []) is;
-      took = took;
-    }
+pub kind_read : (k : Kind) {u v : Option (List ℕ)} (front : List ℕ) {byte : ℕ} → length front ≤ 1 →
+    Some byte ≡ slice_get front 0 → byte ≡ byte_of k → Consumes u v front → KindRead k u v
+kind_read k front {byte = byte} most value is took = search (rules, one_byte)
 
 pub body_stops : (limit : ℕ) (before : Before) {k : Kind} {u v : Option (List ℕ)}
     (w : Option (List ℕ)) (f : ReadFault) → KindRead k u v → before.count < limit
     → IsFaultOf (body_fault before.version before.last k) v w f
     → IsFaultUpTo (end before.count) (next_fault before limit) u w f
-body_stops limit before {k = k} {u = u} {v = v} w f read few h =
-    let behind : IsBehind u v read.front (next_fault before limit)
-    (body_fault before.version before.last k) =
-    record {
-      took = read.took;
-      comes = λ r. ap (λ (x : List ℕ). next_fault before limit (x ++ r)) read.is
-          ∙ body_comes limit before k r few;
-    } in
-    fault_up_to (end before.count) (next_fault before limit) u w f (fault-behind w f behind h)
+body_stops limit before {k = k} {u = u} {v = v} w f read few h = search (
+  rules,
+  body_comes,
+  fault_up_to,
+  end,
+  fault-behind,
+)
 
 pub body_ends : (version : Version) {k : Kind} {u v : Option (List ℕ)} (w : Option (List ℕ))
     (part : List ℕ) → KindRead k u v → Consumes v w part
@@ -157,8 +132,10 @@ pub body_ends : (version : Version) {k : Kind} {u v : Option (List ℕ)} (w : Op
     → (all : List ℕ) × Consumes u w all × IsWithin (entry_in version) (IsFactIn version) all
 body_ends version {k = k} {u = u} {v = v} w part read rest h = (
   read.front ++ part,
-  Consumes-trans u v w read.front part read.took rest,
-  subst (λ x. IsWithin (entry_in version) (IsFactIn version) (x ++ part)) (sym read.is)
+  Consumes-trans
+      u v w read.front part read.took rest,
+  subst
+      (λ x. IsWithin (entry_in version) (IsFactIn version) (x ++ part)) (sym read.is)
       (entry_within version k part h),
 )
 

@@ -1,6 +1,8 @@
 -- An entry that is held is let go of, and the next is held (src/readers/held_entry.rt).
+use Rattle.std.proofs.lemmas.Grind.{common_steps}
+use Rattle.std.proofs.Common.{rules}
 use Rattle.flute_journal.proofs.Common.{Consumes, FailsIf, Gives, IfSome, IsFactIn, List}
-use Rattle.flute_journal.proofs.Common.{None, Ok, Err, Option, ReadFault, ReaderState, Before}
+use Rattle.flute_journal.proofs.Common.{None, Option, ReadFault, ReaderState, Before}
 use Rattle.flute_journal.proofs.Common.{Result, Some, Two, ap, append_assoc, arith, drop}
 use Rattle.flute_journal.proofs.Common.{drop_at, inl, inr, is_open, journal_framing, length}
 use Rattle.flute_journal.proofs.Common.{length-append, length-bytes_high_first, length-take-le}
@@ -18,7 +20,6 @@ use Rattle.flute_journal.proofs.readers_lemmas.Seen.{begins_with}
 use Rattle.flute_parts.specs.Addresses.{address}
 use Rattle.flute_journal.specs.Faults.{is_after}
 use Rattle.flute_journal.specs.Format.{entry, id_bytes, key_bytes}
-use Rattle.flute_journal.specs.Framing.{IsAtFault, end_bytes, fault_from}
 use Rattle.flute_journal.specs.HeldEntries.{HoldsNext, IsSpelling, Reading, fact_held}
 use Rattle.flute_journal.specs.HeldEntries.{fact_of_held, left_behind, left_of, size_of}
 use Rattle.flute_journal.specs.HeldEntries.{spelled_in, spelled_of}
@@ -34,8 +35,7 @@ use Rattle.flute_journal.specs.declared.readers.held_entry.HeldEntry.TheVariants
 unknown_fault : (whole : List ℕ) (fault : List ℕ → Option ReadFault) (u w : Option (List ℕ))
     (f : ReadFault) → IsFaultUpTo whole fault u w f → IsFaultUpTo whole fault None w f
 unknown_fault whole fault u w faults.Read h = elim h [ inl a ↦ inl (a.0, tt, a.2) | inr a ↦ inr tt ]
-unknown_fault whole fault u w faults.OutOfMemory h =
-    record { read = h.read; seen = h.seen; consumed = tt; follows = h.follows; settled = h.settled }
+unknown_fault whole fault u w faults.OutOfMemory h = search rules
 unknown_fault whole fault u w faults.Magic h = tt
 unknown_fault whole fault u w faults.Version h = tt
 unknown_fault whole fault u w faults.Kind h = tt
@@ -51,57 +51,16 @@ unknown_fault whole fault u w faults.Cut h = tt
 unknown : (limit : ℕ) (old new : ReaderState Before) (u w : Option (List ℕ))
     (r : Result (Option Fact) ReadFault) → Gives journal_framing limit old new u w r
     → Gives journal_framing limit old new None w r
-unknown limit old new u w (Ok (Some f)) g = record {
-  told = g.told;
-  open_before = g.open_before;
-  valid = g.valid;
-  in_order = g.in_order;
-  within = g.within;
-  goes_on = g.goes_on;
-  bytes = tt;
-}
-unknown limit old new u w (Ok None) g = record {
-  told = g.told;
-  ended = g.ended;
-  bytes = elim g.bytes [ inl a ↦ inl (a.0, tt) | inr a ↦ inr (a.0, tt, a.2) ];
-}
-unknown limit old new u w (Err f) g =
-    record {
-      told = g.told;
-      stays = g.stays;
-      found =
-          elim g.found [
-            | inl a ↦ inl (a.0, tt)
-            | inr a ↦
-                let at : IsAtFault journal_framing g.told limit old None w f =
-                record {
-                  fault =
-                      unknown_fault (end_bytes journal_framing g.told old)
-                      (fault_from journal_framing old limit) u w f a.1.fault;
-                  possible = a.1.possible;
-                  asks = λ e. let asks = a.1.asks e in (asks.0, tt, asks.2);
-                  part = a.1.part;
-                  read = tt;
-                  is_part = a.1.is_part;
-                } in
-                inr (a.0, at)
-          ];
-    }
+unknown x0 x1 x2 x3 x4 x5 x6 = search (rules, unknown_fault)
 
 -- what holds of the bytes behind those that were taken, and if they are not known
-behind_taken : (P : Option (List ℕ) → Type 0) (u v : Option (List ℕ)) (taken : List ℕ)
-    → ((x : Option (List ℕ)) → P x → P None) → Consumes u v taken → P v
-    → P (left_behind taken u)
-behind_taken P None v taken h c p = h v p
-behind_taken P (Some xs) None taken h c p = absurd c
-behind_taken P (Some xs) (Some ys) taken h c p =
-    subst (λ (l : List ℕ). P (Some l))
-    (sym (ap (drop (length taken)) c ∙ drop-append_seam taken ys)) p
+behind_taken : (P : Option (List ℕ) → Type 0) (u v : Option (List ℕ)) (taken : List ℕ) →
+    ((x : Option (List ℕ)) → P x → P None) → Consumes u v taken → P v → P (left_behind taken u)
+behind_taken x0 x1 x2 x3 x4 x5 x6 = grind (arith, common_steps)
 
 -- behind nothing all is left
 pub left_all : (w : Option (List ℕ)) → left_behind [] w ≡ w
-left_all None = refl
-left_all (Some xs) = refl
+left_all x0 = search rules
 
 -- an entry was let go of, and then the next read into memory of its own
 pub record ReadsAnew {R : Type 0} (unread : R → Option (List ℕ)) (buffered : R → List ℕ)
@@ -128,22 +87,19 @@ pub holds_anew : {R : Type 0} {unread : R → Option (List ℕ)} {buffered : R �
     {failures : R → ℕ} {limit : ℕ} {old new : Reading R} {result : Result (Unit {0}) ReadFault}
     → ReadsAnew unread buffered failures limit old new result
     → HoldsNext unread buffered failures limit old new result
-holds_anew {unread = unread} {buffered = buffered} {failures = failures} {limit = limit}
-    {old = old} {new = new} {result = result} h =
+holds_anew {unread = unread} {buffered = buffered} {failures = failures} {limit = limit} {old = old}
+    {new = new} {result = result} h =
     let given = given_into result (fact_of_held buffered new) in
     let b = buffered new.source in
     let w = unread new.source in
-    let all : left_of unread buffered new ≡ w =
-    ap (λ n. left_behind (take n b) w) h.own ∙ left_all w in
-    record {
-      gives =
-          subst (λ l. Gives journal_framing limit old.state new.state (left_of unread buffered old)
-          l given) (sym all)
-          (behind_taken (λ l. Gives journal_framing limit old.state new.state l w given)
-          (unread old.source) (unread h.between) (spelled_of buffered old)
+    let all : left_of unread buffered new ≡ w = ap (λ n. left_behind (take n b) w) h.own ∙ left_all
+    w in record {
+      gives = subst (λ l. Gives journal_framing limit old.state new.state
+          (left_of unread buffered old) l given) (sym all) (behind_taken
+          (λ l. Gives journal_framing limit old.state new.state l w given) (unread old.source)
+          (unread h.between) (spelled_of buffered old)
           (λ x. unknown limit old.state new.state x w given) h.taken h.gives);
-      failed =
-          subst (λ n. FailsIf (is_open old.state) n (failures new.source) given) h.none_failed
+      failed = subst (λ n. FailsIf (is_open old.state) n (failures new.source) given) h.none_failed
           h.failed;
       spelled = spells_none b new.held h.own;
       none = h.none;
@@ -158,12 +114,13 @@ symbol_behind key id symbol =
     let number = in_bytes 2 (length symbol) in
     let front = key_bytes Two key ++ (id_bytes id ++ number) in
     let own : length (key_bytes Two key) ≡ 37 = length-key_bytes Two key ∙ sym key_size_two in
-    let long : length front ≡ 43 =
-    omega (
+    let long : length front ≡ 43 = omega (
       arith,
-      length-append (key_bytes Two key) (id_bytes id ++ number),
+      length-append (key_bytes Two key)
+          (id_bytes id ++ number),
       length-append (id_bytes id) number,
-      length-append (in_bytes 2 id.sbn) (in_bytes 2 id.esi),
+      length-append (in_bytes 2 id.sbn)
+          (in_bytes 2 id.esi),
       own,
       length-bytes_high_first 2 id.sbn,
       length-bytes_high_first 2 id.esi,
@@ -185,11 +142,10 @@ starts_behind b n xs ys front is =
     ap (take (length (drop n b))) rest ∙ take_at (drop n b) more (length (drop n b)) refl
 
 -- the entry behind what was held lies at the front of what is left of a source
-left_on : {last : Option Address} {f : Fact} {size : ℕ} (b held : List ℕ)
-    (u v : Option (List ℕ)) → IfSome u (λ xs. StartsWith xs b)
-    → Consumes u v (take (length held) b) → length held ≤ length b
-    → BeginsWithEntry Two last (drop (length held) b) f size
-    → Consumes (left_behind held u) (left_behind (take size (drop (length held) b)) v) (entry f)
+left_on : {last : Option Address} {f : Fact} {size : ℕ} (b held : List ℕ) (u v : Option (List ℕ)) →
+    IfSome u (λ xs. StartsWith xs b) → Consumes u v (take (length held) b) → length held ≤ length b
+    → BeginsWithEntry Two last (drop (length held) b) f size → Consumes (left_behind held u)
+    (left_behind (take size (drop (length held) b)) v) (entry f)
 left_on b held None v front c few h = tt
 left_on b held (Some xs) None front c few h = absurd c
 left_on {f = f} {size = size} b held (Some xs) (Some ys) front c few h =
@@ -200,10 +156,9 @@ left_on {f = f} {size = size} b held (Some xs) (Some ys) front c few h =
     let begins = begins_with rest (entry f) (Some ys) size (starts_behind b n xs ys front c)
     h.spelled in
     let more = begins.0 in
-    let new : drop (length (take size rest)) ys ≡ more =
-    ap (λ l. drop (length l) ys) h.spelled ∙ ap (drop (length (entry f))) begins.1
-    ∙ drop-append_seam (entry f) more in
-    old ∙ begins.1 ∙ ap (λ l. entry f ++ l) (sym new)
+    let new : drop (length (take size rest)) ys ≡ more = ap (λ l. drop (length l) ys) h.spelled ∙ ap
+    (drop (length (entry f))) begins.1 ∙ drop-append_seam (entry f) more in old ∙ begins.1 ∙ ap
+    (λ l. entry f ++ l) (sym new)
 
 -- the entry of a symbol is held where it lies behind what was held
 pub record HeldInBuffer (last : Option Address) (f : Fact) (b held b' : List ℕ) (size : ℕ)
@@ -230,24 +185,20 @@ pub held_next : {e : HeldEntry} {last : Option Address} {key : Key} {id : Symbol
 held_next {e = e} {last = last} {key = key} {id = id} {symbol = symbol} {b = b} {taken = taken}
     {size = size} {u = u} {v = v} h is c =
     let rest = drop (length taken) b in
-    let begins : BeginsWithEntry Two last rest (Symbol key id symbol) size =
-    subst (λ (x : List ℕ). BeginsWithEntry Two last (drop (length taken) x) (Symbol key id symbol)
-    size) h.lent h.begins in
-    let value : drop 44 (take size rest) ≡ symbol =
-    ap (drop 44) begins.spelled ∙ symbol_behind key id symbol in
+    let begins : BeginsWithEntry Two last rest (Symbol key id symbol) size = subst
+    (λ (x : List ℕ). BeginsWithEntry Two last (drop (length taken) x) (Symbol key id symbol) size)
+    h.lent h.begins in
+    let value : drop 44 (take size rest) ≡ symbol = ap (drop 44) begins.spelled ∙ symbol_behind key
+    id symbol in
     let f = Symbol key id (drop 44 (take size rest)) in
-    let own : BeginsWithEntry Two last rest f size =
-    subst (λ (s : List ℕ). BeginsWithEntry Two last rest (Symbol key id s) size) (sym value)
-    begins in
+    let own : BeginsWithEntry Two last rest f size = subst
+    (λ (s : List ℕ). BeginsWithEntry Two last rest (Symbol key id s) size) (sym value) begins in
     let held : taken ≡ spelled_in b e = h.held ∙ ap (λ x. spelled_in x e) h.lent in
-    let few : length taken ≤ length b =
-    omega (arith, length-take (size_of e) b, ap length held) in
-    let front : IfSome u (λ xs. StartsWith xs b) =
-    subst (λ (x : List ℕ). IfSome u (λ xs. StartsWith xs x)) h.lent h.front in
-    subst (λ (x : List ℕ). HeldInBuffer last (Symbol key id (drop 44 (take size x))) b
-    (spelled_in b e) x size u v) (sym is)
-    (subst (λ (t : List ℕ). HeldInBuffer last f b t rest size u v) held
-    (record {
+    let few : length taken ≤ length b = omega (arith, length-take (size_of e) b, ap length held) in
+    let front : IfSome u (λ xs. StartsWith xs b) = subst
+    (λ (x : List ℕ). IfSome u (λ xs. StartsWith xs x)) h.lent h.front in subst (λ (x : List ℕ).
+    HeldInBuffer last (Symbol key id (drop 44 (take size x))) b (spelled_in b e) x size u v)
+    (sym is) (subst (λ (t : List ℕ). HeldInBuffer last f b t rest size u v) held (record {
       valid = own.valid;
       in_order = own.in_order;
       consumes = left_on b taken u v front c few own;

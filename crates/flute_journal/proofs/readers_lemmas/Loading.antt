@@ -1,4 +1,5 @@
 -- read_store: a store that is read entry by entry (specs/Stores).
+use Rattle.std.proofs.Common.{rules}
 use Rattle.flute_journal.proofs.Common.{AreItems, journal_framing, BeginsOver, Below-from_Same}
 use Rattle.flute_journal.proofs.Common.{Bool, Consumes, Consumes-whole, Err, Fact, FailsIf}
 use Rattle.flute_journal.proofs.Common.{FailsToLoad, Gives, GivesItem, GivesFault, Header, IfSome}
@@ -11,7 +12,7 @@ use Rattle.flute_journal.proofs.Common.{more_objects, more_sessions, more_symbol
 use Rattle.flute_journal.proofs.Common.{session, spelling_in, subst, sym, ℕ, ◌++◌, ◌∙◌, ◌∷◌, ◌≡◌}
 use Rattle.flute_journal.proofs.Common.{journal_frame}
 use Rattle.flute_journal.proofs.format_lemmas.Prefixes.{within_nil}
-use Rattle.flute_journal.proofs.framing_lemmas.SoFar.{AtEnd, read_some, side-from, open_after}
+use Rattle.flute_journal.proofs.framing_lemmas.SoFar.{AtEnd, read_some, side-from}
 use Rattle.flute_journal.proofs.framing_lemmas.SoFar.{sofar-none, sofar-next}
 use Rattle.flute_journal.proofs.framing_lemmas.Framings.{journal_sound}
 use Rattle.flute_journal.proofs.readers_lemmas.Whole.{sofar-stops}
@@ -30,23 +31,19 @@ pub record Loaded (s o y limit : ℕ) (first now : Option (List ℕ)) (state : R
 none-over : (s o y : ℕ) → Over [] s o y → ⊥
 unfolding Rattle.flute_parts.specs.Limits.sessions Rattle.flute_parts.specs.Limits.objects
     Rattle.flute_parts.specs.Limits.symbols
-none-over s o y (more_sessions h) = omega (arith, h)
-none-over s o y (more_objects session h) = omega (arith, h)
-none-over s o y (more_symbols key h) = omega (arith, h)
+none-over x0 x1 x2 x3 = search rules
 
 -- before the first entry the store is empty
 pub loaded_none : (s o y limit : ℕ) {u v : Option (List ℕ)} {state : ReaderState Before}
     {content : List Fact} → v ≡ u → state ≡ Header → content ≡ []
     → Loaded s o y limit u v state content
-loaded_none s o y limit {u = u} {state = state} {content = content} e is c =
-    subst (λ (x : Option (List ℕ)). Loaded s o y limit u x state content) (sym e)
-    (subst (λ (x : ReaderState Before). Loaded s o y limit u u x content) (sym is)
-    (subst (λ (x : List Fact). Loaded s o y limit u u Header x) (sym c)
-    (record {
+loaded_none s o y limit {u = u} {state = state} {content = content} e is c = subst
+    (λ (x : Option (List ℕ)). Loaded s o y limit u x state content) (sym e) (subst
+    (λ (x : ReaderState Before). Loaded s o y limit u u x content) (sym is) (subst
+    (λ (x : List Fact). Loaded s o y limit u u Header x) (sym c) (record {
       entries = [];
       sofar = sofar-none journal_sound Two limit u;
-      same =
-          Same-itself [];
+      same = Same-itself [];
       fits = none-over s o y;
     })))
 
@@ -54,7 +51,7 @@ over-same : (F G : List Fact) (s o y : ℕ) → Same F G → Over F s o y → Ov
 over-same F G s o y h = Over-below F G s o y (Below-from_Same F G h)
 
 one_more : (F G : List Fact) (f : Fact) → Same F G → Same (F ++ f ∷ []) (G ++ f ∷ [])
-one_more F G f h = Same-append F G (f ∷ []) (f ∷ []) h (Same-itself (f ∷ []))
+one_more F G f h = search (rules, Same-append, Same-itself)
 
 -- one entry more was read, and its fact was put
 pub loaded-next : {s o y limit : ℕ} {u v w : Option (List ℕ)} {old new : ReaderState Before}
@@ -84,14 +81,12 @@ begins-over : {s o y limit : ℕ} (u w : Option (List ℕ)) (es : List Fact) (f 
     → Over (es ++ f ∷ []) s o y → IfSome u (BeginsOver s o y limit)
 begins-over None w es f a h over = tt
 begins-over (Some x) None es f a h over = absurd h
-begins-over (Some x) (Some z) es f a h over =
-    (es ++ f ∷ [], record { are_items = a; rest = z; whole = h }, over)
+begins-over (Some x) (Some z) es f a h over = search rules
 
 -- one entry more would pass the limits
 pub loaded-over : {s o y limit : ℕ} {u v w : Option (List ℕ)} {old new : ReaderState Before}
-    {F : List Fact} {f : Fact} → Loaded s o y limit u v old F
-    → GivesItem journal_framing limit old new v w f → Over (F ++ f ∷ []) s o y
-    → IfSome u (BeginsOver s o y limit)
+    {F : List Fact} {f : Fact} → Loaded s o y limit u v old F → GivesItem journal_framing limit old
+    new v w f → Over (F ++ f ∷ []) s o y → IfSome u (BeginsOver s o y limit)
 loaded-over {s = s} {o = o} {y = y} {u = u} {w = w} {F = F} {f = f} l h over =
     let es = l.entries in
     let next = sofar-next journal_sound l.sofar h in
@@ -114,8 +109,8 @@ pub loaded_failed : (T X : Type 0) {s o y limit : ℕ} {u v : Option (List ℕ)}
     {state : ReaderState Before} {F : List Fact} (f : ReadFault) {n m : ℕ} (k : ℕ)
     → Loaded s o y limit u v state F
     → m ≡ n → FailsIf {T = T} (is_open state) m k (Err f) → FailsToLoad {T = X} n k (Err (Read f))
-loaded_failed T X {limit = limit} {u = u} {v = v} {state = state} f k l e h = let opened =
-    open_after limit u v state l.entries l.sofar in grind arith
+loaded_failed T X {limit = limit} {u = u} {v = v} {state = state} f k l e h = search rules steps
+    400000
 
 -- no failure is counted where something was given
 pub loaded-read : (b : Bool) (n m k : ℕ) → m ≡ n → MatchBool b (k ≡ m) (k ≡ m) → k ≡ n
@@ -124,16 +119,14 @@ loaded-read b n m k e h = grind (arith)
 -- What a reader gave, and what became of it in the store.
 
 pub given-entry : {limit bound : ℕ} (v w : Option (List ℕ)) (old new : ReaderState Before)
-    {given : Option Fact} {f : Fact} → bound ≡ limit → given ≡ Some f
-    → Gives journal_framing bound old new v w (Ok given)
-    → GivesItem journal_framing limit old new v w f
+    {given : Option Fact} {f : Fact} → bound ≡ limit → given ≡ Some f → Gives journal_framing bound
+    old new v w (Ok given) → GivesItem journal_framing limit old new v w f
 given-entry v w old new b e h = grind (arith)
 
 pub loaded-given : {X : Type 0} {s o y limit : ℕ} {u v w : Option (List ℕ)}
-    {old new : ReaderState Before} {F G : List Fact} {f : Fact} (x : X)
-    → Loaded s o y limit u v old F → GivesItem journal_framing limit old new v w f
-    → Same G (F ++ f ∷ []) → (Over (F ++ f ∷ []) s o y → Ok x ≡ Err join.Full)
-    → Loaded s o y limit u w new G
+    {old new : ReaderState Before} {F G : List Fact} {f : Fact} (x : X) → Loaded s o y limit u v old
+    F → GivesItem journal_framing limit old new v w f → Same G (F ++ f ∷ []) →
+    (Over (F ++ f ∷ []) s o y → Ok x ≡ Err join.Full) → Loaded s o y limit u w new G
 loaded-given x l h same full = loaded-next l h same (λ over. let is = full over in absurd cc)
 
 pub loaded-full : {s o y limit : ℕ} {u v w : Option (List ℕ)} (z : Option (List ℕ))
@@ -161,38 +154,32 @@ loaded_all {limit = limit} {bound = bound} {u = u} {v = v} w {old = old} new {F 
     record { journal = journal-at limit u w l.entries F end l.same; at_end = end.at_end }
 loaded_all w new (Some f) l b e h = absurd cc
 
-pub loaded-stops : {s o y limit bound : ℕ} {u v w : Option (List ℕ)}
-    {old new : ReaderState Before} {F : List Fact} {f : ReadFault} → Loaded s o y limit u v old F
-    → bound ≡ limit → GivesFault journal_framing bound old new v w f
-    → IsLoadFault s o y limit u w (Read f)
+pub loaded-stops : {s o y limit bound : ℕ} {u v w : Option (List ℕ)} {old new : ReaderState Before}
+    {F : List Fact} {f : ReadFault} → Loaded s o y limit u v old F → bound ≡ limit → GivesFault
+    journal_framing bound old new v w f → IsLoadFault s o y limit u w (Read f)
 loaded-stops {v = v} {w = w} {old = old} {new = new} {f = f} l b h = (
   l.entries,
   l.fits,
-  (sofar-stops l.sofar
-      (subst (λ (n : ℕ). GivesFault journal_framing n old new v w f) b h)).0,
+  (sofar-stops l.sofar (subst (λ (n : ℕ). GivesFault journal_framing n old new v w f) b h)).0,
 )
 
 -- What was read where no store was.
 
-pub fault-part : {s o y limit bound : ℕ} {u v w : Option (List ℕ)}
-    {old new : ReaderState Before} {F : List Fact} {f : ReadFault} → Loaded s o y limit u v old F
-    → bound ≡ limit → GivesFault journal_framing bound old new v w f
-    → ReadsNoMore s o y limit u w (Read f)
+pub fault-part : {s o y limit bound : ℕ} {u v w : Option (List ℕ)} {old new : ReaderState Before}
+    {F : List Fact} {f : ReadFault} → Loaded s o y limit u v old F → bound ≡ limit → GivesFault
+    journal_framing bound old new v w f → ReadsNoMore s o y limit u w (Read f)
 fault-part {v = v} {w = w} {old = old} {new = new} {f = f} l b h = (
   l.entries,
-  (sofar-stops l.sofar
-      (subst (λ (n : ℕ). GivesFault journal_framing n old new v w f) b h)).1,
+  (sofar-stops l.sofar (subst (λ (n : ℕ). GivesFault journal_framing n old new v w f) b h)).1,
 )
 
 pub refused-part : {s o y limit : ℕ} {u v w : Option (List ℕ)} {old new : ReaderState Before}
-    {F : List Fact} {f : Fact} → Loaded s o y limit u v old F
-    → GivesItem journal_framing limit old new v w f → (why : JoinRefusal)
-    → (why ≡ join.Full → Over (F ++ f ∷ []) s o y)
-    → ReadsNoMore s o y limit u w (refused why)
+    {F : List Fact} {f : Fact} → Loaded s o y limit u v old F → GivesItem journal_framing limit old
+    new v w f → (why : JoinRefusal) → (why ≡ join.Full → Over (F ++ f ∷ []) s o y) → ReadsNoMore s o
+    y limit u w (refused why)
 refused-part {s = s} {o = o} {y = y} {u = u} {w = w} {F = F} {f = f} l h join.Full full =
     let es = l.entries ++ f ∷ [] in
-    let next =
-    sofar-next journal_sound l.sofar h in
+    let next = sofar-next journal_sound l.sofar h in
     record {
       within = l.entries;
       last = f;
@@ -204,14 +191,11 @@ refused-part {s = s} {o = o} {y = y} {u = u} {w = w} {F = F} {f = f} l h join.Fu
     }
 refused-part {u = u} {w = w} {f = f} l h join.OutOfMemory full =
     let es = l.entries ++ f ∷ [] in
-    let next =
-    sofar-next journal_sound l.sofar h in (
+    let next = sofar-next journal_sound l.sofar h in (
       es,
-      after_entries next.are_items []
-          (subst (Consumes u w)
-          (read_some journal_framing next.are_items.told l.entries f ∙ sym
-          (append-nil (without_end_in next.are_items.told es))) next.read)
-          (within_nil next.are_items.told),
+      after_entries next.are_items [] (subst (Consumes u w) (read_some journal_framing
+          next.are_items.told l.entries f ∙ sym (append-nil (without_end_in next.are_items.told es)))
+          next.read) (within_nil next.are_items.told),
     )
 
 -- a store before the first entry, at a fault and at the end

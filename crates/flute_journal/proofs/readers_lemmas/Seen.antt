@@ -22,10 +22,10 @@ begins_with buffer x (Some bytes) size front spelled =
     let more = drop n bytes in
     let back = drop size buffer in (
       back ++ more,
-      sym (take-append-drop n bytes) ∙ ap (λ (l : List ℕ). l ++ more) front
-          ∙ ap (λ (l : List ℕ). l ++ more)
-          (sym (take-append-drop size buffer) ∙ ap (λ (l : List ℕ). l ++ back) spelled)
-          ∙ append_assoc x back more,
+      sym (take-append-drop n bytes) ∙ ap (λ (l : List ℕ). l ++ more) front ∙ ap
+          (λ (l : List ℕ). l ++ more)
+          (sym (take-append-drop size buffer) ∙ ap (λ (l : List ℕ). l ++ back) spelled) ∙ append_assoc x
+          back more,
     )
 
 pub has_entry : (version : Version) (last : Option Address) (u : Option (List ℕ))
@@ -53,10 +53,9 @@ pub record LieInFront (bytes : List ℕ) (n : ℕ) (fixed symbol : List ℕ) : T
 
 -- they begin with the entry of that symbol, if the head is its head
 pub symbol_begins : (v : Version) {last : Option Address} {key : Key} {id : SymbolId} {n : ℕ}
-    {bytes fixed symbol : List ℕ} → HeadIs last kinds.Symbol (Symbol key id n)
-    → HasRoom v key.session → head_bytes v (Symbol key id n) ≡ fixed
-    → LieInFront bytes n fixed symbol
-    → BeginsWithEntry v last bytes (facts.Symbol key id symbol) (1 + length fixed + length symbol)
+    {bytes fixed symbol : List ℕ} → HeadIs last kinds.Symbol (Symbol key id n) → HasRoom v
+    key.session → head_bytes v (Symbol key id n) ≡ fixed → LieInFront bytes n fixed symbol →
+    BeginsWithEntry v last bytes (facts.Symbol key id symbol) (1 + length fixed + length symbol)
 symbol_begins v {last = last} {key = key} {id = id} {n = n} {bytes = bytes} {fixed = fixed}
     {symbol = symbol} s room head_is l =
     let first : l.first ≡ 3 = l.first_is in

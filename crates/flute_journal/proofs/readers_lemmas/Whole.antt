@@ -1,12 +1,13 @@
 -- A journal that is read entry by entry: Sofar of journals, and what was read (specs/Whole).
+use Rattle.std.proofs.Common.{rules}
 use Rattle.flute_journal.proofs.Common.{Address, AllByRecursion, AreItems, Consumes, Consumes-trans}
 use Rattle.flute_journal.proofs.Common.{EndsAfter, Fact, GivesFault, IsFactIn, IsFaultUpTo, IsPart}
 use Rattle.flute_journal.proofs.Common.{IsRising, List, None, Option, ReadFault, ReaderState}
 use Rattle.flute_journal.proofs.Common.{Before, ReadsEntries, ReadsPart, Some, Sofar, StopsAfter}
-use Rattle.flute_journal.proofs.Common.{Version, [], ap, append-nil, append_assoc, arith, end}
-use Rattle.flute_journal.proofs.Common.{end_bytes, entry_in, fault_from, header_in, in_item}
+use Rattle.flute_journal.proofs.Common.{Version, [], ap, append-nil, arith, end}
+use Rattle.flute_journal.proofs.Common.{end_bytes, entry_in, fault_from, in_item}
 use Rattle.flute_journal.proofs.Common.{in_opening, inl, inr, journal_framing, last_of, length}
-use Rattle.flute_journal.proofs.Common.{nil_from_length, none-some, read_of, refl, same_Some}
+use Rattle.flute_journal.proofs.Common.{nil_from_length, none-some, read_of, refl}
 use Rattle.flute_journal.proofs.Common.{spelling_in, state_at, subst, sym, without_end_in, ℕ, ◌++◌}
 use Rattle.flute_journal.proofs.Common.{◌∙◌, ◌∷◌, ◌≡◌, journal_frame}
 use Rattle.flute_journal.proofs.framing_lemmas.SoFar.{FaultAfter, Side, found_now, read_some}
@@ -24,11 +25,9 @@ use Rattle.flute_journal.specs.Prefixes.{in_header, after_entries}
 use Rattle.flute_journal.specs.declared.fault.ReadFault.TheVariants as faults
 
 -- no entry is held back before the next one
-all_read : (v : Version) (es : List Fact)
-    → read_of journal_framing v es ++ end_bytes journal_framing v (state_at journal_framing v es) ≡
-    spelling_in v es
-all_read v [] = sym (append_assoc (header_in v) [] (end 0))
-all_read v (e ∷ es) = refl
+all_read : (v : Version) (es : List Fact) → read_of journal_framing v es ++ end_bytes
+    journal_framing v (state_at journal_framing v es) ≡ spelling_in v es
+all_read x0 x1 = search rules
 
 -- what was read where a fault was found
 part_at : {limit : ℕ} (u x w : Option (List ℕ)) (es : List Fact) {part : List ℕ}
@@ -51,8 +50,7 @@ part_at u x w (e ∷ es) {part = part} a took more (in_item rest is within) =
 
 reads_part : (limit : ℕ) (u x w : Option (List ℕ)) (es : List Fact) (f : ReadFault)
     → FaultAfter journal_framing limit u x w es f → ReadsPart limit u w es
-reads_part limit u x w es f i =
-    part_at u x w es i.are_items i.before_it i.at_fault.read i.at_fault.is_part
+reads_part limit u x w es f i = search (rules, part_at)
 
 -- the source failed after these entries
 broken_at : (limit : ℕ) (u x w : Option (List ℕ)) (es : List Fact)
@@ -89,9 +87,8 @@ stopped_at limit u x w es f i =
 
 -- a fault after these entries, and what was read
 pub sofar-stops : {limit : ℕ} {u v w : Option (List ℕ)} {old new : ReaderState Before}
-    {es : List Fact} {f : ReadFault} → Sofar journal_framing limit u v old es
-    → GivesFault journal_framing limit old new v w f
-    → StopsAfter limit es u w f × ReadsPart limit u w es
+    {es : List Fact} {f : ReadFault} → Sofar journal_framing limit u v old es → GivesFault
+    journal_framing limit old new v w f → StopsAfter limit es u w f × ReadsPart limit u w es
 sofar-stops {limit = limit} {u = u} {v = x} {w = w} {es = es} {f = f} s h =
     let i = found_now s h in
     (stopped_at limit u x w es f i, reads_part limit u x w es f i)
@@ -100,23 +97,20 @@ sofar-stops {limit = limit} {u = u} {v = x} {w = w} {es = es} {f = f} s h =
 
 pub reads-sofar : (limit : ℕ) (u v : Option (List ℕ)) (state : ReaderState Before) (es : List Fact)
     → Sofar journal_framing limit u v state es → ReadsEntries u v es
-reads-sofar limit u x state [] s =
-    record {
-      version = s.are_items.told;
-      valid = tt;
-      bytes = [];
-      read = s.read;
-      ends =
-          in_header refl (omega arith);
-    }
+reads-sofar limit u x state [] s = record {
+  version = s.are_items.told;
+  valid = tt;
+  bytes = [];
+  read = s.read;
+  ends = in_header refl (omega arith);
+}
 reads-sofar limit u x state (e ∷ es) s =
     let v = s.are_items.told in
     record {
       version = v;
       valid = s.are_items.valid;
       bytes = without_end_in v (e ∷ es);
-      read =
-          s.read;
+      read = s.read;
       ends = after_entries [] (sym (append-nil (without_end_in v (e ∷ es)))) (within_nil v);
     }
 
@@ -145,9 +139,8 @@ reads-side limit u x state settled (Some f) s =
           (within_entry v f valid.1.0);
     }
 
-ends_part : (v : Version) (es : List Fact) (part : List ℕ)
-    → IsPart journal_framing v (state_at journal_framing v es) part
-    → EndsAfter v es (read_of journal_framing v es ++ part)
+ends_part : (v : Version) (es : List Fact) (part : List ℕ) → IsPart journal_framing v
+    (state_at journal_framing v es) part → EndsAfter v es (read_of journal_framing v es ++ part)
 ends_part v [] part (in_opening few) = in_header refl few
 ends_part v [] part (in_item more e w) = after_entries more e w
 ends_part v (x ∷ es) part (in_opening few) =
@@ -188,11 +181,7 @@ ahead-read v None left settled p c w es q r e = absurd (none-some (spelling_in w
 ahead-read v (Some xs) None settled p c w es q r e = absurd c
 ahead-read v (Some xs) (Some ys) settled p c w es q r e =
     let begun : BeginsWithEntries v settled ys xs = record { valid = p; bytes_are = c } in
-    let whole : BeginsWithJournal w es [] xs =
-    record {
-      valid = q;
-      bytes_are = same_Some xs (spelling_in w es) e ∙ sym (append-nil (spelling_in w es));
-    } in
+    let whole : BeginsWithJournal w es [] xs = search rules in
     let f = (without_end-of_spelling begun whole).1 in (
       f.more,
       f.items,
@@ -204,5 +193,4 @@ pub ahead-sofar : (limit : ℕ) (input left : Option (List ℕ)) (state : Reader
     (settled : List Fact) → Sofar journal_framing limit input left state settled
     → IsAhead (last_of None settled) input settled
 ahead-sofar limit input left state [] s w es q r e = (es, refl, rising-rises es r)
-ahead-sofar limit input left state (f ∷ fs) s w es q r e =
-    ahead-read s.are_items.told input left (f ∷ fs) s.are_items.valid s.read w es q r e
+ahead-sofar limit input left state (f ∷ fs) s w es q r e = search (rules, ahead-read)

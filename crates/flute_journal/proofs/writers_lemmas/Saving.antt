@@ -1,4 +1,5 @@
 -- write_store: a store that is written entry by entry.
+use Rattle.std.proofs.Common.{rules}
 use Rattle.flute_journal.proofs.Common.{◌≡◌, ℕ, ◌+◌, Bool, true, List, [], ◌∷◌, ◌++◌, length}
 use Rattle.flute_journal.proofs.Common.{Option, sym, ap, ◌∙◌, subst, append_assoc, append-nil}
 use Rattle.flute_journal.proofs.Common.{arith, flat_map, AllByRecursion, flat_map-append}
@@ -18,9 +19,8 @@ pub record Saved (facts left : List Fact) (failed : Bool) (old now : Option (Lis
   pub written : Written failed old now (header ++ flat_map entry done)
 
 pub saved-next : {facts left rest : List Fact} {b : Bool} (d : Bool) {u v : Option (List ℕ)}
-    (w : Option (List ℕ))
-    {count : ℕ} {f : Fact} → Saved facts left b u v count → left ≡ f ∷ rest → IsFact f
-    → PutsBytes b d v w (entry f) → Saved facts rest d u w (count + 1)
+    (w : Option (List ℕ)) {count : ℕ} {f : Fact} → Saved facts left b u v count → left ≡ f ∷ rest →
+    IsFact f → PutsBytes b d v w (entry f) → Saved facts rest d u w (count + 1)
 saved-next {rest = rest} {b = b} d {u = u} {v = v} w {f = f} s e valid h = record {
   done = s.done ++ f ∷ [];
   parts = s.parts ∙ ap (λ (x : List Fact). s.done ++ x) e ∙ sym (append_assoc s.done (f ∷ []) rest);
@@ -30,9 +30,8 @@ saved-next {rest = rest} {b = b} d {u = u} {v = v} w {f = f} s e valid h = recor
       (written-more b d u v w (header ++ flat_map entry s.done) (entry f) (s.written, h));
 }
 
-spelled : (done left : List Fact) (n : ℕ)
-    → header ++ flat_map entry (done ++ left) ++ end n
-    ≡ (header ++ flat_map entry done) ++ (flat_map entry left ++ end n)
+spelled : (done left : List Fact) (n : ℕ) → header ++ flat_map entry (done ++ left) ++ end n ≡
+    (header ++ flat_map entry done) ++ (flat_map entry left ++ end n)
 spelled done left n = simp (flat_map-append, append_assoc)
 
 -- where the sink has failed, a part of the spelling was written
@@ -51,13 +50,14 @@ pub saved-all : {facts left : List Fact} {b : Bool} (d : Bool) {u v : Option (Li
     → Saved facts left b u v count → left ≡ [] → PutsBytes b d v w (end count)
     → Written d u w (spelling facts) × (count ≡ length facts) × AllByRecursion IsFact facts
 saved-all {facts = facts} {left = left} {b = b} d {u = u} {v = v} w {count = count} s e h =
-    let whole : s.done ≡ facts =
-    sym (append-nil s.done) ∙ ap (λ (x : List Fact). s.done ++ x) (sym e) ∙ sym s.parts in
+    let whole : s.done ≡ facts = sym (append-nil s.done) ∙ ap (λ (x : List Fact). s.done ++ x)
+    (sym e) ∙ sym s.parts in
     let counted : count ≡ length facts = s.counted ∙ ap length whole in
-    let written : Written d u w ((header ++ flat_map entry s.done) ++ end count) =
-    written-more b d u v w (header ++ flat_map entry s.done) (end count) (s.written, h) in (
-      subst (λ (x : List ℕ). Written d u w x)
-          (λ i. (header ++ flat_map entry (whole i)) ++ end (counted i)) written,
+    let written : Written d u w ((header ++ flat_map entry s.done) ++ end count) = written-more b d
+    u v w (header ++ flat_map entry s.done) (end count) (s.written, h) in (
+      subst
+          (λ (x : List ℕ). Written d u w x) (λ i. (header ++ flat_map entry (whole i)) ++ end (counted i))
+          written,
       counted,
       subst (AllByRecursion IsFact) whole s.valid,
     )
@@ -65,5 +65,4 @@ saved-all {facts = facts} {left = left} {b = b} d {u = u} {v = v} w {count = cou
 -- rising facts have no other journal
 pub only-spelling : (facts : List Fact) → IsRising facts → (bytes : List ℕ)
     → Journal bytes facts → bytes ≡ spelling facts
-only-spelling facts rising bytes j =
-    j.3 ∙ ap spelling (sym (rising_unique facts j.0 rising j.1.rising j.1.same))
+only-spelling facts rising bytes j = search (rules, rising_unique)

@@ -19,11 +19,10 @@ pub record Sent (all : List (List ℕ)) (place : ℕ) (old now : Option (List �
 
 next_one : (all : List (List ℕ)) (place : ℕ) (d : List ℕ) → slice_get all place ≡ Some d
     → drop place all ≡ d ∷ drop (suc place) all
-next_one all place d e =
-    cc (
-      drop-cons all place d (slice_get_within all place d e),
-      get_or_from_slice_get all place d d e,
-    )
+next_one all place d e = cc (
+  drop-cons all place d (slice_get_within all place d e),
+  get_or_from_slice_get all place d d e,
+)
 
 pub sent_next : {all : List (List ℕ)} {place : ℕ} {u v : Option (List ℕ)}
     (w : Option (List ℕ)) {d : List ℕ} → Sent all place u v → slice_get all place ≡ Some d
@@ -68,21 +67,18 @@ done_all all place u v s e =
     nil_from_length (drop place all) (omega (arith, length-drop place all, past all place e)) in
     sym (append-nil s.done) ∙ ap (λ (x : List (List ℕ)). s.done ++ x) (sym none) ∙ sym s.parts
 
-pub sent-all : (all : List (List ℕ)) (place : ℕ) (u v : Option (List ℕ))
-    → Sent all place u v → slice_get all place ≡ None
-    → Appends u v (file_header ++ flat_map record_of all)
+pub sent-all : (all : List (List ℕ)) (place : ℕ) (u v : Option (List ℕ)) → Sent all place u v →
+    slice_get all place ≡ None → Appends u v (file_header ++ flat_map record_of all)
 sent-all all place u v s e =
     subst (λ (x : List (List ℕ)). Appends u v (file_header ++ flat_map record_of x))
     (done_all all place u v s e) s.written
 
-pub sent-file : (all : List (List ℕ)) (place : ℕ) (u v : Option (List ℕ))
-    → Sent all place u v → slice_get all place ≡ None
-    → IsFileOf (file_header ++ flat_map record_of all) all
-sent-file all place u v s e =
-    record {
-      valid = subst (AllByRecursion IsDatagram) (done_all all place u v s e) s.valid;
-      bytes_are = refl;
-    }
+pub sent-file : (all : List (List ℕ)) (place : ℕ) (u v : Option (List ℕ)) → Sent all place u v →
+    slice_get all place ≡ None → IsFileOf (file_header ++ flat_map record_of all) all
+sent-file all place u v s e = record {
+  valid = subst (AllByRecursion IsDatagram) (done_all all place u v s e) s.valid;
+  bytes_are = refl;
+}
 
 -- one record more was written
 pub ruleset sends = (slice_get_within, sent_next)

@@ -1,4 +1,6 @@
 -- Once a merge has stopped, the streams before are read to their ends (specs/FirstFaults).
+use Rattle.std.proofs.lemmas.Grind.{common_steps}
+use Rattle.std.proofs.Common.{rules}
 use Rattle.flute_streams.proofs.Common.{Advances, AppendsNoJournal, AppendsPart, Behaviour, Bool}
 use Rattle.flute_streams.proofs.Common.{CanGoOn, Err, Fact, FactRef, FailAs, Gave, GaveBefore}
 use Rattle.flute_streams.proofs.Common.{Input, InputFault, MergedJournal, List, LoadFault}
@@ -44,22 +46,19 @@ module _ {S : Type 0} (b : Behaviour S) where
 
   pub others_on : (k j : ℕ) (now new : List S) (after : S) → new ≡ set now k after → j ≢ k
       → slice_get new j ≡ slice_get now j
-  others_on k j now new after e n = ap (λ l. slice_get l j) e ∙ set_elsewhere b now k j after n
+  others_on k j now new after e n = search (rules, set_elsewhere)
 
   pub read-more : {k : ℕ} {old now new : List S} → ReadOn k old now
       → Advances b k now new (Ok tt) → ReadOn k old new
   read-more {k = k} {now = now} {new = new} r a = record {
     as_many = ap length a.now ∙ length-set now k a.after ∙ r.as_many;
     others = λ j n. others_on k j now new a.after a.now n ∙ r.others j n;
-    gave = λ start s F e g.
-        let h = r.gave start s F e g in
+    gave = λ start s F e g. let h = r.gave start s F e g in
         let same = same_Some h.stream a.before (sym h.is ∙ a.was) in
         let on = a.goes_on.gave start h.given
-        (subst (λ x. b.passes start x h.given) same h.gave.passes) in
-        record {
+        (subst (λ x. b.passes start x h.given) same h.gave.passes) in record {
           stream = a.after;
-          is =
-              ap (λ l. slice_get l k) a.now ∙ set_here b now k a.before a.after a.was;
+          is = ap (λ l. slice_get l k) a.now ∙ set_here b now k a.before a.after a.was;
           given = _;
           gave = on;
         };
@@ -68,26 +67,10 @@ module _ {S : Type 0} (b : Behaviour S) where
   pub read-falls : (k : ℕ) (now new : List S) (o : Option Fact)
       → ((s : S) → slice_get now k ≡ Some s → o ≡ b.held s) → is_some o ≡ true
       → Advances b k now new (Ok tt) → most_at new k < most_at now k
-  read-falls k now new o held some a =
-      let e = ap most_in (ap (λ l. slice_get l k) a.now
-      ∙ set_here b now k a.before a.after a.was) in
-      let d = ap most_in a.was in
-      omega (
-        arith,
-        e,
-        d,
-        a.goes_on.fewer,
-        one o some,
-        ap (λ x. length (option_list x)) (held a.before a.was),
-      )
-    where
-      one : (o : Option Fact) → is_some o ≡ true → length (option_list o) ≡ 1
-      one None e = absurd cc
-      one (Some f) e = refl
+  read-falls k now new o held some a = search (rules, set_here, is_some)
 
-  pub read_stops : {k : ℕ} {old now new : List S} {f : LoadFault} → ReadOn k old now
-      → Advances b k now new (Err f) → (start s : S) (F : List Fact)
-      → slice_get old k ≡ Some s → Gave b start s F
+  pub read_stops : {k : ℕ} {old now new : List S} {f : LoadFault} → ReadOn k old now → Advances b k
+      now new (Err f) → (start s : S) (F : List Fact) → slice_get old k ≡ Some s → Gave b start s F
       → IsStopOf b start k new f
   read_stops {k = k} {now = now} r a start s F e g =
       let h = r.gave start s F e g in
@@ -95,16 +78,13 @@ module _ {S : Type 0} (b : Behaviour S) where
       let on = a.stops start h.given (subst (λ x. b.passes start x h.given) same h.gave.passes) in
       record {
         stream = a.after;
-        is =
-            ap (λ l. slice_get l k) a.now ∙ set_here b now k a.before a.after a.was;
-        stops =
-            on.stops;
+        is = ap (λ l. slice_get l k) a.now ∙ set_here b now k a.before a.after a.was;
+        stops = on.stops;
         fails = on.fails;
       }
 
-  pub read-told : {k : ℕ} {old now : List S} {o : Option Fact} → ReadOn k old now
-      → ((s : S) → slice_get now k ≡ Some s → o ≡ b.held s) → o ≡ None
-      → (start s : S) (F : List Fact)
+  pub read-told : {k : ℕ} {old now : List S} {o : Option Fact} → ReadOn k old now →
+      ((s : S) → slice_get now k ≡ Some s → o ≡ b.held s) → o ≡ None → (start s : S) (F : List Fact)
       → slice_get old k ≡ Some s → Gave b start s F → (told : List Fact) × b.tells start told
   read-told r held none start s F e g =
       let h = r.gave start s F e g in
@@ -138,9 +118,8 @@ module _ {S : Type 0} (b : Behaviour S) where
       }
   gave_at (suc n) k start now g l = absurd g
 
-  pub tell-more : (k : ℕ) (start : List S) (s : S) → TellBefore b k start
-      → slice_get start k ≡ Some s → (F : List Fact) × b.tells s F
-      → TellBefore b (suc k) start
+  pub tell-more : (k : ℕ) (start : List S) (s : S) → TellBefore b k start → slice_get start k ≡ Some
+      s → (F : List Fact) × b.tells s F → TellBefore b (suc k) start
   tell-more zero [] s h e t = absurd cc
   tell-more zero (x ∷ start) s h e t =
       (subst (λ y. (F : List Fact) × b.tells y F) (sym (same_Some x s e)) t, tt)
@@ -156,55 +135,33 @@ module _ {S : Type 0} (b : Behaviour S) where
   one_more : (k : ℕ) → suc k ≡ k + 1
   one_more k = omega arith
 
-  pub reached-more : {n k : ℕ} {old now new : List S} → k < n → Reached n k old now
-      → length new ≡ length now
-      → ((j : ℕ) → j ≢ k → slice_get new j ≡ slice_get now j)
-      → ((start s : S) (F : List Fact) → slice_get now k ≡ Some s → Gave b start s F
-      → (told : List Fact) × b.tells start told) → Reached n (k + 1) old new
+  pub reached-more : {n k : ℕ} {old now new : List S} → k < n → Reached n k old now → length new ≡
+      length now → ((j : ℕ) → j ≢ k → slice_get new j ≡ slice_get now j) → ((start s : S)
+      (F : List Fact) → slice_get now k ≡ Some s → Gave b start s F → (told : List Fact) × b.tells
+      start told) → Reached n (k + 1) old new
   reached-more {n = n} {k = k} {old = old} l r len others told = record {
     as_many = len ∙ r.as_many;
-    behind = λ j p. others j (λ e. absurd (omega (arith, p, e))) ∙ r.behind j (omega (arith, p));
-    told = λ start g.
-        let a = gave_at n k start old g l in
-        subst (λ m. TellBefore b m start) (one_more k)
-        (tell-more k start a.new (r.told start g) a.was
+    behind = search rules;
+    told = λ start g. let a = gave_at n k start old g l in subst (λ m. TellBefore b m start)
+        (one_more k) (tell-more k start a.new (r.told start g) a.was
         (told a.new a.stream a.given (r.behind k (omega arith) ∙ a.is) a.gave));
   }
 
-  pub reached-stop : {n k : ℕ} {old now new : List S} {f : LoadFault} → k < n
-      → Reached n k old now
-      → ((start s : S) (F : List Fact) → slice_get now k ≡ Some s → Gave b start s F
-      → IsStopOf b start k new f)
-      → (start : List S) → GaveBefore b n start old
-      → HasStopped b start new (record { number = k; fault = f })
+  pub reached-stop : {n k : ℕ} {old now new : List S} {f : LoadFault} → k < n → Reached n k old now
+      → ((start s : S) (F : List Fact) → slice_get now k ≡ Some s → Gave b start s F → IsStopOf b
+      start k new f) → (start : List S) → GaveBefore b n start old → HasStopped b start new
+      (record { number = k; fault = f })
   reached-stop {n = n} {k = k} {old = old} {new = new} l r stops start g =
       let a = gave_at n k start old g l in
-      record {
-        new = a.new;
-        was = a.was;
-        stop =
-            stops a.new a.stream a.given (r.behind k (omega arith) ∙ a.is) a.gave;
-      }
+      record { new = a.new; was = a.was; stop = search rules }
 
   -- one that stopped in a merge
-  pub has-stopped : (k : ℕ) (f : LoadFault) (old now : List S) (s : S)
-      → slice_get old k ≡ Some s → b.stops s f → OneFails b k f old now
-      → HasStopped b old now (record { number = k; fault = f })
+  pub has-stopped : (k : ℕ) (f : LoadFault) (old now : List S) (s : S) → slice_get old k ≡ Some s →
+      b.stops s f → OneFails b k f old now → HasStopped b old now (record { number = k; fault = f })
   has-stopped zero f (x ∷ old) (t ∷ now) s e h o = grind (arith, same_Some)
   has-stopped (suc k) f (x ∷ old) (t ∷ now) s e h o =
       let r = has-stopped k f old now s e h o.1 in
-      record {
-        new = r.new;
-        was = r.was;
-        stop =
-            record {
-              stream = r.stop.stream;
-              is = r.stop.is;
-              stops = r.stop.stops;
-              fails =
-                  r.stop.fails;
-            };
-      }
+      record { new = r.new; was = r.was; stop = search rules }
   has-stopped k f old now s e h o = absurd o
 
   pub stopped_of : (fault : StreamsFault) (i : InputFault) (old now : List S) → fault ≡ Input i
@@ -214,18 +171,17 @@ module _ {S : Type 0} (b : Behaviour S) where
 
   pub gave_of : (fault : StreamsFault) (i : InputFault) (old now : List S) → fault ≡ Input i
       → CanGoOn b old now fault → GaveBefore b i.number old now
-  gave_of fault i old now e g = subst (CanGoOn b old now) e g
+  gave_of fault i old now e g = search rules
 
 -- where the sink failed, what was appended is no journal
 pub cut_journal : (u v : Option (List ℕ)) (facts : List Fact) (count : ℕ) (cut : Bool)
     → cut ≡ true → PutsJournal cut u v facts count → AppendsNoJournal u v
 cut_journal u v facts count cut e p =
-    let part : AppendsPart u v p.bytes = subst (λ (b : Bool). Written b u v p.bytes) e p.appended in
+    let part : AppendsPart u v p.bytes = search rules in
     record {
       bytes = part.part;
       appended = part.appended;
-      no_journal =
-          no_whole_end p.journal.0 part.part part.rest p.journal.1.valid part.cut
+      no_journal = no_whole_end p.journal.0 part.part part.rest p.journal.1.valid part.cut
           (sym part.whole ∙ p.journal.3);
     }
 

@@ -1,4 +1,6 @@
 -- Advancing the streams that hold the lowest address, one after another (specs/Advances).
+use Rattle.std.proofs.lemmas.Grind.{common_steps}
+use Rattle.std.proofs.Common.{rules}
 use Rattle.flute_streams.proofs.Common.{◌≡◌, ℕ, suc, ◌+◌, ◌<◌, ◌≤◌, List, []}
 use Rattle.flute_streams.proofs.Common.{◌∷◌, ◌++◌, length, take, drop, get_or, Option}
 use Rattle.flute_streams.proofs.Common.{Some, Ok, Err, refl, sym, ap, ◌∙◌, subst, inl, inr}
@@ -25,12 +27,11 @@ module _ {S : Type 0} (b : Behaviour S) (place : Option Address) where
 
   -- no stream from number k on, before number n, holds that address
   abbrev pub NoneAt : ℕ → ℕ → List S → Type 0
-  NoneAt k n streams =
-      (j : ℕ) (s : S) → k ≤ j → j < n → slice_get streams j ≡ Some s
-      → address_of (b.held s) ≢ place
+  NoneAt k n streams = (j : ℕ) (s : S) → k ≤ j → j < n → slice_get streams j ≡ Some s → address_of
+      (b.held s) ≢ place
 
   pub none_went : (old : List S) → WentSoFar 0 old old
-  none_went old = record { done = tt; rest = refl }
+  none_went old = search rules
 
   go_on_more : (xs ys : List S) (x y : S) → GoOnAt b place xs ys → GoesOnAt b place x y
       → GoOnAt b place (xs ++ x ∷ []) (ys ++ y ∷ [])
@@ -46,25 +47,23 @@ module _ {S : Type 0} (b : Behaviour S) (place : Option Address) where
       ap length e in omega (arith, l, length-drop k now, length-drop k old)
 
   -- a stream that was not reached is unchanged, and so are all after it
-  as_it_was : (k : ℕ) (old now : List S) (x : S) → drop k now ≡ drop k old
-      → slice_get now k ≡ Some x → (get_or old k x ≡ x)
-      × (drop (k + 1) now ≡ drop (k + 1) old)
+  as_it_was : (k : ℕ) (old now : List S) (x : S) → drop k now ≡ drop k old → slice_get now k ≡ Some
+      x → (get_or old k x ≡ x) × (drop (k + 1) now ≡ drop (k + 1) old)
   as_it_was k old now x e is =
       let h : k < length now = slice_get_within now k x is in
       let a : drop k now ≡ get_or now k x ∷ drop (suc k) now = drop-cons now k x h in
-      let c : drop k old ≡ get_or old k x ∷ drop (suc k) old =
-      drop-cons old k x (shorter k old now e h) in
+      let c : drop k old ≡ get_or old k x ∷ drop (suc k) old = drop-cons old k x
+      (shorter k old now e h) in
       let r = same_head (drop (suc k) now) (drop (suc k) old) (get_or now k x) (get_or old k x)
-      (sym a ∙ e ∙ c) in
-      (sym r.0 ∙ get_or_from_slice_get now k x x is, rw add-one r.1)
+      (sym a ∙ e ∙ c) in (sym r.0 ∙ get_or_from_slice_get now k x x is, rw add-one r.1)
 
   old_more : (k : ℕ) (old now : List S) (x : S) → drop k now ≡ drop k old
       → slice_get now k ≡ Some x → take (k + 1) old ≡ take k old ++ x ∷ []
-  old_more k old now x e is =
-      cc (
-        take_more old k x (shorter k old now e (slice_get_within now k x is)),
-        (as_it_was k old now x e is).0,
-      )
+  old_more k old now x e is = cc (
+    take_more old k x
+        (shorter k old now e (slice_get_within now k x is)),
+    (as_it_was k old now x e is).0,
+  )
 
   -- a stream that was not reached is the same
   pub not_reached : {k : ℕ} {old now : List S} → WentSoFar k old now → k < length now
@@ -75,9 +74,8 @@ module _ {S : Type 0} (b : Behaviour S) (place : Option Address) where
       (sym (as_it_was k old now x.0 w.rest x.1).0))
 
   -- stream k holds another address: it stays
-  pub one_stays : {k : ℕ} {old now : List S} {x : S} → WentSoFar k old now
-      → slice_get now k ≡ Some x → address_of (b.held x) ≢ place
-      → WentSoFar (k + 1) old now
+  pub one_stays : {k : ℕ} {old now : List S} {x : S} → WentSoFar k old now → slice_get now k ≡ Some
+      x → address_of (b.held x) ≢ place → WentSoFar (k + 1) old now
   one_stays {k = k} {old = old} {now = now} {x = x} w is n = record {
     done =
         subst (λ l. GoOnAt b place l (take (k + 1) now)) (sym (old_more k old now x w.rest is))
@@ -98,12 +96,10 @@ module _ {S : Type 0} (b : Behaviour S) (place : Option Address) where
       let j = k + n in
       let l : j < m = omega (arith, e) in
       let x = item_at now j (omega (arith, l, within)) in
-      let before =
-      more_stay n refl (omega (arith, l, within))
+      let before = more_stay n refl (omega (arith, l, within))
       (λ i s p q g. apart i s p (omega (arith, l, q)) g) w in
       let same : j + 1 ≡ m = omega (arith, e) in
-      subst (λ i. WentSoFar i old now) same
-      (one_stays before x.1 (apart j x.0 (omega arith) l x.1))
+      subst (λ i. WentSoFar i old now) same (one_stays before x.1 (apart j x.0 (omega arith) l x.1))
 
   -- stream k holds that address, and is advanced
   pub one_goes : {k : ℕ} {old now new : List S} → WentSoFar k old now
@@ -113,14 +109,12 @@ module _ {S : Type 0} (b : Behaviour S) (place : Option Address) where
       let x = a.before in
       let h : k < length now = slice_get_within now k x a.was in
       subst (WentSoFar (k + 1) old) (sym a.now) (record {
-        done =
-            subst (λ l. GoOnAt b place l (take (k + 1) (set now k a.after)))
-            (sym (old_more k old now x w.rest a.was))
-            (subst (λ l. GoOnAt b place (take k old ++ x ∷ []) l)
-            (sym (take_more_set now k a.after h))
+        done = subst (λ l. GoOnAt b place l (take (k + 1) (set now k a.after)))
+            (sym (old_more k old now x w.rest a.was)) (subst
+            (λ l. GoOnAt b place (take k old ++ x ∷ []) l) (sym (take_more_set now k a.after h))
             (go_on_more (take k old) (take k now) x a.after w.done (inl (p, a.goes_on))));
-        rest = drop-set-lt (k + 1) now k a.after (omega arith)
-            ∙ (as_it_was k old now x w.rest a.was).1;
+        rest = drop-set-lt (k + 1) now k a.after (omega arith) ∙
+            (as_it_was k old now x w.rest a.was).1;
       })
 
   stop_at : (xs ys zs : List S) (x : S) {y : S} {f : LoadFault} → GoOnAt b place xs ys
@@ -139,20 +133,17 @@ module _ {S : Type 0} (b : Behaviour S) (place : Option Address) where
       let y = a.after in
       let h : k < length now = slice_get_within now k x a.was in
       let zs = drop (k + 1) old in
-      let was : (take k old ++ x ∷ []) ++ zs ≡ old =
-      ap (λ l. l ++ zs) (sym (old_more k old now x w.rest a.was))
-      ∙ take-append-drop (k + 1) old in
-      let behind : drop (k + 1) (set now k y) ≡ zs =
-      drop-set-lt (k + 1) now k y (omega arith) ∙ (as_it_was k old now x w.rest a.was).1 in
-      let is : (take k now ++ y ∷ []) ++ zs ≡ new =
-      ap (λ l. l ++ zs) (sym (take_more_set now k y h))
-      ∙ ap (λ l. take (k + 1) (set now k y) ++ l) (sym behind)
-      ∙ take-append-drop (k + 1) (set now k y) ∙ sym a.now in
-      let n : length (take k old) ≡ k =
-      length-take-le k old (let q = shorter k old now w.rest h in omega arith) in
-      subst (λ m. StopAt b place m f old new) n
-      (subst (λ l. StopAt b place (length (take k old)) f l new) was
-      (subst (λ l. StopAt b place (length (take k old)) f ((take k old ++ x ∷ []) ++ zs) l) is
+      let was : (take k old ++ x ∷ []) ++ zs ≡ old = ap (λ l. l ++ zs)
+      (sym (old_more k old now x w.rest a.was)) ∙ take-append-drop (k + 1) old in
+      let behind : drop (k + 1) (set now k y) ≡ zs = drop-set-lt (k + 1) now k y (omega arith) ∙
+      (as_it_was k old now x w.rest a.was).1 in
+      let is : (take k now ++ y ∷ []) ++ zs ≡ new = ap (λ l. l ++ zs)
+      (sym (take_more_set now k y h)) ∙ ap (λ l. take (k + 1) (set now k y) ++ l) (sym behind) ∙
+      take-append-drop (k + 1) (set now k y) ∙ sym a.now in
+      let n : length (take k old) ≡ k = length-take-le k old
+      (let q = shorter k old now w.rest h in omega arith) in subst (λ m. StopAt b place m f old new)
+      n (subst (λ l. StopAt b place (length (take k old)) f l new) was (subst
+      (λ l. StopAt b place (length (take k old)) f ((take k old ++ x ∷ []) ++ zs) l) is
       (stop_at (take k old) (take k now) zs x w.done p a.stops)))
 
   -- after the last stream all were advanced
@@ -166,7 +157,7 @@ module _ {S : Type 0} (b : Behaviour S) (place : Option Address) where
 
 pub same_length : {S : Type 0} (b : Behaviour S) (k : ℕ) (old new : List S)
     → (a : Advances b k old new (Ok tt)) → length new ≡ length old
-same_length b k old new a = ap length a.now ∙ length-set old k a.after
+same_length b k old new a = search rules
 
 -- none was advanced, one stops, all were advanced
 pub ruleset goings = (none_went, one_stops, all_went)

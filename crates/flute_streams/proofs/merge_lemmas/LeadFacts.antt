@@ -1,4 +1,6 @@
 -- Lemmas on Leads (specs/Leads): the stream that holds a fact below those of all others.
+use Rattle.std.proofs.lemmas.Grind.{common_steps}
+use Rattle.std.proofs.Common.{rules}
 use Rattle.flute_streams.proofs.Common.{◌≡◌, ℕ, zero, suc, ◌+◌, ◌<◌, ◌≤◌}
 use Rattle.flute_streams.proofs.Common.{true, eqb, List, [], ◌∷◌}
 use Rattle.flute_streams.proofs.Common.{◌++◌, length, Option, Some, None, Ok, Err, refl, sym}
@@ -26,7 +28,7 @@ pub lower-first : (next : Option Address) (p : Address) (o : Option Address)
 lower-first next p None h = tt
 lower-first None p (Some q) h = absurd h
 lower-first (Some a) p (Some q) h = elim (cases_Bool (is_lt (address_cmp a p))) [
-  | inl e ↦ subst (λ t. address_cmp (if t then a else p) q ≢ Greater) (sym e) h
+  | inl e ↦ search rules
   | inr e ↦ subst (λ t. address_cmp (if t then a else p) q ≢ Greater) (sym e)
       (up_to-trans p a q refl refl (up_to_turned a p (address_cmp a p) refl e) h)
 ]
@@ -53,10 +55,9 @@ pub record FirstsFrom {S : Type 0} (b : Behaviour S) (number k : ℕ) (streams :
 
 module _ {S : Type 0} (b : Behaviour S) {number k : ℕ} {streams : List S}
     {next : Option Address} where
-  pub firsts_more : (o : Option Address)
-      → ((s : S) → slice_get streams k ≡ Some s → o ≡ address_of (b.held s))
-      → FirstsFrom b number k streams next
-      → FirstsFrom b number (k + 1) streams (lower_next next o)
+  pub firsts_more : (o : Option Address) →
+      ((s : S) → slice_get streams k ≡ Some s → o ≡ address_of (b.held s)) → FirstsFrom b number k
+      streams next → FirstsFrom b number (k + 1) streams (lower_next next o)
   firsts_more o held h = record {
     none_before = λ j s l i n. elim (cases_Bool (eqb j k)) [
       | inl e ↦ subst (λ x. NoneBefore (lower_next next o) x)
@@ -74,24 +75,22 @@ module _ {S : Type 0} (b : Behaviour S) {number k : ℕ} {streams : List S}
       lowered o x h = grind (arith, lower-first)
 
   -- once all streams were looked at, this one leads
-  pub lead-new : (o : Option Address) → number < length streams → length streams ≤ k
-      → ((s : S) → slice_get streams number ≡ Some s → o ≡ address_of (b.held s))
-      → FirstsFrom b number k streams next
-      → IsBelowNext o next → Leads b streams number next
+  pub lead-new : (o : Option Address) → number < length streams → length streams ≤ k →
+      ((s : S) → slice_get streams number ≡ Some s → o ≡ address_of (b.held s)) → FirstsFrom b
+      number k streams next → IsBelowNext o next → Leads b streams number next
   lead-new o within all held h below =
       let x = item_at streams number within in
       record {
         stream = x.0;
         is = x.1;
-        below = subst (λ y. IsBelowNext y next) (held x.0 x.1) below;
+        below = search rules;
         others = λ j s i n. h.none_before j s
             (let p = slice_get_within streams j s i in omega (arith, p, all)) i n;
       }
 
   pub firsts_passed : k ≡ number → FirstsFrom b number k streams next
       → FirstsFrom b number (k + 1) streams next
-  firsts_passed e h =
-      record { none_before = λ j s l i n. h.none_before j s (omega (arith, l, e, n)) i n }
+  firsts_passed e h = search rules
 
 -- What lies above the fact that the leading stream holds.
 
@@ -102,8 +101,7 @@ over : (g : Fact) (next : Option Address) (o : Option Fact)
     → IsBelowNext (Some (address g)) next → NoneBefore next (address_of o) → IsOver g o
 over g next None l h = tt
 over g None (Some f) l h = absurd h
-over g (Some a) (Some f) l h =
-    less_up_to (address g) a (address f) (address_cmp a (address f)) l refl h
+over g (Some a) (Some f) l h = search (rules, less_up_to)
 
 over_list : (g : Fact) (o : Option Fact) → IsOver g o → StandAfter (address g) (option_list o)
 over_list g o h = grind (arith)
@@ -155,8 +153,7 @@ module _ {S : Type 0} (b : Behaviour S) where
   all_after : (g : Fact) (streams : List S) → AllOver g streams
       → StandAfter (address g) (heads b streams)
   all_after g [] h = tt
-  all_after g (s ∷ streams) h =
-      after-append (address g) (option_list (b.held s)) (heads b streams)
+  all_after g (s ∷ streams) h = after-append (address g) (option_list (b.held s)) (heads b streams)
       (over_list g (b.held s) (h 0 s refl)) (all_after g streams (λ j t e. h (suc j) t e))
 
   -- the fact that it holds is the lowest
@@ -173,8 +170,7 @@ module _ {S : Type 0} (b : Behaviour S) where
       → b.held s ≡ Some g → OthersOver g k streams → Lowest (heads b streams) g
   lead_lowest g k s [] e held h = absurd cc
   lead_lowest g zero s (t ∷ streams) e held h =
-      let p : option_list (b.held t) ≡ g ∷ [] =
-      ap (λ x. option_list (b.held x)) (same_Some t s e) ∙ ap option_list held in
+      let p : option_list (b.held t) ≡ g ∷ [] = search rules in
       subst (λ (l : List Fact). Lowest (l ++ heads b streams) g) (sym p)
       (lowest_first g (heads b streams) (all_after g streams (behind_zero g t streams h)))
   lead_lowest g (suc k) s (t ∷ streams) e held h =
@@ -185,9 +181,8 @@ module _ {S : Type 0} (b : Behaviour S) where
       first_over : OthersOver g (suc k) (t ∷ streams) → IsOver g (b.held t)
       first_over h = h zero t refl (apart_zero k)
 
-  pub lead-lowest : (streams : List S) (number : ℕ) (next : Option Address) (o : Option Fact)
-      → (l : Leads b streams number next) → o ≡ b.held l.stream
-      → IsLowest (heads b streams) o
+  pub lead-lowest : (streams : List S) (number : ℕ) (next : Option Address) (o : Option Fact) →
+      (l : Leads b streams number next) → o ≡ b.held l.stream → IsLowest (heads b streams) o
   lead-lowest streams number next None l e =
       absurd (subst (λ x. IsBelowNext (address_of x) next) (sym e) l.below)
   lead-lowest streams number next (Some g) l e =
@@ -207,9 +202,8 @@ module _ {S : Type 0} (b : Behaviour S) where
   all_stay a (s ∷ streams) h = (inr (h 0 s refl, refl), all_stay a streams (λ j t e. h (suc j) t e))
 
   abbrev OthersElsewhere : Option Address → ℕ → List S → Type 0
-  OthersElsewhere a k streams =
-      (j : ℕ) (s : S) → slice_get streams j ≡ Some s → j ≢ k
-      → address_of (b.held s) ≢ a
+  OthersElsewhere a k streams = (j : ℕ) (s : S) → slice_get streams j ≡ Some s → j ≢ k → address_of
+      (b.held s) ≢ a
 
   goes : {a : Option Address} (k : ℕ) (streams : List S) {x y : S}
       → slice_get streams k ≡ Some x → address_of (b.held x) ≡ a → GoesOn b x y
@@ -218,22 +212,24 @@ module _ {S : Type 0} (b : Behaviour S) where
   goes {a = a} zero (s ∷ streams) {x = x} {y = y} e p g h =
       let q = same_Some s x e in (
         inl (ap (λ t. address_of (b.held t)) q ∙ p, subst (λ t. GoesOn b t y) (sym q) g),
-        all_stay a streams (λ j t i. h (suc j) t i (zero_apart j)),
+        all_stay a
+            streams (λ j t i. h (suc j) t i (zero_apart j)),
       )
   goes (suc k) (s ∷ streams) e p g h = (
     inr (h 0 s refl (apart_zero k), refl),
-    goes k streams e p g (λ j t i n. h (suc j) t i (λ q. n (suc_is j k q))),
+    goes k streams e p g
+        (λ j t i n. h (suc j) t i (λ q. n (suc_is j k q))),
   )
 
-  stops : {a : Option Address} (k : ℕ) {f : LoadFault} (streams : List S) {x : S} (y : S)
-      → slice_get streams k ≡ Some x → address_of (b.held x) ≡ a → StopsAt b x y f
-      → OthersElsewhere a k streams
-      → StopAt b a k f streams (set streams k y)
+  stops : {a : Option Address} (k : ℕ) {f : LoadFault} (streams : List S) {x : S} (y : S) →
+      slice_get streams k ≡ Some x → address_of (b.held x) ≡ a → StopsAt b x y f → OthersElsewhere a
+      k streams → StopAt b a k f streams (set streams k y)
   stops k [] y e p g h = absurd cc
   stops zero (s ∷ streams) y e p g h = grind (arith, same_Some)
   stops (suc k) (s ∷ streams) y e p g h = (
     inr (h 0 s refl (apart_zero k), refl),
-    stops k streams y e p g (λ j t i n. h (suc j) t i (λ q. n (suc_is j k q))),
+    stops k streams y
+        e p g (λ j t i n. h (suc j) t i (λ q. n (suc_is j k q))),
   )
 
   elsewhere : (streams : List S) (number : ℕ) (next : Option Address) (a : Address)
@@ -252,19 +248,16 @@ module _ {S : Type 0} (b : Behaviour S) where
   pub lead-goes : {streams new : List S} {number : ℕ} {next : Option Address} (a : Address)
       → Leads b streams number next → StandsAt b (Some a) streams number
       → Advances b number streams new (Ok tt) → GoOnAt b (Some a) streams new
-  lead-goes {streams = streams} {number = number} {next = next} a l at v =
-      subst (λ x. GoOnAt b (Some a) streams x) (sym v.now)
-      (goes number streams v.was (at v.before v.was) v.goes_on
-      (elsewhere streams number next a l at))
+  lead-goes {streams = streams} {number = number} {next = next} a l at v = subst
+      (λ x. GoOnAt b (Some a) streams x) (sym v.now) (goes number streams v.was (at v.before v.was)
+      v.goes_on (elsewhere streams number next a l at))
 
   pub lead-stops : {streams new : List S} {number : ℕ} {next : Option Address} (a : Address)
-      {f : LoadFault} → Leads b streams number next → StandsAt b (Some a) streams number
-      → Advances b number streams new (Err f)
-      → StopAt b (Some a) number f streams new
-  lead-stops {streams = streams} {number = number} {next = next} a {f = f} l at v =
-      subst (λ x. StopAt b (Some a) number f streams x) (sym v.now)
-      (stops number streams v.after v.was (at v.before v.was) v.stops
-      (elsewhere streams number next a l at))
+      {f : LoadFault} → Leads b streams number next → StandsAt b (Some a) streams number → Advances
+      b number streams new (Err f) → StopAt b (Some a) number f streams new
+  lead-stops {streams = streams} {number = number} {next = next} a {f = f} l at v = subst
+      (λ x. StopAt b (Some a) number f streams x) (sym v.now) (stops number streams v.after v.was
+      (at v.before v.was) v.stops (elsewhere streams number next a l at))
 
   pub set_here : (streams : List S) (k : ℕ) (x y : S) → slice_get streams k ≡ Some x
       → slice_get (set streams k y) k ≡ Some y
@@ -280,11 +273,10 @@ module _ {S : Type 0} (b : Behaviour S) where
   set_elsewhere (s ∷ streams) k j y n = refl
 
   -- it still leads, where what it holds is below the next address
-  pub still-leads : {streams new : List S} {number : ℕ} {next : Option Address}
-      {o : Option Address} → Leads b streams number next → Advances b number streams new (Ok tt)
-      → ((s : S) → slice_get new number ≡ Some s → o ≡ address_of (b.held s))
-      → IsBelowNext o next
-      → Leads b new number next
+  pub still-leads : {streams new : List S} {number : ℕ} {next : Option Address} {o : Option Address}
+      → Leads b streams number next → Advances b number streams new (Ok tt) →
+      ((s : S) → slice_get new number ≡ Some s → o ≡ address_of (b.held s)) → IsBelowNext o next →
+      Leads b new number next
   still-leads l v held below = grind (arith, set_here, set_elsewhere)
 
 -- one stream more was looked at, or the one that leads was passed over

@@ -1,4 +1,7 @@
 -- What is held at the end of a merge is let go of: the sources then have left what the streams had.
+use Rattle.std.proofs.Common.{arith}
+use Rattle.std.proofs.lemmas.Grind.{common_steps}
+use Rattle.std.proofs.Common.{rules}
 use Rattle.flute_streams.proofs.Common.{Fact, List, None, Option}
 use Rattle.flute_streams.proofs.Common.{ReadsEntries, Some, ap, ◌∙◌, ◌++◌, ◌≡◌, ℕ}
 use Rattle.std.proofs.Math.Seq.{drop-append_seam}
@@ -19,21 +22,11 @@ nothing_held b (held.Entry place v) u none = absurd cc
 
 consumes : (input u v : Option (List ℕ)) (held bytes : List ℕ) → Consumes u v held
     → Consumes input (left_behind held u) bytes → Consumes input v bytes
-consumes None u v held bytes c r = tt
-consumes (Some xs) None v held bytes c r = absurd r
-consumes (Some xs) (Some ys) None held bytes c r = absurd c
-consumes (Some xs) (Some ys) (Some zs) held bytes c r =
-    r ∙ ap (λ l. bytes ++ l) (ap (drop (length held)) c ∙ drop-append_seam held zs)
+consumes x0 x1 x2 x3 x4 x5 x6 = grind (arith, common_steps)
 
 reads : {input : Option (List ℕ)} (u v : Option (List ℕ)) (held : List ℕ) {F : List Fact}
     → Consumes u v held → ReadsEntries input (left_behind held u) F → ReadsEntries input v F
-reads {input = input} u v held c r = record {
-  version = r.version;
-  valid = r.valid;
-  bytes = r.bytes;
-  read = consumes input u v held r.bytes c r.read;
-  ends = r.ends;
-}
+reads {input = input} u v held c r = search (rules, consumes)
 
 -- what was held of two sources was let go of
 pub record LetGo (u v x y : Option (List ℕ)) : Type 0 where
@@ -42,10 +35,9 @@ pub record LetGo (u v x y : Option (List ℕ)) : Type 0 where
   pub first : Consumes u v first_held
   pub second : Consumes x y second_held
 
-pub lets_go : {limit : ℕ} {first second u v x y old new : Option (List ℕ)} {fault : MergeFault}
-    → (l : LetGo u v x y)
-    → Stopped limit first (left_behind l.first_held u) second (left_behind l.second_held x) old new
-    fault → Stopped limit first v second y old new fault
+pub lets_go : {limit : ℕ} {first second u v x y old new : Option (List ℕ)} {fault : MergeFault} →
+    (l : LetGo u v x y) → Stopped limit first (left_behind l.first_held u) second
+    (left_behind l.second_held x) old new fault → Stopped limit first v second y old new fault
 lets_go {u = u} {v = v} {x = x} {y = y} l h = record {
   short = h.short;
   keeps_up = record {

@@ -1,4 +1,5 @@
 -- Lemmas on Lowest (specs/Lowest): the lowest address of facts and its value, fact by fact.
+use Rattle.std.proofs.lemmas.Grind.{common_steps}
 use Rattle.flute_streams.proofs.Common.{Bool, Info, InfoConflict, Symbol, SymbolConflict, SymbolId}
 use Rattle.flute_streams.proofs.Common.{bytes_eq, ◌&&◌, Address, AllByRecursion, Behaviour}
 use Rattle.flute_streams.proofs.Common.{Equal}
@@ -37,44 +38,39 @@ pub up_to-trans : (a b c : Address) {o p : Ordering} → address_cmp a b ≡ o
     → address_cmp b c ≡ p → IsUpTo o → IsUpTo p → IsUpTo (address_cmp a c)
 up_to-trans a b c {o = Less} {p = Less} e f h k =
     up_to_less (address_cmp a c) (address_total.trans a b c e f)
-up_to-trans a b c {o = Less} {p = Equal} e f h k =
-    up_to_less (address_cmp a c) (subst (λ x. address_cmp a x ≡ Less)
-    (address_same b c (ap is_eq f)) e)
-up_to-trans a b c {o = Equal} e f h k =
-    subst (λ x. IsUpTo (address_cmp x c)) (sym (address_same a b (ap is_eq e)))
-    (subst IsUpTo (sym f) k)
+up_to-trans a b c {o = Less} {p = Equal} e f h k = up_to_less (address_cmp a c)
+    (subst (λ x. address_cmp a x ≡ Less) (address_same b c (ap is_eq f)) e)
+up_to-trans a b c {o = Equal} e f h k = subst (λ x. IsUpTo (address_cmp x c))
+    (sym (address_same a b (ap is_eq e))) (subst IsUpTo (sym f) k)
 up_to-trans a b c {o = Less} {p = Greater} e f h k = absurd (k refl)
 up_to-trans a b c {o = Greater} e f h k = absurd (h refl)
 
 pub up_to_itself : (a : Address) → IsUpTo (address_cmp a a)
-up_to_itself a e = let h : is_eq (address_cmp a a) ≡ true = address_itself a in absurd cc
+up_to_itself a e = search rules
 
 -- the second is not above the first, where the first isn't below it
 pub up_to_turned : (a b : Address) (o : Ordering) → address_cmp a b ≡ o → is_lt o ≡ false
     → IsUpTo (address_cmp b a)
 up_to_turned a b Less e h = absurd cc
-up_to_turned a b Equal e h = λ k. let r = address_total.antisymm b a in absurd cc
-up_to_turned a b Greater e h = λ k. let r = address_total.antisymm b a in absurd cc
+up_to_turned a b other e h = λ k. let r = address_total.antisymm b a in absurd cc
 
 -- what is held, stream by stream
 
 pub heads-append : {S : Type 0} (b : Behaviour S) (xs ys : List S)
     → heads b (xs ++ ys) ≡ heads b xs ++ heads b ys
 heads-append b [] ys = refl
-heads-append b (x ∷ xs) ys =
-    cc (heads-append b xs ys, append_assoc (option_list (b.held x)) (heads b xs) (heads b ys))
+heads-append b (x ∷ xs) ys = search (rules, heads-append b xs ys)
 
 -- what is held by one stream more
 pub heads-more : {S : Type 0} (b : Behaviour S) (xs : List S) (k : ℕ) → k < length xs
     → heads b (take (k + 1) xs) ≡ heads b (take k xs) ++ option_list (held_at b xs k)
 heads-more b xs k within =
     let x = item_at xs k within in
-    ap (heads b) (take_more xs k x.0 within)
-    ∙ heads-append b (take k xs) (get_or xs k x.0 ∷ [])
-    ∙ ap (λ s. heads b (take k xs) ++ (option_list (b.held s) ++ []))
-    (get_or_from_slice_get xs k x.0 x.0 x.1)
-    ∙ ap (λ l. heads b (take k xs) ++ l) (append-nil (option_list (b.held x.0)))
-    ∙ ap (λ s. heads b (take k xs) ++ option_list (held_in b s)) (sym x.1)
+    ap (heads b) (take_more xs k x.0 within) ∙ heads-append b (take k xs) (get_or xs k x.0 ∷ []) ∙
+    ap (λ s. heads b (take k xs) ++ (option_list (b.held s) ++ []))
+    (get_or_from_slice_get xs k x.0 x.0 x.1) ∙ ap (λ l. heads b (take k xs) ++ l)
+    (append-nil (option_list (b.held x.0))) ∙ ap
+    (λ s. heads b (take k xs) ++ option_list (held_in b s)) (sym x.1)
 
 pub less_up_to : (a b c : Address) (o : Ordering) → address_cmp a b ≡ Less
     → address_cmp b c ≡ o → IsUpTo o → address_cmp a c ≡ Less
@@ -85,44 +81,32 @@ less_up_to a b c Greater l e h = absurd (h refl)
 stand_after : (a b : Address) (facts : List Fact) → address_cmp a b ≡ Less
     → AllByRecursion (IsNotBefore b) facts → StandAfter a facts
 stand_after a b [] less h = tt
-stand_after a b (f ∷ facts) less h = (
-  less_up_to a b (address f) (address_cmp b (address f)) less refl h.0,
-  stand_after a b facts less h.1,
-)
-
-conflict-part : (key : Key) (part : Part)
-    → address (conflict_in key part) ≡ record { key = key; part = part }
-conflict-part key InfoPart = refl
-conflict-part key (SymbolPart id) = refl
+stand_after a b (f ∷ facts) less h = search (rules, less_up_to, stand_after a b facts less h.1)
 
 pub conflict-place : (a : Address) → address (conflict_at a) ≡ a
-conflict-place a = conflict-part a.key a.part
+conflict-place a = search rules
 
 -- the value at the lowest address, with one more fact
 
 -- the fact alone is the lowest
 pub lowest_alone : (facts : List Fact) (f : Fact) → facts ≡ [] → Lowest (facts ++ f ∷ []) f
-lowest_alone facts f none =
-    subst (λ (x : List Fact). Lowest (x ++ f ∷ []) f) (sym none)
-    (record { comes = alone-at f (address f) refl; first = (up_to_itself (address f), tt) })
+lowest_alone facts f none = search (rules, alone-at, up_to_itself)
 
 -- that fact is below the others, and becomes the lowest
 pub lowest_turns : (facts : List Fact) (f g : Fact) → Lowest facts g
     → address_cmp (address f) (address g) ≡ Less → Lowest (facts ++ f ∷ []) f
-lowest_turns facts f g h less =
-    search (
-      rules,
-      stand_after,
-      fact_at-append,
-      joined,
-      fact_at-after,
-      alone-at,
-      all_append,
-      all_map,
-      up_to-trans,
-      up_to_less,
-      up_to_itself,
-    )
+lowest_turns facts f g h less = search (
+  rules,
+  stand_after,
+  fact_at-append,
+  fact_at-after,
+  alone-at,
+  all_append,
+  all_map,
+  up_to-trans,
+  up_to_less,
+  up_to_itself,
+)
 
 -- that fact is above the lowest, which remains
 pub lowest_stays : (facts : List Fact) (f g : Fact) → Lowest facts g
@@ -130,9 +114,8 @@ pub lowest_stays : (facts : List Fact) (f g : Fact) → Lowest facts g
 lowest_stays facts f g h greater =
     let a = address g in
     record {
-      comes = fact_at-append facts (f ∷ []) a
-          ∙ ap (joined a (fact_at facts a)) (alone-elsewhere f a (ap is_eq greater))
-          ∙ joined-none a (fact_at facts a) ∙ h.comes;
+      comes = fact_at-append facts (f ∷ []) a ∙ ap (joined a (fact_at facts a))
+          (alone-elsewhere f a (ap is_eq greater)) ∙ joined-none a (fact_at facts a) ∙ h.comes;
       first = all_append (IsNotBefore a) facts (f ∷ []) h.first
           (up_to_turned (address f) a Greater greater refl, tt);
     }
@@ -144,27 +127,21 @@ with_more facts f g h e = grind (arith, fact_at-append, joined, alone-at)
 
 first_more : (facts : List Fact) (f g : Fact) → Lowest facts g → address f ≡ address g
     → AllByRecursion (IsNotBefore (address g)) (facts ++ f ∷ [])
-first_more facts f g h e =
-    all_append (IsNotBefore (address g)) facts (f ∷ []) h.first
-    (subst (λ x. IsUpTo (address_cmp (address g) x)) (sym e) (up_to_itself (address g)), tt)
+first_more facts f g h e = search (rules, all_append, up_to_itself)
 
 -- that fact has the same value, which remains
-pub lowest_same : (facts : List Fact) (f g : Fact) → Lowest facts g
-    → address_cmp (address f) (address g) ≡ Equal → same_fact g f ≡ true
-    → Lowest (facts ++ f ∷ []) g
+pub lowest_same : (facts : List Fact) (f g : Fact) → Lowest facts g → address_cmp (address f)
+    (address g) ≡ Equal → same_fact g f ≡ true → Lowest (facts ++ f ∷ []) g
 lowest_same facts f g h equal same =
     let e = address_same (address f) (address g) (ap is_eq equal) in
     record {
-      comes = with_more facts f g h e
-          ∙ ap Some (joined-same (address g) g f (fact_same g f same));
-      first =
-          first_more facts f g h e;
+      comes = with_more facts f g h e ∙ ap Some (joined-same (address g) g f (fact_same g f same));
+      first = first_more facts f g h e;
     }
 
 -- that fact has another value: the result is a conflict
-pub lowest_apart : (facts : List Fact) (f g : Fact) → Lowest facts g
-    → address_cmp (address f) (address g) ≡ Equal → same_fact g f ≡ false
-    → Lowest (facts ++ f ∷ []) (conflict_at (address f))
+pub lowest_apart : (facts : List Fact) (f g : Fact) → Lowest facts g → address_cmp (address f)
+    (address g) ≡ Equal → same_fact g f ≡ false → Lowest (facts ++ f ∷ []) (conflict_at (address f))
 lowest_apart facts f g h equal apart =
     let e = address_same (address f) (address g) (ap is_eq equal) in
     let is : address (conflict_at (address f)) ≡ address g = conflict-place (address f) ∙ e in
@@ -185,30 +162,12 @@ same_value (Symbol k i b) (Symbol l j c) = bytes_eq b c
 same_value (SymbolConflict k i) (SymbolConflict l j) = true
 same_value _ _ = false
 
-and_first : (a b : Bool) → a ≡ true → (a && b) ≡ b
-and_first a b h = ap (λ x. x && b) h
-
-key_alike : (k l : Key) → k ≡ l → same_key k l ≡ true
-key_alike k l e = subst (λ x. same_key k x ≡ true) e (key_itself k)
-
-id_alike : (i j : SymbolId) → SymbolPart i ≡ SymbolPart j → same_symbol_id i j ≡ true
-id_alike i j e =
-    let p : i ≡ j = cc in
-    subst (λ x. same_symbol_id i x ≡ true) p (symbol_id_itself i)
-
 same_keys : (f g : Fact) → address f ≡ address g → same_key (address f).key (address g).key ≡ true
-same_keys f g e = key_alike (address f).key (address g).key (ap (λ a. a.key) e)
+same_keys f g e = search rules
 
 pub same_at : (f g : Fact) → address f ≡ address g → same_fact f g ≡ same_value f g
-same_at (Info k i) (Info l j) e =
-    and_first (same_key k l) (same_information i j) (same_keys (Info k i) (Info l j) e)
+same_at (Info k i) (Info l j) e = search rules
 same_at (InfoConflict k) (InfoConflict l) e = same_keys (InfoConflict k) (InfoConflict l) e
-same_at (Symbol k i b) (Symbol l j c) e =
-    and_first (same_key k l) (same_symbol_id i j && bytes_eq b c)
-    (same_keys (Symbol k i b) (Symbol l j c) e)
-    ∙ and_first (same_symbol_id i j) (bytes_eq b c) (id_alike i j (ap (λ a. a.part) e))
-same_at (SymbolConflict k i) (SymbolConflict l j) e =
-    and_first (same_key k l) (same_symbol_id i j)
-    (same_keys (SymbolConflict k i) (SymbolConflict l j) e)
-    ∙ id_alike i j (ap (λ a. a.part) e)
+same_at (Symbol k i b) (Symbol l j c) e = search rules
+same_at (SymbolConflict k i) (SymbolConflict l j) e = search rules
 same_at f g e = refl

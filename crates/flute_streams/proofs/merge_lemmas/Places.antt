@@ -1,4 +1,6 @@
 -- Lemmas on LowestValue (specs/Lowest): what the stream there holds, and one stream more.
+use Rattle.std.proofs.lemmas.Grind.{common_steps}
+use Rattle.std.proofs.Common.{rules}
 use Rattle.flute_streams.proofs.Common.{Address, AllByRecursion, AreNew, Behaviour, Bool, Equal}
 use Rattle.flute_streams.proofs.Common.{Fact}
 use Rattle.flute_streams.proofs.Common.{Greater, IfSome, IsFact, IsLowest, Less, Lowest, heads}
@@ -28,10 +30,9 @@ use Rattle.flute_streams.specs.Lowest.{value_at}
 use Rattle.flute_streams.specs.declared.merge.lowest.LowestValue.{LowestValue}
 
 -- what is read of the stream with that number
-pub read-at : {S X : Type 0} (b : Behaviour S) (streams : List S) (k : ℕ)
-    (read : Option Fact → X) {o : X} → k < length streams
-    → ((s : S) → slice_get streams k ≡ Some s → o ≡ read (b.held s))
-    → o ≡ read (held_at b streams k)
+pub read-at : {S X : Type 0} (b : Behaviour S) (streams : List S) (k : ℕ) (read : Option Fact → X)
+    {o : X} → k < length streams → ((s : S) → slice_get streams k ≡ Some s → o ≡ read (b.held s)) →
+    o ≡ read (held_at b streams k)
 read-at b streams k read within h =
     let x = item_at streams k within in
     h x.0 x.1 ∙ ap (λ s. read (held_in b s)) (sym x.1)
@@ -57,13 +58,11 @@ pub held-within : {S : Type 0} (b : Behaviour S) (streams : List S) (k : ℕ) {f
     → held_at b streams k ≡ Some f → k < length streams
 held-within b [] k e = absurd cc
 held-within b (s ∷ streams) zero e = omega arith
-held-within b (s ∷ streams) (suc k) e =
-    let h = held-within b streams k e in omega (arith, h)
+held-within b (s ∷ streams) (suc k) e = search (rules, held-within b streams k e)
 
 pub place-some : (o : Option Fact) (a : Address) → address_of o ≡ Some a
     → (f : Fact) × (o ≡ Some f) × (address f ≡ a)
-place-some None a e = absurd cc
-place-some (Some f) a e = (f, refl, same_Some (address f) a e)
+place-some x0 x1 x2 = search rules
 
 -- the value where a stream stands
 pub record HasValue {S : Type 0} (b : Behaviour S) (streams : List S)
@@ -78,58 +77,41 @@ has_value b streams l stands =
     let held = held_at b streams l.number in
     let h = place-some held stands.0 stands.1 in
     elim (cases_Bool l.conflict) [
-      | inl e ↦ record {
-        fact = conflict_at (address h.0);
-        is = ap (λ c. if c then conflict_of held else held) e ∙ ap conflict_of h.1;
-        at = ap address_of h.1 ∙ ap Some (sym (conflict-place (address h.0)));
-      }
-      | inr e ↦ record {
-        fact = h.0;
-        is = ap (λ c. if c then conflict_of held else held) e ∙ h.1;
-        at = ap address_of h.1;
-      }
+      | inl e ↦ record { fact = conflict_at (address h.0); is = search rules; at = search rules }
+      | inr e ↦ search rules
     ]
 
 pub stands-within : {S : Type 0} (b : Behaviour S) (streams : List S) (l : LowestValue)
     → Stands b streams l → l.number < length streams
-stands-within b streams l stands =
-    held-within b streams l.number
-    (place-some (held_at b streams l.number) stands.0 stands.1).1
+stands-within b streams l stands = search (rules, held-within, place-some, held_at)
 
 pub place-none : (o : Option Fact) → address_of o ≡ None → o ≡ None
-place-none None e = refl
-place-none (Some f) e = absurd cc
+place-none x0 x1 = search rules
 
-pub not-empty : {bytes : List ℕ} {r : Bool} → r ≡ (length bytes == 0) → r ≡ false
-    → bytes ≢ []
-not-empty h e n = let t = ap (λ (l : List ℕ). length l == 0) n in absurd cc
+pub not-empty : {bytes : List ℕ} {r : Bool} → r ≡ (length bytes == 0) → r ≡ false → bytes ≢ []
+not-empty h e n = search rules
 
-pub some-of : (P : Fact → Type 0) {o : Option Fact} {f : Fact} → o ≡ Some f → IfSome o P
-    → P f
-some-of P e h = subst (λ o. IfSome o P) e h
+pub some-of : (P : Fact → Type 0) {o : Option Fact} {f : Fact} → o ≡ Some f → IfSome o P → P f
+some-of P e h = search rules
 
 -- Of two streams, the bytes of the same fact are the same.
 
 same_spelled : (g f : Fact) (one other : List ℕ) → IsFact g × (one ≡ entry g)
     → IsFact f × (other ≡ entry f) → bytes_eq one other ≡ same_fact g f
 same_spelled g f one other p q = elim (cases_Bool (bytes_eq one other)) [
-  | inl e ↦
-      let same : g ≡ f =
-      same_entry g f p.0 q.0 (sym p.1 ∙ bytes_same one other e ∙ q.1) in
-      e ∙ sym (subst (λ x. same_fact g x ≡ true) same (fact_itself g))
+  | inl e ↦ let same : g ≡ f = same_entry g f p.0 q.0 (sym p.1 ∙ bytes_same one other e ∙ q.1)
+      in e ∙ sym (subst (λ x. same_fact g x ≡ true) same (fact_itself g))
   | inr e ↦ elim (cases_Bool (same_fact g f)) [
-    | inl s ↦
-        let same : one ≡ other = p.1 ∙ ap entry (fact_same g f s) ∙ sym q.1 in
-        let is : bytes_eq one other ≡ true =
-        subst (λ l. bytes_eq one l ≡ true) same ((bytes_eq-Decides one one).1 refl) in
-        absurd cc
+    | inl s ↦ let same : one ≡ other = p.1 ∙ ap entry (fact_same g f s) ∙ sym q.1 in
+        let is : bytes_eq one other ≡ true = subst (λ l. bytes_eq one l ≡ true) same
+        ((bytes_eq-Decides one one).1 refl) in absurd cc
     | inr s ↦ e ∙ sym s
   ]
 ]
 
 spelled_some : (bytes : List ℕ) (f : Fact) → bytes ≢ [] → IsSpelling bytes (Some f)
     → IsFact f × (bytes ≡ entry f)
-spelled_some bytes f some h = elim h [ inl none ↦ absurd (some none) | inr is ↦ is ]
+spelled_some bytes f some h = search rules
 
 pub spelled-same : {one other : List ℕ} {o p : Option Fact} (g f : Fact) → IsSpelling one o
     → IsSpelling other p → one ≢ [] → other ≢ [] → o ≡ Some g → p ≡ Some f
@@ -148,24 +130,15 @@ pub record Compared {S : Type 0} (b : Behaviour S) (streams : List S) (k : ℕ) 
 
 -- as the addresses that were read of them have it
 pub compared : {S : Type 0} (b : Behaviour S) (streams : List S) (l : LowestValue) {k : ℕ}
-    {p q : Option Address} {order : Ordering} → Stands b streams l
-    → Stands b streams (first_at k)
-    → ((s : S) → slice_get streams k ≡ Some s → p ≡ address_of (b.held s))
-    → ((s : S) → slice_get streams l.number ≡ Some s → q ≡ address_of (b.held s))
-    → ((a c : Address) → p ≡ Some a → q ≡ Some c → order ≡ address_cmp a c)
-    → Compared b streams k l order
+    {p q : Option Address} {order : Ordering} → Stands b streams l → Stands b streams (first_at k) →
+    ((s : S) → slice_get streams k ≡ Some s → p ≡ address_of (b.held s)) →
+    ((s : S) → slice_get streams l.number ≡ Some s → q ≡ address_of (b.held s)) →
+    ((a c : Address) → p ≡ Some a → q ≡ Some c → order ≡ address_cmp a c) → Compared b streams k l
+    order
 compared b streams l {k = k} stands here first second is =
     let f = place-some (held_at b streams k) here.0 here.1 in
     let v = has_value b streams l stands in
-    record {
-      fact = f.0;
-      here = f.1;
-      value = v;
-      is = sym (is (address f.0) (address v.fact)
-          (read-at b streams k address_of (held-within b streams k f.1) first ∙ ap address_of f.1)
-          (read-at b streams l.number address_of (stands-within b streams l stands) second
-          ∙ v.at));
-    }
+    record { fact = f.0; here = f.1; value = v; is = search rules }
 
 -- the value at the lowest address
 pub record AtLowest {S : Type 0} (b : Behaviour S) (streams : List S)
@@ -173,9 +146,8 @@ pub record AtLowest {S : Type 0} (b : Behaviour S) (streams : List S)
   pub value : HasValue b streams l
   pub lowest : Lowest (heads b streams) value.fact
 
-pub at_lowest : {S : Type 0} (b : Behaviour S) (streams : List S) {l : LowestValue}
-    → Stands b streams l → IsLowest (heads b streams) (value_at b streams l)
-    → AtLowest b streams l
+pub at_lowest : {S : Type 0} (b : Behaviour S) (streams : List S) {l : LowestValue} → Stands b
+    streams l → IsLowest (heads b streams) (value_at b streams l) → AtLowest b streams l
 at_lowest b streams {l = l} stands h =
     let v = has_value b streams l stands in
     record { value = v; lowest = subst (IsLowest (heads b streams)) v.is h }
@@ -190,11 +162,10 @@ pub record WrittenAt {S W : Type 0} (b : Behaviour S) (streams : List S) (l : Lo
   pub puts : Puts written failures (entry value.fact) old new
 
 pub written_at : {S W : Type 0} (b : Behaviour S) (streams : List S) {l : LowestValue}
-    {written : W → Option (List ℕ)} {failures : W → ℕ} {old new : JournalWriter W}
-    → Stands b streams l → IsLowest (heads b streams) (value_at b streams l)
-    → IfSome (value_at b streams l) IsFact
-    → IfSome (value_at b streams l) (λ f. Puts written failures (entry f) old new)
-    → WrittenAt b streams l written failures old new
+    {written : W → Option (List ℕ)} {failures : W → ℕ} {old new : JournalWriter W} → Stands b
+    streams l → IsLowest (heads b streams) (value_at b streams l) → IfSome (value_at b streams l)
+    IsFact → IfSome (value_at b streams l) (λ f. Puts written failures (entry f) old new) →
+    WrittenAt b streams l written failures old new
 written_at b streams {written = written} {failures = failures} {old = old} {new = new} stands h
     valid puts =
     let v = at_lowest b streams stands h in
@@ -202,7 +173,7 @@ written_at b streams {written = written} {failures = failures} {old = old} {new 
       value = v.value;
       lowest = v.lowest;
       valid = some-of IsFact v.value.is valid;
-      puts = some-of (λ f. Puts written failures (entry f) old new) v.value.is puts;
+      puts = search rules;
     }
 
 -- its address is that of the stream
@@ -210,10 +181,7 @@ pub placed : {S : Type 0} (b : Behaviour S) (streams : List S) {l : LowestValue}
     {o : Option Address} {a : Address} (v : HasValue b streams l) → Stands b streams l
     → ((s : S) → slice_get streams l.number ≡ Some s → o ≡ address_of (b.held s))
     → o ≡ Some a → address v.fact ≡ a
-placed b streams {l = l} {a = a} v stands h e =
-    same_Some (address v.fact) a
-    (sym v.at ∙ sym (read-at b streams l.number address_of (stands-within b streams l stands) h)
-    ∙ e)
+placed b streams {l = l} {a = a} v stands h e = search rules
 
 -- the first of new streams holds nothing
 pub none-new : {S : Type 0} (b : Behaviour S) (streams : List S) → AreNew b streams
@@ -224,73 +192,50 @@ none-new b (s ∷ streams) new = ap address_of new.0.held
 module _ {S : Type 0} (b : Behaviour S) (streams : List S) where
   pub place-joined : (l : LowestValue) (k : ℕ) (r : LowestValue) → Joins b streams l k r
       → place_at b streams r ≡ place_at b streams l
-  place-joined l k r j = ap (λ n. address_of (held_at b streams n)) j.number
+  place-joined l k r j = search rules
 
   -- where values differ, the next value there changes nothing
-  pub joins-conflict : (l : LowestValue) (k : ℕ) → Stands b streams l
-      → place_at b streams (first_at k) ≡ place_at b streams l → l.conflict ≡ true
-      → Joins b streams l k l
+  pub joins-conflict : (l : LowestValue) (k : ℕ) → Stands b streams l → place_at b streams
+      (first_at k) ≡ place_at b streams l → l.conflict ≡ true → Joins b streams l k l
   joins-conflict l k stands here e = record {
     number = refl;
     same = λ g f v h s. v;
-    apart = λ g f v h s.
-        let held = held_at b streams l.number in
+    apart = λ g f v h s. let held = held_at b streams l.number in
         let x = place-some held stands.0 stands.1 in
         let at = same_Some (address f) (address x.0)
-        (sym (ap address_of h) ∙ here ∙ ap address_of x.1) in
-        ap (λ c. if c then conflict_of held else held) e ∙ ap conflict_of x.1
-        ∙ ap (λ a. Some (conflict_at a)) (sym at);
+        (sym (ap address_of h) ∙ here ∙ ap address_of x.1) in ap
+        (λ c. if c then conflict_of held else held) e ∙ ap conflict_of x.1 ∙ ap
+        (λ a. Some (conflict_at a)) (sym at);
   }
 
   -- else it is a conflict with it unless that is the same
-  pub joins-by : (l : LowestValue) (k : ℕ) (same : Bool) → l.conflict ≡ false
-      → place_at b streams (first_at k) ≡ place_at b streams l
-      → ((g f : Fact) → held_at b streams l.number ≡ Some g → held_at b streams k ≡ Some f
-      → same ≡ same_fact g f)
-      → Joins b streams l k (record { number = l.number; conflict = not same })
-  joins-by l k same e here alike = record {
-    number = refl;
-    same = λ g f v h s.
-        ap (λ c. if not c then conflict_of held else held) (alike g f (is v) h ∙ s) ∙ is v;
-    apart = λ g f v h s.
-        let at = same_Some (address f) (address g)
-        (sym (ap address_of h) ∙ here ∙ ap address_of (is v)) in
-        ap (λ c. if not c then conflict_of held else held) (alike g f (is v) h ∙ s)
-        ∙ ap conflict_of (is v) ∙ ap (λ a. Some (conflict_at a)) (sym at);
-  }
-    where
-      held : Option Fact
-      held = held_at b streams l.number
-
-      is : {g : Fact} → value_at b streams l ≡ Some g → held ≡ Some g
-      is v = sym (ap (λ c. if c then conflict_of held else held) e) ∙ v
+  pub joins-by : (l : LowestValue) (k : ℕ) (same : Bool) → l.conflict ≡ false → place_at b streams
+      (first_at k) ≡ place_at b streams l → ((g f : Fact) → held_at b streams l.number ≡ Some g →
+      held_at b streams k ≡ Some f → same ≡ same_fact g f) → Joins b streams l k
+      (record { number = l.number; conflict = not same })
+  joins-by l k same e here alike = search rules
 
   -- One stream more, which holds the fact f.
   module _ (facts : List Fact) (k : ℕ) {f : Fact} (here : held_at b streams k ≡ Some f) where
     -- it is the first
     pub lowest-first : facts ≡ []
         → IsLowest (facts ++ option_list (held_at b streams k)) (held_at b streams k)
-    lowest-first none =
-        subst (λ o. IsLowest (facts ++ option_list o) o) (sym here) (lowest_alone facts f none)
+    lowest-first none = search (rules, lowest_alone)
 
     module _ (l : LowestValue) {g : Fact} (is : value_at b streams l ≡ Some g)
         (h : IsLowest facts (value_at b streams l)) where
       low : IsLowest facts (Some g)
-      low = subst (IsLowest facts) is h
+      low = search rules
 
       -- it is below the lowest place
       pub lowest-below : address_cmp (address f) (address g) ≡ Less
           → IsLowest (facts ++ option_list (held_at b streams k)) (held_at b streams k)
-      lowest-below less =
-          subst (λ o. IsLowest (facts ++ option_list o) o) (sym here)
-          (lowest_turns facts f g low less)
+      lowest-below less = search (rules, lowest_turns)
 
       -- it is above the lowest place
       pub lowest-above : address_cmp (address f) (address g) ≡ Greater
           → IsLowest (facts ++ option_list (held_at b streams k)) (value_at b streams l)
-      lowest-above greater =
-          subst (λ o. IsLowest (facts ++ option_list o) (value_at b streams l)) (sym here)
-          (subst (IsLowest (facts ++ f ∷ [])) (sym is) (lowest_stays facts f g low greater))
+      lowest-above greater = search (rules, value_at, lowest_stays)
 
       -- it is there
       pub lowest-joined : address_cmp (address f) (address g) ≡ Equal → (r : LowestValue)
@@ -309,15 +254,14 @@ module _ {S : Type 0} (b : Behaviour S) (streams : List S) where
   module _ (facts : List Fact) (k : ℕ) (a : Address)
       (on : StandsOn b a streams (first_at k)) where
     held : (f : Fact) × (held_at b streams k ≡ Some f) × (address f ≡ a)
-    held = place-some (held_at b streams k) a on
+    held = search rules
 
     not_before : IsNotBefore a held.0
     not_before = subst (λ x. IsNotBefore x held.0) held.2 (up_to_itself (address held.0))
 
     pub comes-alone : ComesTo a facts None
         → ComesTo a (facts ++ option_list (held_at b streams k)) (held_at b streams k)
-    comes-alone h =
-        subst (λ o. ComesTo a (facts ++ option_list o) o) (sym held.1)
+    comes-alone h = subst (λ o. ComesTo a (facts ++ option_list o) o) (sym held.1)
         (comes-first a facts held.0 held.2 not_before h)
 
     pub comes-joined : (l r : LowestValue) → StandsOn b a streams l → Joins b streams l k r
@@ -326,14 +270,12 @@ module _ {S : Type 0} (b : Behaviour S) (streams : List S) where
     comes-joined l r stands j h =
         let v = has_value b streams l (a, stands) in
         let low = subst (ComesTo a facts) v.is h in
-        subst (λ o. ComesTo a (facts ++ option_list o) (value_at b streams r)) (sym held.1)
-        (elim (cases_Bool (same_fact v.fact held.0)) [
-          | inl e ↦
-              subst (ComesTo a (facts ++ held.0 ∷ []))
+        subst (λ o. ComesTo a (facts ++ option_list o) (value_at b streams r)) (sym held.1) (elim
+        (cases_Bool (same_fact v.fact held.0)) [
+          | inl e ↦ subst (ComesTo a (facts ++ held.0 ∷ []))
               (sym (j.same v.fact held.0 v.is held.1 e))
               (comes-same a facts v.fact held.0 held.2 not_before e low)
-          | inr e ↦
-              subst (ComesTo a (facts ++ held.0 ∷ []))
+          | inr e ↦ subst (ComesTo a (facts ++ held.0 ∷ []))
               (sym (j.apart v.fact held.0 v.is held.1 e))
               (comes-apart a facts v.fact held.0 held.2 not_before e low)
         ])

@@ -1,4 +1,5 @@
 -- Lemmas on AreRanked (specs/Ranks): ranking streams one after another.
+use Rattle.std.proofs.Common.{rules}
 use Rattle.flute_streams.proofs.Common.{◌≡◌, ◌≢◌, ℕ, zero, suc, ◌+◌, ◌-◌}
 use Rattle.flute_streams.proofs.Common.{◌<◌, ◌≤◌, ◌/◌, Bool, true}
 use Rattle.flute_streams.proofs.Common.{List, ◌++◌, length, take, Option, Some, Ok, IfSome}
@@ -25,8 +26,7 @@ OthersStay k ranks new = (j : ℕ) → j ≢ k → slice_index new j ≡ slice_i
 
 pub ranked_of : {S : Type 0} (b : Behaviour S) (streams : List S) (r : Ranks) (key : Key)
     → r.key ≡ Some key → IsRanking b streams r → AreRanked b streams key r.ranks r.lows
-ranked_of b streams r key e h =
-    subst (λ x. IfSome x (λ key. AreRanked b streams key r.ranks r.lows)) e h
+ranked_of b streams r key e h = search rules
 
 module _ {S : Type 0} (b : Behaviour S) (key : Key) where
   -- the streams before k are ranked
@@ -35,21 +35,18 @@ module _ {S : Type 0} (b : Behaviour S) (key : Key) where
         → StandsFrom key (slice_index ranks j) (address_of (b.held s))
 
   -- so is the next, and the others are as they were
-  pub ranked_more : (k : ℕ) {streams : List S} {ranks : List ℕ} (new : List ℕ)
-      (o : Option Address)
-      → ((s : S) → slice_get streams k ≡ Some s → o ≡ address_of (b.held s))
-      → StandsFrom key (slice_index new k) o → OthersStay k ranks new
-      → AreRankedTo k streams ranks → AreRankedTo (k + 1) streams new
+  pub ranked_more : (k : ℕ) {streams : List S} {ranks : List ℕ} (new : List ℕ) (o : Option Address)
+      → ((s : S) → slice_get streams k ≡ Some s → o ≡ address_of (b.held s)) → StandsFrom key
+      (slice_index new k) o → OthersStay k ranks new → AreRankedTo k streams ranks → AreRankedTo
+      (k + 1) streams new
   ranked_more k {streams = streams} new o held from stay h = record {
     from = λ j s l i. elim (cases_Bool (eqb j k)) [
-      | inl e ↦
-          let same = eqb-true j k e in
+      | inl e ↦ let same = eqb-true j k e in
           let at = held s (subst (λ n. slice_get streams n ≡ Some s) same i) in
           subst (λ n. StandsFrom key (slice_index new n) (address_of (b.held s))) (sym same)
           (subst (StandsFrom key (slice_index new k)) at from)
-      | inr e ↦
-          let apart = eqb-false j k e in
-          subst (λ r. StandsFrom key r (address_of (b.held s))) (sym (stay j apart))
+      | inr e ↦ let apart = eqb-false j k e in subst
+          (λ r. StandsFrom key r (address_of (b.held s))) (sym (stay j apart))
           (h.from j s (omega (arith, l, apart)) i)
     ];
   }
@@ -57,12 +54,7 @@ module _ {S : Type 0} (b : Behaviour S) (key : Key) where
   pub ranked_all : (k : ℕ) (streams : List S) {ranks lows : List ℕ} → length streams ≤ k
       → length streams ≤ 128 → AreLow lows ranks → AreRankedTo k streams ranks
       → AreRanked b streams key ranks lows
-  ranked_all k streams all few low h = record {
-    few = few;
-    low = low;
-    from = λ j s i.
-        h.from j s (let p = slice_get_within streams j s i in omega (arith, p, all)) i;
-  }
+  ranked_all k streams all few low h = search (rules, slice_get_within)
 
   -- the streams from k on are ranked, and if all are known, those before it too
   pub record AreRankedFrom (k : ℕ) (known : Bool) (streams : List S)
@@ -73,32 +65,23 @@ module _ {S : Type 0} (b : Behaviour S) (key : Key) where
 
   pub rest_from : (k n : ℕ) {known : Bool} {streams : List S} {ranks : List ℕ} → k ≤ n
       → AreRankedFrom k known streams ranks → AreRankedFrom n known streams ranks
-  rest_from k n p h = record {
-    from = λ j s w i. h.from j s (elim w [
-      | inl l ↦ inl (omega (arith, l, p))
-      | inr e ↦ inr e
-    ]) i;
-  }
+  rest_from k n p h = search rules
 
   -- those that have higher ranks stand elsewhere
   pub passed_elsewhere : {a : Address} (rank k n : ℕ) {known : Bool} {streams : List S}
       {ranks : List ℕ} → a ≡ place_at_rank key rank → AreAbove rank k n ranks
       → AreRankedFrom k known streams ranks → NoneAt b (Some a) k n streams
-  passed_elsewhere {a = a} rank k n {ranks = ranks} at above h j s l r i =
-      elsewhere a key rank (slice_index ranks j) (b.held s) at (above j l r)
-      (h.from j s (inl l) i).from
+  passed_elsewhere {a = a} rank k n {ranks = ranks} at above h j s l r i = elsewhere a key rank
+      (slice_index ranks j) (b.held s) at (above j l r) (h.from j s (inl l) i).from
 
   -- where the streams from k on have higher ranks, all at the address went on
-  pub went_all : (a : Address) {rank k n : ℕ} {known : Bool} {old now : List S}
-      {ranks : List ℕ} → a ≡ place_at_rank key rank → AreAbove rank k n ranks
-      → AreRankedFrom k known now ranks → k ≤ n → length now ≡ n
-      → WentSoFar b (Some a) k old now → GoOnAt b (Some a) old now
+  pub went_all : (a : Address) {rank k n : ℕ} {known : Bool} {old now : List S} {ranks : List ℕ} → a
+      ≡ place_at_rank key rank → AreAbove rank k n ranks → AreRankedFrom k known now ranks → k ≤ n →
+      length now ≡ n → WentSoFar b (Some a) k old now → GoOnAt b (Some a) old now
   went_all a {rank = rank} {k = k} {n = n} {old = old} {now = now} at above h few all went =
       let apart = passed_elsewhere rank k n at above h in
-      let more =
-      more_stay b (Some a) (n - k) (omega (arith, few)) (omega (arith, all)) apart
-      went in
-      all_went b (Some a) n old now more (omega (arith, all))
+      let more = more_stay b (Some a) (n - k) (omega (arith, few)) (omega (arith, all)) apart went
+      in all_went b (Some a) n old now more (omega (arith, all))
 
   -- the stream with this number was advanced, and ranked if `set`
   pub record Reranked (k : ℕ) (set : Bool) (old new : List S)
@@ -114,40 +97,33 @@ module _ {S : Type 0} (b : Behaviour S) (key : Key) where
       → AreRankedFrom k known old ranks → AreRankedFrom (k + 1) now new others
   rest_moved k now {old = old} {new = new} {others = others} m both h = record {
     from = λ j s w i. elim (cases_Bool (eqb j k)) [
-      | inl e ↦
-          let same = eqb-true j k e in
+      | inl e ↦ let same = eqb-true j k e in
           let all : now ≡ true = elim w [
             | inl l ↦ absurd (omega (arith, l, same))
             | inr n ↦ n
-          ] in
-          subst (λ n. StandsFrom key (slice_index others n) (address_of (b.held s))) (sym same)
+          ] in subst (λ n. StandsFrom key (slice_index others n) (address_of (b.held s)))
+          (sym same)
           (m.ranked (both all).1 s (subst (λ n. slice_get new n ≡ Some s) same i))
-      | inr e ↦
-          let apart = eqb-false j k e in
-          let was : slice_get old j ≡ Some s =
-          sym (set_elsewhere b old k j m.advanced.after apart)
-          ∙ ap (λ l. slice_get l j) (sym m.advanced.now) ∙ i in
-          subst (λ r. StandsFrom key r (address_of (b.held s))) (sym (m.stay j apart))
-          (h.from j s (elim w [
-            | inl l ↦ inl (omega (arith, l))
-            | inr n ↦ inr (both n).0
-          ]) was)
+      | inr e ↦ let apart = eqb-false j k e in
+          let was : slice_get old j ≡ Some s = sym
+          (set_elsewhere b old k j m.advanced.after apart) ∙ ap (λ l. slice_get l j)
+          (sym m.advanced.now) ∙ i in subst (λ r. StandsFrom key r (address_of (b.held s)))
+          (sym (m.stay j apart)) (h.from j s
+          (elim w [ inl l ↦ inl (omega (arith, l)) | inr n ↦ inr (both n).0 ]) was)
     ];
   }
 
 -- a stream that has the lowest rank, which is that of a part, stands there
 pub stands-ranked : {S : Type 0} (b : Behaviour S) {streams : List S} (key : Key)
-    {ranks lows : List ℕ} (k : ℕ) {rank : ℕ} → k < length streams
-    → AreRanked b streams key ranks lows → slice_index ranks k ≤ rank
-    → rank ≤ slice_index lows (k / 8) → rank ≤ 4294967296
-    → StandsOn b (place_at_rank key rank) streams (first_at k)
+    {ranks lows : List ℕ} (k : ℕ) {rank : ℕ} → k < length streams → AreRanked b streams key ranks
+    lows → slice_index ranks k ≤ rank → rank ≤ slice_index lows (k / 8) → rank ≤ 4294967296 →
+    StandsOn b (place_at_rank key rank) streams (first_at k)
 stands-ranked b {streams = streams} key {ranks = ranks} k {rank = rank} within ranked up least few =
     let x = item_at streams k within in
     let low = ranked.low k (omega (arith, within, ranked.few)) in
     let same : slice_index ranks k ≡ rank = omega (arith, up, least, low) in
-    ap (λ s. address_of (held_in b s)) x.1
-    ∙ (ranked.from k x.0 x.1).exact (omega (arith, same, few))
-    ∙ ap (λ r. Some (place_at_rank key r)) same
+    ap (λ s. address_of (held_in b s)) x.1 ∙ (ranked.from k x.0 x.1).exact
+    (omega (arith, same, few)) ∙ ap (λ r. Some (place_at_rank key r)) same
 
 -- the value at an address of what the first streams hold, and one stream more
 
@@ -155,42 +131,35 @@ module _ {S : Type 0} (b : Behaviour S) (streams : List S) (k : ℕ) (a : Addres
   pub comes-more : (v : Option Fact) → k < length streams
       → ComesTo a (heads b (take k streams) ++ option_list (held_at b streams k)) v
       → ComesTo a (heads b (take (k + 1) streams)) v
-  comes-more v within h =
-      subst (λ (l : List Fact). ComesTo a l v) (sym (heads-more b streams k within)) h
+  comes-more v within h = search (rules, heads-more)
 
 module _ {S : Type 0} (b : Behaviour S) (streams : List S) (a : Address) where
-  comes_passed : (k n : ℕ) {v : Option Fact} {rank : ℕ} {key : Key} {ranks lows : List ℕ}
-      → k + n ≤ length streams → a ≡ place_at_rank key rank
-      → AreAbove rank k (k + n) ranks → AreRanked b streams key ranks lows
-      → ComesTo a (heads b (take k streams)) v
-      → ComesTo a (heads b (take (k + n) streams)) v
+  comes_passed : (k n : ℕ) {v : Option Fact} {rank : ℕ} {key : Key} {ranks lows : List ℕ} → k + n ≤
+      length streams → a ≡ place_at_rank key rank → AreAbove rank k (k + n) ranks → AreRanked b
+      streams key ranks lows → ComesTo a (heads b (take k streams)) v → ComesTo a
+      (heads b (take (k + n) streams)) v
   comes_passed k zero {v = v} within at above ranked h =
       let same : k ≡ k + 0 = omega arith in
       subst (λ j. ComesTo a (heads b (take j streams)) v) same h
-  comes_passed k (suc n) {v = v} {rank = rank} {key = key} {ranks = ranks} within at above
-      ranked h =
+  comes_passed k (suc n) {v = v} {rank = rank} {key = key} {ranks = ranks} within at above ranked h
+      =
       let j = k + n in
       let x = item_at streams j (omega (arith, within)) in
-      let before =
-      comes_passed k n (omega (arith, within)) at (λ i p q. above i p (omega (arith, q))) ranked
-      h in
-      let behind =
-      comes-behind a (heads b (take j streams)) key rank (slice_index ranks j) (b.held x.0) at
-      (above j (omega arith) (omega arith)) (ranked.from j x.0 x.1).from before in
+      let before = comes_passed k n (omega (arith, within)) at
+      (λ i p q. above i p (omega (arith, q))) ranked h in
+      let behind = comes-behind a (heads b (take j streams)) key rank (slice_index ranks j)
+      (b.held x.0) at (above j (omega arith) (omega arith)) (ranked.from j x.0 x.1).from before in
       let same : j + 1 ≡ k + suc n = omega arith in
-      subst (λ i. ComesTo a (heads b (take i streams)) v) same
-      (comes-more b streams j a v (omega (arith, within))
-      (subst (λ s. ComesTo a (heads b (take j streams) ++ option_list (held_in b s)) v)
-      (sym x.1) behind))
+      subst (λ i. ComesTo a (heads b (take i streams)) v) same (comes-more b streams j a v
+      (omega (arith, within)) (subst
+      (λ s. ComesTo a (heads b (take j streams) ++ option_list (held_in b s)) v) (sym x.1) behind))
 
   -- none of those up to m stands there
-  pub comes-up-to : (k m : ℕ) {v : Option Fact} {rank : ℕ} {key : Key} {ranks lows : List ℕ}
-      → k ≤ m → m ≤ length streams → a ≡ place_at_rank key rank
-      → AreAbove rank k m ranks → AreRanked b streams key ranks lows
-      → ComesTo a (heads b (take k streams)) v
-      → ComesTo a (heads b (take m streams)) v
+  pub comes-up-to : (k m : ℕ) {v : Option Fact} {rank : ℕ} {key : Key} {ranks lows : List ℕ} → k ≤ m
+      → m ≤ length streams → a ≡ place_at_rank key rank → AreAbove rank k m ranks → AreRanked b
+      streams key ranks lows → ComesTo a (heads b (take k streams)) v → ComesTo a
+      (heads b (take m streams)) v
   comes-up-to k m {v = v} p within at above ranked h =
       let same : k + (m - k) ≡ m = omega (arith, p) in
-      subst (λ i. ComesTo a (heads b (take i streams)) v) same
-      (comes_passed k (m - k) (omega (arith, same, within)) at
-      (λ i l q. above i l (omega (arith, same, q))) ranked h)
+      subst (λ i. ComesTo a (heads b (take i streams)) v) same (comes_passed k (m - k)
+      (omega (arith, same, within)) at (λ i l q. above i l (omega (arith, same, q))) ranked h)

@@ -1,4 +1,5 @@
 -- Bytes are the same if their pieces are.
+use Rattle.std.proofs.Common.{rules}
 use Rattle.flute_streams.proofs.Common.{List, [], ◌++◌, ◌∷◌, ◌≡◌, ℕ, Bool, bytes_eq, ◌&&◌, length}
 use Rattle.flute_streams.proofs.Common.{refl, arith, ap, ◌∙◌, sym, ◌+◌, ◌<◌, take, take_more}
 use Rattle.flute_streams.proofs.Common.{true, ◌-◌, ◌≤◌, append_assoc, take_all}
@@ -25,28 +26,26 @@ pub same-more : (xs ys : List ℕ) (k : ℕ) {same : Bool} → k < length xs →
 same-more xs ys k within other is =
     let x = slice_index_or xs k 0 in
     let y = slice_index_or ys k 0 in
-    let long : length (take k xs) ≡ length (take k ys) =
-    omega (arith, length-take k xs, length-take k ys) in
-    ap (λ (b : Bool). b && nat_eq x y) is
-    ∙ ap (λ (b : Bool). bytes_eq (take k xs) (take k ys) && b) (sym (and-true (nat_eq x y)))
-    ∙ sym (same-append (take k xs) (take k ys) (x ∷ []) (y ∷ []) long)
-    ∙ ap (λ l. bytes_eq l (take k ys ++ y ∷ [])) (sym (take_more xs k 0 within))
-    ∙ ap (bytes_eq (take (k + 1) xs)) (sym (take_more ys k 0 other))
+    let long : length (take k xs) ≡ length (take k ys) = omega
+    (arith, length-take k xs, length-take k ys) in ap (λ (b : Bool). b && nat_eq x y) is ∙ ap
+    (λ (b : Bool). bytes_eq (take k xs) (take k ys) && b) (sym (and-true (nat_eq x y))) ∙ sym
+    (same-append (take k xs) (take k ys) (x ∷ []) (y ∷ []) long) ∙ ap
+    (λ l. bytes_eq l (take k ys ++ y ∷ [])) (sym (take_more xs k 0 within)) ∙ ap
+    (bytes_eq (take (k + 1) xs)) (sym (take_more ys k 0 other))
 
 -- the first bytes and the others
 pub same-split : (xs ys : List ℕ) (n : ℕ) {a b c d : List ℕ} → length xs ≡ length ys
     → a ≡ take n xs → b ≡ take n ys → c ≡ drop n xs → d ≡ drop n ys
     → bytes_eq xs ys ≡ (bytes_eq a b && bytes_eq c d)
 same-split xs ys n {a = a} {b = b} {c = c} e is_a is_b is_c is_d =
-    let long : length (take n xs) ≡ length (take n ys) =
-    omega (arith, length-take n xs, length-take n ys, e) in
-    ap (λ l. bytes_eq l ys) (sym (take-append-drop n xs))
-    ∙ ap (bytes_eq (take n xs ++ drop n xs)) (sym (take-append-drop n ys))
-    ∙ same-append (take n xs) (take n ys) (drop n xs) (drop n ys) long
-    ∙ ap (λ l. bytes_eq l (take n ys) && bytes_eq (drop n xs) (drop n ys)) (sym is_a)
-    ∙ ap (λ l. bytes_eq a l && bytes_eq (drop n xs) (drop n ys)) (sym is_b)
-    ∙ ap (λ l. bytes_eq a b && bytes_eq l (drop n ys)) (sym is_c)
-    ∙ ap (λ l. bytes_eq a b && bytes_eq c l) (sym is_d)
+    let long : length (take n xs) ≡ length (take n ys) = omega
+    (arith, length-take n xs, length-take n ys, e) in ap (λ l. bytes_eq l ys)
+    (sym (take-append-drop n xs)) ∙ ap (bytes_eq (take n xs ++ drop n xs))
+    (sym (take-append-drop n ys)) ∙ same-append (take n xs) (take n ys) (drop n xs) (drop n ys) long
+    ∙ ap (λ l. bytes_eq l (take n ys) && bytes_eq (drop n xs) (drop n ys)) (sym is_a) ∙ ap
+    (λ l. bytes_eq a l && bytes_eq (drop n xs) (drop n ys)) (sym is_b) ∙ ap
+    (λ l. bytes_eq a b && bytes_eq l (drop n ys)) (sym is_c) ∙ ap
+    (λ l. bytes_eq a b && bytes_eq c l) (sym is_d)
 
 -- what follows the same bytes decides
 pub record SameFront (xs ys us vs : List ℕ) : Type 0 where
@@ -56,15 +55,11 @@ pub record SameFront (xs ys us vs : List ℕ) : Type 0 where
   pub as_many : length us ≡ length vs
 
 same-behind : (front us vs : List ℕ) → bytes_eq (front ++ us) (front ++ vs) ≡ bytes_eq us vs
-same-behind front us vs =
-    same-append front front us vs refl
-    ∙ ap (λ (b : Bool). b && bytes_eq us vs) ((bytes_eq-Decides front front).1 refl)
+same-behind front us vs = search (rules, same-append, bytes_eq-Decides)
 
 module _ {xs ys us vs : List ℕ} (h : SameFront xs ys us vs) where
   pub same-left : bytes_eq xs ys ≡ bytes_eq us vs
-  same-left =
-      ap (λ l. bytes_eq l ys) h.first ∙ ap (bytes_eq (h.front ++ us)) h.second
-      ∙ same-behind h.front us vs
+  same-left = search (rules, same-behind)
 
   -- a piece more is the same
   pub same-on : {a b c d : List ℕ} (n : ℕ) → a ≡ take n us → b ≡ take n vs
@@ -93,18 +88,15 @@ module _ {xs ys us vs : List ℕ} (h : SameFront xs ys us vs) where
       }
 
   -- the last bytes decide, if no fewer than are left
-  pub same-last : (size : ℕ) → size ≤ length xs → length us ≤ size
-      → let begin = length xs - size in
+  pub same-last : (size : ℕ) → size ≤ length xs → length us ≤ size → let begin = length xs - size in
       bytes_eq (take (length xs - begin) (drop begin xs)) (take (length ys - begin) (drop begin ys))
       ≡ bytes_eq xs ys
   same-last size within few =
       let n = length xs - size in
-      let long : n ≤ length h.front =
-      omega (arith, within, few, ap length h.first, length-append h.front us) in
-      ap (λ l. bytes_eq l (take (length ys - n) (drop n ys)))
-      (take_all (length xs - n) (drop n xs) (omega (arith, length-drop n xs))
-      ∙ ap (drop n) h.first ∙ drop-append-le n h.front us long)
-      ∙ ap (bytes_eq (drop n h.front ++ us))
-      (take_all (length ys - n) (drop n ys) (omega (arith, length-drop n ys))
-      ∙ ap (drop n) h.second ∙ drop-append-le n h.front vs long)
-      ∙ same-behind (drop n h.front) us vs ∙ sym same-left
+      let long : n ≤ length h.front = omega
+      (arith, within, few, ap length h.first, length-append h.front us) in ap
+      (λ l. bytes_eq l (take (length ys - n) (drop n ys))) (take_all (length xs - n) (drop n xs)
+      (omega (arith, length-drop n xs)) ∙ ap (drop n) h.first ∙ drop-append-le n h.front us long) ∙
+      ap (bytes_eq (drop n h.front ++ us)) (take_all (length ys - n) (drop n ys)
+      (omega (arith, length-drop n ys)) ∙ ap (drop n) h.second ∙ drop-append-le n h.front vs long) ∙
+      same-behind (drop n h.front) us vs ∙ sym same-left

@@ -1,4 +1,5 @@
 -- The state of a merge of streams between two turns, and how the merge ends (merge_into).
+use Rattle.std.proofs.lemmas.Grind.{common_steps}
 use Rattle.flute_streams.specs.Lowest.{AreSpelled}
 use Rattle.flute_streams.proofs.Common.{Address, AllByRecursion, Appends, Appends-nil}
 use Rattle.flute_streams.proofs.Common.{Appends-trans, AppendsPart, AppendsPartOf, AreNew}
@@ -48,13 +49,11 @@ named_all P (f ∷ fs) a g h e = elim (cases_Bool (same_address (address f) a)) 
 
 -- The limits of a store, and the tally that counts against them.
 
-pub over_more : (F : List Fact) (f : Fact) (s o y : ℕ) → Over F s o y
-    → Over (F ++ f ∷ []) s o y
-over_more F f s o y h = Over-below F (F ++ f ∷ []) s o y (Below-more F (f ∷ [])) h
+pub over_more : (F : List Fact) (f : Fact) (s o y : ℕ) → Over F s o y → Over (F ++ f ∷ []) s o y
+over_more F f s o y h = search (rules, Over-below, Below-more)
 
-pub counted : (s o y : ℕ) (tally : Tally s o y) (b : Bool) (F : List Fact)
-    → (b ≡ true → Counts s o y F tally) → (b ≡ false → Over F s o y)
-    → IsCounted s o y tally b F
+pub counted : (s o y : ℕ) (tally : Tally s o y) (b : Bool) (F : List Fact) →
+    (b ≡ true → Counts s o y F tally) → (b ≡ false → Over F s o y) → IsCounted s o y tally b F
 counted s o y tally true F h k = h refl
 counted s o y tally false F h k = k refl
 
@@ -75,25 +74,23 @@ module _ {S : Type 0} (b : Behaviour S) where
     pub can_go_on : CanGoOn b old new fault
 
   -- a write failed after these entries
-  at_write : {patient : Bool} {old now : List S} {w w' : Option (List ℕ)}
-      (read : List (List Fact)) {entries : List Fact} {bytes : List ℕ}
-      → AppendsPartOf b old w w' → EachSince b.reads old now read
-      → Collects (all_of read) entries → Appends w w' bytes → IsCutAfter entries bytes
-      → Stopping patient old now w w' Write
+  at_write : {patient : Bool} {old now : List S} {w w' : Option (List ℕ)} (read : List (List Fact))
+      {entries : List Fact} {bytes : List ℕ} → AppendsPartOf b old w w' → EachSince b.reads old now
+      read → Collects (all_of read) entries → Appends w w' bytes → IsCutAfter entries bytes →
+      Stopping patient old now w w' Write
   at_write read short reads c a begins = search rules
 
   -- an input stopped after these entries
   at_input : {patient : Bool} {p : Option Address} {runs : List (Run S)} {new : List S}
-      {w w' : Option (List ℕ)} {fault : InputFault} {entries : List Fact}
-      → StoppedAll b p fault.number fault.fault runs new
-      → AppendsPartOf b (starts runs) w w' → Collects (all_of (givens_at b p runs)) entries
-      → (patient ≡ false → Appends w w' (written_up_to entries))
-      → Stopping patient (starts runs) new w w' (Input fault)
-      × OneFails b fault.number fault.fault (starts runs) new
+      {w w' : Option (List ℕ)} {fault : InputFault} {entries : List Fact} → StoppedAll b p
+      fault.number fault.fault runs new → AppendsPartOf b (starts runs) w w' → Collects
+      (all_of (givens_at b p runs)) entries →
+      (patient ≡ false → Appends w w' (written_up_to entries)) → Stopping patient (starts runs) new
+      w w' (Input fault) × OneFails b fault.number fault.fault (starts runs) new
   at_input s short c a = grind (arith, givens_at)
 
   none_collects : Collects [] []
-  none_collects = record { valid = tt; rising = tt; same = Same-itself [] }
+  none_collects = search rules
 
   -- it stopped before the header was written
 
@@ -101,12 +98,11 @@ module _ {S : Type 0} (b : Behaviour S) where
       → AreNew b old → StopsIn b None old new fault
       → Stopping patient old new w w (Input fault) × OneFails b fault.number fault.fault old new
   stop_first patient old new w fault n h =
-      let s : StoppedAll b None fault.number fault.fault (new_runs b old) new =
-      stopped_all b None fault.number fault.fault (new_runs b old) new (new_stays b old n)
-      (subst (λ (l : List S). StopsIn b None l new fault) (sym (new_nows b old)) h) in
-      subst (λ (l : List S). Stopping patient l new w w (Input fault)
-      × OneFails b fault.number fault.fault l new) (new_starts b old)
-      (at_input s (short_header b [] header (Appends-nil w) refl)
+      let s : StoppedAll b None fault.number fault.fault (new_runs b old) new = stopped_all b None
+      fault.number fault.fault (new_runs b old) new (new_stays b old n)
+      (subst (λ (l : List S). StopsIn b None l new fault) (sym (new_nows b old)) h) in subst (λ
+      (l : List S). Stopping patient l new w w (Input fault) × OneFails b fault.number fault.fault l
+      new) (new_starts b old) (at_input s (short_header b [] header (Appends-nil w) refl)
       (subst (λ (l : List Fact). Collects l []) (sym (new_givens b old)) none_collects)
       (λ p. Appends-nil w))
 
@@ -126,14 +122,12 @@ module _ {S : Type 0} (b : Behaviour S) where
 
   first_turn : (old now : List S) → AreNew b old → GoOnAt b None old now
       → Turned b None (new_runs b old) now
-  first_turn old now n h =
-      turn b None (new_runs b old) now (new_stays b old n)
+  first_turn old now n h = turn b None (new_runs b old) now (new_stays b old n)
       (subst (λ (l : List S). GoOnAt b None l now) (sym (new_nows b old)) h)
 
   pub state_start : {failed : Bool} {Also : List Fact → Type 0} {old now : List S}
-      {w w' : Option (List ℕ)} → Also [] → AreNew b old → GoOnAt b None old now
-      → Written failed w w' header
-      → State failed Also old now w w' 0
+      {w w' : Option (List ℕ)} → Also [] → AreNew b old → GoOnAt b None old now → Written failed w
+      w' header → State failed Also old now w w' 0
   state_start {old = old} {now = now} also n h a =
       let t = first_turn old now n h in
       let e : all_of (givens t.next) ≡ [] = ap all_of t.givens_are ∙ new_givens b old in
@@ -143,7 +137,7 @@ module _ {S : Type 0} (b : Behaviour S) where
         nows_are = t.nows_are;
         joined = [];
         went = t.went;
-        collects = subst (λ (l : List Fact). Collects l []) (sym e) none_collects;
+        collects = search rules;
         few = omega arith;
         written = a;
         count_is = refl;
@@ -164,18 +158,16 @@ module _ {S : Type 0} (b : Behaviour S) where
       let e : all_of (givens t.next) ≡ [] = ap all_of t.givens_are ∙ new_givens b old in
       let s = stays None t.next t.went in
       let P : List S → Type 0 = λ l. Stopping patient l now w w' Write × NoneFails b l now in
-      let Q : List S → Type 0 =
-      λ l. Stopping patient (starts t.next) l w w' Write × NoneFails b (starts t.next) l in
-      subst P (t.starts_are ∙ new_starts b old) (subst Q t.nows_are (
-        at_write (givens t.next) (short_header b a.part a.rest a.appended (sym a.whole))
-            (reads_now b None t.next s)
-            (subst (λ (l : List Fact). Collects l []) (sym e) none_collects) a.appended
-            (cut_header refl (a.rest, a.cut, sym a.whole)),
+      let Q : List S → Type 0 = λ l. Stopping patient (starts t.next) l w w' Write × NoneFails b
+      (starts t.next) l in subst P (t.starts_are ∙ new_starts b old) (subst Q t.nows_are (
+        at_write
+            (givens t.next) (short_header b a.part a.rest a.appended (sym a.whole))
+            (reads_now b None t.next s) (subst (λ (l : List Fact). Collects l []) (sym e) none_collects)
+            a.appended (cut_header refl (a.rest, a.cut, sym a.whole)),
         none_fails b None t.next s,
       ))
 
-  heads-above : (place : Option Address) (runs : List (Run S))
-      → AllByRecursion (Went b place) runs
+  heads-above : (place : Option Address) (runs : List (Run S)) → AllByRecursion (Went b place) runs
       → AllByRecursion (λ f. IsTrue (is_after place (address f))) (heads b (nows runs))
   heads-above place [] w = tt
   heads-above place (r ∷ runs) w = grind (arith, all_append, nows, heads-above place runs w.1)
@@ -194,13 +186,8 @@ module _ {S : Type 0} (b : Behaviour S) where
   most-given : (place : Option Address) (runs : List (Run S)) → AllByRecursion (Went b place) runs
       → most_of b (nows runs) + length (all_of (givens runs)) ≤ most_of b (starts runs)
   most-given place [] w = omega arith
-  most-given place (r ∷ runs) w =
-      omega (
-        arith,
-        w.0.fewer,
-        most-given place runs w.1,
-        length-append r.given (all_of (givens runs)),
-      )
+  most-given place (r ∷ runs) w = omega
+      (arith, w.0.fewer, most-given place runs w.1, length-append r.given (all_of (givens runs)))
 
   module _ {failed : Bool} {Also : List Fact → Type 0} {old now : List S}
       {w w' : Option (List ℕ)} {count : ℕ} (state : State failed Also old now w w' count) where
@@ -209,42 +196,34 @@ module _ {S : Type 0} (b : Behaviour S) where
 
     -- all was written where the sink has not failed
     whole_yet : failed ≡ false → Appends w w' (without_end state.joined)
-    whole_yet good = written-whole failed w w' (without_end state.joined) good state.written
+    whole_yet good = search rules
 
     pub few-joined : count ≤ most_of b old
-    few-joined = let e =
-        ap (most_of b) state.starts_are in
-        omega (arith, e, state.count_is, state.few, most-given last state.runs state.went)
+    few-joined = search (rules, most-given)
 
     -- the bytes of what is held, where they lie in memory
     pub spelled_now : AreSpelled b now
-    spelled_now =
-        subst (AreSpelled b) state.nows_are (streams-spelled last state.runs state.went)
+    spelled_now = search (rules, streams-spelled)
 
-    moved : (P : List S → List S → Type 0) → P (starts state.runs) (nows state.runs)
-        → P old now
-    moved P h = subst (λ l. P l now) state.starts_are
-        (subst (P (starts state.runs)) state.nows_are h)
+    moved : (P : List S → List S → Type 0) → P (starts state.runs) (nows state.runs) → P old now
+    moved P h = search rules
 
-    stopped_here : (patient : Bool) {w'' : Option (List ℕ)} {bytes : List ℕ}
-        → Appends w w'' bytes → IsCutAfter state.joined bytes
-        → AppendsPartOf b (starts state.runs) w w''
-        → Stopping patient old now w w'' Write
+    stopped_here : (patient : Bool) {w'' : Option (List ℕ)} {bytes : List ℕ} → Appends w w'' bytes →
+        IsCutAfter state.joined bytes → AppendsPartOf b (starts state.runs) w w'' → Stopping patient
+        old now w w'' Write
     stopped_here patient a begins short =
         grind (arith, moved, at_write, starts, nows, givens, reads_now, stays)
 
     pub no_failure : NoneFails b old now
-    no_failure =
-        moved (NoneFails b) (none_fails b last state.runs (stays last state.runs state.went))
+    no_failure = search (rules, none_fails, stays)
 
     -- A turn at the lowest address g.
     module _ {g : Fact} (lowest : Lowest (heads b now) g) where
       low : Lowest (heads b (nows state.runs)) g
-      low = subst (λ (l : List S). Lowest (heads b l) g) (sym state.nows_are) lowest
+      low = search rules
 
       pub sized-lowest : IsSized g
-      sized-lowest =
-          lowest-sized (heads b (nows state.runs)) g (heads-sized last state.runs state.went) low
+      sized-lowest = search (rules, lowest-sized, heads, heads-sized)
 
       above : IsTrue (is_after last (address g))
       above = named_all (λ a. IsTrue (is_after last a)) (heads b (nows state.runs)) (address g) g
@@ -252,15 +231,14 @@ module _ {S : Type 0} (b : Behaviour S) where
 
       -- the entries that were written, and g after them, rise
       rising_next : IsRising (state.joined ++ g ∷ [])
-      rising_next =
-          rises-rising (state.joined ++ g ∷ [])
+      rising_next = rises-rising (state.joined ++ g ∷ [])
           (rises_more None state.joined g (rising-rises state.joined state.collects.rising) above)
 
       from_next : HoldFrom b last (address g) state.runs
-      from_next = record { went = state.went; none_before = low.first }
+      from_next = search rules
 
       next_stays : AllByRecursion (Stays b (Some (address g))) state.runs
-      next_stays = went_stays b last (address g) state.runs state.went low.first
+      next_stays = search (rules, went_stays)
 
       module _ (valid : IsFact g) where
         collects_next : Collects (all_of (givens_at b (Some (address g)) state.runs))
@@ -270,15 +248,13 @@ module _ {S : Type 0} (b : Behaviour S) where
           rising = rising_next;
           same = Same-trans (all_of (givens_at b (Some (address g)) state.runs))
               (all_of (givens state.runs) ++ taken_at (address g) (heads b (nows state.runs)))
-              (state.joined ++ g ∷ [])
-              (given_same b (address g) state.runs)
-              (Same-append (all_of (givens state.runs)) state.joined
+              (state.joined ++ g ∷ []) (given_same b (address g) state.runs) (Same-append
+              (all_of (givens state.runs)) state.joined
               (taken_at (address g) (heads b (nows state.runs))) (g ∷ []) state.collects.same
               (taken_same (heads b (nows state.runs)) g low.comes));
         }
 
-        next_bytes : (next : Bool) (w'' : Option (List ℕ))
-            → PutsBytes failed next w' w'' (entry g)
+        next_bytes : (next : Bool) (w'' : Option (List ℕ)) → PutsBytes failed next w' w'' (entry g)
             → Written next w w'' (without_end (state.joined ++ g ∷ []))
         next_bytes next w'' a =
             subst (Written next w w'') (without_end-snoc state.joined g)
@@ -294,10 +270,9 @@ module _ {S : Type 0} (b : Behaviour S) where
         state_turn next Next new w'' k a h =
             let t = turn b (Some (address g)) state.runs new next_stays
             (subst (λ (l : List S). GoOnAt b (Some (address g)) l new) (sym state.nows_are) h) in
-            let given : length (all_of (givens t.next))
-            ≡ length (all_of (givens_at b (Some (address g)) state.runs)) =
-            ap (λ l. length (all_of l)) t.givens_are in
-            record {
+            let given : length (all_of (givens t.next)) ≡ length
+            (all_of (givens_at b (Some (address g)) state.runs)) = ap (λ l. length (all_of l))
+            t.givens_are in record {
               runs = t.next;
               starts_are = t.starts_are ∙ state.starts_are;
               nows_are = t.nows_are;
@@ -310,7 +285,8 @@ module _ {S : Type 0} (b : Behaviour S) where
                 arith,
                 given,
                 given_length b (address g) state.runs,
-                taken_some (heads b (nows state.runs)) g low.comes,
+                taken_some
+                    (heads b (nows state.runs)) g low.comes,
                 length-append state.joined (g ∷ []),
                 state.few,
               );
@@ -324,22 +300,17 @@ module _ {S : Type 0} (b : Behaviour S) where
             → AppendsPart w' w'' (entry g) → Stopping patient old now w w'' Write
         stop_entry patient {w'' = w''} good a =
             let bs : List ℕ = without_end state.joined ++ a.part in
-            let appended : Appends w w'' bs =
-            Appends-trans w w' w'' (without_end state.joined) a.part
-            (whole_yet good) a.appended in
-            stopped_here patient appended
-            (cut_entry g valid a.part (a.rest, a.cut, sym a.whole) refl)
-            (short_entry b state.joined g bs a.rest from_next collects_next appended
-            (append_assoc (without_end state.joined) a.part a.rest
-            ∙ ap (λ (l : List ℕ). without_end state.joined ++ l) (sym a.whole)
-            ∙ without_end-snoc state.joined g))
+            let appended : Appends w w'' bs = Appends-trans w w' w'' (without_end state.joined)
+            a.part (whole_yet good) a.appended in stopped_here patient appended
+            (cut_entry g valid a.part (a.rest, a.cut, sym a.whole) refl) (short_entry b state.joined
+            g bs a.rest from_next collects_next appended (append_assoc (without_end state.joined)
+            a.part a.rest ∙ ap (λ (l : List ℕ). without_end state.joined ++ l) (sym a.whole) ∙
+            without_end-snoc state.joined g))
 
         pub stop_input : (patient next : Bool) (new : List S) (w'' : Option (List ℕ))
-            (fault : InputFault) → PutsBytes failed next w' w'' (entry g)
-            → (patient ≡ false → next ≡ false)
-            → StopsIn b (Some (address g)) now new fault
-            → Stopping patient old new w w'' (Input fault)
-            × OneFails b fault.number fault.fault old new
+            (fault : InputFault) → PutsBytes failed next w' w'' (entry g) →
+            (patient ≡ false → next ≡ false) → StopsIn b (Some (address g)) now new fault → Stopping
+            patient old new w w'' (Input fault) × OneFails b fault.number fault.fault old new
         stop_input patient next new w'' fault a eager h =
             let s : StoppedAll b (Some (address g)) fault.number fault.fault state.runs new =
             grind (arith, stopped_all, next_stays) in
@@ -362,7 +333,7 @@ module _ {S : Type 0} (b : Behaviour S) where
 
     module _ (none : heads b now ≡ []) where
       none_left : heads b (nows state.runs) ≡ []
-      none_left = ap (heads b) state.nows_are ∙ none
+      none_left = search rules
 
       pub stop_end : (patient : Bool) {w'' : Option (List ℕ)} → failed ≡ false
           → AppendsPart w' w'' (end count) → Stopping patient old now w w'' Write
@@ -381,23 +352,22 @@ module _ {S : Type 0} (b : Behaviour S) where
 
       whole : (next : Bool) (w'' : Option (List ℕ)) → PutsBytes failed next w' w'' (end count)
           → Written next w w'' (spelling state.joined)
-      whole next w'' a =
-          subst (λ n. Written next w w'' (without_end state.joined ++ end n)) state.count_is
-          (written-more failed next w w' w'' (without_end state.joined) (end count)
+      whole next w'' a = subst (λ n. Written next w w'' (without_end state.joined ++ end n))
+          state.count_is (written-more failed next w w' w'' (without_end state.joined) (end count)
           (state.written, a))
 
       -- the journal of other facts with the same value at each address is the one that was written
-      others_too : (next : Bool) (w'' : Option (List ℕ))
-          → PutsBytes failed next w' w'' (end count) → (others : List Fact)
-          → Same (all_of (givens state.runs)) others → (bytes : List ℕ)
-          → Journal bytes others
-          → Written next w w'' bytes
-      others_too next w'' a others m bytes j =
-          let given = all_of (givens state.runs) in
-          let same : Same j.0 state.joined = grind (arith, Same-trans, Same-sym) in
-          let one : j.0 ≡ state.joined =
-          rising_unique j.0 state.joined j.1.rising state.collects.rising same in
-          subst (Written next w w'') (sym (j.3 ∙ ap spelling one)) (whole next w'' a)
+      others_too : (next : Bool) (w'' : Option (List ℕ)) → PutsBytes failed next w' w'' (end count)
+          → (others : List Fact) → Same (all_of (givens state.runs)) others → (bytes : List ℕ) →
+          Journal bytes others → Written next w w'' bytes
+      others_too next w'' a others m bytes j = search (
+        rules,
+        all_of,
+        Same-trans,
+        Same-sym,
+        rising_unique,
+        whole,
+      )
 
   pub finished : {s o y : ℕ} (tally : Tally s o y) (within next : Bool) {failed : Bool}
       {old now : List S} {w w' : Option (List ℕ)} {count : ℕ}
@@ -406,8 +376,7 @@ module _ {S : Type 0} (b : Behaviour S) where
       → PutsBytes failed next w' w'' (end count)
       → EndsMerged b old now s o y (record { entries = count; within = within; cut = next }) w w''
   finished {s = s} {o = o} {y = y} tally within next {failed} {old} {now} {w} {w'} {count} state w''
-      few none a =
-      moved state (λ (l m : List S). EndsMerged b l m s o y
+      few none a = moved state (λ (l m : List S). EndsMerged b l m s o y
       (record { entries = count; within = within; cut = next }) w w'') (record {
         merged = record {
           told = givens state.runs;
@@ -419,7 +388,8 @@ module _ {S : Type 0} (b : Behaviour S) where
             journal = (
               state.joined,
               state.collects,
-              omega (arith, few, state.count_is, few-joined state),
+              omega
+                  (arith, few, state.count_is, few-joined state),
               refl,
             );
             entries = state.count_is;

@@ -1,4 +1,6 @@
 -- A merge that stops: what was read of each stream, and what was appended.
+use Rattle.std.proofs.lemmas.Grind.{common_steps}
+use Rattle.std.proofs.Common.{rules}
 use Rattle.flute_streams.proofs.Common.{Address, AllByRecursion, Appends, AppendsPartOf, Behaviour}
 use Rattle.flute_streams.proofs.Common.{Collects, Continues, Each, EachSince, Fact, GaveBefore}
 use Rattle.flute_streams.proofs.Common.{GoesOnAt, IsFact, IsNotBefore, List, LoadFault, None}
@@ -53,9 +55,8 @@ module _ {S : Type 0} (b : Behaviour S) where
         | inr e ↦ none (taken_by (same_address (address f) a) f) (ap (λ t. taken_by t f) e)
       ]
 
-  all_stand : (p : Option Address) (runs : List (Run S)) (new : List S) → new ≡ nows runs
-      → AllByRecursion (Stays b p) runs
-      → EachSince b.reads (starts runs) new (givens_at b p runs)
+  all_stand : (p : Option Address) (runs : List (Run S)) (new : List S) → new ≡ nows runs →
+      AllByRecursion (Stays b p) runs → EachSince b.reads (starts runs) new (givens_at b p runs)
   all_stand p runs new e w =
       subst (λ (l : List S). EachSince b.reads (starts runs) l (givens_at b p runs)) (sym e)
       (stand runs w)
@@ -94,7 +95,7 @@ module _ {S : Type 0} (b : Behaviour S) where
         reads = (q.reads, t.reads);
         fails = (q.fails, t.fails);
         names = t.names;
-        before = ((r.given ++ given_at p (b.held r.now), g.gave), t.before);
+        before = search rules;
       }
   stopped_all p k f runs new w h = absurd h
 
@@ -108,8 +109,7 @@ module _ {S : Type 0} (b : Behaviour S) where
 
   behind : (F K : List Fact) (f : Fact) (c : Continues K (F ++ f ∷ []) (Some f))
       → Rises (Some (address f)) c.rest
-  behind F K f c =
-      subst (λ x. Rises x c.rest) (last_of-snoc None F f)
+  behind F K f c = subst (λ x. Rises x c.rest) (last_of-snoc None F f)
       (Rises-second None (F ++ f ∷ []) c.rest (subst (Rises None) c.is (rising-rises K c.rising)))
 
   apart : (f : Fact) (a : Address) → same_address (address f) a ≡ false
@@ -118,27 +118,24 @@ module _ {S : Type 0} (b : Behaviour S) where
       absurd (let s = ap (same_address (address f)) (same_Some (address f) a q) in let t =
       address_itself (address f) in cc)
 
-  above_held : (a : Address) (F K : List Fact) (held : Option Fact)
-      → Continues K (F ++ option_list held) held
-      → (address_of held ≢ Some a → IsAbove (Some a) held)
-      → Above (Some a) K (F ++ given_at (Some a) held)
+  above_held : (a : Address) (F K : List Fact) (held : Option Fact) → Continues K
+      (F ++ option_list held) held → (address_of held ≢ Some a → IsAbove (Some a) held) → Above
+      (Some a) K (F ++ given_at (Some a) held)
   above_held a F K None c n =
       record { rest = c.rest; is = c.is; rises = subst (Rises (Some a)) (sym (c.ended refl)) tt }
   above_held a F K (Some f) c n = elim (cases_Bool (same_address (address f) a)) [
-    | inl e ↦
-        subst (λ t. Above (Some a) K (F ++ taken_by t f)) (sym e) (record {
-          rest = c.rest;
-          is = c.is;
-          rises = subst (λ x. Rises (Some x) c.rest) (address_same (address f) a e)
-              (behind F K f c);
-        })
-    | inr e ↦
-        subst (λ t. Above (Some a) K (F ++ taken_by t f)) (sym e) (record {
-          rest = f ∷ c.rest;
-          is = c.is ∙ append_assoc F (f ∷ []) c.rest
-              ∙ ap (λ (l : List Fact). l ++ f ∷ c.rest) (sym (append-nil F));
-          rises = (n (apart f a e), behind F K f c);
-        })
+    | inl e ↦ subst (λ t. Above (Some a) K (F ++ taken_by t f)) (sym e) (record {
+      rest = c.rest;
+      is = c.is;
+      rises = subst (λ x. Rises (Some x) c.rest) (address_same (address f) a e)
+          (behind F K f c);
+    })
+    | inr e ↦ subst (λ t. Above (Some a) K (F ++ taken_by t f)) (sym e) (record {
+      rest = f ∷ c.rest;
+      is = c.is ∙ append_assoc F (f ∷ []) c.rest ∙ ap (λ (l : List Fact). l ++ f ∷ c.rest)
+          (sym (append-nil F));
+      rises = (n (apart f a e), behind F K f c);
+    })
   ]
 
   -- streams that went on to a place hold nothing before an address
@@ -159,13 +156,12 @@ module _ {S : Type 0} (b : Behaviour S) where
       let rest : HoldFrom place a runs = record { went = w.1; none_before = both.1 } in
       let F = r.given ++ given_at (Some a) (b.held r.now) in
       let c = above_held a r.given K (b.held r.now) (w.0.gave.known K k.0)
-      (λ e. above_other a (b.held r.now) e both.0) in
-      fact_at-append K (all_of known) z
-      ∙ ap (λ (l : List Fact). joined z (fact_at l z) (fact_at (all_of known) z)) c.is
-      ∙ ap (λ x. joined z x (fact_at (all_of known) z))
-      (fact_at-second_none F c.rest z (rising-none (Some a) c.rest z c.rises h))
-      ∙ ap (joined z (fact_at F z)) (known_at z runs known rest h k.1)
-      ∙ sym (fact_at-append F (all_of (givens_at b (Some a) runs)) z)
+      (λ e. above_other a (b.held r.now) e both.0) in fact_at-append K (all_of known) z ∙ ap
+      (λ (l : List Fact). joined z (fact_at l z) (fact_at (all_of known) z)) c.is ∙ ap
+      (λ x. joined z x (fact_at (all_of known) z))
+      (fact_at-second_none F c.rest z (rising-none (Some a) c.rest z c.rises h)) ∙ ap
+      (joined z (fact_at F z)) (known_at z runs known rest h k.1) ∙ sym
+      (fact_at-append F (all_of (givens_at b (Some a) runs)) z)
   known_at z runs known from h k = absurd k
 
   -- and all of them, once nothing is held
@@ -176,10 +172,9 @@ module _ {S : Type 0} (b : Behaviour S) where
   none_held : (o : Option Fact) (fs : List Fact) → option_list o ++ fs ≡ [] → (o ≡ None) × (fs ≡ [])
   none_held o fs e = grind (arith)
 
-  known_whole : (place : Option Address) (runs : List (Run S)) (known : List (List Fact))
-      → AllByRecursion (Went b place) runs → heads b (nows runs) ≡ []
-      → Each b.knows (starts runs) known
-      → all_of known ≡ all_of (givens runs)
+  known_whole : (place : Option Address) (runs : List (Run S)) (known : List (List Fact)) →
+      AllByRecursion (Went b place) runs → heads b (nows runs) ≡ [] → Each b.knows (starts runs)
+      known → all_of known ≡ all_of (givens runs)
   known_whole place [] [] w e k = refl
   known_whole place (r ∷ runs) (K ∷ known) w e k =
       let n = none_held (b.held r.now) (heads b (nows runs)) e in
@@ -189,18 +184,16 @@ module _ {S : Type 0} (b : Behaviour S) where
   known_whole place runs known w e k = absurd k
 
   -- each stream contains just what it gave, once none holds a fact
-  pub told_whole : (place : Option Address) (runs : List (Run S))
-      → AllByRecursion (Went b place) runs → heads b (nows runs) ≡ []
-      → Each b.tells (starts runs) (givens runs)
+  pub told_whole : (place : Option Address) (runs : List (Run S)) → AllByRecursion (Went b place)
+      runs → heads b (nows runs) ≡ [] → Each b.tells (starts runs) (givens runs)
   told_whole place [] w e = tt
   told_whole place (r ∷ runs) w e =
       let n = none_held (b.held r.now) (heads b (nows runs)) e in
       (w.0.gave.ended n.0, told_whole place runs w.1 n.1)
 
   -- and each ended after what it gave
-  pub ended_whole : (place : Option Address) (runs : List (Run S))
-      → AllByRecursion (Went b place) runs → heads b (nows runs) ≡ []
-      → EachSince b.ends (starts runs) (nows runs) (givens runs)
+  pub ended_whole : (place : Option Address) (runs : List (Run S)) → AllByRecursion (Went b place)
+      runs → heads b (nows runs) ≡ [] → EachSince b.ends (starts runs) (nows runs) (givens runs)
   ended_whole place [] w e = tt
   ended_whole place (r ∷ runs) w e =
       let n = none_held (b.held r.now) (heads b (nows runs)) e in
@@ -213,31 +206,30 @@ module _ {S : Type 0} (b : Behaviour S) where
 
   goes_on : (M rest : List Fact) (bs more : List ℕ) (n : ℕ) → bs ++ more ≡ without_end M
       → bs ++ (more ++ (flat_map entry rest ++ end n)) ≡ without_end (M ++ rest) ++ end n
-  goes_on M rest bs more n e =
-      cc (
-        append_assoc bs more (flat_map entry rest ++ end n),
-        e,
-        append_assoc (without_end M) (flat_map entry rest) (end n),
-        without_end-append M rest,
-      )
+  goes_on M rest bs more n e = cc (
+    append_assoc bs more (flat_map entry rest ++ end n),
+    e,
+    append_assoc (without_end M) (flat_map entry rest) (end n),
+    without_end-append M rest,
+  )
 
   -- a part of the header and of entries that begin those of all facts
-  short : {inputs : List S} {w w' : Option (List ℕ)} (bs more : List ℕ) (M : List Fact)
-      → AllByRecursion IsFact M → Appends w w' bs → bs ++ more ≡ without_end M
-      → ((known : List (List Fact)) → Each b.knows inputs known → (E : List Fact)
-      → Collects (all_of known) E → (rest : List Fact) × (E ≡ M ++ rest))
-      → AppendsPartOf b inputs w w'
+  short : {inputs : List S} {w w' : Option (List ℕ)} (bs more : List ℕ) (M : List Fact) →
+      AllByRecursion IsFact M → Appends w w' bs → bs ++ more ≡ without_end M → ((known : List
+      (List Fact)) → Each b.knows inputs known → (E : List Fact) → Collects (all_of known) E →
+      (rest : List Fact) × (E ≡ M ++ rest)) → AppendsPartOf b inputs w w'
   short bs more M v a e h = record {
     bytes = bs;
     appended = a;
     no_journal = no_end M bs more v e;
-    prefix = λ known k whole j.
-        let p = h known k j.0 j.1 in (
-          more ++ (flat_map entry p.0 ++ end (length j.0)),
-          rest_some more (flat_map entry p.0) (length j.0),
-          goes_on M p.0 bs more (length j.0) e
-              ∙ ap (λ (z : List Fact). without_end z ++ end (length j.0)) (sym p.1) ∙ sym j.3,
-        );
+    prefix = λ known k whole j. let p = h known k j.0 j.1 in (
+      more ++
+          (flat_map entry p.0 ++ end (length j.0)),
+      rest_some more (flat_map entry p.0)
+          (length j.0),
+      goes_on M p.0 bs more (length j.0) e ∙ ap
+          (λ (z : List Fact). without_end z ++ end (length j.0)) (sym p.1) ∙ sym j.3,
+    );
   }
 
   pub short_header : {inputs : List S} {w w' : Option (List ℕ)} (bs more : List ℕ)
@@ -245,18 +237,14 @@ module _ {S : Type 0} (b : Behaviour S) where
   short_header bs more a e = short bs more [] tt a e (λ known k E c. (E, refl))
 
   pub short_entry : {place : Option Address} {runs : List (Run S)} (M : List Fact) (g : Fact)
-      {w w' : Option (List ℕ)} (bs more : List ℕ) → HoldFrom place (address g) runs
-      → Collects (all_of (givens_at b (Some (address g)) runs)) (M ++ g ∷ [])
-      → Appends w w' bs → bs ++ more ≡ without_end (M ++ g ∷ [])
-      → AppendsPartOf b (starts runs) w w'
-  short_entry {runs = runs} M g bs more from c a e =
-      short bs more (M ++ g ∷ []) c.valid a e (λ known k E d.
-      rising-prefix None (M ++ g ∷ []) E (rising-rises (M ++ g ∷ []) c.rising)
-      (rising-rises E d.rising) (λ z h.
-      sym (c.same.each z)
-      ∙ sym (known_at z runs known from
-      (subst (λ x. is_after x z ≡ false) (last_of-snoc None M g) h) k)
-      ∙ d.same.each z))
+      {w w' : Option (List ℕ)} (bs more : List ℕ) → HoldFrom place (address g) runs → Collects
+      (all_of (givens_at b (Some (address g)) runs)) (M ++ g ∷ []) → Appends w w' bs → bs ++ more ≡
+      without_end (M ++ g ∷ []) → AppendsPartOf b (starts runs) w w'
+  short_entry {runs = runs} M g bs more from c a e = short bs more (M ++ g ∷ []) c.valid a e (λ
+      known k E d. rising-prefix None (M ++ g ∷ []) E (rising-rises (M ++ g ∷ []) c.rising)
+      (rising-rises E d.rising) (λ z h. sym (c.same.each z) ∙ sym
+      (known_at z runs known from (subst (λ x. is_after x z ≡ false) (last_of-snoc None M g) h) k) ∙
+      d.same.each z))
 
   -- streams that went on to a place hold nothing
   pub record HoldNone (place : Option Address) (runs : List (Run S)) : Type 0 where
@@ -271,8 +259,7 @@ module _ {S : Type 0} (b : Behaviour S) where
     bytes = bs;
     appended = a;
     no_journal = no_whole_end M bs more c.valid s e;
-    prefix = λ known k whole j.
-        let given = all_of (givens runs) in
+    prefix = λ known k whole j. let given = all_of (givens runs) in
         let same = subst (λ (l : List Fact). Same l j.0)
         (known_whole place runs known all.went all.none k) j.1.same in
         let one = rising_unique M j.0 c.rising j.1.rising

@@ -1,4 +1,6 @@
 -- A turn of a merge: each stream that holds the lowest address is advanced.
+use Rattle.std.proofs.lemmas.Grind.{common_steps}
+use Rattle.std.proofs.Common.{rules}
 use Rattle.flute_streams.proofs.Common.{Address, AllByRecursion, AreNew, Behaviour, Bool, Equal}
 use Rattle.flute_streams.proofs.Common.{Fact, Gave, GoOnAt, GoesOnAt, Greater, IfSome, IsNotBefore}
 use Rattle.flute_streams.proofs.Common.{IsRising, IsSized, IsTrue, Key, Less, List, Lowest, None}
@@ -34,9 +36,8 @@ fact_at-sized : (facts : List Fact) (a : Address) → AllByRecursion IsSized fac
     → IfSome (fact_at facts a) IsSized
 fact_at-sized [] a v = subst (λ (o : Option Fact). IfSome o IsSized) (sym (fact_at-nil a)) tt
 fact_at-sized (f ∷ fs) a v = elim (cases_Bool (same_address (address f) a)) [
-  | inl e ↦
-      let p = address_same (address f) a e in
-      subst (λ (o : Option Fact). IfSome o IsSized)
+  | inl e ↦ let p = address_same (address f) a e in subst
+      (λ (o : Option Fact). IfSome o IsSized)
       (sym (fact_at-cons f fs a ∙ ap (λ x. joined a x (fact_at fs a)) (alone-at f a p)))
       (sized_joined a f (fact_at fs a) v.0)
   | inr e ↦ subst (λ (o : Option Fact). IfSome o IsSized) (sym (fact_at-elsewhere f fs a e))
@@ -62,27 +63,22 @@ taken_at a (f ∷ fs) = taken_by (same_address (address f) a) f ++ taken_at a fs
 taken_here : (a : Address) (fs : List Fact) → fact_at (taken_at a fs) a ≡ fact_at fs a
 taken_here a [] = refl
 taken_here a (f ∷ fs) = elim (cases_Bool (same_address (address f) a)) [
-  | inl e ↦
-      ap (λ b. fact_at (taken_by b f ++ taken_at a fs) a) e
-      ∙ fact_at-cons f (taken_at a fs) a ∙ ap (joined a (alone a f)) (taken_here a fs)
-      ∙ sym (fact_at-cons f fs a)
-  | inr e ↦
-      ap (λ b. fact_at (taken_by b f ++ taken_at a fs) a) e
-      ∙ taken_here a fs ∙ sym (fact_at-elsewhere f fs a e)
+  | inl e ↦ ap (λ b. fact_at (taken_by b f ++ taken_at a fs) a) e ∙ fact_at-cons f
+      (taken_at a fs) a ∙ ap (joined a (alone a f)) (taken_here a fs) ∙ sym
+      (fact_at-cons f fs a)
+  | inr e ↦ ap (λ b. fact_at (taken_by b f ++ taken_at a fs) a) e ∙ taken_here a fs ∙ sym
+      (fact_at-elsewhere f fs a e)
 ]
 
 taken_elsewhere : (a b : Address) (fs : List Fact) → same_address a b ≡ false
     → fact_at (taken_at a fs) b ≡ None
 taken_elsewhere a b [] n = fact_at-nil b
 taken_elsewhere a b (f ∷ fs) n = elim (cases_Bool (same_address (address f) a)) [
-  | inl e ↦
-      ap (λ t. fact_at (taken_by t f ++ taken_at a fs) b) e
-      ∙ fact_at-elsewhere f (taken_at a fs) b
-      (subst (λ x. same_address x b ≡ false) (sym (address_same (address f) a e)) n)
-      ∙ taken_elsewhere a b fs n
-  | inr e ↦
-      ap (λ t. fact_at (taken_by t f ++ taken_at a fs) b) e
-      ∙ taken_elsewhere a b fs n
+  | inl e ↦ ap (λ t. fact_at (taken_by t f ++ taken_at a fs) b) e ∙ fact_at-elsewhere f
+      (taken_at a fs) b
+      (subst (λ x. same_address x b ≡ false) (sym (address_same (address f) a e)) n) ∙
+      taken_elsewhere a b fs n
+  | inr e ↦ ap (λ t. fact_at (taken_by t f ++ taken_at a fs) b) e ∙ taken_elsewhere a b fs n
 ]
 
 -- their value is the fact that is written
@@ -144,12 +140,9 @@ pub given_here : (p : Option Address) (o : Option Fact) → address_of o ≡ p
     → given_at p o ≡ option_list o
 given_here None None e = refl
 given_here (Some a) None e = refl
-given_here p (Some f) e =
-    subst (λ q. given_at q (Some f) ≡ f ∷ []) e
-    (ap (λ b. taken_by b f) (address_itself (address f)))
+given_here p (Some f) e = search rules
 
-pub given_elsewhere : (p : Option Address) (o : Option Fact) → address_of o ≢ p
-    → given_at p o ≡ []
+pub given_elsewhere : (p : Option Address) (o : Option Fact) → address_of o ≢ p → given_at p o ≡ []
 given_elsewhere None o n = refl
 given_elsewhere (Some a) None n = refl
 given_elsewhere (Some a) (Some f) n = elim (cases_Bool (same_address (address f) a)) [
@@ -198,15 +191,7 @@ module _ {S : Type 0} (b : Behaviour S) where
     pub above : IsAbove place (b.held r.now)
 
   pub ready : (place : Option Address) (r : Run S) → Went place r → Ready r
-  ready place r w =
-      record {
-        passes = w.gave.passes;
-        reads = w.gave.reads;
-        reads_held = w.gave.reads_held;
-        fails =
-            w.gave.fails;
-        fewer = w.fewer;
-      }
+  ready place r w = search rules
 
   -- a stream is advanced if it holds that address
   pub went_on : (p : Option Address) (r : Run S) (u : S) → Ready r
@@ -268,19 +253,7 @@ module _ {S : Type 0} (b : Behaviour S) where
   pub new_stays : (streams : List S) → AreNew b streams
       → AllByRecursion (Stays None) (new_runs streams)
   new_stays [] n = tt
-  new_stays (s ∷ streams) n = (
-    (
-      record {
-        passes = n.0.passes;
-        reads = n.0.reads;
-        reads_held = subst (λ o. b.reads s s (option_list o)) (sym n.0.held) n.0.reads;
-        fails = n.0.fails;
-        fewer = omega arith;
-      },
-      λ e. absurd (e (ap address_of n.0.held)),
-    ),
-    new_stays streams n.1,
-  )
+  new_stays (s ∷ streams) n = search (rules, new_stays streams n.1)
 
   -- in a turn
 
@@ -295,8 +268,7 @@ module _ {S : Type 0} (b : Behaviour S) where
           λ e. record {
             gave = w.0.gave;
             fewer = w.0.fewer;
-            above =
-                above_other a (b.held r.now) e both.0;
+            above = above_other a (b.held r.now) e both.0;
           },
         ),
         went_stays place a runs w.1 both.1,
@@ -307,8 +279,7 @@ module _ {S : Type 0} (b : Behaviour S) where
   taken_split a o fs = grind (arith)
 
   -- what they give together
-  pub given_same : (a : Address) (runs : List (Run S))
-      → Same (all_of (givens_at (Some a) runs))
+  pub given_same : (a : Address) (runs : List (Run S)) → Same (all_of (givens_at (Some a) runs))
       (all_of (givens runs) ++ taken_at a (heads b (nows runs)))
   given_same a [] = Same-itself []
   given_same a (r ∷ runs) =
@@ -324,19 +295,16 @@ module _ {S : Type 0} (b : Behaviour S) where
       (all_of (givens runs) ++ rest) (Same-itself (r.given ++ here)) (given_same a runs))
       (Same-crossed r.given here (all_of (givens runs)) rest))
 
-  pub given_length : (a : Address) (runs : List (Run S))
-      → length (all_of (givens_at (Some a) runs))
+  pub given_length : (a : Address) (runs : List (Run S)) → length (all_of (givens_at (Some a) runs))
       ≡ length (all_of (givens runs)) + length (taken_at a (heads b (nows runs)))
   given_length a [] = refl
   given_length a (r ∷ runs) = grind (arith, taken_split, length-append, given_length a runs)
 
   fewer_one : (a : Address) (t u : S) → GoesOnAt b (Some a) t u
       → b.most u + length (taken_from a (b.held t)) ≤ b.most t
-  fewer_one a t u (inl h) =
-      subst (λ (l : List Fact). b.most u + length l ≤ b.most t)
+  fewer_one a t u (inl h) = subst (λ (l : List Fact). b.most u + length l ≤ b.most t)
       (sym (given_here (Some a) (b.held t) h.0)) h.1.fewer
-  fewer_one a t u (inr h) =
-      subst (λ (l : List Fact). b.most u + length l ≤ b.most t)
+  fewer_one a t u (inr h) = subst (λ (l : List Fact). b.most u + length l ≤ b.most t)
       (sym (given_elsewhere (Some a) (b.held t) h.0))
       (let e : b.most u ≡ b.most t = ap b.most h.1 in omega (arith, e))
 

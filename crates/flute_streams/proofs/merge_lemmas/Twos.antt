@@ -1,4 +1,5 @@
 -- What a merge of two streams of journals gives, stated of the two journals (specs/Merges).
+use Rattle.std.proofs.lemmas.Grind.{common_steps}
 use Rattle.flute_streams.proofs.Common.{AppendsPartOf, BeginWith, Behaviour, Collects, Each}
 use Rattle.flute_streams.proofs.Common.{EachSince, Either, Err, Fact, FailAs, First, FirstFails}
 use Rattle.flute_streams.proofs.Common.{Input, MergedJournal, Journal, KeepsUp, LentStream, List}
@@ -19,26 +20,15 @@ use Rattle.flute_journal.proofs.Public.{journal_parts}
 -- if two journals have these facts, the entries of both have the values of all these facts
 same_entries : (es fs ws F G : List Fact) → Same F es → Same G fs → Same (F ++ G) ws
     → Same (es ++ fs) ws
-same_entries es fs ws F G p q r =
-    Same-trans (es ++ fs) (F ++ G) ws (Same-append es F fs G (Same-sym F es p) (Same-sym G fs q)) r
+same_entries es fs ws F G p q r = search (rules, Same-trans, Same-append, Same-sym)
 
 begins_at : (k : ℕ) (f : ReadFault) (bytes : List ℕ) (entries : List Fact)
     → bytes ≡ written_up_to entries → AppendedUpTo (fault_at k f) bytes entries
-begins_at zero f bytes entries e = e
-begins_at (suc k) f bytes entries e = e
+begins_at x0 x1 x2 x3 x4 = search rules
 
 begins : (k : ℕ) (f : LoadFault) (merge : MergeFault) (bytes : List ℕ) (entries : List Fact)
     → IsFaultAt k f merge → bytes ≡ written_up_to entries → AppendedUpTo merge bytes entries
-begins k (Read f) merge bytes entries is e =
-    subst (λ x. AppendedUpTo x bytes entries) (sym is) (begins_at k f bytes entries e)
-begins k f merge bytes entries is e = absurd is
-
-begins_two : (fault : StreamsFault) (merge : MergeFault) (bytes : List ℕ) (entries : List Fact)
-    → IsFaultOfTwo fault merge → BeginWith fault bytes entries
-    → AppendedUpTo merge bytes entries
-begins_two Write merge bytes entries is h = subst (λ x. AppendedUpTo x bytes entries) (sym is) h
-begins_two (Input fault) merge bytes entries is h =
-    begins fault.number fault.fault merge bytes entries is h
+begins k f merge bytes entries is e = search rules
 
 module _ {A B : Type 0} (ua : A → Option (List ℕ)) (ba : A → List ℕ) (fa : A → ℕ)
     (ub : B → Option (List ℕ)) (bb : B → List ℕ) (fb : B → ℕ) where
@@ -69,23 +59,11 @@ module _ {A B : Type 0} (ua : A → Option (List ℕ)) (ba : A → List ℕ) (fa
     each_two : (P : Either (LentStream A) (LentStream B) → List Fact → Type 0)
         (or_failed : List (List Fact)) → Each P inputs or_failed
         → Two (P (First s)) (P (Second t)) or_failed
-    each_two P [] h = absurd h
-    each_two P (F ∷ []) h = absurd h.1
-    each_two P (F ∷ G ∷ []) h =
-        record {
-          first = F;
-          second = G;
-          of_first = h.0;
-          of_second = h.1.0;
-          all =
-              ap (λ (l : List Fact). F ++ l) (append-nil G);
-        }
-    each_two P (F ∷ G ∷ H ∷ or_failed) h = absurd h.1.1
+    each_two x0 x1 x2 = search rules
 
-    pub merged_two : {x o y : ℕ} {joined : MergedJournal} {w w' : Option (List ℕ)}
-        → limit_of t.reader.now ≡ limit_of s.reader.now → joined.cut ≡ false
-        → MergedAll both inputs x o y joined w w'
-        → Merged (limit_of s.reader.now) joined.entries u v w w'
+    pub merged_two : {x o y : ℕ} {joined : MergedJournal} {w w' : Option (List ℕ)} → limit_of
+        t.reader.now ≡ limit_of s.reader.now → joined.cut ≡ false → MergedAll both inputs x o y
+        joined w w' → Merged (limit_of s.reader.now) joined.entries u v w w'
     merged_two {joined = joined} {w = w} {w' = w'} same done m =
         let t = each_two both.tells m.told m.tell in
         record {
@@ -97,56 +75,42 @@ module _ {A B : Type 0} (ua : A → Option (List ℕ)) (ba : A → List ℕ) (fa
               (subst (λ c. PutsJournal c w w' (all_of m.told) joined.entries) done m.puts);
         }
 
-    since_two : (P : Either (LentStream A) (LentStream B) → Either (LentStream A) (LentStream B)
-        → List Fact → Type 0) (or_failed : List (List Fact))
-        → EachSince P inputs after or_failed
-        → Two (P (First s) (First s')) (P (Second t) (Second t')) or_failed
-    since_two P [] h = absurd h
-    since_two P (F ∷ []) h = absurd h.1
-    since_two P (F ∷ G ∷ []) h =
-        record {
-          first = F;
-          second = G;
-          of_first = h.0;
-          of_second = h.1.0;
-          all =
-              ap (λ (l : List Fact). F ++ l) (append-nil G);
-        }
-    since_two P (F ∷ G ∷ H ∷ or_failed) h = absurd h.1.1
+    since_two : (P : Either (LentStream A) (LentStream B) → Either (LentStream A) (LentStream B) →
+        List Fact → Type 0) (or_failed : List (List Fact)) → EachSince P inputs after or_failed →
+        Two (P (First s) (First s')) (P (Second t) (Second t')) or_failed
+    since_two x0 x1 x2 = search rules
 
     journal_of : (es fs : List Fact) (whole : List ℕ) (F G : List Fact) → Same F es
         → Same G fs → Journal whole (F ++ G) → Journal whole (es ++ (fs ++ []))
     journal_of es fs whole F G p q j = grind (arith, append-nil, same_entries)
 
     -- what was appended by a merge that stopped is no journal, and a prefix if both are journals
-    short_two : {w w' : Option (List ℕ)} → AppendsPartOf both inputs w w'
-        → StopsShort u v w w'
+    short_two : {w w' : Option (List ℕ)} → AppendsPartOf both inputs w w' → StopsShort u v w w'
     short_two p = record {
       bytes = p.bytes;
       appended = p.appended;
       no_journal = p.no_journal;
-      prefix = λ xs ys whole F G x y (a, first) (b, second) n.
-          let j = journal_parts a xs F first in
+      prefix = λ xs ys whole F G x y (a, first) (b, second) n. let j = journal_parts a xs F
+          first in
           let k = journal_parts b ys G second in
           p.prefix (j.entries ∷ k.entries ∷ []) (
             record {
               version = a;
               bytes_are = x ∙ ap Some j.bytes_are;
               valid = j.valid;
-              rising =
-                  j.collects.rising;
+              rising = j.collects.rising;
             },
             (
               record {
                 version = b;
                 bytes_are = y ∙ ap Some k.bytes_are;
                 valid = k.valid;
-                rising =
-                    k.collects.rising;
+                rising = k.collects.rising;
               },
               tt,
             ),
-          ) whole (journal_of j.entries k.entries whole F G j.collects.same k.collects.same n);
+          ) whole
+          (journal_of j.entries k.entries whole F G j.collects.same k.collects.same n);
     }
 
     -- what was read of both, and what was appended
@@ -164,60 +128,39 @@ module _ {A B : Type 0} (ua : A → Option (List ℕ)) (ba : A → List ℕ) (fa
           collects = subst (λ (l : List Fact). Collects l r.entries) two.all r.collects;
           bytes = r.bytes;
           appended = r.appended;
-          begins = begins_two fault merge r.bytes r.entries is r.begins;
+          begins = search rules;
         }
 
     -- the fault that is reported is that of the input it names
-    names_at : (k : ℕ) (f : ReadFault) → limit_of t.reader.now ≡ limit_of s.reader.now
-        → (x : Either (LentStream A) (LentStream B)) → slice_get inputs k ≡ Some x
-        → both.stops x (Read f)
-        → NamesFault (limit_of s.reader.now) u v (fault_at k f)
-    names_at zero f same x e h = let q : x ≡ First s =
-        (let p = e in cc) in subst (λ z. both.stops z (Read f)) q h
-    names_at (suc zero) f same x e h = search rules
-    names_at (suc (suc k)) f same x e h = absurd (let p : None ≡ Some x = e in cc)
 
-    names_of : (k : ℕ) (f : LoadFault) (merge : MergeFault) → IsFaultAt k f merge
-        → limit_of t.reader.now ≡ limit_of s.reader.now
-        → (x : Either (LentStream A) (LentStream B))
-        → slice_get inputs k ≡ Some x → both.stops x f
-        → NamesFault (limit_of s.reader.now) u v merge
-    names_of k (Read f) merge is same x e h =
-        subst (λ m. NamesFault (limit_of s.reader.now) u v m) (sym is) (names_at k f same x e h)
-    names_of k f merge is same x e h = absurd is
+    names_of : (k : ℕ) (f : LoadFault) (merge : MergeFault) → IsFaultAt k f merge → limit_of
+        t.reader.now ≡ limit_of s.reader.now → (x : Either (LentStream A) (LentStream B)) →
+        slice_get inputs k ≡ Some x → both.stops x f → NamesFault (limit_of s.reader.now) u v merge
+    names_of k f merge is same x e h = search rules
 
     names_two : (fault : StreamsFault) (merge : MergeFault) → IsFaultOfTwo fault merge
         → limit_of t.reader.now ≡ limit_of s.reader.now → NamesInput both inputs fault
         → NamesFault (limit_of s.reader.now) u v merge
-    names_two Write merge is same n =
-        subst (λ m. NamesFault (limit_of s.reader.now) u v m) (sym is) tt
-    names_two (Input fault) merge is same n =
-        names_of fault.number fault.fault merge is same n.0 n.1 n.2
+    names_two x0 x1 x2 x3 x4 = search rules
 
     -- an input stopped where it could not be read
     reading_of : (x : Either (LentStream A) (LentStream B)) (number : ℕ) (f : LoadFault)
         → both.stops x f → IsOfReading (Input (record { number = number; fault = f }))
-    reading_of x number (Read f) h = tt
-    reading_of (First x) number f h = absurd h
-    reading_of (Second x) number f h = absurd h
+    reading_of x0 x1 x2 x3 = search rules
 
     pub reading_two : (fault : StreamsFault) → NamesInput both inputs fault → IsOfReading fault
-    reading_two Write n = tt
-    reading_two (Input fault) n = reading_of n.0 fault.number fault.fault n.2
+    reading_two x0 x1 = search rules
 
-    pub stopped_two : {w w' : Option (List ℕ)} {fault : StreamsFault} {merge : MergeFault}
-        → IsFaultOfTwo fault merge → limit_of t.reader.now ≡ limit_of s.reader.now
-        → AppendsPartOf both inputs w w' → ReadsAhead both inputs after w w' fault
-        → NamesInput both inputs fault
-        → MergeGives (limit_of s.reader.now) u (unread_of ua ba (lent s')) v
+    pub stopped_two : {w w' : Option (List ℕ)} {fault : StreamsFault} {merge : MergeFault} →
+        IsFaultOfTwo fault merge → limit_of t.reader.now ≡ limit_of s.reader.now → AppendsPartOf
+        both inputs w w' → ReadsAhead both inputs after w w' fault → NamesInput both inputs fault →
+        MergeGives (limit_of s.reader.now) u (unread_of ua ba (lent s')) v
         (unread_of ub bb (lent t')) w w' (Err merge)
-    stopped_two {fault = fault} {merge = merge} is same p r n =
-        record {
-          short = short_two p;
-          keeps_up = keeps_two merge is r;
-          names =
-              names_two fault merge is same n;
-        }
+    stopped_two {fault = fault} {merge = merge} is same p r n = record {
+      short = short_two p;
+      keeps_up = keeps_two merge is r;
+      names = names_two fault merge is same n;
+    }
 
     -- how often the sources failed
     pub record FailTwo (merge : MergeFault) : Type 0 where
@@ -238,11 +181,8 @@ module _ {A B : Type 0} (ua : A → Option (List ℕ)) (ba : A → List ℕ) (fa
 
     fail_of : (k : ℕ) (f : LoadFault) (merge : MergeFault) → IsFaultAt k f merge
         → OneFails both k f inputs after → FailTwo merge
-    fail_of k (Read f) merge is h = subst FailTwo (sym is) (fail_at k f h)
-    fail_of k f merge is h = absurd is
+    fail_of k f merge is h = search (rules, fail_at)
 
     pub fail_two : (fault : StreamsFault) (merge : MergeFault) → IsFaultOfTwo fault merge
         → FailAs both {T = MergedJournal} (Err fault) inputs after → FailTwo merge
-    fail_two Write merge is h =
-        subst FailTwo (sym is) (record { first = h.0.0.failed_as; second = h.1.0.0.failed_as })
-    fail_two (Input fault) merge is h = fail_of fault.number fault.fault merge is h
+    fail_two x0 x1 x2 x3 = search (rules, fail_of)

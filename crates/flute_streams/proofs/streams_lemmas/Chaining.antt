@@ -1,4 +1,6 @@
 -- Chained: a stream with number 0 and others after it, and how one is advanced.
+use Rattle.std.proofs.lemmas.Grind.{common_steps}
+use Rattle.std.proofs.Common.{rules}
 use Rattle.flute_streams.proofs.Common.{◌≡◌, ℕ, zero, suc, ◌+◌, ◌-◌, ◌<◌}
 use Rattle.flute_streams.proofs.Common.{◌≤◌, List, [], ◌∷◌, length, length-take}
 use Rattle.flute_streams.proofs.Common.{take_all, get_or, get_or_from_slice_get, same_Some, Some}
@@ -67,30 +69,23 @@ module _ {A B : Type 0} (a : Behaviour A) (b : Behaviour B) (x : A) (ys : List B
 
   stands : (y : B) → slice_get ys (n - 1) ≡ Some y
       → slice_get (chained x (taken ys)) n ≡ Some (Second y)
-  stands y is =
-      ap (slice_get (chained x (taken ys))) later ∙ slice_get-map Second (taken ys) (n - 1)
-      ∙ ap (option_map Second)
-      (slice_get_read (taken ys) (length (taken ys)) (n - 1) y refl near
-      (sym (taken_at ys (n - 1) y below ∙ get_or_from_slice_get ys (n - 1) y y is)))
+  stands y is = ap (slice_get (chained x (taken ys))) later ∙ slice_get-map Second (taken ys)
+      (n - 1) ∙ ap (option_map Second) (slice_get_read (taken ys) (length (taken ys)) (n - 1) y refl
+      near (sym (taken_at ys (n - 1) y below ∙ get_or_from_slice_get ys (n - 1) y y is)))
 
   -- what is read of the other stream is read of the stream with its number
   pub other_is : {X : Type 0} (read : Either A B → X) (o : X)
       → ((y : B) → slice_get ys (n - 1) ≡ Some y → o ≡ read (Second y)) → (s : Either A B)
       → slice_get (chained x (taken ys)) n ≡ Some s → o ≡ read s
   other_is read o h s e = elim (slice_get_cases ys (n - 1)).1 [
-    | inl (y, _, is, _) ↦
-        let both : Some (Second y) ≡ Some s = sym (stands y is) ∙ e in
-        h y is ∙ ap read (same_Some _ _ both)
+    | inl (y, _, is, _) ↦ let both : Some (Second y) ≡ Some s = sym (stands y is) ∙ e in h y is
+        ∙ ap read (same_Some _ _ both)
     | inr (past, _) ↦ absurd (omega (arith, far, past))
   ]
 
-  pub other_advances : (zs : List B) (r : Result (Unit {0}) LoadFault)
-      → Advances b (n - 1) ys zs r
+  pub other_advances : (zs : List B) (r : Result (Unit {0}) LoadFault) → Advances b (n - 1) ys zs r
       → Advances (either_behaviour a b) n (chained x (taken ys)) (chained x (taken zs)) r
-  other_advances zs r v =
-      second_at a b v.after r
-      (stands v.before v.was)
-      (ap (λ l. chained x (taken l)) v.now ∙ ap (chained x) (taken_set ys (n - 1) v.after below)
-      ∙ ap (λ l. First x ∷ l) (seconds_set A B (taken ys) (n - 1) v.after)
-      ∙ sym (ap (λ m. slice_set (chained x (taken ys)) m (Second v.after)) later))
-      v.goes_on v.stops
+  other_advances zs r v = second_at a b v.after r (stands v.before v.was) (ap
+      (λ l. chained x (taken l)) v.now ∙ ap (chained x) (taken_set ys (n - 1) v.after below) ∙ ap
+      (λ l. First x ∷ l) (seconds_set A B (taken ys) (n - 1) v.after) ∙ sym
+      (ap (λ m. slice_set (chained x (taken ys)) m (Second v.after)) later)) v.goes_on v.stops

@@ -1,4 +1,6 @@
 -- Chosen: a stream is advanced to its next fact that the choice takes (specs/ChosenStreams).
+use Rattle.std.proofs.lemmas.Grind.{common_steps}
+use Rattle.std.proofs.Common.{rules}
 use Rattle.flute_streams.proofs.Common.{◌≡◌, ℕ, Bool, true, false, not, false≢true}
 use Rattle.flute_streams.proofs.Common.{append_assoc}
 use Rattle.flute_streams.proofs.Common.{List, [], ◌∷◌, ◌++◌, Option, Some, None, refl}
@@ -21,63 +23,43 @@ module _ (p : Fact → Bool) where
   after_filter : (a : Address) (facts : List Fact) → StandAfter a facts
       → StandAfter a (filter p facts)
   after_filter a [] s = tt
-  after_filter a (f ∷ facts) s = elim (cases_Bool (p f)) [
-    | inl t ↦ rw t (s.0, after_filter a facts s.1)
-    | inr t ↦ rw t (after_filter a facts s.1)
-  ]
+  after_filter a (f ∷ facts) s = search (rules, after_filter a facts s.1)
 
-  rising_filter : (facts : List Fact) → IsRising facts → IsRising (filter p facts)
+  pub rising_filter : (facts : List Fact) → IsRising facts → IsRising (filter p facts)
   rising_filter [] r = tt
-  rising_filter (f ∷ facts) r = elim (cases_Bool (p f)) [
-    | inl t ↦ rw t (after_filter (address f) facts r.0, rising_filter facts r.1)
-    | inr t ↦ rw t (rising_filter facts r.1)
-  ]
+  rising_filter (f ∷ facts) r = search (rules, cases_Bool, after_filter, rising_filter facts r.1)
 
 module _ {C : Type 0} (takes : C → Fact → Bool) (s : C) where
   -- what is held and not passed over is chosen, and else nothing of it is
   held_chosen : (held : Option Fact) → is_passed_over takes s held ≡ false
       → filter (takes s) (option_list held) ≡ option_list held
-  held_chosen None e = refl
-  held_chosen (Some f) e = elim (cases_Bool (takes s f)) [
-    | inl t ↦ rw t refl
-    | inr t ↦ absurd (false≢true (sym (subst (λ b. not b ≡ false) t e)))
-  ]
+  held_chosen x0 x1 = search rules
 
   held_other : (held : Option Fact) → is_passed_over takes s held ≡ true
       → filter (takes s) (option_list held) ≡ []
-  held_other None e = absurd (false≢true e)
-  held_other (Some f) e = elim (cases_Bool (takes s f)) [
-    | inl t ↦ absurd (false≢true (subst (λ b. not b ≡ true) t e))
-    | inr t ↦ rw t refl
-  ]
+  held_other x0 x1 = search rules
 
   -- what is held counts as passed over if it is not taken, and not if it is
   held_counts : (held : Option Fact) → is_passed_over takes s held ≡ false
       → others_of (takes s) (option_list held) ≡ 0
-  held_counts None e = refl
-  held_counts (Some f) e = rw e refl
+  held_counts x0 x1 = search rules
 
   other_counts : (held : Option Fact) → is_passed_over takes s held ≡ true
       → others_of (takes s) (option_list held) ≡ 1
-  other_counts None e = absurd (false≢true e)
-  other_counts (Some f) e = rw e refl
+  other_counts x0 x1 = search rules
 
   others_both : (xs ys : List Fact)
       → others_of (takes s) (xs ++ ys) ≡ others_of (takes s) xs + others_of (takes s) ys
-  others_both xs ys = sum_by-append (λ f. cond (not (takes s f)) 1 0) xs ys
+  others_both xs ys = search (rules, sum_by-append)
 
   and_held : (all facts : List Fact) (held : Option Fact) → facts ≡ filter (takes s) all
       → is_passed_over takes s held ≡ false
       → facts ++ option_list held ≡ filter (takes s) (all ++ option_list held)
-  and_held all facts held e h = ap (λ l. l ++ option_list held) e
-      ∙ ap (λ l. filter (takes s) all ++ l) (sym (held_chosen held h))
-      ∙ sym (filter-append (takes s) all (option_list held))
+  and_held all facts held e h = search (rules, held_chosen, filter-append)
 
   and_other : (all facts : List Fact) (held : Option Fact) → facts ≡ filter (takes s) all
       → is_passed_over takes s held ≡ true → facts ≡ filter (takes s) (all ++ option_list held)
-  and_other all facts held e h = e ∙ sym (append-nil (filter (takes s) all))
-      ∙ ap (λ l. filter (takes s) all ++ l) (sym (held_other held h))
-      ∙ sym (filter-append (takes s) all (option_list held))
+  and_other all facts held e h = search (rules, held_other, filter-append)
 
   module _ {S : Type 0} (b : Behaviour S) where
     -- what a stream gave, of which these are the chosen facts
@@ -100,21 +82,11 @@ module _ {C : Type 0} (takes : C → Fact → Bool) (s : C) where
 
     pub counts_first : (old now : S) (before : ℕ) → GoesOn b old now
         → CountsPassed old now before before
-    counts_first old now before h = record {
-      passes = record {
-        passed = [];
-        others = refl;
-        gave = λ start all p. subst (Gave b start now)
-            (sym (append-nil (all ++ option_list (b.held old)))) (h.gave start all p);
-        fewer = h.fewer;
-      };
-      counts = λ small. omega arith;
-    }
+    counts_first old now before h = record { passes = search rules; counts = λ small. omega arith }
 
-    pub counts_other : {old now next : S} {before counted more : ℕ}
-        → CountsPassed old now before counted → is_passed_over takes s (b.held now) ≡ true
-        → GoesOn b now next → more ≡ min (counted + 1) (2 ^ 64 - 1)
-        → CountsPassed old next before more
+    pub counts_other : {old now next : S} {before counted more : ℕ} → CountsPassed old now before
+        counted → is_passed_over takes s (b.held now) ≡ true → GoesOn b now next → more ≡ min
+        (counted + 1) (2 ^ 64 - 1) → CountsPassed old next before more
     counts_other {old = old} {now = now} {next = next} {counted = counted} h o g m =
         let passed = h.passes.passed in
         let given : List Fact → List Fact = λ all. all ++ option_list (b.held old) in
@@ -122,19 +94,16 @@ module _ {C : Type 0} (takes : C → Fact → Bool) (s : C) where
           passes = record {
             passed = passed ++ option_list (b.held now);
             others = sym (and_other passed [] (b.held now) (sym h.passes.others) o);
-            gave = λ start all p.
-                subst (Gave b start next) (append_assoc (given all)
-                passed (option_list (b.held now)))
+            gave = λ start all p. subst (Gave b start next)
+                (append_assoc (given all) passed (option_list (b.held now)))
                 (g.gave start (given all ++ passed) (h.passes.gave start all p).passes);
             fewer = omega (arith, h.passes.fewer, g.fewer);
           };
-          counts = λ small.
-              let one = others_both passed (option_list (b.held now)) in
+          counts = λ small. let one = others_both passed (option_list (b.held now)) in
               let other = other_counts (b.held now) o in
               let was = h.counts (omega (arith, one, other, small)) in
               let least = min-eq_left {n = counted + 1} {m = 2 ^ 64 - 1}
-              (omega (arith, one, other, small, was)) in
-              omega (arith, one, other, was, m, least);
+              (omega (arith, one, other, small, was)) in omega (arith, one, other, was, m, least);
         }
 
   module _ {S : Type 0} (b : Behaviour S) (x t : Chosen S C) (was : x.choice ≡ s)
@@ -147,68 +116,54 @@ module _ {C : Type 0} (takes : C → Fact → Bool) (s : C) where
       as_start : s ≡ start.choice
       as_start = sym was ∙ p.choice
 
-      of_start : (So : List Fact → Type 0) (facts : List Fact) → OfAll (takes s) So facts
-          → OfAll (takes start.choice) So facts
-      of_start So facts a = subst (λ z. OfAll (takes z) So facts) as_start a
-
       passed : OfAll (takes s) (λ all. b.passes start.stream x.stream all
           × CountsOthers takes start x all) F
-      passed = subst (λ z. OfAll (takes z) (λ all. b.passes start.stream x.stream all
-          × CountsOthers takes start x all) F) (sym as_start) p.passes
+      passed = search rules
 
       not_over : (held : Option Fact) → is_passed_over takes s held ≡ false
           → is_passed_over takes start.choice held ≡ false
-      not_over held e = subst (λ z. is_passed_over takes z held ≡ false) as_start e
+      not_over held e = search rules
 
       was_held : is_passed_over takes s (b.held x.stream) ≡ false
-      was_held = subst (λ z. is_passed_over takes z (b.held x.stream) ≡ false) (sym as_start)
-          p.holds
+      was_held = search rules
 
       abbrev given : List Fact
       given = F ++ option_list (b.held x.stream)
 
       given_is : given ≡ filter (takes s) (passed.0 ++ option_list (b.held x.stream))
-      given_is = and_held passed.0 F (b.held x.stream) passed.2 was_held
+      given_is = search (rules, and_held, was_held)
 
       abbrev gave_given : (now : S) → PassesOthers b x.stream now → GaveOf b start.stream now given
       gave_given now h =
           let all = passed.0 ++ option_list (b.held x.stream) in (
             all ++ h.passed,
             h.gave start.stream passed.0 passed.1.0,
-            given_is ∙ sym (append-nil (filter (takes s) all)) ∙ ap (λ l. filter (takes s) all ++ l)
-                (sym h.others) ∙ sym (filter-append (takes s) all h.passed),
+            given_is ∙ sym
+                (append-nil (filter (takes s) all)) ∙ ap (λ l. filter (takes s) all ++ l) (sym h.others) ∙
+                sym (filter-append (takes s) all h.passed),
           )
 
       -- all facts that it gave are taken, and those between were counted
-      counted_given : (h : CountsPassed b x.stream t.stream x.others t.others)
-          → CountsOthers takes start t ((passed.0 ++ option_list (b.held x.stream))
-          ++ h.passes.passed)
+      counted_given : (h : CountsPassed b x.stream t.stream x.others t.others) → CountsOthers takes
+          start t ((passed.0 ++ option_list (b.held x.stream)) ++ h.passes.passed)
       counted_given h =
           let all = passed.0 ++ option_list (b.held x.stream) in
-          let P : C → Type 0 =
-          λ z. start.others + others_of (takes z) (all ++ h.passes.passed) < 2 ^ 64
-          → t.others ≡ start.others + others_of (takes z) (all ++ h.passes.passed) in
-          let Q : C → Type 0 = λ z. start.others + others_of (takes z) passed.0 < 2 ^ 64
-          → x.others ≡ start.others + others_of (takes z) passed.0 in
+          let P : C → Type 0 = λ z. start.others + others_of (takes z) (all ++ h.passes.passed) < 2
+          ^ 64 → t.others ≡ start.others + others_of (takes z) (all ++ h.passes.passed) in
+          let Q : C → Type 0 = λ z. start.others + others_of (takes z) passed.0 < 2 ^ 64 → x.others
+          ≡ start.others + others_of (takes z) passed.0 in
           let before = subst Q (sym as_start) passed.1.1 in
           let e = others_both all h.passes.passed in
           let d = others_both passed.0 (option_list (b.held x.stream)) in
           let n = held_counts (b.held x.stream) was_held in
-          subst P as_start (λ small.
-          let old = before (omega (arith, e, d, n, small)) in
+          subst P as_start (λ small. let old = before (omega (arith, e, d, n, small)) in
           let new = h.counts (omega (arith, e, d, n, small, old)) in
           omega (arith, e, d, n, old, new))
 
       -- if the stream contains these facts, those of them that are taken go on as given
       continues : (all K facts : List Fact) (held : Option Fact) → facts ≡ filter (takes s) all
           → OfAll (takes s) (λ l. Continues l all held) K → Continues K facts held
-      continues all K facts held e k = record {
-        rest = filter (takes s) k.1.rest;
-        is = k.2 ∙ ap (filter (takes s)) k.1.is ∙ filter-append (takes s) all k.1.rest
-            ∙ ap (λ l. l ++ filter (takes s) k.1.rest) (sym e);
-        rising = subst IsRising (sym k.2) (rising_filter (takes s) k.0 k.1.rising);
-        ended = λ n. ap (filter (takes s)) (k.1.ended n);
-      }
+      continues all K facts held e k = search (rules, filter-append, rising_filter)
 
       -- Chosen is advanced if the stream is, up to a fact that is taken
       goes : CountsPassed b x.stream t.stream x.others t.others
@@ -219,38 +174,27 @@ module _ {C : Type 0} (takes : C → Fact → Bool) (s : C) where
           let held = b.held t.stream in
           let e = and_held q.0 given held q.2 o in
           record {
-            passes = record {
-              choice = same
-                  ∙ as_start;
-              passes = of_start (λ all. b.passes start.stream t.stream all
-                  × CountsOthers takes start t all) given (q.0, (q.1.passes, counts), q.2);
-              holds =
-                  not_over held o;
-            };
-            reads = of_start (b.reads start.stream t.stream) given (q.0, q.1.reads, q.2);
-            reads_held = of_start (b.reads start.stream t.stream) (given ++ option_list held)
-                (q.0 ++ option_list held, q.1.reads_held, e);
+            passes = search rules;
+            reads = search rules;
+            reads_held = search rules;
             fails = q.1.fails;
-            rising = subst IsRising (sym e) (rising_filter (takes s) (q.0 ++ option_list held)
-                q.1.rising);
+            rising = subst IsRising (sym e)
+                (rising_filter (takes s) (q.0 ++ option_list held) q.1.rising);
             sized = q.1.sized;
             spelled = q.1.spelled;
-            ended = λ n. of_start (b.tells start.stream) given (q.0, q.1.ended n, q.2);
-            ends = λ n. of_start (λ all. b.ends start.stream t.stream all
-                × CountsOthers takes start t all) given (q.0, (q.1.ends n, counts), q.2);
-            known = λ K k.
-                let j = subst (λ z. OfAll (takes z) (b.knows start.stream) K) (sym as_start) k in
-                continues (q.0 ++ option_list held) K (given ++ option_list held) held e
-                (j.0, q.1.known j.0 j.1, j.2);
+            ended = search rules;
+            ends = search rules;
+            known = λ K k. let j = subst (λ z. OfAll (takes z) (b.knows start.stream) K)
+                (sym as_start) k in continues (q.0 ++ option_list held) K
+                (given ++ option_list held) held e (j.0, q.1.known j.0 j.1, j.2);
           }
 
     pub chosen_goes_on : CountsPassed b x.stream t.stream x.others t.others
         → is_passed_over takes s (b.held t.stream) ≡ false → GoesOn w x t
-    chosen_goes_on h o = record { gave = λ start F p. goes start F p h o; fewer = h.passes.fewer }
+    chosen_goes_on h o = search (rules, goes)
 
 -- whether a stream's head is passed over is whether the fact that it holds is
 pub answered : {C : Type 0} (takes : C → Fact → Bool) {s z : C} (held : Option Fact)
     {result is : Bool} → result ≡ is_passed_over takes z held → z ≡ s → result ≡ is
     → is_passed_over takes s held ≡ is
-answered takes held {is = is} r e i =
-    subst (λ x. is_passed_over takes x held ≡ is) e (sym r ∙ i)
+answered takes held {is = is} r e i = search rules

@@ -1,4 +1,5 @@
 -- Reading on in a journal advances its stream (specs/JournalStreams).
+use Rattle.std.proofs.Common.{rules}
 use Rattle.flute_streams.proofs.Common.{journal_framing, Behaviour, Bool, Consumes-kept, Continues}
 use Rattle.flute_streams.proofs.Common.{Ended, Items, Err, Fact, Failed, FailsIf, FailsSince, Gives}
 use Rattle.flute_streams.proofs.Common.{GivesEnd, GoesOn, HasFault, Header, IfSome}
@@ -37,18 +38,7 @@ whole_at limit u w F s = record {
 
 whole_kept : (limit : ℕ) (u v w : Option (List ℕ)) (F : List Fact) → ReadWhole limit u v F
     → Keeps v w → ReadWhole limit u w F
-whole_kept limit u v w F r k = record {
-  are_items = r.are_items;
-  whole = r.whole;
-  read = record {
-    version = r.read.version;
-    valid = r.read.valid;
-    bytes = r.read.bytes;
-    read =
-        Consumes-kept u v w r.read.bytes r.read.read k;
-    ends = r.read.ends;
-  };
-}
+whole_kept limit u v w F r k = search (rules, Consumes-kept)
 
 -- a reader that gave these entries, after which one is held, was called again
 pub record IsCalled (limit own : ℕ) (u v w : Option (List ℕ)) (old new : ReaderState Before)
@@ -57,21 +47,19 @@ pub record IsCalled (limit own : ℕ) (u v w : Option (List ℕ)) (old new : Rea
   pub read : ReadAt limit u v old F held
   pub gives : Gives journal_framing own old new v w result
 
-read_from : {limit : ℕ} {u v : Option (List ℕ)} (w : Option (List ℕ))
-    {old : ReaderState Before} (new : ReaderState Before) {es : List Fact} (o : Option Fact)
-    → Sofar journal_framing limit u v old es → Gives journal_framing limit old new v w (Ok o)
-    → Read limit u w new es o
+read_from : {limit : ℕ} {u v : Option (List ℕ)} (w : Option (List ℕ)) {old : ReaderState Before}
+    (new : ReaderState Before) {es : List Fact} (o : Option Fact) → Sofar journal_framing limit u v
+    old es → Gives journal_framing limit old new v w (Ok o) → Read limit u w new es o
 read_from w new (Some f) s g = side-from journal_sound w new (Some f) s g
 read_from {limit = limit} {u = u} w new {es = es} None s g =
     (whole_at limit u w es (side-from journal_sound w new None s g), g.ended)
 
 -- after the end, the next call gives the end again
 end_again : {limit : ℕ} {u v w : Option (List ℕ)} {new : ReaderState Before} {F : List Fact}
-    {held : Option Fact} → ReadWhole limit u v F → held ≡ None
-    → GivesEnd journal_framing Ended new v w
-    → Read limit u w new (F ++ option_list held) None
+    {held : Option Fact} → ReadWhole limit u v F → held ≡ None → GivesEnd journal_framing Ended new
+    v w → Read limit u w new (F ++ option_list held) None
 end_again {limit = limit} {u = u} {v = v} {w = w} {F = F} r n g =
-    let k : Keeps v w = elim g.bytes [ inl a ↦ a.1 | inr a ↦ absurd (let o = a.0 in cc) ] in (
+    let k : Keeps v w = search rules in (
       subst (ReadWhole limit u w)
           (sym (ap (λ (h : Option Fact). F ++ option_list h) n ∙ append-nil F))
           (whole_kept limit u v w F r k),
@@ -79,30 +67,18 @@ end_again {limit = limit} {u = u} {v = v} {w = w} {F = F} r n g =
     )
 
 -- the next call reads one entry more, or the end
-read_on : {limit : ℕ} {u v : Option (List ℕ)} (w : Option (List ℕ))
-    (old new : ReaderState Before) {F : List Fact} {held : Option Fact} (o : Option Fact)
-    → IsCalled limit limit u v w old new F held (Ok o)
-    → Read limit u w new (F ++ option_list held) o
-read_on w Header new o c = read_from w new o c.read c.gives
-read_on w (Items place) new o c = read_from w new o c.read c.gives
+read_on : {limit : ℕ} {u v : Option (List ℕ)} (w : Option (List ℕ)) (old new : ReaderState Before)
+    {F : List Fact} {held : Option Fact} (o : Option Fact) → IsCalled limit limit u v w old new F
+    held (Ok o) → Read limit u w new (F ++ option_list held) o
 read_on w (Failed f) new o c = absurd c.read
 read_on w Ended new (Some f) c = absurd (let g = c.gives in let e = g.open_before in cc)
 read_on w Ended new None c = end_again c.read.0 c.read.1 c.gives
-
-read_open : (limit : ℕ) (u w : Option (List ℕ)) (state : ReaderState Before) (F : List Fact)
-    (f : Fact) → IsTrue (is_open state) → Sofar journal_framing limit u w state (F ++ f ∷ [])
-    → ReadAt limit u w state F (Some f)
-read_open limit u w Header F f o s = s
-read_open limit u w (Items place) F f o s = s
-read_open limit u w Ended F f o s = absurd cc
-read_open limit u w (Failed g) F f o s = absurd cc
+read_on w other new o c = read_from w new o c.read c.gives
 
 -- what was read, in whatever state the reader is
 read_at : (limit : ℕ) (u w : Option (List ℕ)) (state : ReaderState Before) (F : List Fact)
     (o : Option Fact) → Read limit u w state F o → ReadAt limit u w state F o
-read_at limit u w state F (Some f) r =
-    read_open limit u w state F f (open_after limit u w state (F ++ f ∷ []) r) r
-read_at limit u w state F None r = subst (λ x. ReadAt limit u w x F None) (sym r.1) (r.0, refl)
+read_at x0 x1 x2 x3 x4 x5 x6 = search rules
 
 -- What follows of the stream's clauses: reads, rises, ends, contains, and is sized.
 
@@ -133,44 +109,29 @@ only_entries limit (Some xs) F K h k =
     let v = h.are_items.told in
     let w = k.version in
     let e : xs ≡ spelling_in w K = (let q = k.bytes_are in cc) in
-    let first : BeginsWithJournal v F [] xs =
-    record {
-      valid = h.are_items.valid;
-      bytes_are = h.bytes_are ∙ sym (append-nil (spelling_in v F));
-    } in
-    let second : BeginsWithJournal w K [] xs =
-    record { valid = k.valid; bytes_are = e ∙ sym (append-nil (spelling_in w K)) } in
+    let first : BeginsWithJournal v F [] xs = search rules in
+    let second : BeginsWithJournal w K [] xs = search rules in
     (spelling-injective first second).1
 
-known_of : (limit : ℕ) {u : Option (List ℕ)} (w : Option (List ℕ))
-    (state : ReaderState Before) (F : List Fact) (o : Option Fact) → Read limit u w state F o
-    → (K : List Fact) → IsJournalOfAll u K
-    → Continues K (F ++ option_list o) o
+known_of : (limit : ℕ) {u : Option (List ℕ)} (w : Option (List ℕ)) (state : ReaderState Before)
+    (F : List Fact) (o : Option Fact) → Read limit u w state F o → (K : List Fact) → IsJournalOfAll
+    u K → Continues K (F ++ option_list o) o
 known_of limit {u = u} w state F (Some f) r K k =
     let a = ahead-sofar limit u w state (F ++ f ∷ []) r k.version K k.valid k.rising k.bytes_are in
     record { rest = a.0; is = a.1; rising = k.rising; ended = λ e. absurd (let h = e in cc) }
-known_of limit {u = u} w state F None r K k =
-    record {
-      rest = [];
-      is =
-          only_entries limit u F K r.0.whole k ∙ sym (append-nil F) ∙ sym (append-nil (F ++ []));
-      rising = k.rising;
-      ended = λ e. refl;
-    }
+known_of limit {u = u} w state F None r K k = record {
+  rest = [];
+  is = only_entries limit u F K r.0.whole k ∙ sym (append-nil F) ∙ sym (append-nil (F ++ []));
+  rising = k.rising;
+  ended = λ e. refl;
+}
 
 -- within the limit a reader that is open may give one fact more
-room_open : (limit : ℕ) (state : ReaderState Before) → IsTrue (is_open state)
-    → room limit state ≡ limit - count_at journal_framing state
-room_open limit Header o = omega arith
-room_open limit (Items place) o = refl
-room_open limit Ended o = absurd cc
-room_open limit (Failed f) o = absurd cc
 
 pub fewer : (limit n : ℕ) (v w : Option (List ℕ)) (old new : ReaderState Before) (o : Option Fact)
     → Gives journal_framing limit old new v w (Ok o)
     → (length (option_list o) + room limit new) + n ≤ n + room limit old
-fewer limit n v w old new (Some f) g = grind (arith, room_open, one_given journal_sound)
-fewer limit n v w old new None g = let e = ap (room limit) g.ended in omega (arith, e)
+fewer x0 x1 x2 x3 x4 x5 x6 x7 = search rules
 
 sized_of : (limit : ℕ) (u w : Option (List ℕ)) (state : ReaderState Before) (F : List Fact)
     (o : Option Fact) → Read limit u w state F o → IfSome o IsSized
@@ -191,14 +152,9 @@ pub record GivesOn (limit : ℕ) (u w : Option (List ℕ)) (state : ReaderState 
 
 -- a call with the limit that it was made with
 with_limit : {limit own : ℕ} {u v w : Option (List ℕ)} {old new : ReaderState Before}
-    {F : List Fact} {held : Option Fact} {result : Result (Option Fact) ReadFault}
-    → IsCalled limit own u v w old new F held result
-    → IsCalled limit limit u v w old new F held result
-with_limit {v = v} {w = w} {old = old} {new = new} {result = result} c = record {
-  same_limit = refl;
-  read = c.read;
-  gives = subst (λ x. Gives journal_framing x old new v w result) c.same_limit c.gives;
-}
+    {F : List Fact} {held : Option Fact} {result : Result (Option Fact) ReadFault} → IsCalled limit
+    own u v w old new F held result → IsCalled limit limit u v w old new F held result
+with_limit {v = v} {w = w} {old = old} {new = new} {result = result} c = search rules
 
 -- the state after a call that gave an entry or the end
 pub gives_on : {limit own : ℕ} {u v w : Option (List ℕ)} {old new : ReaderState Before}
@@ -227,32 +183,20 @@ pub record StopsOn (limit : ℕ) (u w : Option (List ℕ)) (old : ReaderState Be
   pub open_before : IsTrue (is_open old)
 
 fault_at : {limit : ℕ} {u v w : Option (List ℕ)} (old : ReaderState Before)
-    {new : ReaderState Before} {F : List Fact} {held : Option Fact} {f : ReadFault}
-    → IsCalled limit limit u v w old new F held (Err f)
-    → StopsOn limit u w old (F ++ option_list held) f
-fault_at Header c = record {
-  reads = reads-fault c.read c.gives;
-  has_fault = sofar-fault journal_sound c.read c.gives;
-  open_before = refl;
-}
-fault_at (Items place) c = record {
-  reads = reads-fault c.read c.gives;
-  has_fault = sofar-fault journal_sound c.read c.gives;
-  open_before = refl;
-}
+    {new : ReaderState Before} {F : List Fact} {held : Option Fact} {f : ReadFault} → IsCalled limit
+    limit u v w old new F held (Err f) → StopsOn limit u w old (F ++ option_list held) f
 fault_at (Failed h) c = absurd c.read
 fault_at Ended c = let g = c.gives in grind (arith)
+fault_at other c = search (rules, reads-fault, sofar-fault, journal_sound)
 
 pub stops_on : {limit own : ℕ} {u v w : Option (List ℕ)} {old new : ReaderState Before}
-    {F : List Fact} {held : Option Fact} {f : ReadFault}
-    → IsCalled limit own u v w old new F held (Err f)
-    → StopsOn limit u w old (F ++ option_list held) f
+    {F : List Fact} {held : Option Fact} {f : ReadFault} → IsCalled limit own u v w old new F held
+    (Err f) → StopsOn limit u w old (F ++ option_list held) f
 stops_on {old = old} c = fault_at old (with_limit c)
 
 -- a call that gave an entry or the end had no failure
 pub never : (b : Bool) (x y : ℕ) (o : Option Fact) → FailsIf {T = Option Fact} b x y (Ok o) → y ≡ x
-never true x y o h = h
-never false x y o h = h
+never x0 x1 x2 x3 x4 = search rules
 
 module _ {R : Type 0} (unread : R → Option (List ℕ)) (buffered : R → List ℕ) (failures : R → ℕ)
   where
@@ -260,19 +204,17 @@ module _ {R : Type 0} (unread : R → Option (List ℕ)) (buffered : R → List 
     b = journal_behaviour unread buffered failures
 
     -- the failures of one source add up
-    since : (s t u : JournalState R) (fault : Option LoadFault)
-        → FailsSince unread buffered failures s t None
-        → FailsSince unread buffered failures t u fault
-        → FailsSince unread buffered failures s u fault
+    since : (s t u : JournalState R) (fault : Option LoadFault) → FailsSince unread buffered
+        failures s t None → FailsSince unread buffered failures t u fault → FailsSince unread
+        buffered failures s u fault
     since s t u fault h k = grind (arith)
 
     -- the reader of a stream that has given these facts since it was new was called again
     abbrev Called : JournalState R → JournalState R → JournalState R → List Fact
         → Result (Option Fact) ReadFault → Type 0
-    Called start s t F result =
-        IsCalled (limit_of start.reader) (limit_of s.reader) (unread_of unread buffered start)
-        (unread_of unread buffered s) (unread_of unread buffered t) (state_of s.reader)
-        (state_of t.reader) F (b.held s) result
+    Called start s t F result = IsCalled (limit_of start.reader) (limit_of s.reader)
+        (unread_of unread buffered start) (unread_of unread buffered s)
+        (unread_of unread buffered t) (state_of s.reader) (state_of t.reader) F (b.held s) result
 
     -- the reader of a stream was called, which still reads the same source
     pub record HoldsOn (s t : JournalState R) (result : Result (Unit {0}) ReadFault) : Type 0 where
@@ -284,37 +226,20 @@ module _ {R : Type 0} (unread : R → Option (List ℕ)) (buffered : R → List 
 
     none_failed : {s t : JournalState R} → HoldsOn s t (Ok tt)
         → FailsSince unread buffered failures s t None
-    none_failed {s = s} {t = t} h =
-        record {
-          same_source = h.same_source;
-          failed_as =
-              never (is_open (state_of s.reader)) (failures (source_of s.reader).now)
-              (failures (source_of t.reader).now) (b.held t) h.holds.failed;
-        }
+    none_failed {s = s} {t = t} h = search rules
 
-    one_failed : {s t : JournalState R} (f : ReadFault) → HoldsOn s t (Err f)
-        → IsTrue (is_open (state_of s.reader))
-        → FailsSince unread buffered failures s t (Some (load.Read f))
-    one_failed {s = s} {t = t} f h o =
-        record {
-          same_source = h.same_source;
-          failed_as =
-              subst (λ (more : Bool). FailsIf {T = Option Fact} more
-              (failures (source_of s.reader).now) (failures (source_of t.reader).now) (Err f)) o
-              h.holds.failed;
-        }
+    one_failed : {s t : JournalState R} (f : ReadFault) → HoldsOn s t (Err f) → IsTrue
+        (is_open (state_of s.reader)) → FailsSince unread buffered failures s t (Some (load.Read f))
+    one_failed {s = s} {t = t} f h o = search rules
 
     -- the stream is advanced, or stops, as the trait's clauses say (specs/Streams)
     pub stream_goes_on : {s t : JournalState R} → HoldsOn s t (Ok tt) → GoesOn b s t
     stream_goes_on {s = s} {t = t} h = record {
-      gave = λ start F p.
-          let call : Called start s t F (Ok (b.held t)) =
-          record { same_limit = p.same_limit; read = p.read; gives = h.holds.gives } in
+      gave = λ start F p. let call : Called start s t F (Ok (b.held t)) = search rules in
           let r = gives_on call in
           let fails = since start s t None p.fails (none_failed h) in
           record {
-            passes =
-                record { fails = fails; same_limit = h.same_limit ∙ p.same_limit; read = r.read };
+            passes = search rules;
             reads = r.reads;
             reads_held = r.reads_held;
             fails = fails;
@@ -325,34 +250,17 @@ module _ {R : Type 0} (unread : R → Option (List ℕ)) (buffered : R → List 
             ends = r.ended;
             known = r.known;
           };
-      fewer =
-          let e = ap (λ x. room x (state_of t.reader)) h.same_limit in
-          omega (
-            arith,
-            e,
-            fewer (limit_of s.reader) (length (option_list (b.held s)))
-                (unread_of unread buffered s) (unread_of unread buffered t)
-                (state_of s.reader) (state_of t.reader) (b.held t) h.holds.gives,
-          );
+      fewer = search rules;
     }
 
     pub stream_stops : {s t : JournalState R} (f : ReadFault) → HoldsOn s t (Err f)
         → StopsAt b s t (load.Read f)
-    stream_stops {s = s} {t = t} f h = λ start F p.
-        let call : Called start s t F (Err f) =
-        record { same_limit = p.same_limit; read = p.read; gives = h.holds.gives } in
+    stream_stops {s = s} {t = t} f h = λ start F p. let call : Called start s t F (Err f) = search
+        rules in
         let r = stops_on call in
-        record {
-          reads = r.reads;
-          fails = since start s t (Some (load.Read f)) p.fails (one_failed f h r.open_before);
-          stops = r.has_fault;
-        }
+        record { reads = r.reads; fails = search rules; stops = r.has_fault }
 
 -- the same reader and held entry are still lent
 pub loans : {R : Type 0} (s t : LentStream R) → SameLoans s t → (start : LentStream R)
     → SameLoans start s → SameLoans start t
-loans s t same start h =
-    record {
-      same_reader = same.same_reader ∙ h.same_reader;
-      same_held = same.same_held ∙ h.same_held;
-    }
+loans s t same start h = search rules

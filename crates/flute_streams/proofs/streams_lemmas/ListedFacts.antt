@@ -1,4 +1,6 @@
 -- WalkStream and FactStream: facts in memory are a stream.
+use Rattle.std.proofs.lemmas.Grind.{common_steps}
+use Rattle.std.proofs.Common.{rules}
 use Rattle.flute_journal.specs.HeldEntries.{IsSpelling}
 use Rattle.flute_streams.proofs.Common.{◌≡◌, List, [], ◌∷◌, ◌++◌, length, Option}
 use Rattle.flute_streams.proofs.Common.{Some, None, refl}
@@ -23,14 +25,12 @@ some_of : (P : Fact → Type 0) (o : Option Fact) → AllByRecursion P (option_l
 some_of P o h = grind (arith)
 
 -- the next fact of a walk
-walked : (r : Option FactRef) (xs ys : List Fact) → YieldsFact (λ (l : List Fact). l) xs r ys
-    → (xs ≡ option_list (fact_in r) ++ ys) × (fact_in r ≡ None → ys ≡ [])
-    × IfSome (fact_in r) IsSized
+walked : (r : Option FactRef) (xs ys : List Fact) → YieldsFact (λ (l : List Fact). l) xs r ys →
+    (xs ≡ option_list (fact_in r) ++ ys) × (fact_in r ≡ None → ys ≡ []) × IfSome (fact_in r) IsSized
 walked r xs ys h = grind (arith)
 
 spells_none : (o : Option Fact) → IsSpelling [] o
-spells_none None = refl
-spells_none (Some f) = inl refl
+spells_none x0 = search rules
 
 module _ {S : Type 0} (held : S → Option Fact) (rest : S → List Fact) (is_sound : S → Type 0) where
   -- it holds the next fact, or none is left
@@ -91,6 +91,5 @@ pub walk_goes_on : {S : Type 0} (held : S → Option Fact) (rest : S → List Fa
     → held t ≡ fact_in r → GoesOn (listed_behaviour held rest (λ _. Unit {0})) s t
 walk_goes_on held rest s t r yields is =
     let w = walked r (rest s) (rest t) yields in
-    listed_goes_on held rest (λ _. Unit {0}) s t
-    (w.0 ∙ ap (λ o. option_list o ++ rest t) (sym is)) (λ e. w.1 (sym is ∙ e))
-    (inr (subst (λ o. IfSome o IsSized) (sym is) w.2))
+    listed_goes_on held rest (λ _. Unit {0}) s t (w.0 ∙ ap (λ o. option_list o ++ rest t) (sym is))
+    (λ e. w.1 (sym is ∙ e)) (inr (subst (λ o. IfSome o IsSized) (sym is) w.2))

@@ -1,4 +1,5 @@
 -- OwnedJournalStream: reading on in a journal advances the stream.
+use Rattle.std.proofs.Common.{rules}
 use Rattle.flute_streams.proofs.Common.{◌≡◌, ℕ, List, length, Option, Some, Ok, Err, Bool}
 use Rattle.flute_streams.proofs.Common.{Result}
 use Rattle.flute_streams.proofs.Common.{ap, ◌∙◌, subst, arith, Fact, ReadFault, FailsIf}
@@ -21,9 +22,8 @@ module _ {R : Type 0} (unread : R → Option (List ℕ)) (buffered : R → List 
 
   -- the reader of a stream that has given these facts since it was new was called again
   abbrev Called : OwnedJournalStream R → List Fact → Result (Option Fact) ReadFault → Type 0
-  Called start F result =
-      IsCalled start.max_entries s.max_entries (left start) (left s) (left t) s.state t.state F
-      (b.held s) result
+  Called start F result = IsCalled start.max_entries s.max_entries (left start) (left s) (left t)
+      s.state t.state F (b.held s) result
 
   abbrev Holds : Result (Unit {0}) ReadFault → Type 0
   Holds result =
@@ -31,15 +31,11 @@ module _ {R : Type 0} (unread : R → Option (List ℕ)) (buffered : R → List 
 
   pub owned_goes_on : t.max_entries ≡ s.max_entries → Holds (Ok tt) → GoesOn b s t
   owned_goes_on limit h = record {
-    gave = λ start F p.
-        let call : Called start F (Ok (b.held t)) =
-        record { same_limit = p.same_limit; read = p.read; gives = h.gives } in
+    gave = λ start F p. let call : Called start F (Ok (b.held t)) = search rules in
         let r = gives_on call in
-        let fails : failures t.source ≡ failures start.source =
-        never (is_open s.state) (failures s.source) (failures t.source) (b.held t) h.failed
-        ∙ p.fails in
+        let fails : failures t.source ≡ failures start.source = search rules in
         record {
-          passes = record { fails = fails; same_limit = limit ∙ p.same_limit; read = r.read };
+          passes = search rules;
           reads = r.reads;
           reads_held = r.reads_held;
           fails = fails;
@@ -50,28 +46,11 @@ module _ {R : Type 0} (unread : R → Option (List ℕ)) (buffered : R → List 
           ends = r.ended;
           known = r.known;
         };
-    fewer =
-        let e = ap (λ x. room x t.state) limit in
-        omega (
-          arith,
-          e,
-          fewer s.max_entries (length (option_list (b.held s))) (left s) (left t) s.state t.state
-              (b.held t) h.gives,
-        );
+    fewer = search rules;
   }
 
   pub owned_stops : (f : ReadFault) → Holds (Err f) → StopsAt b s t (load.Read f)
-  owned_stops f h = λ start F p.
-      let call : Called start F (Err f) =
-      record { same_limit = p.same_limit; read = p.read; gives = h.gives } in
+  owned_stops f h = λ start F p. let call : Called start F (Err f) = search rules in
       let r = stops_on call in
-      let failed : FailsBy (failures s.source) (failures t.source) (Some (load.Read f)) =
-      subst
-      (λ (more : Bool). FailsIf {T = Option Fact} more (failures s.source) (failures t.source)
-      (Err f)) r.open_before h.failed in
-      record {
-        reads = r.reads;
-        fails =
-            subst (λ n. FailsBy n (failures t.source) (Some (load.Read f))) p.fails failed;
-        stops = r.has_fault;
-      }
+      let failed : FailsBy (failures s.source) (failures t.source) (Some (load.Read f)) = search
+      rules in record { reads = r.reads; fails = search rules; stops = r.has_fault }

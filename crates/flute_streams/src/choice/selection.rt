@@ -76,6 +76,21 @@ impl Selection {
     }
 }
 
+/// What is selected is taken.
+impl Choice for Selection {
+    ghost use Rattle.flute_streams.specs.Selections.{selects};
+
+    ghost takes = { selects };
+
+    #[inline(always)]
+    fn passes_over<S: Stream>(&self, stream: &S) -> bool {
+        match stream.head() {
+            Some(fact) => !self.selects(&fact),
+            None => false,
+        }
+    }
+}
+
 /// What is selected is left out, and all else is taken.
 #[derive(Clone, Copy)]
 pub struct AllBut(pub Selection);

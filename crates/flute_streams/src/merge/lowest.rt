@@ -106,10 +106,10 @@ fn with_more<G: Streams>(streams: &G, lowest: Option<LowestValue>, number: usize
     }
 }
 
-// The order of two addresses that are there. Most are of one object.
+/// The order of two addresses that are there. Most are of one object.
 #[tactic(auto, using(crate::proofs::Cited::same_object_cmp))]
 #[inline(always)]
-fn order_of(first: Option<&Address>, second: Option<&Address>) -> Ordering
+pub fn order_of(first: Option<&Address>, second: Option<&Address>) -> Ordering
     ensures { (a p : Address) → option_copied first.entry ≡ Some a
         → option_copied second.entry ≡ Some p → result ≡ address_cmp a p }
 {
@@ -140,10 +140,10 @@ fn hold_same_facts<G: Streams>(streams: &G, first: usize, second: usize) -> bool
     }
 }
 
-// Whether two facts at one address are the same. The address is not compared again.
+/// Whether two facts at one address are the same. The address is not compared again.
 #[tactic(auto, using(crate::proofs::merge_lemmas::LowestFacts::same_at))]
 #[inline(always)]
-fn is_same(first: &FactRef<'_>, second: &FactRef<'_>) -> bool
+pub fn is_same(first: &FactRef<'_>, second: &FactRef<'_>) -> bool
     requires { address (fact_of first.now) ≡ address (fact_of second.now) }
     ensures { result ≡ same_fact (fact_of first.now) (fact_of second.now) }
 {

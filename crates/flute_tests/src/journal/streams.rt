@@ -1,7 +1,7 @@
 //! Streams of each kind, merged.
 
 use super::*;
-use flute_parts::{Fact, MemorySink, MemorySource, SymbolId};
+use flute_parts::{DeviceFault, Fact, MemorySink, MemorySource, SymbolId};
 use test_vectors::journals::{OTHERS, WHOLE};
 use test_vectors::{bytes, written};
 
@@ -127,5 +127,71 @@ fn two_facts_are_joined(rt: HostRuntime) -> Result<(), Fail> {
     let mut sink = MemorySink::new(rt.alloc());
     let joined = join_streams::<4, 4, 4, _, _>(rt.alloc(), &mut all, &mut sink)?;
     assert!(rt; joined.entries == 1);
+    Ok(())
+}
+
+/// What of the others a join would change the whole one by, and its stream begun anew.
+#[test]
+fn one_journal_is_taken_out_of_another(rt: HostRuntime) -> Result<(), Fail> {
+    let whole = bytes(rt.alloc(), WHOLE)?;
+    let others = bytes(rt.alloc(), OTHERS)?;
+    let first = OwnedJournalStream::new(MemorySource::new(&others), MANY);
+    let second = OwnedJournalStream::new(MemorySource::new(&whole), MANY);
+    let mut minus = Minus::new(first, second);
+    let mut sink = MemorySink::new(rt.alloc());
+    assert!(rt; write_stream(rt.alloc(), &mut minus, &mut sink)? == 2);
+    let first = OwnedJournalStream::new(MemorySource::new(&others), MANY);
+    let second = OwnedJournalStream::new(MemorySource::new(&whole), MANY);
+    let mut again = Minus::new(first, second);
+    again.restart();
+    assert!(rt; again.address().is_none());
+    Ok(())
+}
+
+/// Takes rows, and keeps the last.
+#[derive(Drop)]
+struct LastRow {
+    row: Option<Row>,
+}
+
+impl Rows for LastRow {
+    ghost takes = { λ s rows t. Unit {0} };
+
+    ghost fails = { λ s t. ⊥ };
+
+    ghost none = { λ s. tt };
+
+    ghost more = { λ s t u first then a b. tt };
+
+    ghost later = { λ s t u first a b. b };
+
+    fn row(&mut self, row: Row) -> Result<(), DeviceFault> {
+        self.row = Some(row);
+        Ok(())
+    }
+}
+
+#[test]
+fn journals_are_compared(rt: HostRuntime) -> Result<(), Fail> {
+    let whole = bytes(rt.alloc(), WHOLE)?;
+    let others = bytes(rt.alloc(), OTHERS)?;
+    let mut first = OwnedJournalStream::new(MemorySource::new(&whole), MANY);
+    let mut second = OwnedJournalStream::new(MemorySource::new(&others), MANY);
+    let mut last = LastRow { row: None };
+    compare_to(rt.alloc(), &mut first, &mut second, &mut last)?;
+    let row = last.row.ok_or("a row")?;
+    assert!(rt; row.differs());
+    assert!(rt; matches!(row.information, Some(Side::First)));
+    assert!(rt;
+        matches!(
+            row.symbols,
+            Sides {
+                same: 1,
+                differ: 1,
+                first: 0,
+                second: 1
+            }
+        )
+    );
     Ok(())
 }

@@ -1,4 +1,6 @@
 -- carousel: if one packet of an object can be written, all can.
+use Rattle.std.proofs.lemmas.Grind.{common_steps}
+use Rattle.std.proofs.Common.{rules}
 use Rattle.std.proofs.Common.{◌≡◌, ℕ, zero, suc, ◌+◌, ◌-◌, ◌*◌, ◌^◌, ◌<◌, ◌≤◌, min, max, inl}
 use Rattle.std.proofs.Common.{inr, List, [], ◌∷◌, ◌++◌, length, take, drop, Bool, true, false, cond}
 use Rattle.std.proofs.Common.{leb, ltb, Option, Some, None, refl, sym, ap, subst, ◌∙◌, arith}
@@ -32,66 +34,38 @@ chain a b s l =
 
 none_applies : (a b s l : Bool) → chain a b s l ≡ None
     → (a ≡ false) × (b ≡ false) × (s ≡ false) × (l ≡ false)
-none_applies true b s l e = absurd (cc)
-none_applies false true s l e = absurd (cc)
-none_applies false false true l e = absurd (cc)
-none_applies false false false true e = absurd (cc)
-none_applies false false false false e = (refl, refl, refl, refl)
+none_applies x0 x1 x2 x3 x4 = search rules
 
-no_fault : (a b s l : Bool) → a ≡ false → b ≡ false → s ≡ false → l ≡ false
-    → chain a b s l ≡ None
-no_fault a b s l one two three four = rw (one, two, three, four) refl
+no_fault : (a b s l : Bool) → a ≡ false → b ≡ false → s ≡ false → l ≡ false → chain a b s l ≡ None
+no_fault a b s l one two three four = search rules
 
 -- a packet with a symbol that is no longer can be written too
 shorter : (key : Key) (i : Option Information) (id other : SymbolId) (bytes more : List ℕ)
     → (0 < length bytes) × (length bytes ≤ length more)
     → write_fault (packet_at key i (Some (other, more))) ≡ None
     → write_fault (packet_at key i (Some (id, bytes))) ≡ None
-shorter key i id other bytes more fits none =
-    let c = packet_at key i (Some (id, bytes)) in
-    let d = packet_at key i (Some (other, more)) in
-    let p = none_applies (leb (2 ^ 32) d.tsi) (leb (2 ^ 32) d.toi) (has_no_byte d.symbol)
-    (ltb 65535 (length (spelling d))) none in
-    let front = fdt_bytes c.instance ++ fti_bytes i in
-    let a = length-append front (symbol_bytes (Some (id, bytes))) in
-    let b = length-append front (symbol_bytes (Some (other, more))) in
-    let l : length (spelling d) ≤ 65535 = ltb-false 65535 (length (spelling d)) p.3 in
-    let some : has_no_byte c.symbol ≡ false = grind (arith, nat_tests) in
-    let short : length (spelling c) ≤ 65535 = omega (arith, a, b, l, fits.1) in
-    no_fault (leb (2 ^ 32) c.tsi) (leb (2 ^ 32) c.toi) (has_no_byte c.symbol)
-    (ltb 65535 (length (spelling c))) p.0 p.1 some (le-ltb 65535 (length (spelling c)) short)
+shorter key i id other bytes more fits none = search rules
 
 length-piece : (i : Information) (content : List ℕ) (k : ℕ)
     → length (piece i content k) ≡ min i.symbol_length (length content - k * i.symbol_length)
-length-piece i content k =
-    length-take i.symbol_length (drop (k * i.symbol_length) content)
-    ∙ ap (min i.symbol_length) (length-drop (k * i.symbol_length) content)
+length-piece i content k = grind (arith, common_steps)
 
 below : (k t e l : ℕ) → k < t → t * e < l + e → k * e < l
-below k t e l h b =
-    let m : (k + 1) * e ≤ t * e = mul-le-mul_right e (omega arith) in
-    let d : (k + 1) * e ≡ k * e + e = grind arith in
-    omega (arith, m, d, b)
+below k t e l h b = search rules
 
 first_none : (cs : List Content)
     → ((k : ℕ) (c : Content) → slice_get cs k ≡ Some c → write_fault c ≡ None)
     → first_object_fault cs ≡ None
 first_none [] each = refl
-first_none (x ∷ cs) each =
-    ap (λ (f : Option WriteFault). option_or f (first_object_fault cs)) (each 0 x refl)
-    ∙ first_none cs (λ k c h. each (suc k) c h)
+first_none (x ∷ cs) each = ap (λ (f : Option WriteFault). option_or f (first_object_fault cs))
+    (each 0 x refl) ∙ first_none cs (λ k c h. each (suc k) c h)
 
 -- the first packet has no fault if none of some has, and the next
-first_of : (cs : List Content) (k : ℕ) (c d : Content) → first_object_fault (take k cs) ≡ None
-    → slice_get cs k ≡ Some c → write_fault c ≡ None → slice_get cs 0 ≡ Some d
-    → write_fault d ≡ None
+first_of : (cs : List Content) (k : ℕ) (c d : Content) → first_object_fault (take k cs) ≡ None →
+    slice_get cs k ≡ Some c → write_fault c ≡ None → slice_get cs 0 ≡ Some d → write_fault d ≡ None
 first_of [] k c d before here h first = absurd (cc)
-first_of (x ∷ cs) zero c d before here h first =
-    let is : c ≡ d = cc in subst (λ e. write_fault e ≡ None) is h
-first_of (x ∷ cs) (suc k) c d before here h first =
-    let is : x ≡ d = cc in
-    subst (λ e. write_fault e ≡ None) is
-    (or_none (write_fault x) (first_object_fault (take k cs)) before).0
+first_of (x ∷ cs) zero c d before here h first = search rules
+first_of (x ∷ cs) (suc k) c d before here h first = search rules
 
 module _ (key : Key) (i : Information) (content : List ℕ) (valid : IsValid i)
     (whole : length content ≡ i.transfer_length) where
@@ -109,24 +83,26 @@ module _ (key : Key) (i : Information) (content : List ℕ) (valid : IsValid i)
   each_sent : write_fault (packet 0) ≡ None → (k : ℕ) → k < max (length (ids i)) 1
       → write_fault (packet k) ≡ None
   each_sent none k h = elim ((slice_get_cases (ids i) k).1) [
-    | inr past ↦
-        let first : k ≡ 0 = omega (arith, h, past.0) in
-        subst (λ (j : ℕ). write_fault (packet j) ≡ None) (sym first) none
-    | inl there ↦
-        let id = there.0 in
-        let some : slice_get (ids i) 0 ≡ Some _ =
-        slice_get-get_or (ids i) 0 id (omega (arith, there.1)) in
+    | inr past ↦ let first : k ≡ 0 = omega (arith, h, past.0) in subst
+        (λ (j : ℕ). write_fault (packet j) ≡ None) (sym first) none
+    | inl there ↦ let id = there.0 in
+        let some : slice_get (ids i) 0 ≡ Some _ = slice_get-get_or (ids i) 0 id
+        (omega (arith, there.1)) in
         let begins = begins_within k there.1 in
         let size : 0 < i.symbol_length = (valid.parts (omega (arith, begins))).symbol in
-        let one = subst (λ (o : Option SymbolId). write_fault (packet_at key (Some i)
-        (option_map (λ d. (d, piece i content 0)) o)) ≡ None) some none in
-        let fits : (0 < length (piece i content k))
-        × (length (piece i content k) ≤ length (piece i content 0)) = (
-          omega (arith, length-piece i content k, begins, size, whole),
-          omega (arith, length-piece i content k, length-piece i content 0),
-        ) in
-        subst (λ (o : Option SymbolId). write_fault (packet_at key (Some i)
-        (option_map (λ d. (d, piece i content k)) o)) ≡ None) (sym there.2)
+        let one = subst (λ (o : Option SymbolId). write_fault
+        (packet_at key (Some i) (option_map (λ d. (d, piece i content 0)) o)) ≡ None) some none
+        in
+        let fits : (0 < length (piece i content k)) ×
+        (length (piece i content k) ≤ length (piece i content 0)) = (
+          omega
+              (arith, length-piece i content k, begins, size, whole),
+          omega
+              (arith, length-piece i content k, length-piece i content 0),
+        ) in subst (λ
+        (o : Option SymbolId). write_fault
+        (packet_at key (Some i) (option_map (λ d. (d, piece i content k)) o)) ≡ None)
+        (sym there.2)
         (shorter key (Some i) id _ (piece i content k) (piece i content 0) fits one)
   ]
 

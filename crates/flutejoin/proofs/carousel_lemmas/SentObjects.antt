@@ -1,4 +1,6 @@
 -- carousel: what send_to returns after the packets of an object were sent (specs/Carousel).
+use Rattle.std.proofs.lemmas.Grind.{common_steps}
+use Rattle.std.proofs.Common.{rules}
 use Rattle.std.proofs.Common.{◌≡◌, ℕ, inl, inr, Bool, List, ◌++◌, length, cond, Option, Some}
 use Rattle.std.proofs.Common.{None, Result, Ok, Err, IfErr, refl, sym, ap, subst, ◌∙◌, arith}
 use Rattle.std.proofs.Common.{length-append}
@@ -29,25 +31,18 @@ of_packets : (key : Key) (i : Information) (content : List ℕ) → length conte
     → carousel_fault key i content
     ≡ option_map (λ fault. Write fault) (first_object_fault (packets_of key i content))
 unfolding carousel_fault
-of_packets key i content h =
-    ap (λ (b : Bool). cond b (option_map (λ fault. Write fault)
-    (first_object_fault (packets_of key i content))) (Some Length))
-    (eq-eqb (length content) i.transfer_length h)
+of_packets key i content h = search rules
 
 -- the input has so many bytes if what is left of it has as many as were not read
 has_size : (input mid : Option (List ℕ)) (size left : ℕ) → ReadsOf input mid size left
     → HasLeft mid left → HasLeft input size
-has_size None mid size left r h = tt
-has_size (Some content) None size left r h = absurd r.read
-has_size (Some content) (Some rest) size left r h =
-    omega (arith, ap length r.read, length-append r.bytes rest, r.counted, h)
+has_size x0 x1 x2 x3 x4 x5 = grind (arith, common_steps)
 
 -- P of what the input has, if that is so many bytes, of an input that has
 of_input : (input : Option (List ℕ)) (size : ℕ) (P Q : List ℕ → Type 0) → HasLeft input size
     → ((content : List ℕ) → length content ≡ size → P content → Q content) → OfSize input size P
     → IfSome input Q
-of_input None size P Q h go p = tt
-of_input (Some content) size P Q h go p = go content h (p content refl h)
+of_input x0 x1 x2 x3 x4 x5 x6 = search rules
 
 -- how far the packets of an object of this size were sent
 pub record Sent (input mid old now : Option (List ℕ)) (left : ℕ) (key : Key)
@@ -61,12 +56,11 @@ pub record Sent (input mid old now : Option (List ℕ)) (left : ℕ) (key : Key)
 
 -- so it was for equal values of the key, the information and the size
 pub sent_of : {input mid old now : Option (List ℕ)} {left : ℕ} {k key : Key} {j i : Information}
-    {n size symbol block : ℕ} {sent : Result ℕ CommandFault}
-    → (k ≡ key) × (j ≡ i) × (n ≡ size) → i ≡ information size symbol block
-    → info_fault i ≡ None
-    → UnlessRead sent (ReadsOf input mid n left)
-    → OfSize input n (λ content. SendsPackets (packets_of k j content) old now sent)
-    → Sent input mid old now left key symbol block size sent
+    {n size symbol block : ℕ} {sent : Result ℕ CommandFault} → (k ≡ key) × (j ≡ i) × (n ≡ size) → i
+    ≡ information size symbol block → info_fault i ≡ None → UnlessRead sent
+    (ReadsOf input mid n left) → OfSize input n
+    (λ content. SendsPackets (packets_of k j content) old now sent) → Sent input mid old now left
+    key symbol block size sent
 sent_of {input = input} {mid = mid} {old = old} {now = now} {left = left} {k = k} {key = key}
     {i = i} {n = n} {sent = sent} e is sound reads sends = record {
       info = i;
@@ -85,47 +79,23 @@ sent_of {input = input} {mid = mid} {old = old} {now = now} {left = left} {k = k
 module _ (key : Key) (symbol block size : ℕ) (i : Information)
     (is : i ≡ information size symbol block) (sound : info_fault i ≡ None) where
   same : (content : List ℕ) → length content ≡ size → i ≡ info_of symbol block content
-  same content whole = is ∙ ap (λ n. information n symbol block) (sym whole)
+  same content whole = search rules
 
   object_of : (P : List (List ℕ) → Type 0) (content : List ℕ) → length content ≡ size
       → OfPackets (packets_of key i content) P → OfDatagrams key symbol block content P
-  object_of P content whole p =
-      let e = same content whole in
-      let written : AllZip IsWritten p.0 (packets_of key (info_of symbol block content) content) =
-      subst (λ j. AllZip IsWritten p.0 (packets_of key j content)) e p.1 in (
-        p.0,
-        record {
-          valid = subst (λ j. info_fault j ≡ None) e sound;
-          written = written;
-          told = facts_are_sent key (info_of symbol block content) content p.0 written;
-        },
-        p.2,
-      )
+  object_of P content whole p = search (rules, same, facts_are_sent)
 
   -- the first packet with a fault is why an object of its own length is not sent; if none has one,
   -- it could be sent
   not_sent : (content : List ℕ) (fault : WriteFault) → length content ≡ size
       → first_object_fault (packets_of key i content) ≡ Some fault
       → carousel_fault key (info_of symbol block content) content ≡ Some (Write fault)
-  not_sent content fault whole h =
-      let j = info_of symbol block content in
-      let first : first_object_fault (packets_of key j content) ≡ Some fault =
-      subst (λ k. first_object_fault (packets_of key k content) ≡ Some fault)
-      (same content whole) h in
-      of_packets key j content refl ∙ ap (option_map (λ f. Write f)) first
+  not_sent content fault whole h = search (rules, same, of_packets)
 
-  all_could : (content : List ℕ) → length content ≡ size
-      → first_object_fault (packets_of key i content) ≡ None
-      → (info_fault (info_of symbol block content) ≡ None)
-      × (carousel_fault key (info_of symbol block content) content ≡ None)
-  all_could content whole h =
-      let j = info_of symbol block content in
-      let e = same content whole in
-      let none : first_object_fault (packets_of key j content) ≡ None =
-      subst (λ k. first_object_fault (packets_of key k content) ≡ None) e h in (
-        subst (λ k. info_fault k ≡ None) e sound,
-        of_packets key j content refl ∙ ap (option_map (λ f. Write f)) none,
-      )
+  all_could : (content : List ℕ) → length content ≡ size → first_object_fault
+      (packets_of key i content) ≡ None → (info_fault (info_of symbol block content) ≡ None) ×
+      (carousel_fault key (info_of symbol block content) content ≡ None)
+  all_could content whole h = search (rules, same, of_packets)
 
 module _ {input mid old now : Option (List ℕ)} {left : ℕ} {key : Key}
     {symbol block size : ℕ} where
@@ -144,35 +114,22 @@ module _ {input mid old now : Option (List ℕ)} {left : ℕ} {key : Key}
       (object_of key symbol block size ok.info ok.is ok.sound (λ d. WritesFile d n old now))
       ok.sends
 
-  told_part : Sent input mid old now left key symbol block size (Err CannotWrite)
-      → HasLeft mid left
-      → OfInput input key symbol block (λ d. AppendsPart old now
-      (file_header ++ flat_map record_of d))
-  told_part s rest =
-      of_input input size
-      (λ content. SendsPackets (packets_of key s.info content) old now (Err CannotWrite))
-      (λ content. OfDatagrams key symbol block content
-      (λ d. AppendsPart old now (file_header ++ flat_map record_of d)))
-      (has_size input mid size left s.reads rest)
-      (object_of key symbol block size s.info s.is s.sound
-      (λ d. AppendsPart old now (file_header ++ flat_map record_of d))) s.sends
+  told_part : Sent input mid old now left key symbol block size (Err CannotWrite) → HasLeft mid left
+      → OfInput input key symbol block
+      (λ d. AppendsPart old now (file_header ++ flat_map record_of d))
+  told_part s rest = search (rules, of_input, has_size, object_of)
 
-  pub told_failed_write : {sent : Result ℕ CommandFault} (result : Result ℕ CommandFault)
-      → Ends mid left sent result → Sent input mid old now left key symbol block size sent
-      → result ≡ Err CannotWrite
-      → OfInput input key symbol block (λ d. AppendsPart old now
-      (file_header ++ flat_map record_of d))
+  pub told_failed_write : {sent : Result ℕ CommandFault} (result : Result ℕ CommandFault) → Ends mid
+      left sent result → Sent input mid old now left key symbol block size sent → result ≡ Err
+      CannotWrite → OfInput input key symbol block
+      (λ d. AppendsPart old now (file_header ++ flat_map record_of d))
   told_failed_write result (inl h) s e = absurd (cc)
-  told_failed_write {sent = sent} result (inr h) s e =
-      let so : sent ≡ Err CannotWrite = sym h.0 ∙ e in
-      told_part (subst (Sent input mid old now left key symbol block size) so s)
-      (subst (λ r. UnlessRead r (HasLeft mid left)) so h.1)
+  told_failed_write {sent = sent} result (inr h) s e = search (rules, told_part)
 
   fault_of : (e : CommandFault) → IsSendingFault e
       → Sent input mid old now left key symbol block size (Err e)
       → UnlessRead {T = ℕ} (Err e) (HasLeft mid left) → SendFails input key symbol block e
-  fault_of (CannotSend f) only s rest =
-      of_input input size
+  fault_of (CannotSend f) only s rest = of_input input size
       (λ content. SendsPackets (packets_of key s.info content) old now (Err (CannotSend f)))
       (λ content. carousel_fault key (info_of symbol block content) content ≡ Some (Write f))
       (has_size input mid size left s.reads rest)
@@ -187,11 +144,10 @@ module _ {input mid old now : Option (List ℕ)} {left : ℕ} {key : Key}
           → OfInput o key symbol block (λ d. ⊤)
       kept None p = tt
       kept (Some content) p = (p.0, p.1, tt)
-  fault_of OutOfMemory only s rest =
-      of_input input size
-      (λ content. SendsPackets (packets_of key s.info content) old now (Err OutOfMemory))
-      (λ content. (info_fault (info_of symbol block content) ≡ None)
-      × (carousel_fault key (info_of symbol block content) content ≡ None))
+  fault_of OutOfMemory only s rest = of_input input size
+      (λ content. SendsPackets (packets_of key s.info content) old now (Err OutOfMemory)) (λ
+      content. (info_fault (info_of symbol block content) ≡ None) ×
+      (carousel_fault key (info_of symbol block content) content ≡ None))
       (has_size input mid size left s.reads rest)
       (all_could key symbol block size s.info s.is s.sound) s.sends
   fault_of _ (inl only) s rest = absurd only
@@ -201,10 +157,5 @@ module _ {input mid old now : Option (List ℕ)} {left : ℕ} {key : Key}
       → Ends mid left sent result → Sent input mid old now left key symbol block size sent
       → IfErr sent IsSendingFault → IfErr result (SendFails input key symbol block)
   told_failed (Ok n) ends s only = tt
-  told_failed (Err e) (inl h) s only =
-      let is : e ≡ Input 1 Read = cc in
-      subst (SendFails input key symbol block) (sym is) (refl, refl)
-  told_failed (Err e) (inr h) s only =
-      fault_of e (subst (λ r. IfErr r IsSendingFault) (sym h.0) only)
-      (subst (Sent input mid old now left key symbol block size) (sym h.0) s)
-      (subst (λ r. UnlessRead r (HasLeft mid left)) (sym h.0) h.1)
+  told_failed (Err e) (inl h) s only = grind (arith, common_steps)
+  told_failed (Err e) (inr h) s only = search (rules, fault_of)

@@ -1,4 +1,6 @@
 -- carousel: the packets of an object, by their numbers (flute_wire: specs/Carousel).
+use Rattle.std.proofs.lemmas.Grind.{common_steps}
+use Rattle.std.proofs.Common.{rules}
 use Rattle.std.proofs.Common.{◌≡◌, ℕ, zero, suc, ◌+◌, ◌==◌, ◌<◌, ◌≤◌, max, min, inl, inr, List}
 use Rattle.std.proofs.Common.{[], ◌∷◌, ◌++◌, length, map, take, drop, Bool, true, false, cond}
 use Rattle.std.proofs.Common.{Option, Some, None, Result, Ok, Err, refl, sym, ap, subst, ◌∙◌, arith}
@@ -32,14 +34,12 @@ use Rattle.flutejoin.specs.declared.command_fault.CommandFault.TheVariants.{Inpu
 -- what was written has no fault
 pub no_fault : {T : Type 0} (r : Result T WriteFault) (d : T) (o : Option WriteFault)
     → r ≡ Ok d → IfSome o (λ f. r ≡ Err f) → o ≡ None
-no_fault r d None e h = refl
-no_fault r d (Some f) e h = absurd (cc)
+no_fault x0 x1 x2 x3 x4 = search rules
 
 -- what was read is the next piece, and the rest is left
-pub taken : {u : Option (List ℕ)} (v : Option (List ℕ)) (bytes : List ℕ) {rest : List ℕ}
-    {left : ℕ} (size : ℕ) → u ≡ Some rest → length rest ≡ left → Consumes u v bytes
-    → length bytes ≡ min left size
-    → (bytes ≡ take size rest) × (v ≡ Some (drop size rest))
+pub taken : {u : Option (List ℕ)} (v : Option (List ℕ)) (bytes : List ℕ) {rest : List ℕ} {left : ℕ}
+    (size : ℕ) → u ≡ Some rest → length rest ≡ left → Consumes u v bytes → length bytes ≡ min left
+    size → (bytes ≡ take size rest) × (v ≡ Some (drop size rest))
 taken v bytes {rest = rest} {left = left} size known whole read count =
     of_rest v (subst (λ x. Consumes x v bytes) known read)
   where
@@ -71,36 +71,22 @@ with_place : {X : Type 0} (n : ℕ) (xs : List X) (k : ℕ)
     → slice_get (enumerate_from n xs) k ≡ option_map (λ x. (n + k, x)) (slice_get xs k)
 with_place n [] k = refl
 with_place n (x ∷ xs) zero = ap (λ (m : ℕ). Some (m, x)) (omega arith)
-with_place n (x ∷ xs) (suc k) =
-    let e : n + 1 + k ≡ n + suc k = omega arith in
-    with_place (n + 1) xs k ∙ ap (λ (m : ℕ). option_map (λ y. (m, y)) (slice_get xs k)) e
+with_place n (x ∷ xs) (suc k) = search (rules, with_place (n + 1) xs k)
 
 symbol_there : (i : Information) (content : List ℕ) (k : ℕ)
     → slice_get (symbols_of i content) k ≡ symbol_with i k (piece i content k)
 unfolding symbols_of
-symbol_there i content k =
-    slice_get-map (with_piece i content) (enumerate_from 0 (ids i)) k
-    ∙ ap (option_map (with_piece i content)) (with_place 0 (ids i) k)
-    ∙ twice (slice_get (ids i) k)
-  where
-    twice : (o : Option SymbolId)
-        → option_map (with_piece i content) (option_map (λ id. (0 + k, id)) o)
-        ≡ option_map (λ id. (id, piece i content k)) o
-    twice None = refl
-    twice (Some id) =
-        let e : 0 + k ≡ k = omega arith in ap (λ (m : ℕ). Some (id, piece i content m)) e
+symbol_there i content k = search (rules, slice_get-map, with_place, piece)
 
 -- how many symbols, payloads and packets an object has
 length-symbols_of : (i : Information) (content : List ℕ)
     → length (symbols_of i content) ≡ length (ids i)
 unfolding symbols_of
-length-symbols_of i content =
-    length-map (enumerate_from 0 (ids i)) (with_piece i content)
-    ∙ length-enumerate_from 0 (ids i)
+length-symbols_of i content = length-map (enumerate_from 0 (ids i)) (with_piece i content) ∙
+    length-enumerate_from 0 (ids i)
 
 pub no_symbol : (i : Information) → IsValid i → i.transfer_length ≡ 0 → length (ids i) ≡ 0
-no_symbol i v z =
-    ids_counted i v ∙ ap (λ (t : ℕ). div_ceil t i.symbol_length) z ∙ div_ceil-zero i.symbol_length
+no_symbol i v z = search (rules, ids_counted, div_ceil-zero)
 
 some_symbol : (i : Information) → IsValid i → 0 < i.transfer_length → 0 < length (ids i)
 some_symbol i v h = omega (arith, ids_counted i v, div_ceil-pos i.transfer_length i.symbol_length h)
@@ -108,25 +94,19 @@ some_symbol i v h = omega (arith, ids_counted i v, div_ceil-pos i.transfer_lengt
 payloads_none : (i : Information) (content : List ℕ) → i.transfer_length ≡ 0
     → payloads_of i content ≡ None ∷ []
 unfolding payloads_of
-payloads_none i content z =
-    let e : (i.transfer_length == 0) ≡ true = grind (arith, nat_tests) in
-    ap (λ (b : Bool). cond b (None ∷ []) (map (λ s. Some s) (symbols_of i content))) e
+payloads_none i content z = search rules
 
 payloads_some : (i : Information) (content : List ℕ) → 0 < i.transfer_length
     → payloads_of i content ≡ map (λ s. Some s) (symbols_of i content)
 unfolding payloads_of
-payloads_some i content l =
-    let e : (i.transfer_length == 0) ≡ false = grind (arith, nat_tests) in
-    ap (λ (b : Bool). cond b (None ∷ []) (map (λ s. Some s) (symbols_of i content))) e
+payloads_some i content l = search rules
 
 length-payloads_of : (i : Information) (content : List ℕ) → IsValid i
     → length (payloads_of i content) ≡ max (length (ids i)) 1
 length-payloads_of i content v = elim (eq-zero-or-pos i.transfer_length) [
   | inl z ↦ omega (arith, ap length (payloads_none i content z), no_symbol i v z)
-  | inr l ↦
-      let is = ap length (payloads_some i content l)
-      ∙ length-map (symbols_of i content) (λ s. Some s) ∙ length-symbols_of i content in
-      omega (arith, is, some_symbol i v l)
+  | inr l ↦ let is = ap length (payloads_some i content l) ∙ length-map (symbols_of i content)
+      (λ s. Some s) ∙ length-symbols_of i content in omega (arith, is, some_symbol i v l)
 ]
 
 wrapped : {X : Type 0} (xs : List X) (k : ℕ) → k < length xs
@@ -136,24 +116,19 @@ wrapped (x ∷ xs) zero h = refl
 wrapped (x ∷ xs) (suc k) h = wrapped xs k (omega (arith, h))
 
 -- payload k and packet k of an object
-payload_there : (i : Information) (content : List ℕ) (k : ℕ) → IsValid i
-    → k < max (length (ids i)) 1
-    → slice_get (payloads_of i content) k ≡ Some (slice_get (symbols_of i content) k)
-payload_there i content k v h = elim (eq-zero-or-pos i.transfer_length) [
-  | inl z ↦
-      let none = no_symbol i v z in
-      let first : k ≡ 0 = omega (arith, h, none) in
-      let is : slice_get (symbols_of i content) k ≡ None = slice_get_past (symbols_of i content) k
-      (omega (arith, length-symbols_of i content, none)) in
-      ap (λ xs. slice_get xs k) (payloads_none i content z)
-      ∙ ap (λ (j : ℕ). slice_get (None ∷ []) j) first ∙ ap (λ o. Some o) (sym is)
-  | inr l ↦
-      let within : k < length (symbols_of i content) =
-      omega (arith, h, some_symbol i v l, length-symbols_of i content) in
-      ap (λ xs. slice_get xs k) (payloads_some i content l)
-      ∙ slice_get-map (λ s. Some s) (symbols_of i content) k
-      ∙ wrapped (symbols_of i content) k within
-]
+payload_there : (i : Information) (content : List ℕ) (k : ℕ) → IsValid i → k < max (length (ids i))
+    1 → slice_get (payloads_of i content) k ≡ Some (slice_get (symbols_of i content) k)
+payload_there i content k v h = search (
+  rules,
+  no_symbol,
+  slice_get_past,
+  length-symbols_of,
+  payloads_none,
+  some_symbol,
+  payloads_some,
+  slice_get-map,
+  wrapped,
+)
 
 pub length-packets_of : (key : Key) (i : Information) (content : List ℕ) → IsValid i
     → length (packets_of key i content) ≡ max (length (ids i)) 1
@@ -165,16 +140,13 @@ pub packet_there : (key : Key) (i : Information) (content : List ℕ) (k : ℕ) 
     → k < max (length (ids i)) 1
     → slice_get (packets_of key i content) k ≡ Some (packet_with key i k (piece i content k))
 unfolding packets_of
-packet_there key i content k v h =
-    slice_get-map (packet_at key (Some i)) (payloads_of i content) k
-    ∙ ap (option_map (packet_at key (Some i))) (payload_there i content k v h)
-    ∙ ap (λ s. Some (packet_at key (Some i) s)) (symbol_there i content k)
+packet_there key i content k v h = search (rules, slice_get-map, payload_there, symbol_there) steps
+    400000
 
 -- ---- one packet more
 
 pub or_none : (a b : Option WriteFault) → option_or a b ≡ None → (a ≡ None) × (b ≡ None)
-or_none None b e = (refl, e)
-or_none (Some x) b e = absurd (cc)
+or_none x0 x1 x2 = search rules
 
 -- the first fault is that of a packet before which there is none
 pub first_at : (cs : List Content) (k : ℕ) (c : Content) (fault : WriteFault)
@@ -201,9 +173,7 @@ pub take_one_more : {X : Type 0} (xs : List X) (k : ℕ) (x : X) → slice_get x
     → take (k + 1) xs ≡ take k xs ++ x ∷ []
 take_one_more [] k x h = absurd (cc)
 take_one_more (y ∷ xs) zero x h = let e : y ≡ x = cc in ap (λ z. z ∷ []) e
-take_one_more (y ∷ xs) (suc k) x h =
-    let e : suc k + 1 ≡ suc (k + 1) = omega arith in
-    rw e (ap (λ zs. y ∷ zs) (take_one_more xs k x h))
+take_one_more (y ∷ xs) (suc k) x h = search (rules, take_one_more xs k x h)
 
 pub both_more : (ds : List (List ℕ)) (cs : List Content) (d : List ℕ) (c : Content)
     → AllZip IsWritten ds cs → IsWritten d c → AllZip IsWritten (ds ++ d ∷ []) (cs ++ c ∷ [])
@@ -213,6 +183,4 @@ both_more (x ∷ ds) [] d c all one = absurd all
 both_more (x ∷ ds) (y ∷ cs) d c all one = (all.0, both_more ds cs d c all.1 one)
 
 pub unless_read : {T : Type 0} (P : Type 0) (r : Result T CommandFault) → P → UnlessRead r P
-unless_read P (Ok x) p = p
-unless_read P (Err (Input n f)) p = tt
-unless_read P (Err _) p = p
+unless_read P other p = search rules

@@ -1,4 +1,6 @@
 -- carousel: how often the source of an object's content failed (specs/Sending: ReadFailures).
+use Rattle.std.proofs.lemmas.Grind.{common_steps}
+use Rattle.std.proofs.Common.{rules}
 use Rattle.std.proofs.Common.{◌≡◌, ℕ, ◌+◌, ◌<◌, ◌≤◌, inl, inr}
 use Rattle.std.proofs.Common.{List, length, Option, Some, None, Result, Ok, Err, IfErr}
 use Rattle.std.proofs.Common.{sym, ap, subst, ◌∙◌, arith, length-append}
@@ -15,31 +17,23 @@ use Rattle.flutejoin.proofs.carousel_lemmas.SentObjects.{Sent}
 
 pub not_left : (u : Option (List ℕ)) (n left : ℕ) → n ≤ left → IfSome u (λ all. length all < n)
     → HasNot u left
-not_left None n left fits h = tt
-not_left (Some all) n left fits h = λ e. absurd (omega (arith, e, fits, h))
+not_left x0 x1 x2 x3 x4 = search rules
 
 has_not : (u v : Option (List ℕ)) (size left : ℕ) → ReadsOf u v size left → HasNot v left
     → HasNot u size
-has_not None v size left r h = tt
-has_not (Some all) None size left r h = absurd r.read
-has_not (Some all) (Some rest) size left r h =
-    λ e. h (omega (arith, e, ap length r.read, length-append r.bytes rest, r.counted))
+has_not x0 x1 x2 x3 x4 x5 = grind (arith, common_steps)
 
 -- what comes of a packet is no fault of its source
 pub of_packet : (c : Content) (old new : ℕ) (u : Option (List ℕ)) (n : ℕ)
     (r : Result (List ℕ) CommandFault) → IfErr r (IsPacketFault c) → new ≡ old
     → ReadFailures old new u n r
-of_packet c old new u n (Ok d) h e = e
-of_packet c old new u n (Err (Input number fault)) h e = absurd h
-of_packet c old new u n (Err _) h e = e
+of_packet x0 x1 x2 x3 x4 x5 x6 x7 = search rules
 
 -- the source failed so after some of its bytes were read
 pub reads_back : (S T : Type 0) (f : CommandFault) {before old : ℕ} (new : ℕ)
-    {u v : Option (List ℕ)} {size left : ℕ} → (old ≡ before) × ReadsOf u v size left
-    → ReadFailures {T = S} old new v left (Err f)
-    → ReadFailures {T = T} before new u size (Err f)
-reads_back S T (Input number fault) new r (inl e) =
-    inl (omega (arith, e, r.0))
+    {u v : Option (List ℕ)} {size left : ℕ} → (old ≡ before) × ReadsOf u v size left → ReadFailures
+    {T = S} old new v left (Err f) → ReadFailures {T = T} before new u size (Err f)
+reads_back S T (Input number fault) new r (inl e) = search rules
 reads_back S T (Input number fault) new {u = u} {v = v} {size = size} {left = left} r (inr e) =
     inr (e.0 ∙ r.0, has_not u v size left r.1 e.1)
 reads_back S T _ new r e = e ∙ r.0
@@ -47,8 +41,7 @@ reads_back S T _ new r e = e ∙ r.0
 -- ---- failures of the source once all packets were sent
 
 first_of : {A B C : Type 0} → A ⊎ (B × C) → A ⊎ B
-first_of (inl a) = inl a
-first_of (inr b) = inr b.0
+first_of x0 = search rules
 
 module _ (before old new size left : ℕ) (u v : Option (List ℕ)) where
   goes_on : (result : Result ℕ CommandFault) → old ≡ before → ReadsOf u v size left
@@ -56,29 +49,19 @@ module _ (before old new size left : ℕ) (u v : Option (List ℕ)) where
   goes_on (Ok n) e r f = f ∙ e
   goes_on (Err w) e r f = reads_back ℕ ℕ w new (e, r) f
 
-  stays : (result : Result ℕ CommandFault) (number : ℕ) (fault : ReadFault) → new ≡ old
-      → (result ≡ Err (Input 1 Read)) ⊎ (result ≡ Err (Input number fault))
-      → (old ≡ before + 1) ⊎ ((old ≡ before) × HasNot u size)
-      → ReadFailures before new u size result
-  stays result number fault e (inl is) f =
-      subst (ReadFailures before new u size) (sym is)
-      (subst (λ n. (n ≡ before + 1) ⊎ ((n ≡ before) × HasNot u size)) (sym e) f)
-  stays result number fault e (inr is) f =
-      subst (ReadFailures before new u size) (sym is)
-      (subst (λ n. (n ≡ before + 1) ⊎ ((n ≡ before) × HasNot u size)) (sym e) f)
+  stays : (result : Result ℕ CommandFault) (number : ℕ) (fault : ReadFault) → new ≡ old →
+      (result ≡ Err (Input 1 Read)) ⊎ (result ≡ Err (Input number fault)) → (old ≡ before + 1) ⊎
+      ((old ≡ before) × HasNot u size) → ReadFailures before new u size result
+  stays x0 x1 x2 x3 x4 x5 = search rules
 
-pub told_reads : (before old new : ℕ) {input mid was now : Option (List ℕ)} {left : ℕ}
-    {key : Key}
-    {symbol block size : ℕ} {sent : Result ℕ CommandFault} (result : Result ℕ CommandFault)
-    → Ends mid left sent result → ReadFailures before old input size sent
-    → Sent input mid was now left key symbol block size sent
-    → EndsReading old new mid left sent result → ReadFailures before new input size result
+pub told_reads : (before old new : ℕ) {input mid was now : Option (List ℕ)} {left : ℕ} {key : Key}
+    {symbol block size : ℕ} {sent : Result ℕ CommandFault} (result : Result ℕ CommandFault) → Ends
+    mid left sent result → ReadFailures before old input size sent → Sent input mid was now left key
+    symbol block size sent → EndsReading old new mid left sent result → ReadFailures before new
+    input size result
 told_reads before old new {input = u} {mid = v} {left = left} {size = size} {sent = Ok n} result
-    ends f s e =
-    goes_on before old new size left u v result f s.reads e
-told_reads before old new {input = u} {mid = v} {left = left} {size = size}
-    {sent = Err (Input number fault)} result ends f s e =
-    stays before old new size left u v result number fault e (first_of ends) f
+    ends f s e = search (rules, goes_on)
+told_reads before old new {input = u} {mid = v} {left = left} {size = size} {sent = Err (Input
+    number fault)} result ends f s e = search (rules, stays)
 told_reads before old new {input = u} {mid = v} {left = left} {size = size} {sent = Err _} result
-    ends f s e =
-    goes_on before old new size left u v result f s.reads e
+    ends f s e = search (rules, goes_on)

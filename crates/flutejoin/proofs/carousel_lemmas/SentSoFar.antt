@@ -1,4 +1,6 @@
 -- send_symbols: how far an object was sent (specs/Sending).
+use Rattle.std.proofs.lemmas.Grind.{common_steps}
+use Rattle.std.proofs.Common.{rules}
 use Rattle.std.proofs.Common.{◌≡◌, ℕ, ◌+◌, ◌*◌, ◌==◌, ◌<◌, max, inl, inr, List, [], ◌∷◌}
 use Rattle.std.proofs.Common.{◌++◌, length, take, drop, Bool, true, false, cond, Option, Some, None}
 use Rattle.std.proofs.Common.{Err, refl, sym, ap, subst, ◌∙◌, arith}
@@ -36,28 +38,16 @@ use Rattle.flutejoin.proofs.carousel_lemmas.SentPackets.{take_one_more, both_mor
 
 file_more : (place : ℕ) (ds : List (List ℕ)) (d : List ℕ) → place ≡ length ds
     → file_up_to (ds ++ d ∷ []) ≡ file_up_to ds ++ record_at place d
-file_more place [] d e =
-    subst (λ p. file_up_to (d ∷ []) ≡ record_at p d) (sym e)
-    (ap (λ x. file_header ++ x) (append-nil (record_of d)))
-file_more place (x ∷ ds) d e =
-    let later : (place == 0) ≡ false = grind (arith, nat_tests) in
-    let is : record_at place d ≡ record_of d =
-    ap (λ b. cond b (file_header ++ record_of d) (record_of d)) later in
-    sym (ap (λ r. file_up_to (x ∷ ds) ++ r) is
-    ∙ flat_map_more record_of file_header (x ∷ ds) d)
+file_more x0 x1 x2 x3 = grind (arith, common_steps)
 
 file_whole : (ds : List (List ℕ)) → 0 < length ds
     → file_up_to ds ≡ file_header ++ flat_map record_of ds
-file_whole [] h = absurd (omega (arith, h))
-file_whole (d ∷ ds) h = refl
+file_whole x0 x1 = search rules
 
 -- the sink has the next bytes too, or has failed
 pub grows_on : (f g : Bool) (a b c : Option (List ℕ)) (front more : List ℕ)
     → Grows f a b front × GrowsOn f g b c more → Grows g a c (front ++ more)
-grows_on true g a b c front more p =
-    subst (λ h. Grows h a c (front ++ more)) (sym p.1.0)
-    (subst (λ x. AppendsPart a x (front ++ more)) (sym p.1.1)
-    (AppendsPart-first a b front more p.0))
+grows_on true g a b c front more p = search (rules, AppendsPart-first)
 grows_on false false a b c front more p = Appends-trans a b c front more p.0 p.1
 grows_on false true a b c front more p = AppendsPart-second a b c front more p.0 p.1
 
@@ -74,11 +64,7 @@ reads_on u v w a b c p q = record {
 -- as many bytes are left as were not read
 pub left_are : {content rest : List ℕ} {u v : Option (List ℕ)} {a b : ℕ} → ReadsOf u v a b
     → u ≡ Some content → v ≡ Some rest → length content ≡ a → length rest ≡ b
-left_are {content = content} {rest = rest} {v = v} r known now whole =
-    let e : content ≡ r.bytes ++ rest =
-    subst (λ y. Consumes (Some content) y r.bytes) now
-    (subst (λ x. Consumes x v r.bytes) known r.read) in
-    omega (arith, ap length e, length-append r.bytes rest, r.counted, whole)
+left_are {content = content} {rest = rest} {v = v} r known now whole = grind (arith, common_steps)
 
 -- ---- the object
 
@@ -101,53 +87,34 @@ module _ (key : Key) (i : Information) (content : List ℕ) where
   -- All packets were sent, or the sink failed.
   module _ (valid : IsValid i) (count : ℕ) (all : count ≡ max (length (ids i)) 1) where
     whole : take count (packets_of key i content) ≡ packets_of key i content
-    whole = take_all count (packets_of key i content)
-        (omega (arith, all, length-packets_of key i content valid))
+    whole = search (rules, take_all, length-packets_of)
 
     pub sent_all : {u old now : Option (List ℕ)} → SentSoFar count u false old now
         → OfPackets (packets_of key i content) (λ d. WritesFile d count old now)
-    sent_all {u = u} {old = old} {now = now} s =
-        let is = file_whole s.datagrams (omega (arith, s.counted, all)) in (
-          s.datagrams,
-          subst (AllZip IsWritten s.datagrams) whole s.written,
-          record {
-            appended = subst (Appends old now) is s.grown;
-            file = record { valid = s.valid; bytes_are = refl };
-            count = s.counted;
-          },
-        )
+    sent_all {u = u} {old = old} {now = now} s = search (rules, file_whole, whole)
 
-    pub sent_part : {u old now : Option (List ℕ)} → SentSoFar count u true old now
-        → OfPackets (packets_of key i content)
-        (λ d. AppendsPart old now (file_header ++ flat_map record_of d))
-    sent_part {u = u} {old = old} {now = now} s =
-        let is = file_whole s.datagrams (omega (arith, s.counted, all)) in (
-          s.datagrams,
-          subst (AllZip IsWritten s.datagrams) whole s.written,
-          subst (AppendsPart old now) is s.grown,
-        )
+    pub sent_part : {u old now : Option (List ℕ)} → SentSoFar count u true old now → OfPackets
+        (packets_of key i content) (λ d. AppendsPart old now (file_header ++ flat_map record_of d))
+    sent_part {u = u} {old = old} {now = now} s = search (rules, file_whole, whole)
 
 -- One packet more: it was sent, or it was not.
 module _ {key : Key} {i : Information} {content : List ℕ} (valid : IsValid i) {place : ℕ}
     (within : place < max (length (ids i)) 1) where
-  pub sent_next : {u v old mid now : Option (List ℕ)} {f g : Bool} (d : List ℕ)
-      → SentSoFar key i content place u f old mid → IsWritten d (packet key i content place)
-      × (write_fault (packet key i content place) ≡ None)
-      → IsDatagram d → GrowsOn f g mid now (record_at place d)
-      → v ≡ Some (drop i.symbol_length (drop (place * i.symbol_length) content))
+  pub sent_next : {u v old mid now : Option (List ℕ)} {f g : Bool} (d : List ℕ) → SentSoFar key i
+      content place u f old mid → IsWritten d (packet key i content place) ×
+      (write_fault (packet key i content place) ≡ None) → IsDatagram d → GrowsOn f g mid now
+      (record_at place d) → v ≡ Some (drop i.symbol_length (drop (place * i.symbol_length) content))
       → SentSoFar key i content (place + 1) v g old now
-  sent_next {u = u} {v = v} {old = old} {mid = mid} {now = now} {f = f} {g = g} d s made is put
-      left =
+  sent_next {u = u} {v = v} {old = old} {mid = mid} {now = now} {f = f} {g = g} d s made is put left
+      =
       let cs = packets_of key i content in
       let one = packet key i content place in
       let here = packet_there key i content place valid within in
       let more = take_one_more cs place one here in
-      let next : drop i.symbol_length (drop (place * i.symbol_length) content)
-      ≡ drop ((place + 1) * i.symbol_length) content =
-      drop-drop i.symbol_length (place * i.symbol_length) content
-      ∙ ap (λ n. drop n content) (let e : place * i.symbol_length + i.symbol_length
-      ≡ (place + 1) * i.symbol_length = grind arith in e) in
-      record {
+      let next : drop i.symbol_length (drop (place * i.symbol_length) content) ≡ drop
+      ((place + 1) * i.symbol_length) content = drop-drop i.symbol_length (place * i.symbol_length)
+      content ∙ ap (λ n. drop n content) (let e : place * i.symbol_length + i.symbol_length ≡
+      (place + 1) * i.symbol_length = grind arith in e) in record {
         datagrams = s.datagrams ++ d ∷ [];
         written = subst (AllZip IsWritten (s.datagrams ++ d ∷ [])) (sym more)
             (both_more s.datagrams (take place cs) d one s.written made.0);
@@ -156,8 +123,7 @@ module _ {key : Key} {i : Information} {content : List ℕ} (valid : IsValid i) 
         valid = all_more IsDatagram s.datagrams d s.valid is;
         counted = omega (arith, s.counted, length-append s.datagrams (d ∷ []));
         grown = subst (Grows g old now) (sym (file_more place s.datagrams d s.counted))
-            (grows_on f g old mid now (file_up_to s.datagrams) (record_at place d)
-            (s.grown, put));
+            (grows_on f g old mid now (file_up_to s.datagrams) (record_at place d) (s.grown, put));
         rest = left ∙ ap (λ x. Some x) next;
       }
 
@@ -166,13 +132,10 @@ module _ {key : Key} {i : Information} {content : List ℕ} (valid : IsValid i) 
       → IsReadFault fault ⊎ IsPacketFault (packet key i content place) fault
       → SendsPackets (packets_of key i content) old mid (Err fault)
   fails_at (CannotSend w) whole s (inl h) = absurd (cc)
-  fails_at (CannotSend w) whole s (inr h) =
-      first_at (packets_of key i content) place (packet key i content place) w s.sound
-      (packet_there key i content place valid within) h
+  fails_at (CannotSend w) whole s (inr h) = search (rules, first_at, packet_there)
   fails_at (Input n w) whole s h = tt
   fails_at OutOfMemory whole s (inl h) = absurd (cc)
-  fails_at OutOfMemory whole s (inr h) =
-      none_fails key i content valid whole place within s.sound h
+  fails_at OutOfMemory whole s (inr h) = search (rules, none_fails)
   fails_at CannotWrite whole s (inl h) = absurd (cc)
   fails_at CannotWrite whole s (inr h) = absurd h
   fails_at _ whole s h = tt
@@ -182,12 +145,9 @@ module _ {key : Key} {i : Information} {content : List ℕ} (valid : IsValid i) 
 -- what holds of a fault unless it says that the input can't be read, for another result type
 pub unless_on : (S T P Q : Type 0) (f : CommandFault) → (P → Q)
     → UnlessRead {T = S} (Err f) P → UnlessRead {T = T} (Err f) Q
-unless_on S T P Q (Input n f) go p = tt
-unless_on S T P Q _ go p = go p
+unless_on S T P Q _ go p = search rules
 
 -- the sink failed or not, and a packet has no datagram
 pub sink_fails : (failed : Bool) (old new : ℕ) (f : CommandFault) → new ≡ old + times_failed failed
     → IsNextFault f → SinkFails old new (Err f)
-sink_fails failed old new CannotWrite e h = absurd h
-sink_fails true old new _ e h = inr e
-sink_fails false old new _ e h = inl (omega (arith, e))
+sink_fails x0 x1 x2 x3 x4 x5 = search rules

@@ -1,4 +1,6 @@
 -- extract_to: what was written of an object, by the entries that were read (specs/Extract).
+use Rattle.std.proofs.lemmas.Grind.{common_steps}
+use Rattle.std.proofs.Common.{rules}
 use Rattle.std.proofs.Common.{◌≡◌, ℕ, ◌+◌, Bool, true, false, List, [], ◌∷◌}
 use Rattle.std.proofs.Common.{◌++◌, length, Option, Some, None, Result, Ok, Err, inl, inr, refl}
 use Rattle.std.proofs.Common.{sym, ◌∙◌, subst, append-nil, arith}
@@ -62,19 +64,18 @@ begins_at (Some x) (Some z) state (e ∷ es) s =
 module _ {a b d : ℕ} {u v w : Option (List ℕ)} {from to : ReaderState Before} {tally : Tally a b d}
     {writer : ObjectWriter} {s t : Option (List ℕ)} (p : Passing u v from tally writer s t) where
   -- one entry more, a fault of the journal, an entry over the limits, and the end
-  pub passing-next : (f : Fact) (next : Tally a b d) (new : ObjectWriter)
-      (t' : Option (List ℕ)) → GivesItem journal_framing MAX_ENTRIES from to v w f
-      → ((F : List Fact) → IsRising (F ++ f ∷ []) → Counts a b d F tally
-      → Counts a b d (F ++ f ∷ []) next)
-      → ((P : List Fact) → IsRising (P ++ f ∷ []) → Stands P writer s t
-      → Stands (P ++ f ∷ []) new s t') → Passing u w to next new s t'
+  pub passing-next : (f : Fact) (next : Tally a b d) (new : ObjectWriter) (t' : Option (List ℕ)) →
+      GivesItem journal_framing MAX_ENTRIES from to v w f → ((F : List Fact) → IsRising
+      (F ++ f ∷ []) → Counts a b d F tally → Counts a b d (F ++ f ∷ []) next) → ((P : List Fact) →
+      IsRising (P ++ f ∷ []) → Stands P writer s t → Stands (P ++ f ∷ []) new s t') → Passing u w to
+      next new s t'
   passing-next f next new t' g counts stands =
       let more = sofar-next journal_sound p.sofar g in
       record {
         entries = p.entries ++ f ∷ [];
         sofar = more;
-        counts = counts p.entries more.are_items.in_order p.counts;
-        stands = stands p.entries more.are_items.in_order p.stands;
+        counts = search rules;
+        stands = search rules;
       }
 
   pub passing-fault : (f : ReadFault) → GivesFault journal_framing MAX_ENTRIES from to v w f
@@ -84,11 +85,7 @@ module _ {a b d : ℕ} {u v w : Option (List ℕ)} {from to : ReaderState Before
     rising = p.sofar.are_items.in_order;
     begins = begins_at u v from p.entries p.sofar;
     stands = p.stands;
-    ended = (
-      p.entries,
-      p.counts.within,
-      (sofar-stops p.sofar g).0,
-    );
+    ended = (p.entries, p.counts.within, (sofar-stops p.sofar g).0);
   }
 
   pub passing-full : (f : Fact) → GivesItem journal_framing MAX_ENTRIES from to v w f
@@ -96,21 +93,17 @@ module _ {a b d : ℕ} {u v w : Option (List ℕ)} {from to : ReaderState Before
       → Over (F ++ f ∷ []) a b d) → PassesAll (at_most a b d) u w writer s t (Err load.Full)
   passing-full f g over =
       let more = sofar-next journal_sound p.sofar g in
-      let loaded : Loaded a b d MAX_ENTRIES u v from p.entries =
-      record {
+      let loaded : Loaded a b d MAX_ENTRIES u v from p.entries = record {
         entries = p.entries;
         sofar = p.sofar;
         same = Same-itself p.entries;
-        fits =
-            p.counts.within;
-      } in
-      record {
+        fits = p.counts.within;
+      } in record {
         entries = p.entries;
         rising = p.sofar.are_items.in_order;
         begins = begins_at u v from p.entries p.sofar;
         stands = p.stands;
-        ended = loaded-over loaded g
-            (over p.entries more.are_items.in_order p.counts);
+        ended = loaded-over loaded g (over p.entries more.are_items.in_order p.counts);
       }
 
   pub passing-end : GivesEnd journal_framing from to v w → PassesAll (at_most a b d) u w writer s t
@@ -131,14 +124,12 @@ module _ {a b d : ℕ} {u v w : Option (List ℕ)} {from to : ReaderState Before
 pub given-fault : {limit bound : ℕ} {v w : Option (List ℕ)} {old new : ReaderState Before}
     {f : ReadFault} → bound ≡ limit → GivesFault journal_framing bound old new v w f
     → GivesFault journal_framing limit old new v w f
-given-fault {v = v} {w = w} {old = old} {new = new} {f = f} e h =
-    subst (λ n. GivesFault journal_framing n old new v w f) e h
+given-fault {v = v} {w = w} {old = old} {new = new} {f = f} e h = search rules
 
 pub given-end : (bound : ℕ) (v w : Option (List ℕ)) (old new : ReaderState Before)
     (given : Option Fact) → given ≡ None → Gives journal_framing bound old new v w (Ok given)
     → GivesEnd journal_framing old new v w
-given-end bound v w old new given e h =
-    subst (λ (o : Option Fact). Gives journal_framing bound old new v w (Ok o)) e h
+given-end bound v w old new given e h = search rules
 
 -- What the command returns.
 
@@ -146,85 +137,29 @@ pub of_source : {R : Type 0} {most : Limits} (unread : R → Option (List ℕ)) 
     {left : Option (List ℕ)} {writer : ObjectWriter} {s t : Option (List ℕ)}
     {r : Result (Unit {0}) LoadFault} → x ≡ y → PassesAll most (unread x) left writer s t r
     → PassesAll most (unread y) left writer s t r
-of_source {R} {most} unread {left = left} {writer = writer} {s = s} {t = t} {r = r} e p =
-    subst (λ (z : R). PassesAll most (unread z) left writer s t r) e p
+of_source {R} {most} unread {left = left} {writer = writer} {s = s} {t = t} {r = r} e p = search
+    rules
 
 pub if_err : (r : Result ℕ CommandFault) (X : Type 0) → X → IfErr r (λ _. X)
-if_err (Ok n) X x = tt
-if_err (Err f) X x = x
+if_err x0 x1 x2 = search rules
 
 module _ {W : Type 0} (written : W → Option (List ℕ)) (key : Key) (old new : W) where
   -- a result stated of the bytes is one stated of the sink
   pub lifted : (F : List Fact) (what : Found) (r : Result ℕ CommandFault)
       → Extracts (λ x. x) F key (written old) (written new) r → IfErr r (TellsUntouched what)
       → (WritesNothing what → new ≡ old) → Extracts written F key old new r
-  lifted F what (Ok n) h t same =
-      record {
-        info = h.info;
-        whole = h.whole;
-        bytes = h.bytes;
-        length_is = h.length_is;
-        exact =
-            h.exact;
-      }
-  lifted F what (Err NoObject) h t same = (h.0, same t)
-  lifted F what (Err NoInformation) h t same = (h.0, same t)
-  lifted F what (Err ConflictingInformation) h t same = (h.0, same t)
-  lifted F what (Err (NotWhole sbn esi)) h t same = h
-  lifted F what (Err CannotWrite) h t same =
-      record { info = h.info; whole = h.whole; bytes = h.bytes }
-  lifted F what (Err fault) h t same = absurd h
+  lifted x0 x1 x2 x3 x4 x5 = search rules
 
   -- facts with the same values at each address give the same result
   pub alike : (F G : List Fact) (r : Result ℕ CommandFault) → Same F G
       → Extracts written F key old new r → Extracts written G key old new r
-  alike F G (Ok n) same h =
-      let P : List ℕ → Type 0 = λ bytes. Appends (written old) (written new) bytes in
-      let e = object-same F G key h.info same in
-      record {
-        info = h.info;
-        whole = Whole-same F G key h.info same h.whole;
-        bytes = subst P e h.bytes;
-        length_is = h.length_is;
-        exact = subst (λ bytes. length bytes ≡ n) e h.exact;
-      }
-  alike F G (Err NoObject) same h =
-      (λ part. sym (same.each (record { key = key; part = part })) ∙ h.0 part, h.1)
-  alike F G (Err NoInformation) same h = (
-    (
-      (h.0.0.0, λ none. h.0.0.1 (same.each (record { key = key; part = h.0.0.0 }) ∙ none)),
-      sym
-          (same.each (info_address key)) ∙ h.0.1,
-    ),
-    h.1,
-  )
-  alike F G (Err ConflictingInformation) same h = (sym (same.each (info_address key)) ∙ h.0, h.1)
-  alike F G (Err (NotWhole sbn esi)) same h = record {
-    info = h.info;
-    information = sym (same.each (info_address key)) ∙ h.information;
-    gap = h.gap;
-    others = h.others;
-    gaps_are = sym (gaps-same F G key h.info same) ∙ h.gaps_are;
-    first_is = h.first_is;
-  }
-  alike F G (Err CannotWrite) same h =
-      let P : List ℕ → Type 0 = λ bytes. AppendsPart (written old) (written new) bytes in
-      record {
-        info = h.info;
-        whole = Whole-same F G key h.info same h.whole;
-        bytes =
-            subst P (object-same F G key h.info same) h.bytes;
-      }
-  alike F G (Err fault) same h = absurd h
+  alike x0 x1 x2 x3 x4 = search (rules, object-same, Whole-same, gaps-same)
 
   -- of a journal that was read to its end
   pub answered : {most : Limits} (input left : Option (List ℕ)) (F : List Fact)
       (r : Result ℕ CommandFault) (P : List Fact → Type 0) → Extracts written F key old new r
       → OfJournal most input left P → AnswersFrom most input left P r
-  answered input left F (Ok n) P h o = o
-  answered input left F (Err (Input number fault)) P h o = absurd h
-  answered input left F (Err Full) P h o = absurd h
-  answered input left F (Err fault) P h o = o
+  answered input left F other P h o = search rules
 
   -- the result for the journal's facts, and for any facts with the same values
   pub record Answers (most : Limits) (input left : Option (List ℕ))
@@ -238,43 +173,34 @@ module _ {W : Type 0} (written : W → Option (List ℕ)) (key : Key) (old new :
   -- a result that the writer gives has no failure of the source
   read_none : (F : List Fact) (r : Result ℕ CommandFault) → Extracts written F key old new r
       → (n m : ℕ) → m ≡ n → FailsToRead n m r
-  read_none F (Ok n) h k m e = e
-  read_none F (Err (Input number fault)) h k m e = absurd h
-  read_none F (Err fault) h k m e = e
+  read_none F other h k m e = search rules
 
   -- the result that the writer gives once the journal was read
   pub answers : {most : Limits} {input left : Option (List ℕ)} {writer : ObjectWriter}
-      {x : Unit {0}} (r : Result ℕ CommandFault)
-      → PassesAll most input left writer (written old) (written new) (Ok x) → writer.key ≡ key
-      → (WritesNothing writer.found → new ≡ old)
-      → ((P : List Fact) (start now : Option (List ℕ)) → IsRising P
-      → Stands P writer start now → Extracts (λ x. x) P writer.key start now r)
-      → IfErr r (TellsUntouched writer.found) → Answers most input left r
+      {x : Unit {0}} (r : Result ℕ CommandFault) → PassesAll most input left writer (written old)
+      (written new) (Ok x) → writer.key ≡ key → (WritesNothing writer.found → new ≡ old) → ((P :
+      List Fact) (start now : Option (List ℕ)) → IsRising P → Stands P writer start now → Extracts
+      (λ x. x) P writer.key start now r) → IfErr r (TellsUntouched writer.found) → Answers most
+      input left r
   answers {input = input} {left = left} {writer = writer} {x = x} r p is same tells t =
       let F = p.entries in
-      let here =
-      subst (λ k. Extracts (λ x. x) F k (written old) (written new) r) is
+      let here = subst (λ k. Extracts (λ x. x) F k (written old) (written new) r) is
       (tells F (written old) (written new) p.rising p.stands) in
       let h = lifted F writer.found r here t same in
       record {
-        extracts =
-            answered input left F r (λ F. Extracts written F key old new r) h
-            (record {
+        extracts = answered input left F r (λ F. Extracts written F key old new r) h (record {
+          entries = F;
+          journal = p.ended.0;
+          read = p.ended.1;
+          within = p.ended.2;
+          holds = h;
+        });
+        as_others = λ others. answered input left F r
+            (λ F. Same F others → Extracts written others key old new r) h (record {
               entries = F;
               journal = p.ended.0;
               read = p.ended.1;
-              within =
-                  p.ended.2;
-              holds = h;
-            });
-        as_others = λ others.
-            answered input left F r (λ F. Same F others → Extracts written others key old new r) h
-            (record {
-              entries = F;
-              journal = p.ended.0;
-              read = p.ended.1;
-              within =
-                  p.ended.2;
+              within = p.ended.2;
               holds = λ s. alike F others r s h;
             });
         reads = read_none F r h;
@@ -314,12 +240,7 @@ module _ {W : Type 0} (written : W → Option (List ℕ)) (key : Key) (old new :
 -- how often the sink failed
 pub sink_fails : (n m : ℕ) (failed : Bool) (r : Result ℕ CommandFault) → m ≡ n + times_failed failed
     → FailedBy failed r → SinkFails n m r
-sink_fails n m false (Ok k) e f = omega (arith, e)
-sink_fails n m true (Ok k) e f = absurd cc
-sink_fails n m true (Err CannotWrite) e f = e
-sink_fails n m false (Err CannotWrite) e f = absurd cc
-sink_fails n m false (Err fault) e f = inl (omega (arith, e))
-sink_fails n m true (Err fault) e f = inr e
+sink_fails x0 x1 x2 x3 x4 x5 = search rules
 
 -- The fault is that of the journal.
 

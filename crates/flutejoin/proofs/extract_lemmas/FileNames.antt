@@ -1,4 +1,7 @@
 -- extract --all: the file name of an object, piece by piece (specs/FileNames).
+use Rattle.std.proofs.Common.{arith}
+use Rattle.std.proofs.lemmas.Grind.{common_steps}
+use Rattle.std.proofs.Common.{rules}
 use Rattle.std.proofs.Common.{◌≡◌, ℕ, List, ◌++◌, codes, decimal, Some, ap, ◌∙◌}
 use Rattle.std.proofs.Common.{append_assoc}
 use Rattle.std.specs.Int.{bytes_high_first}
@@ -10,26 +13,16 @@ use Rattle.flute_parts.specs.declared.object_key.ObjectName.TheVariants.{File, I
 use Rattle.flutejoin.specs.FileNames.{file_name, object_name}
 
 four : (d a b e n : List ℕ) → (((d ++ a) ++ b) ++ e) ++ n ≡ d ++ (a ++ (b ++ (e ++ n)))
-four d a b e n =
-    append_assoc ((d ++ a) ++ b) e n ∙ append_assoc (d ++ a) b (e ++ n) ∙ append_assoc d a
-    (b ++ (e ++ n))
+four d a b e n = grind (arith, common_steps)
 
 pub name_pieces : (key : Key) {t1 t2 t3 t4 t5 digits : List ℕ} {tsi : ℕ}
     → digits ≡ encode_lower (bytes_high_first 16 key.session.sender) → tsi ≡ key.session.tsi
     → t1 ≡ digits → t2 ≡ t1 ++ codes "-" → t3 ≡ t2 ++ decimal tsi
     → t4 ≡ t3 ++ codes "-" → t5 ≡ t4 ++ object_name key.object → t5 ≡ file_name key
 unfolding file_name
-name_pieces key {digits = digits} {tsi = tsi} d s e1 e2 e3 e4 e5 =
-    e5
-    ∙ ap (λ x. x ++ object_name key.object) (e4 ∙ ap (λ x. x ++ codes "-")
-    (e3 ∙ ap (λ x. x ++ decimal tsi) (e2 ∙ ap (λ x. x ++ codes "-") e1)))
-    ∙ four digits (codes "-") (decimal tsi) (codes "-") (object_name key.object)
-    ∙ ap (λ x. x ++ (codes "-" ++ (decimal tsi ++ (codes "-" ++ object_name key.object)))) d
-    ∙ ap (λ x. encode_lower (bytes_high_first 16 key.session.sender) ++
-    (codes "-" ++ (decimal x ++ (codes "-" ++ object_name key.object)))) s
+name_pieces key {digits = digits} {tsi = tsi} d s e1 e2 e3 e4 e5 = search (rules, four)
 
 -- the words of an FDT Instance
 pub instance_name : (name : ObjectName) {i : ℕ} → instance_of name ≡ Some i
     → object_name name ≡ codes "fdt" ++ decimal i
-instance_name (Instance n) e = ap (λ x. codes "fdt" ++ decimal x) cc
-instance_name (File t) e = absurd cc
+instance_name x0 x1 = search rules

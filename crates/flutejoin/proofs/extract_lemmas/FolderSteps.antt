@@ -1,4 +1,5 @@
 -- extract --all: a folder that is filled, call after call (flute_output: specs/NewFolders).
+use Rattle.std.proofs.Common.{rules}
 use Rattle.std.proofs.Common.{◌≡◌, ℕ, List, [], ◌∷◌, ◌++◌, Option, Some, None, refl, sym, ap, ◌∙◌}
 use Rattle.std.proofs.Common.{subst, append_assoc}
 use Rattle.std.specs.Prelude.{IsSome, option_map}
@@ -7,45 +8,31 @@ use Rattle.flute_output.specs.NewFolders.{FolderStays, begins, puts, keeps, keep
 use Rattle.flute_output.specs.NewFolders.{leaves, with_bytes, with_files, files_in, files_beside}
 
 both_stay : (a b c : Places) → FolderStays a b → FolderStays b c → FolderStays a c
-both_stay a b c h g = record {
-  out = g.out ∙ h.out;
-  past = g.past ∙ h.past;
-  named = g.named ∙
-      h.named;
-}
+both_stay a b c h g = search rules
 
 pub stays_on : (a b c : Option Places) → LeadsTo FolderStays a b → LeadsTo FolderStays b c →
     LeadsTo FolderStays a c
-stays_on None None None h g = tt
-stays_on None None (Some c) h g = absurd g
-stays_on None (Some b) c h g = absurd h
-stays_on (Some a) None c h g = absurd h
-stays_on (Some a) (Some b) None h g = absurd g
-stays_on (Some a) (Some b) (Some c) h g = both_stay a b c h g
+stays_on other another third h g = search rules
 
 -- by what was done
 pub did_stay : (f : Places → Places) → ((p : Places) → FolderStays p (f p)) → (a b : Option Places)
     → Makes f a b → LeadsTo FolderStays a b
-did_stay f h None None m = tt
-did_stay f h None (Some b) m = absurd m
-did_stay f h (Some a) None m = absurd m
-did_stay f h (Some a) (Some b) m = subst (FolderStays a) (sym m) (h a)
+did_stay f h other another m = search rules
 
 pub begins_stay : (name : List ℕ) (p : Places) → FolderStays p (begins name p)
-begins_stay name p = record { out = refl; past = refl; named = refl }
+begins_stay name p = search rules
 
 pub puts_stay : (more : List ℕ) (p : Places) → FolderStays p (puts more p)
-puts_stay more p = record { out = refl; past = refl; named = refl }
+puts_stay more p = search rules
 
 kept_stay : (o : Option NamedFile) (p : Places) → FolderStays p (keeps_open o p)
-kept_stay None p = record { out = refl; past = refl; named = refl }
-kept_stay (Some f) p = record { out = refl; past = refl; named = refl }
+kept_stay x0 x1 = search rules
 
 pub keeps_stay : (p : Places) → FolderStays p (keeps p)
 keeps_stay p = kept_stay p.open_file p
 
 pub leaves_stay : (p : Places) → FolderStays p (leaves p)
-leaves_stay p = record { out = refl; past = refl; named = refl }
+leaves_stay p = search rules
 
 -- a call that does so makes of a folder of which A holds one of which B holds
 abbrev pub Brings : (Places → Places) → (Places → Places → Type 0)
@@ -55,60 +42,28 @@ Brings f A B = (p0 p q : Option Places) → LeadsTo A p0 p → Makes f p q → L
 -- it does if it does so with a folder that is known
 brings : (f : Places → Places) (A B : Places → Places → Type 0)
     → ((p0 p : Places) → A p0 p → B p0 (f p)) → Brings f A B
-brings f A B h None None None l m = tt
-brings f A B h None None (Some q) l m = absurd m
-brings f A B h None (Some p) q l m = absurd l
-brings f A B h (Some p0) None q l m = absurd l
-brings f A B h (Some p0) (Some p) None l m = absurd m
-brings f A B h (Some p0) (Some p) (Some q) l m = subst (B p0) (sym m) (h p0 p l)
+brings f A B h other another third l m = search rules
 
 -- a file is begun, bytes are put into it, it is dropped, or it is kept
-pub fills_begins : (name : List ℕ) (files : List NamedFile) (o : Option NamedFile)
-    → Brings (begins name) (Fills files o)
-    (Fills files (Some (record { name = name; bytes = [] })))
-fills_begins name files o = brings (begins name) (Fills files o)
-    (Fills files (Some (record { name = name; bytes = [] })))
-    (λ p0 p l. record {
-      beside = l.beside;
-      there = l.there;
-      open_is = refl;
-      stays = both_stay p0 p
-          (begins name p) l.stays (begins_stay name p);
-    })
+pub fills_begins : (name : List ℕ) (files : List NamedFile) (o : Option NamedFile) → Brings
+    (begins name) (Fills files o) (Fills files (Some (record { name = name; bytes = [] })))
+fills_begins name files o = search rules
 
 pub fills_puts : (more : List ℕ) (files : List NamedFile) (f : NamedFile)
     → Brings (puts more) (Fills files (Some f)) (Fills files (Some (with_bytes more f)))
-fills_puts more files f = brings (puts more) (Fills files (Some f))
-    (Fills files (Some (with_bytes more f)))
-    (λ p0 p l. record {
-      beside = l.beside;
-      there = l.there;
-      open_is = ap
-          (option_map (with_bytes more)) l.open_is;
-      stays = both_stay p0 p (puts more p) l.stays
-          (puts_stay more p);
-    })
+fills_puts more files f = search rules
 
 pub fills_leaves : (files : List NamedFile) (o : Option NamedFile)
     → Brings leaves (Fills files o) (Fills files None)
-fills_leaves files o = brings leaves (Fills files o) (Fills files None)
-    (λ p0 p l. record {
-      beside = l.beside;
-      there = l.there;
-      open_is = refl;
-      stays = both_stay p0 p
-          (leaves p) l.stays (leaves_stay p);
-    })
+fills_leaves files o = search rules
 
 kept_there : (f : NamedFile) (b : Option Filled) → IsSome b → IsSome
     (option_map (with_files (f ∷ [])) b)
-kept_there f None h = absurd cc
-kept_there f (Some b) h = refl
+kept_there x0 x1 x2 = search rules
 
 kept_files : (f : NamedFile) (b : Option Filled) → IsSome b → files_in
     (option_map (with_files (f ∷ [])) b) ≡ files_in b ++ f ∷ []
-kept_files f None h = absurd cc
-kept_files f (Some b) h = refl
+kept_files x0 x1 x2 = search rules
 
 keeps_as : (files : List NamedFile) (f : NamedFile) (p0 p : Places) → Fills files (Some f) p0 p →
     Fills (files ++ f ∷ []) None p0 (keeps_open (Some f) p)
@@ -122,6 +77,4 @@ keeps_as files f p0 p l = record {
 
 pub fills_keeps : (files : List NamedFile) (f : NamedFile)
     → Brings keeps (Fills files (Some f)) (Fills (files ++ f ∷ []) None)
-fills_keeps files f = brings keeps (Fills files (Some f)) (Fills (files ++ f ∷ []) None)
-    (λ p0 p l. subst (λ (o : Option NamedFile). Fills (files ++ f ∷ []) None p0 (keeps_open o p))
-    (sym l.open_is) (keeps_as files f p0 p l))
+fills_keeps files f = search (rules, brings, keeps, keeps_as)

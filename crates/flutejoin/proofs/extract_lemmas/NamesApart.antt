@@ -1,4 +1,6 @@
 -- extract --all: different objects have different file names (specs/FileNames).
+use Rattle.std.proofs.lemmas.Grind.{common_steps}
+use Rattle.std.proofs.Common.{rules}
 use Rattle.std.proofs.Common.{◌≡◌, ℕ, zero, suc, ◌<◌, ◌^◌, ◌*◌, ◌/◌, List, [], ◌∷◌, ◌++◌, length}
 use Rattle.std.proofs.Common.{codes, decimal, refl, sym, ap, ◌∙◌, subst, arith}
 use Rattle.std.specs.List.{AllByRecursion}
@@ -21,8 +23,7 @@ use Rattle.flutejoin.specs.FileNames.{IsKey, object_name, file_name}
 -- ---- senders
 
 byte_below : (k n : ℕ) → byte_at k n < 256
-byte_below zero n = omega arith
-byte_below (suc k) n = let m = n / 256 ^ suc k in omega arith
+byte_below x0 x1 = search rules
 
 bytes_are : (k n i : ℕ) → slice_index (bytes_high_first k n) i < 256
 bytes_are zero n i = omega arith
@@ -32,12 +33,11 @@ bytes_are (suc k) n (suc i) = bytes_are k n i
 senders_same : (a b : ℕ) → IsSender a → IsSender b → encode_lower (bytes_high_first 16 a) ≡
     encode_lower (bytes_high_first 16 b) → a ≡ b
 senders_same a b p q e =
-    let same : bytes_high_first 16 a ≡ bytes_high_first 16 b =
-    decode_of-same (encode_lower (bytes_high_first 16 b)) (bytes_high_first 16 a)
-    (bytes_high_first 16 b)
+    let same : bytes_high_first 16 a ≡ bytes_high_first 16 b = decode_of-same
+    (encode_lower (bytes_high_first 16 b)) (bytes_high_first 16 a) (bytes_high_first 16 b)
     (ap decode_of (sym e) ∙ decode_of-encode_lower (bytes_high_first 16 a) (bytes_are 16 a))
-    (decode_of-encode_lower (bytes_high_first 16 b) (bytes_are 16 b)) in
-    sym (big_number-reads_back 16 a [] p) ∙ ap (λ l. big_from 0 16 (l ++ [])) same ∙
+    (decode_of-encode_lower (bytes_high_first 16 b) (bytes_are 16 b)) in sym
+    (big_number-reads_back 16 a [] p) ∙ ap (λ l. big_from 0 16 (l ++ [])) same ∙
     big_number-reads_back 16 b [] q
 
 -- ---- numbers
@@ -98,13 +98,14 @@ small_tsi n h = omega (arith, h)
 
 objects_same : (a b : ObjectName) → IsObjectName a → IsObjectName b → object_name a ≡ object_name b
     → a ≡ b
-objects_same (File a) (File b) p q e = ap File (numbers_same a b (small_toi a p.1)
-    (small_toi b q.1) e)
-objects_same (Instance a) (Instance b) p q e = ap Instance
-    (numbers_same a b (small_instance a p) (small_instance b q)
-    (same_split (codes "fdt") (codes "fdt") (decimal a) (decimal b) refl e).1)
-objects_same (File a) (Instance b) p q e = absurd (not_fdt a _ (small_toi a p.1) e)
-objects_same (Instance a) (File b) p q e = absurd (not_fdt b _ (small_toi b q.1) (sym e))
+objects_same x0 x1 x2 x3 x4 = search (
+  rules,
+  numbers_same,
+  small_toi,
+  small_instance,
+  same_split,
+  not_fdt,
+)
 
 pub names_apart : (k l : Key) → IsKey k → IsKey l → file_name k ≡ file_name l → k ≡ l
 unfolding file_name

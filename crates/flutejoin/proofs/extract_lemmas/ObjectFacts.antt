@@ -1,4 +1,6 @@
 -- The facts of one object among the facts of a journal.
+use Rattle.std.proofs.lemmas.Grind.{common_steps}
+use Rattle.std.proofs.Common.{rules}
 use Rattle.std.proofs.Common.{◌≡◌, true, false, List, [], ◌∷◌, ◌++◌, Some, inl, inr}
 use Rattle.std.proofs.Common.{refl, sym, ap, ◌∙◌, subst, append_assoc, arith}
 use Rattle.std.specs.Prelude.{Contains, ◌==◌, ◌&&◌}
@@ -33,12 +35,12 @@ rising-back [] G r = r
 rising-back (f ∷ F) G r = rising-back F G r.1
 
 pub here : (P rest : List Fact) (f : Fact) → Contains (P ++ f ∷ rest) f
-here P rest f = Contains-append_right P (f ∷ rest) f (0, omega arith, refl)
+here P rest f = search (rules, Contains-append_right)
 
 -- what follows is one fact more and then the others
 pub settled-more : (P : List Fact) (f : Fact) (X : List Fact → Type 0) → Settled P X
     → Settled (P ++ f ∷ []) X
-settled-more P f X h = λ F rest e r. h F (f ∷ rest) (e ∙ append_assoc P (f ∷ []) rest) r
+settled-more P f X h = grind (arith, common_steps)
 
 others-none : (key : Key) (P : List Fact) → AllByRecursion (IsOther key) P → (f : Fact)
     → Member f P → (address f).key ≡ key → ⊥
@@ -49,51 +51,41 @@ others-none key (g ∷ P) h f (inr m) e = others-none key P h.1 f m e
 
 -- an object has no value at any address if all facts are of other objects
 pub unheard : (key : Key) (P : List Fact) → AllByRecursion (IsOther key) P → IsUnheard P key
-unheard key P h =
-    λ part. fact_at-none P _ (λ f c e.
-    others-none key P h f (Member-from P f c) (ap (λ (a : Address). a.key) e))
+unheard key P h = λ part. fact_at-none P _
+    (λ f c e. others-none key P h f (Member-from P f c) (ap (λ (a : Address). a.key) e))
 
 -- two values of its information were read, whatever follows
 pub conflict-told : (key : Key) (P : List Fact)
     → Settled (P ++ InfoConflict key ∷ []) (λ F. HasConflict F key)
-conflict-told key P = λ F rest e r.
-    rising_tells F (InfoConflict key) r
-    (subst (λ l. Contains l (InfoConflict key))
-    (sym (e ∙ append_assoc P (InfoConflict key ∷ []) rest))
+conflict-told key P = λ F rest e r. rising_tells F (InfoConflict key) r (subst
+    (λ l. Contains l (InfoConflict key)) (sym (e ∙ append_assoc P (InfoConflict key ∷ []) rest))
     (here P rest (InfoConflict key)))
 
 symbol-last : (key : Key) (id : SymbolId)
     → address_cmp (record { key = key; part = SymbolPart id }) (info_address key) ≡ Less → ⊥
-symbol-last key id e = go (key_cmp key key) (key_itself key) e
-  where
-    go : (o : Ordering) → is_eq o ≡ true → ordering_then o Greater ≡ Less → ⊥
-    go Less t e = false≢true t
-    go Equal t e = cc
-    go Greater t e = false≢true t
+symbol-last key id e = search rules
 
 not-here : {key : Key} (f : Fact) {id : SymbolId} (rest : List Fact) (g : Fact)
     → StandAfter (address f) rest → address f ≡ record { key = key; part = SymbolPart id }
     → address g ≡ info_address key → Member g (f ∷ rest) → ⊥
 unfolding Member
 not-here f {id = id} rest g after at same (inl s) = let e : SymbolPart id ≡ InfoPart =
-    ap (λ (a : Address). a.part) (sym at ∙ ap address (sym s) ∙ same) in cc
-not-here {key = key} f {id = id} rest g after at same (inr m) =
-    symbol-last key id (subst (λ a. address_cmp a (info_address key) ≡ Less) at
-    (subst (λ a. address_cmp (address f) a ≡ Less) same
-    (member-after (address f) g rest after m)))
+    search rules in cc
+not-here {key = key} f {id = id} rest g after at same (inr m) = symbol-last key id (subst
+    (λ a. address_cmp a (info_address key) ≡ Less) at
+    (subst (λ a. address_cmp (address f) a ≡ Less) same (member-after (address f) g rest after m)))
 
 -- a symbol was read before any information, and none can follow it
 pub symbol-told : (key : Key) (P : List Fact) (f : Fact) (id : SymbolId)
     → AllByRecursion (IsOther key) P → address f ≡ record { key = key; part = SymbolPart id }
     → Settled (P ++ f ∷ []) (λ F. LacksInformation F key)
-symbol-told key P f id others at = λ F rest e r.
-    let is : F ≡ P ++ f ∷ rest = e ∙ append_assoc P (f ∷ []) rest in
-    let told : fact_at F (address f) ≡ Some f =
-    rising_tells F f r (subst (λ l. Contains l f) (sym is) (here P rest f)) in
+symbol-told key P f id others at = λ F rest e r. let is : F ≡ P ++ f ∷ rest = e ∙ append_assoc P
+    (f ∷ []) rest in
+    let told : fact_at F (address f) ≡ Some f = rising_tells F f r
+    (subst (λ l. Contains l f) (sym is) (here P rest f)) in
     let after = (rising-back P (f ∷ rest) (subst IsRising is r)).0 in
-    let none : (g : Fact) → Contains F g → address g ≡ info_address key → ⊥ =
-    λ g c same.
-    elim (Contains-append_cases P (f ∷ rest) g (subst (λ l. Contains l g) is c)) [
+    let none : (g : Fact) → Contains F g → address g ≡ info_address key → ⊥ = λ g c same. elim
+    (Contains-append_cases P (f ∷ rest) g (subst (λ l. Contains l g) is c)) [
       | inl m ↦ others-none key P others g (Member-from P g m) (ap (λ (a : Address). a.key) same)
       | inr m ↦ not-here f rest g after at same (Member-from (f ∷ rest) g m)
     ] in (
@@ -136,14 +128,6 @@ information-once key P i f c e r =
     false≢true (sym (ap is_eq (subst (λ a. address_cmp a (address f) ≡ Less) e low)) ∙ same)
 
 -- keys that a test finds unequal are not equal
-pub not-same : (k l : Key) → false
-    ≡ (((k.session.sender == l.session.sender) && (k.session.tsi == l.session.tsi))
-    && eq_by_cmp object_cmp k.object l.object) → k ≡ l → ⊥
-not-same k l e s =
-    let Q : Key → Type 0 =
-    λ m. (((k.session.sender == m.session.sender) && (k.session.tsi == m.session.tsi))
-    && eq_by_cmp object_cmp k.object m.object) ≡ true in
-    false≢true
-    (e ∙ subst Q s
-    (both_true _ _ (both_true _ _ (eq-eqb k.session.sender _ refl)
-    (eq-eqb k.session.tsi _ refl)) (object_itself k.object)))
+pub not-same : (k l : Key) → false ≡ (((k.session.sender == l.session.sender) &&
+    (k.session.tsi == l.session.tsi)) && eq_by_cmp object_cmp k.object l.object) → k ≡ l → ⊥
+not-same k l e s = search rules

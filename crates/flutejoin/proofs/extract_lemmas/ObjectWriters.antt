@@ -1,4 +1,6 @@
 -- ObjectWriter: a writer of one object, fact by fact (specs/ObjectWriters).
+use Rattle.std.proofs.lemmas.Grind.{common_steps}
+use Rattle.std.proofs.Common.{rules}
 use Rattle.std.proofs.Common.{◌≡◌, ℕ, zero, suc, ◌-◌, Bool, true, false, List, [], ◌∷◌, ◌++◌}
 use Rattle.std.proofs.Common.{length, take, drop, Option, Some, None, inl, inr, refl, sym, ap, ◌∙◌}
 use Rattle.std.proofs.Common.{subst, append_assoc, append-nil, arith}
@@ -43,13 +45,9 @@ use Rattle.flutejoin.proofs.gaps_lemmas.ObjectsListed.{in_nothing}
 
 pub take-append : (n : ℕ) (xs ys : List ℕ) → take n (xs ++ ys) ≡ take n xs ++ take (n - length xs)
     ys
-take-append n [] ys = ap (λ l. l ++ take n ys) (sym (take-nil n)) ∙ ap
-    (λ k. take n [] ++ take k ys) (let e : n ≡ n - 0 = omega arith in e)
-take-append zero (x ∷ xs) ys = ap (λ k. take k ys) (let e : 0 ≡ 0 - length (x ∷ xs) = omega arith
-    in e)
-take-append (suc n) (x ∷ xs) ys = ap (λ l. x ∷ l) (take-append n xs ys) ∙ ap
-    (λ k. x ∷ take n xs ++ take k ys) (let e : n - length xs ≡ suc n - suc (length xs) = omega
-    arith in e)
+take-append n [] ys = grind (arith, common_steps)
+take-append zero (x ∷ xs) ys = grind (arith, common_steps)
+take-append (suc n) (x ∷ xs) ys = grind (arith, common_steps, take-append n xs ys)
 
 wrote-more : (P : List Fact) (f : Fact) (key : Key) (start now : Option (List ℕ)) → WroteFirst P
     key start now → WroteFirst (P ++ f ∷ []) key start now
@@ -63,8 +61,7 @@ wrote-more P f key start now w = record {
 
 pub told-at : (key : Key) (id : SymbolId) (value : Option (Bor (List ℕ))) → address
     (next_fact key (id, value)) ≡ symbol_address key id
-told-at key id (Some bytes) = refl
-told-at key id None = refl
+told-at x0 x1 x2 = search rules
 
 -- a fact of another object passes
 pub other-passes : (P : List Fact) (f : Fact) {key : Key} (failed : Bool)
@@ -106,7 +103,7 @@ module _ {P : List Fact} {key : Key} {failed : Bool} {start now : Option (List �
   begins_with = h.begins
 
   all_are : P ≡ h.before ++ (info_fact ∷ h.symbols ++ h.after)
-  all_are = h.all ∙ ap (λ l. h.before ++ (l ++ h.after)) begins_with
+  all_are = search rules
 
   has_information : Contains P info_fact
   has_information = subst (λ l. Contains l info_fact) (sym all_are)
@@ -123,11 +120,7 @@ module _ {P : List Fact} {key : Key} {failed : Bool} {start now : Option (List �
 
   all_before : (f : Fact) → h.after ≡ [] → (rest : List Fact) → (P ++ f ∷ []) ++ rest ≡ h.before ++
       (h.scanned.facts ++ f ∷ rest)
-  all_before f e rest =
-      append_assoc P (f ∷ []) rest ∙ ap (λ l. l ++ f ∷ rest)
-      (h.all ∙ ap (λ l. h.before ++ (h.scanned.facts ++ l)) e ∙ ap (λ l. h.before ++ l)
-      (append-nil h.scanned.facts))
-      ∙ append_assoc h.before h.scanned.facts (f ∷ rest)
+  all_before f e rest = grind (arith, common_steps)
 
   -- a prefix of it was written, whatever follows
   pub wrote-first : WroteFirst P key start now
@@ -176,13 +169,13 @@ module _ {P : List Fact} {key : Key} {failed : Bool} {start now : Option (List �
   module _ (n : SymbolId × Option (Bor (List ℕ))) (rises : IsRising (P ++ next_fact key n ∷ []))
     where
       told_key : (address (next_fact key n)).key ≡ key
-      told_key = ap (λ (a : Address). a.key) (told-at key n.0 n.1)
+      told_key = search rules
 
       none_between : h.after ≡ []
       none_between = nothing-after (next_fact key n) told_key rises
 
       told_same : next_fact h.scanned.key n ≡ next_fact key n
-      told_same = ap (λ k. next_fact k n) h.of_key
+      told_same = search rules
 
       pub next-rises : IsRising (h.scanned.facts ++ next_fact h.scanned.key n ∷ [])
       next-rises =
@@ -193,36 +186,23 @@ module _ {P : List Fact} {key : Key} {failed : Bool} {start now : Option (List �
           (rising-back h.before (h.scanned.facts ++ next_fact key n ∷ []) r)
 
       -- what is known of all that follows
-      pub settled-next : (first : SymbolId) → IfSome h.scanned.bytes
-          (λ bytes. (F : List Fact) → Follows h.scanned (Some n) F
-          → IsNotWhole F h.scanned.key first)
-          → Settled (P ++ next_fact key n ∷ []) (λ F. IsNotWhole F key first)
-      settled-next first k = λ F rest e r.
-          let Q : Option (List ℕ) → Type 0 = λ o. IfSome o
-          (λ bytes. (F : List Fact) → Follows h.scanned (Some n) F → IsNotWhole F h.scanned.key
-          first) in
-          subst (λ k. IsNotWhole F k first) h.of_key (subst Q h.values k F (record {
-            before = h.before;
-            rest = next_fact key n ∷ rest;
-            all = e ∙ all_before (next_fact key n) none_between rest;
-            rising = r;
-            come = (rest, ap (λ f. f ∷ rest) (sym told_same));
-          }))
+      pub settled-next : (first : SymbolId) → IfSome h.scanned.bytes (λ bytes. (F : List Fact) →
+          Follows h.scanned (Some n) F → IsNotWhole F h.scanned.key first) → Settled
+          (P ++ next_fact key n ∷ []) (λ F. IsNotWhole F key first)
+      settled-next first k = search (rules, all_before, none_between, told_same)
 
       pub wrote-next : WroteFirst (P ++ next_fact key n ∷ []) key start now
-      wrote-next = wrote-more P (next_fact key n) key start now wrote-first
+      wrote-next = search (rules, wrote-more, wrote-first)
 
       pub can-come : CanCome h.scanned (Some n)
-      can-come = subst (λ o. IfSome o (λ coming. coming ≡ coming_fact h.scanned.key (Some n)))
-          (sym h.free) tt
+      can-come = search rules
 
       -- the symbol was passed
       pub passed-next : {failed' : Bool} {now' : Option (List ℕ)} {new : WholeSoFar} {t : Scanned}
-          (more : List ℕ) → PassedNext h.scanned n (Some (h.bytes ++ more)) t
-          → Scans new.scan t → PartOf t → new.size ≡ part.size
-          → new.left ≡ part.left - length more
-          → PutsBytes failed failed' now now' (take part.left more)
-          → Scanning (P ++ next_fact key n ∷ []) key failed' start now' new
+          (more : List ℕ) → PassedNext h.scanned n (Some (h.bytes ++ more)) t → Scans new.scan t →
+          PartOf t → new.size ≡ part.size → new.left ≡ part.left - length more → PutsBytes failed
+          failed' now now' (take part.left more) → Scanning (P ++ next_fact key n ∷ []) key failed'
+          start now' new
       passed-next {failed' = failed'} {now' = now'} {t = t} more p scans first size left puts =
           record {
             scanned = t;
@@ -265,16 +245,12 @@ module _ {P : List Fact} {key : Key} {failed : Bool} {start now : Option (List �
       pub fits-next : (t : Scanned) (more : List ℕ) → PassedNext h.scanned n
           (option_map (λ bytes. bytes ++ value_of n) h.scanned.bytes) t → value_of n ≡ more
           → PassedNext h.scanned n (Some (h.bytes ++ more)) t
-      fits-next t more p e = subst (λ o. PassedNext h.scanned n o t)
-          (ap (option_map (λ bytes. bytes ++ value_of n)) h.values ∙ ap (λ m. Some (h.bytes ++ m))
-          e)
-          p
+      fits-next t more p e = search rules
 
       -- or nothing was
-      pub idle-next : {new : WholeSoFar} {t : Scanned}
-          → PassedNext h.scanned n h.scanned.bytes t →
-          Scans new.scan t → PartOf t → new.size ≡ part.size → new.left ≡ part.left
-          → Scanning (P ++ next_fact key n ∷ []) key failed start now new
+      pub idle-next : {new : WholeSoFar} {t : Scanned} → PassedNext h.scanned n h.scanned.bytes t →
+          Scans new.scan t → PartOf t → new.size ≡ part.size → new.left ≡ part.left → Scanning
+          (P ++ next_fact key n ∷ []) key failed start now new
       idle-next {t = t} p scans first size left =
           passed-next [] (subst (λ o. PassedNext h.scanned n o t)
           (h.values ∙ ap Some (sym (append-nil h.bytes))) p) scans first size
@@ -285,16 +261,12 @@ module _ {P : List Fact} {key : Key} {failed : Bool} {start now : Option (List �
           puts-nothing false = Appends-nil now
           puts-nothing true = Appends-nil now
 
-      pub idle-fits : {new : WholeSoFar} {t : Scanned} → value_of n ≡ []
-          → PassedNext h.scanned n
-          (option_map (λ bytes. bytes ++ value_of n) h.scanned.bytes) t → Scans new.scan t
-          → PartOf t
-          → new.size ≡ part.size → new.left ≡ part.left → Scanning (P ++ next_fact key n ∷ []) key
+      pub idle-fits : {new : WholeSoFar} {t : Scanned} → value_of n ≡ [] → PassedNext h.scanned n
+          (option_map (λ bytes. bytes ++ value_of n) h.scanned.bytes) t → Scans new.scan t → PartOf
+          t → new.size ≡ part.size → new.left ≡ part.left → Scanning (P ++ next_fact key n ∷ []) key
           failed start now new
-      idle-fits {t = t} e p scans first size left =
-          idle-next (subst (λ o. PassedNext h.scanned n o t)
-          (ap Some (append-nil h.bytes) ∙ sym h.values) (fits-next t [] p e)) scans first size
-          left
+      idle-fits {t = t} e p scans first size left = search (rules, idle-next, fits-next) steps
+          400000
 
   -- no symbol is left
   pub ended-whole : (t : Scanned) → IsRising P → t ≡ record h.scanned
@@ -330,22 +302,12 @@ module _ {P : List Fact} {key : Key} {failed : Bool} {start now : Option (List �
       none_left e o = subst (λ k. AllByRecursion (IsOther k) h.after) (sym e) o
 
   pub none-can-come : CanCome h.scanned None
-  none-can-come = subst (λ o. IfSome o (λ coming. coming ≡ coming_fact h.scanned.key None))
-      (sym h.free) tt
+  none-can-come = search rules
 
   pub ended-gap : (first : SymbolId) → IsRising P → IfSome h.scanned.bytes
       (λ bytes. (F : List Fact) → Follows h.scanned None F → IsNotWhole F h.scanned.key first) →
       IsNotWhole P key first
-  ended-gap first r k =
-      let Q : Option (List ℕ) → Type 0 = λ o. IfSome o (λ bytes. (F : List Fact) → Follows
-      h.scanned None F → IsNotWhole F h.scanned.key first) in
-      subst (λ k. IsNotWhole P k first) h.of_key (subst Q h.values k P (record {
-        before = h.before;
-        rest = h.after;
-        all = h.all;
-        rising = r;
-        come = subst (λ k. AllByRecursion (IsOther k) h.after) (sym h.of_key) h.others;
-      }))
+  ended-gap first r k = search rules
 
 -- of nothing, what comes next is a gap or the end
 pub ended-turn : (s t : Scanned) (turn : Turn) → ((gap : Gap) → turn ≡ turns.Gap gap → ⊥) → Turned
@@ -361,8 +323,7 @@ ended-turn s t turns.End gapless h = h
 pub wanted-turn : (s t : Scanned) (n : SymbolId × Option (Bor (List ℕ))) (turn : Turn) →
     (turn ≡ turns.Wanted) ⊎ (turn ≡ turns.End) → Turned s (Some n) turn t
     → IfSome s.bytes (λ bytes. (F : List Fact) → Follows s (Some n) F → IsNotWhole F s.key n.0)
-wanted-turn s t n turn (inl e) h = (subst (λ x. Turned s (Some n) x t) e h).1
-wanted-turn s t n turn (inr e) h = absurd (subst (λ x. Turned s (Some n) x t) e h)
+wanted-turn x0 x1 x2 x3 x4 x5 = search rules
 
 -- the next fact is at the address of the object's information
 pub record IsInformation (P : List Fact) (f : Fact) (key : Key) : Type 0 where
@@ -370,18 +331,15 @@ pub record IsInformation (P : List Fact) (f : Fact) (key : Key) : Type 0 where
   pub rising : IsRising (P ++ f ∷ [])
 
 -- so is a fact of its information
-pub of_information : {P : List Fact} {key : Key} (info : Option Information)
-    → IsRising (P ++ information_fact key info ∷ [])
-    → IsInformation P (information_fact key info) key
-of_information (Some info) r = record { at = refl; rising = r }
-of_information None r = record { at = refl; rising = r }
+pub of_information : {P : List Fact} {key : Key} (info : Option Information) → IsRising
+    (P ++ information_fact key info ∷ []) → IsInformation P (information_fact key info) key
+of_information x0 x1 = search rules
 
 -- the object may be whole, of which its information came
 pub whole-begins : (P : List Fact) {key : Key} {failed : Bool} {start now : Option (List ℕ)}
-    {info : Information} (part : WholeSoFar) → NoneWritten failed start now
-    → Scans part.scan (at_begin key info) → IsValid info → part.size ≡ info.transfer_length
-    → part.left ≡ info.transfer_length
-    → Scanning (P ++ Info key info ∷ []) key failed start now part
+    {info : Information} (part : WholeSoFar) → NoneWritten failed start now → Scans part.scan
+    (at_begin key info) → IsValid info → part.size ≡ info.transfer_length → part.left ≡
+    info.transfer_length → Scanning (P ++ Info key info ∷ []) key failed start now part
 whole-begins P {key = key} {start = start} {now = now} {info = info} part none scans valid size
     left = record {
       scanned = at_begin key info;
@@ -413,17 +371,15 @@ whole-begins P {key = key} {start = start} {now = now} {info = info} part none s
 
 -- its information is read at most once
 pub information-passes : {P : List Fact} {f : Fact} {key : Key} (failed : Bool)
-    (start now : Option (List ℕ)) {what : Found} → (what ≡ found.Nothing → ⊥)
-    → IsInformation P f key → HasFound P key failed start now what
-    → HasFound (P ++ f ∷ []) key failed start now what
+    (start now : Option (List ℕ)) {what : Found} → (what ≡ found.Nothing → ⊥) → IsInformation P f
+    key → HasFound P key failed start now what → HasFound (P ++ f ∷ []) key failed start now what
 information-passes failed start now {what = found.Nothing} some next h = absurd (some refl)
 information-passes {P = P} {f = f} failed start now {what = found.Symbols} some next h =
     (settled-more P f _ h.0, h.1)
 information-passes {P = P} {f = f} failed start now {what = found.Conflict} some next h =
     (settled-more P f _ h.0, h.1)
 information-passes {P = P} {f = f} {key = key} failed start now {what = found.NotWhole first} some
-    next h =
-    (settled-more P f _ h.0, wrote-more P f key start now h.1)
+    next h = search (rules, settled-more, wrote-more)
 information-passes {f = f} failed start now {what = found.Whole object} some next h =
     absurd (no-information h f next.at next.rising)
 
@@ -437,10 +393,8 @@ pub symbol-passes : (P : List Fact) (f : Fact) (key : Key) (failed : Bool)
     (start now : Option (List ℕ)) {what : Found} → IsKnown what
     → HasFound P key failed start now what → HasFound (P ++ f ∷ []) key failed start now what
 symbol-passes P f key failed start now {what = found.Nothing} is h = absurd (is.some refl)
-symbol-passes P f key failed start now {what = found.Symbols} is h =
-    (settled-more P f _ h.0, h.1)
-symbol-passes P f key failed start now {what = found.Conflict} is h =
-    (settled-more P f _ h.0, h.1)
+symbol-passes P f key failed start now {what = found.Symbols} is h = (settled-more P f _ h.0, h.1)
+symbol-passes P f key failed start now {what = found.Conflict} is h = (settled-more P f _ h.0, h.1)
 symbol-passes P f key failed start now {what = found.NotWhole first} is h =
     (settled-more P f _ h.0, wrote-more P f key start now h.1)
 symbol-passes P f key failed start now {what = found.Whole object} is h =
@@ -461,13 +415,4 @@ wrote-some P key failed start now (found.Whole object) h = inr (wrote-first h)
 pub whole-written : (P : List Fact) (key : Key) (start now : Option (List ℕ)) (part : WholeSoFar)
     (failed : Bool) → failed ≡ false → EndsScan P key failed start now part None
     → WritesWhole (λ x. x) P key start now part.size
-whole-written P key start now part true e h = absurd cc
-whole-written P key start now part false e h =
-    record {
-      info = h.0;
-      whole = h.1;
-      bytes = h.4;
-      length_is = h.2;
-      exact = object-length P key h.0
-          h.3 h.1 ∙ sym h.2;
-    }
+whole-written x0 x1 x2 x3 x4 x5 x6 x7 = search (rules, object-length)

@@ -1,4 +1,6 @@
 -- ClosedObjects: objects closed one after another, listed as a style says (specs/Listing).
+use Rattle.std.proofs.lemmas.Grind.{common_steps}
+use Rattle.std.proofs.Common.{rules}
 use Rattle.std.proofs.Common.{◌≡◌, ℕ, Bool, true, false, ◌&&◌, List, [], ◌∷◌, ◌++◌, Option, Some}
 use Rattle.std.proofs.Common.{None, Result, Ok, Err, if◌then◌else◌, refl, sym, ap, ◌∙◌, subst}
 use Rattle.std.proofs.Common.{arith}
@@ -42,42 +44,40 @@ use Rattle.flutejoin.proofs.gaps_lemmas.Sessions.{all_summed}
 
 module _ (style : Style) (objects : List Told) (t : Told) where
   one_told : is_told style t.status ≡ true → listed_by style (t ∷ []) ≡ t ∷ []
-  one_told e = ap (λ (b : Bool). if b then t ∷ [] else []) e
+  one_told e = search rules
 
   none_told : is_told style t.status ≡ false → listed_by style (t ∷ []) ≡ []
-  none_told e = ap (λ (b : Bool). if b then t ∷ [] else []) e
+  none_told e = search rules
 
   told_apart : listed_by style (objects ++ t ∷ [])
       ≡ listed_by style objects ++ listed_by style (t ∷ [])
-  told_apart = filter-append (λ (u : Told). is_told style u.status) objects (t ∷ [])
+  told_apart = search (rules, filter-append)
 
   pub told_more : is_told style t.status ≡ true
       → listed_by style (objects ++ t ∷ []) ≡ listed_by style objects ++ t ∷ []
-  told_more e = told_apart ∙ ap (λ l. listed_by style objects ++ l) (one_told e)
+  told_more e = search (rules, told_apart, one_told)
 
   pub told_same : is_told style t.status ≡ false
       → listed_by style (objects ++ t ∷ []) ≡ listed_by style objects
-  told_same e = told_apart ∙ ap (λ l. listed_by style objects ++ l) (none_told e)
-      ∙ append-nil (listed_by style objects)
+  told_same e = search (rules, told_apart, none_told)
 
 whole_more : (style : Style) (objects : List Told) (t : Told) (old whole : Bool)
     → is_told style t.status ≡ true → old ≡ are_whole style objects → whole ≡ is_whole t.status
     → (old && whole) ≡ are_whole style (objects ++ t ∷ [])
-whole_more style objects t old whole e o w =
-    let p : Told → Bool = λ u. is_whole u.status in
-    (λ i. o i && w i)
-    ∙ ap (λ b. are_whole style objects && b) (sym (and-true (is_whole t.status)))
-    ∙ sym (list_all-append p (listed_by style objects) (t ∷ []))
-    ∙ ap (list_all p) (sym (told_more style objects t e))
+whole_more style objects t old whole e o w = search (
+  rules,
+  is_whole,
+  and-true,
+  list_all-append,
+  told_more,
+)
 
 -- with a line for each session no gap has one
 none_shown : (style : Style) (gaps : List Gap) → style.summary ≡ true
     → flat_map (shown_gap style) gaps ≡ []
 none_shown style [] e = refl
 none_shown style (gap ∷ gaps) e =
-    let one : shown_gap style gap ≡ [] = ap (λ (b : Bool). if
-    (not b && (not style.conflicts || same_reason Conflicting gap.reason))
-    then gap_line gap else []) e in
+    let one : shown_gap style gap ≡ [] = search rules in
     λ i. one i ++ none_shown style gaps e i
 
 -- an object that is not listed
@@ -87,26 +87,14 @@ pub told_nothing : {known : Bool} {style : Style} {objects : List Told} {lines :
     → ArePut known style (objects ++ t ∷ []) (flat_map (shown_gap style) t.gaps) s closed
 told_nothing {known} {style} {objects} {lines} t {closed} {s} e stray h k =
     let same = told_same style objects t e in
-    let none : lines ≡ lines ++ flat_map (shown_gap style) t.gaps =
-    sym (append-nil lines) ∙ ap (λ l. lines ++ l) (sym (stray e)) in
-    record {
-      lines = lines;
-      lines_known = k;
-      are_closed = record {
-        all_whole = h.all_whole ∙ ap (list_all (λ (u : Told). is_whole u.status)) (sym same);
-        theirs = subst (λ l. AreTheirs style style.summary l
-            (lines ++ flat_map (shown_gap style) t.gaps) closed.sums) (sym same)
-            (subst (λ l. AreTheirs style style.summary (listed_by style objects) l closed.sums)
-            none h.theirs);
-      };
-    }
+    let none : lines ≡ lines ++ flat_map (shown_gap style) t.gaps = search rules in
+    record { lines = lines; lines_known = k; are_closed = search rules }
 
 -- what the sums were of
 pub are_summed : {style : Style} {objects : List Told} {lines : List ℕ} {closed : ClosedObjects}
     → style.summary ≡ true → AreClosed style objects lines closed
     → AreSummed (listed_by style objects) lines closed.sums
-are_summed {style} {objects} {lines} {closed} e h =
-    subst (λ b. AreTheirs style b (listed_by style objects) lines closed.sums) e h.theirs
+are_summed {style} {objects} {lines} {closed} e h = search rules
 
 -- the object is listed, and is whole or is not
 pub record IsListed (style : Style) (t : Told) (whole : Bool) : Type 0 where
@@ -122,46 +110,27 @@ pub told_summed : (known : Bool) {style : Style} {objects : List Told} {lines : 
     → OnOk r (ArePut known style (objects ++ t ∷ []) (flat_map (shown_gap style) t.gaps) s
     (record { all_whole = closed.all_whole && whole; sums = sums }))
 told_summed known sums s (Err x) y is h m = tt
-told_summed known {style} {objects} {lines} {t} {closed} {whole} sums s (Ok x) y is h m =
-    let gaps = flat_map (shown_gap style) t.gaps in
-    let more = told_more style objects t is.told in
-    let none : m.lines ≡ m.lines ++ gaps =
-    sym (append-nil m.lines) ∙ ap (λ l. m.lines ++ l) (sym (none_shown style t.gaps y)) in
-    record {
-      lines = m.lines;
-      lines_known = m.lines_known;
-      are_closed = record {
-        all_whole = whole_more style objects t closed.all_whole whole is.told h.all_whole
-            is.whole_is;
-        theirs = subst (λ b. AreTheirs style b (listed_by style (objects ++ t ∷ []))
-            (m.lines ++ gaps) sums) (sym y)
-            (subst (λ l. AreSummed l (m.lines ++ gaps) sums) (sym more)
-            (subst (λ l. AreSummed (listed_by style objects ++ t ∷ []) l sums) none m.summed));
-      };
-    }
+told_summed known {style} {objects} {lines} {t} {closed} {whole} sums s (Ok x) y is h m = search
+    (rules, told_more, none_shown, whole_more)
 
 -- or with a line of its own
 pub told_lined : {known : Bool} {style : Style} {objects : List Told} {lines : List ℕ} {t : Told}
     {closed : ClosedObjects} {whole : Bool} {s : Option (List ℕ)} (s' : Option (List ℕ))
-    (r : Result (Unit {0}) DeviceFault) → style.summary ≡ false → IsListed style t whole
-    → AreClosed style objects lines closed → Knows known s lines
-    → Writes s s' (status_line t.key t.status) r
-    → OnOk r (ArePut known style (objects ++ t ∷ []) (flat_map (shown_gap style) t.gaps) s'
+    (r : Result (Unit {0}) DeviceFault) → style.summary ≡ false → IsListed style t whole → AreClosed
+    style objects lines closed → Knows known s lines → Writes s s' (status_line t.key t.status) r →
+    OnOk r (ArePut known style (objects ++ t ∷ []) (flat_map (shown_gap style) t.gaps) s'
     (record { all_whole = closed.all_whole && whole; sums = closed.sums }))
 unfolding told_lines
 told_lined s' (Err x) n is h k a = tt
 told_lined {known} {style} {objects} {lines} {t} {closed} {whole} {s} s' (Ok x) n is h k a =
     let gaps = flat_map (shown_gap style) t.gaps in
     let line = status_line t.key t.status in
-    let old = subst (λ b. AreTheirs style b (listed_by style objects) lines closed.sums) n
-    h.theirs in
-    let all : (lines ++ line) ++ gaps
-    ≡ flat_map (told_lines style) (listed_by style (objects ++ t ∷ [])) =
-    append_assoc lines line gaps
-    ∙ ap (λ l. l ++ (line ++ gaps)) old.0
-    ∙ flat_map_more (told_lines style) [] (listed_by style objects) t
-    ∙ ap (flat_map (told_lines style)) (sym (told_more style objects t is.told)) in
-    record {
+    let old = subst (λ b. AreTheirs style b (listed_by style objects) lines closed.sums) n h.theirs
+    in
+    let all : (lines ++ line) ++ gaps ≡ flat_map (told_lines style)
+    (listed_by style (objects ++ t ∷ [])) = append_assoc lines line gaps ∙ ap
+    (λ l. l ++ (line ++ gaps)) old.0 ∙ flat_map_more (told_lines style) [] (listed_by style objects)
+    t ∙ ap (flat_map (told_lines style)) (sym (told_more style objects t is.told)) in record {
       lines = lines ++ line;
       lines_known = knows_more line k a;
       are_closed = record {
@@ -179,15 +148,7 @@ AreQuiet gaps = AllByRecursion (λ (g : Gap). same_reason Conflicting g.reason �
 
 quiet_before : (g : Gap) (gaps : List Gap) → same_reason Conflicting g.reason ≡ false
     → AreQuiet gaps → AreQuiet (before g gaps)
-quiet_before g [] q a = (q, tt)
-quiet_before g (h ∷ gaps) q a =
-    let P : Bool → Type 0 = λ b. AreQuiet
-    (if b then record h { first = g.first } ∷ gaps else (g ∷ h ∷ gaps)) in
-    let cases : (b : Bool) → P b = λ b. elim b as P [
-      | true ↦ a
-      | false ↦ (q, a)
-    ] in
-    cases (goes_on g h)
+quiet_before x0 x1 x2 x3 = search rules
 
 quiet_runs : (ws : List (SymbolId × Reason)) → how_many Conflicting ws ≡ 0 → AreQuiet (runs ws)
 unfolding how_many runs
@@ -195,85 +156,43 @@ quiet_runs [] e = tt
 quiet_runs (w ∷ ws) e =
     let p : SymbolId × Reason → Bool = λ v. same_reason Conflicting v.1 in
     let rest = filter p ws in
-    let P : Bool → Type 0 = λ b. p w ≡ b → length (if b then w ∷ rest else rest) ≡ 0
-    → AreQuiet (before (one w) (runs ws)) in
+    let P : Bool → Type 0 = λ b. p w ≡ b → length (if b then w ∷ rest else rest) ≡ 0 → AreQuiet
+    (before (one w) (runs ws)) in
     let cases : (b : Bool) → P b = λ b. elim b as P [
       | true ↦ λ is none. absurd (omega (arith, none))
       | false ↦ λ is none. quiet_before (one w) (runs ws) is (quiet_runs ws none)
-    ] in
-    cases (p w) refl e
+    ] in cases (p w) refl e
 
 none_quiet : (style : Style) (gaps : List Gap) → style.conflicts ≡ true → AreQuiet gaps
     → flat_map (shown_gap style) gaps ≡ []
 none_quiet style [] e a = refl
 none_quiet style (gap ∷ gaps) e a =
     let first : shown_gap style gap ≡ (if (not style.summary && false) then gap_line gap else []) =
-    λ i. if (not style.summary && (not (e i) || a.0 i)) then gap_line gap else [] in
-    let off : (b : Bool) → (if (b && false) then gap_line gap else []) ≡ [] = λ b. elim b as
-    (λ (x : Bool). (if (x && false) then gap_line gap else []) ≡ []) [
-      | true ↦ refl
-      | false ↦ refl
-    ] in
+    search rules in
+    let off : (b : Bool) → (if (b && false) then gap_line gap else []) ≡ [] = search rules in
     let one = first ∙ off (not style.summary) in
     λ i. one i ++ none_quiet style gaps e a.1 i
 
 no_conflict : (style : Style) (status : Status) → is_told style status ≡ false
     → (style.conflicts ≡ true) × (has_conflict status ≡ false)
-no_conflict style status e =
-    let P : Bool → Type 0 = λ b. style.conflicts ≡ b → (not b || has_conflict status) ≡ false
-    → (style.conflicts ≡ true) × (has_conflict status ≡ false) in
-    let cases : (b : Bool) → P b = λ b. elim b as P [
-      | true ↦ λ is none. (is, none)
-      | false ↦ λ is none. absurd (false≢true (sym none))
-    ] in
-    cases style.conflicts refl e
+no_conflict style status e = search rules
 
 quiet_wanting : (info : Information) (ws : List (SymbolId × Reason))
     → has_conflict (status_wanting info ws) ≡ false → how_many Conflicting ws ≡ 0
 unfolding how_many
-quiet_wanting info [] e = refl
-quiet_wanting info (w ∷ ws) e =
-    omega (arith, ltb-false 0 (how_many Conflicting (w ∷ ws)) e)
+quiet_wanting x0 x1 x2 = search rules
 
 -- an object that `--conflicts` doesn't list has no gap in conflict, so none is printed
 pub no_stray : (style : Style) (F : List Fact) (key : Key) → HasNoStray style (told_of F key)
-no_stray style F key e =
-    let n = no_conflict style (status_at F key (fact_at F (info_address key))) e in
-    let P : Option Fact → Type 0 = λ o. has_conflict (status_at F key o) ≡ false
-    → flat_map (shown_gap style) (gaps_at F key o) ≡ [] in
-    let cases : (o : Option Fact) → P o = λ o. elim o as P [
-      | None ↦ λ h. refl
-      | Some (Info k info) ↦ λ h. none_quiet style (runs (wants F key info)) n.0
-          (quiet_runs (wants F key info) (quiet_wanting info (wants F key info) h))
-      | Some (InfoConflict k) ↦ λ h. refl
-      | Some (Symbol k id b) ↦ λ h. refl
-      | Some (SymbolConflict k id) ↦ λ h. refl
-    ] in
-    cases (fact_at F (info_address key)) n.1
+no_stray style F key e = search (rules, no_conflict, none_quiet, runs, quiet_runs, quiet_wanting)
 
 -- all that is printed
 pub all_printed : (style : Style) (objects : List Told) (lines : List ℕ) (closed : ClosedObjects)
     → AreClosed style objects lines closed → lines ++ last_line closed.sums ≡ printed style objects
 unfolding printed
-all_printed style objects lines closed h =
-    let shown = listed_by style objects in
-    let P : Bool → Type 0 = λ b. AreTheirs style b shown lines closed.sums
-    → lines ++ last_line closed.sums
-    ≡ (if b then flat_map session_line (by_session shown) else flat_map (told_lines style) shown) in
-    let cases : (b : Bool) → P b = λ b. elim b as P [
-      | true ↦ λ a. all_summed shown lines closed.sums a
-      | false ↦ λ a. ap (λ (o : Option SessionSums). lines ++ last_line o) a.1 ∙ append-nil lines
-          ∙ a.0
-    ] in
-    cases style.summary h.theirs
+all_printed style objects lines closed h = search (rules, all_summed)
 
 -- no object
 pub none_closed : (style : Style) (closed : ClosedObjects) (lines : List ℕ)
     → closed.all_whole ≡ true → closed.sums ≡ None → lines ≡ [] → AreClosed style [] lines closed
-none_closed style closed lines w n e =
-    let P : Bool → Type 0 = λ b. AreTheirs style b [] lines closed.sums in
-    let cases : (b : Bool) → P b = λ b. elim b as P [
-      | true ↦ subst (λ (o : Option SessionSums). AreSummed [] lines o) (sym n) (refl, e)
-      | false ↦ (e, n)
-    ] in
-    record { all_whole = w; theirs = cases style.summary }
+none_closed style closed lines w n e = search rules

@@ -1,7 +1,7 @@
 -- gaps: what is reported of objects whose facts come in rising order (specs/Told).
 use Rattle.std.proofs.Common.{◌≡◌, List, [], ◌∷◌, ◌++◌, Option, Some, None, refl, sym, ap, ◌∙◌}
 use Rattle.std.proofs.Common.{subst, inl, inr, arith}
-use Rattle.std.specs.Prelude.{Contains, filter_map, map, option_map}
+use Rattle.std.specs.Prelude.{Contains, filter_map, flat_map, map, option_map, take}
 use Rattle.std.specs.List.{AllByRecursion}
 use Rattle.std.specs.List.Sorted.{IsStrictlySortedBy}
 use Rattle.std.specs.Ordering.{is_eq, ordering_then}
@@ -24,15 +24,17 @@ use Rattle.flute_parts.specs.declared.address.Part.TheVariants.{Info as InfoPart
 use Rattle.flute_parts.specs.declared.address.Part.TheVariants.{Symbol as SymbolPart}
 use Rattle.flute_parts.specs.declared.address.Address.{Address}
 use Rattle.flute_parts.specs.declared.key.Key.{Key}
+use Rattle.flute_parts.specs.declared.symbol_id.SymbolId.{SymbolId}
 use Rattle.flute_parts.specs.declared.fact.Fact.{Fact}
 use Rattle.flute_parts.specs.declared.fact.Fact.TheVariants.{Info, InfoConflict, Symbol}
 use Rattle.flute_parts.specs.declared.fact.Fact.TheVariants.{SymbolConflict}
 use Rattle.flute_parts.proofs.Public.{Contains-from, fact_at-append, fact_at-none}
 use Rattle.flute_parts.proofs.Public.{fact_at-some_named, joined, joined-none, key-before, Member}
 use Rattle.flute_parts.proofs.Public.{member-after, Member-from, none-at, tied}
-use Rattle.flute_store.specs.Objects.{want, wants, runs}
+use Rattle.flute_store.specs.declared.gap.Reason.{Reason}
+use Rattle.flute_store.specs.Objects.{want, wants, runs, value_bytes, object as object_of}
 use Rattle.flute_store.specs.Held.{HoldsObject}
-use Rattle.flutejoin.specs.Objects.{status_wanting, status_at, gaps_at}
+use Rattle.flutejoin.specs.Objects.{bytes_at, bytes_wanting, gaps_at, status_at, status_wanting}
 use Rattle.flutejoin.specs.Told.{AreTold, Told, told_of}
 use Rattle.flutejoin.specs.Listing.{IsFirstOf}
 
@@ -62,6 +64,24 @@ module _ (F G : List Fact) (key : Key) (same : (part : Part) → fact_at F
   gaps_same (Some (Symbol k id b)) = refl
   gaps_same (Some (SymbolConflict k id)) = refl
 
+  object_same : (info : Information) → object_of F key info ≡ object_of G key info
+  unfolding object_of
+  object_same info = λ i. take info.transfer_length
+      (flat_map (λ id. value_bytes (same (SymbolPart id) i)) (ids info))
+
+  wanting_same : (info : Information) (ws : List (SymbolId × Reason))
+      → bytes_wanting F key info ws ≡ bytes_wanting G key info ws
+  wanting_same info [] = ap Some (object_same info)
+  wanting_same info (w ∷ ws) = refl
+
+  bytes_same : (o : Option Fact) → bytes_at F key o ≡ bytes_at G key o
+  bytes_same None = refl
+  bytes_same (Some (Info k info)) =
+      wanting_same info (wants F key info) ∙ ap (bytes_wanting G key info) (wants_same info)
+  bytes_same (Some (InfoConflict k)) = refl
+  bytes_same (Some (Symbol k id b)) = refl
+  bytes_same (Some (SymbolConflict k id)) = refl
+
   told_same : told_of F key ≡ told_of G key
   told_same =
       let status : status_at F key (fact_at F (info_address key)) ≡ status_at G key
@@ -70,7 +90,10 @@ module _ (F G : List Fact) (key : Key) (same : (part : Part) → fact_at F
       let gaps : gaps_at F key (fact_at F (info_address key)) ≡ gaps_at G key
       (fact_at G (info_address key)) = gaps_same (fact_at F (info_address key)) ∙ ap
       (gaps_at G key) (same InfoPart) in
-      λ i. record { key = key; status = status i; gaps = gaps i }
+      let bytes : bytes_at F key (fact_at F (info_address key)) ≡ bytes_at G key
+      (fact_at G (info_address key)) = bytes_same (fact_at F (info_address key)) ∙ ap
+      (bytes_at G key) (same InfoPart) in
+      λ i. record { key = key; status = status i; gaps = gaps i; bytes = bytes i }
 
 -- ---- which objects facts are of
 

@@ -1,4 +1,6 @@
 -- gaps --summary: objects cut by their sessions, and the sums of each session (specs/Sums).
+use Rattle.std.proofs.lemmas.Grind.{common_steps}
+use Rattle.std.proofs.Common.{rules}
 use Rattle.std.proofs.Common.{◌≡◌, ◌≤◌, ◌+◌, ℕ, Bool, true, false, List, [], ◌∷◌, ◌++◌}
 use Rattle.std.proofs.Common.{Option, Some, None, if◌then◌else◌, refl, sym, ap, ◌∙◌, subst, arith}
 use Rattle.std.proofs.Common.{append_assoc, append-nil}
@@ -28,21 +30,14 @@ abbrev AreOf : Session → List Told → Type 0
 AreOf s ts = AllByRecursion (λ (t : Told). t.key.session ≡ s) ts
 
 same_true : (a b : Session) → a ≡ b → same_session a b ≡ true
-same_true a b e = subst (λ x. same_session a x ≡ true) e (session_itself a)
+same_true a b e = search rules
 
 other_false : (a b : Session) → (a ≡ b → ⊥) → same_session a b ≡ false
-other_false a b h =
-    let cases : (x : Bool) → same_session a b ≡ x → same_session a b ≡ false = λ x e. elim x as
-    (λ y. same_session a b ≡ y → same_session a b ≡ false) [
-      | true ↦ λ e. absurd (h (session_same a b e))
-      | false ↦ λ e. e
-    ] e in
-    cases (same_session a b) refl
+other_false a b h = search rules
 
 of_more : (s : Session) (ts : List Told) (t : Told) → AreOf s ts → t.key.session ≡ s
     → AreOf s (ts ++ t ∷ [])
-of_more s [] t a e = (e, tt)
-of_more s (u ∷ ts) t a e = (a.0, of_more s ts t a.1 e)
+of_more x0 x1 x2 x3 x4 = grind (arith, common_steps)
 
 -- the parts of objects begin with the first of these
 pub record Begins (t : Told) (ts : List Told) : Type 0 where
@@ -59,8 +54,7 @@ in_front_begins t ((u, us) ∷ parts) =
     let cases : (b : Bool) → P b = λ b. elim b as P [
       | true ↦ (u ∷ us, (parts, refl))
       | false ↦ ([], ((u, us) ∷ parts, refl))
-    ] in
-    cases (same_session t.key.session u.key.session)
+    ] in cases (same_session t.key.session u.key.session)
 
 begins : (t : Told) (ts : List Told) → Begins t ts
 unfolding by_session
@@ -71,15 +65,7 @@ begins t ts =
 -- what follows a part stays as it is
 in_front_before : (t : Told) (p : Told × List Told) (parts more : Parts)
     → in_front t ((p ∷ parts) ++ more) ≡ in_front t (p ∷ parts) ++ more
-in_front_before t (u, us) parts more =
-    let P : Bool → Type 0 = λ b.
-    (if b then (t, u ∷ us) ∷ (parts ++ more) else ((t, []) ∷ (u, us) ∷ (parts ++ more)))
-    ≡ (if b then (t, u ∷ us) ∷ parts else ((t, []) ∷ (u, us) ∷ parts)) ++ more in
-    let cases : (b : Bool) → P b = λ b. elim b as P [
-      | true ↦ refl
-      | false ↦ refl
-    ] in
-    cases (same_session t.key.session u.key.session)
+in_front_before x0 x1 x2 x3 = search rules
 
 -- objects of one session are one part
 pub one_part : (t : Told) (ts : List Told) → AreOf t.key.session ts
@@ -87,53 +73,35 @@ pub one_part : (t : Told) (ts : List Told) → AreOf t.key.session ts
 unfolding by_session
 one_part t [] a = refl
 one_part t (u ∷ us) a =
-    let of_u : (xs : List Told) → AreOf t.key.session xs → AreOf u.key.session xs =
-    λ xs. subst (λ s. AreOf s xs) (sym a.0) in
+    let of_u : (xs : List Told) → AreOf t.key.session xs → AreOf u.key.session xs = λ xs. subst
+    (λ s. AreOf s xs) (sym a.0) in
     let rest : by_session (u ∷ us) ≡ (u, us) ∷ [] = one_part u us (of_u us a.1) in
-    let same : same_session t.key.session u.key.session ≡ true =
-    same_true t.key.session u.key.session (sym a.0) in
-    ap (in_front t) rest
-    ∙ ap (λ (b : Bool). if b then (t, u ∷ us) ∷ [] else ((t, []) ∷ (u, us) ∷ [])) same
+    let same : same_session t.key.session u.key.session ≡ true = search rules in
+    ap (in_front t) rest ∙ ap
+    (λ (b : Bool). if b then (t, u ∷ us) ∷ [] else ((t, []) ∷ (u, us) ∷ [])) same
 
 -- objects of another session begin a part
 pub next_part : (s : Session) (t : Told) (ts : List Told) (next : Told) (more : List Told)
     → t.key.session ≡ s → AreOf s ts → (next.key.session ≡ s → ⊥)
     → by_session ((t ∷ ts) ++ next ∷ more) ≡ by_session (t ∷ ts) ++ by_session (next ∷ more)
 unfolding by_session
-next_part s t [] next more e a h =
-    let b = begins next more in
-    let apart : same_session t.key.session next.key.session ≡ false =
-    other_false t.key.session next.key.session (λ x. h (sym x ∙ e)) in
-    ap (in_front t) b.are
-    ∙ ap (λ (x : Bool). if x then (t, next ∷ b.others) ∷ b.parts
-    else ((t, []) ∷ (next, b.others) ∷ b.parts)) apart
-    ∙ ap (λ l. (t, []) ∷ l) (sym b.are)
-next_part s t (u ∷ us) next more e a h =
-    let b = begins u us in
-    let rest = next_part s u us next more a.0 a.1 h in
-    ap (in_front t) (rest ∙ ap (λ l. l ++ by_session (next ∷ more)) b.are)
-    ∙ in_front_before t (u, b.others) b.parts (by_session (next ∷ more))
-    ∙ ap (λ l. in_front t l ++ by_session (next ∷ more)) (sym b.are)
+next_part s t [] next more e a h = search rules
+next_part s t (u ∷ us) next more e a h = search (rules, next_part s u us next more a.0 a.1 h) steps
+    400000
 
 -- and those before stay as they are
-pub apart_from : (before : List Told) (t : Told) (ts : List Told) (next : Told) (more : List Told)
-    → AreOf t.key.session ts → (next.key.session ≡ t.key.session → ⊥)
-    → by_session ((before ++ t ∷ ts) ++ next ∷ more)
-    ≡ by_session (before ++ t ∷ ts) ++ by_session (next ∷ more)
+pub apart_from : (before : List Told) (t : Told) (ts : List Told) (next : Told) (more : List Told) →
+    AreOf t.key.session ts → (next.key.session ≡ t.key.session → ⊥) → by_session
+    ((before ++ t ∷ ts) ++ next ∷ more) ≡ by_session (before ++ t ∷ ts) ++ by_session (next ∷ more)
 unfolding by_session
 apart_from [] t ts next more a h = next_part t.key.session t ts next more refl a h
-apart_from (u ∷ []) t ts next more a h =
-    let b = begins t ts in
-    ap (in_front u) (apart_from [] t ts next more a h
-    ∙ ap (λ l. l ++ by_session (next ∷ more)) b.are)
-    ∙ in_front_before u (t, b.others) b.parts (by_session (next ∷ more))
-    ∙ ap (λ l. in_front u l ++ by_session (next ∷ more)) (sym b.are)
-apart_from (u ∷ v ∷ before) t ts next more a h =
-    let b = begins v (before ++ t ∷ ts) in
-    ap (in_front u) (apart_from (v ∷ before) t ts next more a h
-    ∙ ap (λ l. l ++ by_session (next ∷ more)) b.are)
-    ∙ in_front_before u (v, b.others) b.parts (by_session (next ∷ more))
-    ∙ ap (λ l. in_front u l ++ by_session (next ∷ more)) (sym b.are)
+apart_from (u ∷ []) t ts next more a h = search (rules, apart_from [] t ts next more a h) steps
+    400000
+apart_from (u ∷ v ∷ before) t ts next more a h = search (
+  rules,
+  apart_from (v ∷ before) t ts next
+      more a h,
+)
 
 -- ---- sums
 
@@ -142,42 +110,19 @@ sum_one f t = omega arith
 
 sum_more : (f : Told → ℕ) (ts : List Told) (t : Told) (old new : ℕ) → old ≡ sum_by f ts
     → new ≡ old + f t → new ≡ sum_by f (ts ++ t ∷ [])
-sum_more f ts t old new o n =
-    n ∙ ap (λ x. x + f t) o ∙ ap (λ x. sum_by f ts + x) (sym (sum_one f t))
-    ∙ sym (sum_by-append f ts (t ∷ []))
+sum_more f ts t old new o n = search (rules, sum_one, sum_by-append)
 
 -- the sums of the first object of a session
 pub sums_one : (t : Told) (none sums : SessionSums) → IsNone t.key.session none
     → AddsObject t.status none sums → sums ≡ sums_of t []
-sums_one t none sums n a =
-    let session : sums.session ≡ t.key.session = a.session ∙ n.session_is in
-    let one : (f : Told → ℕ) (old new : ℕ) → old ≡ 0 → new ≡ old + f t
-    → new ≡ sum_by f (t ∷ []) = λ f old new o m. sum_more f [] t old new o m in
-    let objects = one (λ u. 1) none.objects sums.objects n.objects a.objects in
-    let whole = one (λ u. whole_in u.status) none.whole sums.whole n.whole a.whole in
-    let partial = one (λ u. partial_in u.status) none.partial sums.partial n.partial a.partial in
-    let missing = one (λ u. missing_in u.status) none.missing sums.missing n.missing a.missing in
-    let conflicting = one (λ u. conflicting_in u.status) none.conflicting sums.conflicting
-    n.conflicting a.conflicting in
-    let misfit = one (λ u. misfit_in u.status) none.misfit sums.misfit n.misfit a.misfit in
-    let unknown = one (λ u. unknown_in u.status) none.unknown sums.unknown n.unknown a.unknown in
-    λ i. record {
-      session = session i;
-      objects = objects i;
-      whole = whole i;
-      partial = partial i;
-      missing = missing i;
-      conflicting = conflicting i;
-      misfit = misfit i;
-      unknown = unknown i;
-    }
+sums_one t none sums n a = search rules
 
 -- and of one more
 pub sums_more : (t : Told) (ts : List Told) (u : Told) (old sums : SessionSums)
     → old ≡ sums_of t ts → AddsObject u.status old sums → sums ≡ sums_of t (ts ++ u ∷ [])
 sums_more t ts u old sums o a =
-    let more : (f : Told → ℕ) (x new : ℕ) → x ≡ sum_by f (t ∷ ts) → new ≡ x + f u
-    → new ≡ sum_by f (t ∷ (ts ++ u ∷ [])) = λ f x new e n. sum_more f (t ∷ ts) u x new e n in
+    let more : (f : Told → ℕ) (x new : ℕ) → x ≡ sum_by f (t ∷ ts) → new ≡ x + f u → new ≡ sum_by f
+    (t ∷ (ts ++ u ∷ [])) = λ f x new e n. sum_more f (t ∷ ts) u x new e n in
     let session : sums.session ≡ t.key.session = a.session ∙ ap (λ (s : SessionSums). s.session) o
     in
     let objects = more (λ u. 1) old.objects sums.objects (ap (λ (s : SessionSums). s.objects) o)
@@ -193,8 +138,7 @@ sums_more t ts u old sums o a =
     let misfit = more (λ u. misfit_in u.status) old.misfit sums.misfit
     (ap (λ (s : SessionSums). s.misfit) o) a.misfit in
     let unknown = more (λ u. unknown_in u.status) old.unknown sums.unknown
-    (ap (λ (s : SessionSums). s.unknown) o) a.unknown in
-    λ i. record {
+    (ap (λ (s : SessionSums). s.unknown) o) a.unknown in λ i. record {
       session = session i;
       objects = objects i;
       whole = whole i;
@@ -210,16 +154,7 @@ sums_more t ts u old sums o a =
 pub first_summed : (objects : List Told) (lines : List ℕ) (t : Told) (sums : SessionSums)
     → objects ≡ [] → lines ≡ [] → sums ≡ sums_of t [] → HasSums (objects ++ t ∷ []) lines sums
 unfolding by_session
-first_summed objects lines t sums e n s = record {
-  before = [];
-  first = t;
-  others = [];
-  all = ap (λ l. l ++ t ∷ []) e;
-  same = tt;
-  apart = λ more. refl;
-  lines_are = n;
-  sums_are = s;
-}
+first_summed objects lines t sums e n s = search rules
 
 pub more_summed : (objects : List Told) (lines : List ℕ) (t : Told) (old sums : SessionSums)
     → HasSums objects lines old → old.session ≡ t.key.session → AddsObject t.status old sums
@@ -237,22 +172,10 @@ more_summed objects lines t old sums h e a = record {
 }
 
 -- the lines of all sessions
-pub all_summed : (objects : List Told) (lines : List ℕ) (sums : Option SessionSums)
-    → AreSummed objects lines sums
-    → lines ++ last_line sums ≡ flat_map session_line (by_session objects)
+pub all_summed : (objects : List Told) (lines : List ℕ) (sums : Option SessionSums) → AreSummed
+    objects lines sums → lines ++ last_line sums ≡ flat_map session_line (by_session objects)
 unfolding by_session
-all_summed objects lines None h =
-    append-nil lines ∙ h.1 ∙ ap (λ l. flat_map session_line (by_session l)) (sym h.0)
-all_summed objects lines (Some sums) h =
-    let part : by_session (h.first ∷ h.others) ≡ (h.first, h.others) ∷ [] =
-    one_part h.first h.others h.same in
-    let own : sums_line sums ≡ flat_map session_line ((h.first, h.others) ∷ []) =
-    ap sums_line h.sums_are ∙ sym (append-nil (sums_line (sums_of h.first h.others))) in
-    (λ i. h.lines_are i ++ own i)
-    ∙ sym (flat_map-append session_line (by_session h.before) ((h.first, h.others) ∷ []))
-    ∙ ap (λ l. flat_map session_line (by_session h.before ++ l)) (sym part)
-    ∙ ap (flat_map session_line) (sym (h.apart h.others))
-    ∙ ap (λ l. flat_map session_line (by_session l)) (sym h.all)
+all_summed x0 x1 x2 x3 = search (rules, one_part, flat_map-append)
 
 -- an object of the next session
 pub next_summed : (objects : List Told) (lines : List ℕ) (t : Told) (old sums : SessionSums)
@@ -275,36 +198,21 @@ next_summed objects lines t old sums h apart s = record {
 -- ---- how large they are
 
 pub within_more : (m n : ℕ) (sums : SessionSums) → m ≤ n → AreWithin m sums → AreWithin n sums
-within_more m n sums l h = record {
-  objects = omega (arith, l, h.objects);
-  whole = omega (arith, l, h.whole);
-  partial = omega (arith, l, h.partial);
-  missing = omega (arith, l, h.missing);
-  conflicting = omega (arith, l, h.conflicting);
-  misfit = omega (arith, l, h.misfit);
-  unknown = omega (arith, l, h.unknown);
-}
+within_more m n sums l h = search rules
 
 pub few_more : (m n : ℕ) (sums : Option SessionSums) → m ≤ n → AreFew m sums → AreFew n sums
-few_more m n None l h = tt
-few_more m n (Some sums) l h = within_more m n sums l h
+few_more x0 x1 x2 x3 x4 = search rules
 
 -- ---- and what was put aside
 
 abbrev pub IsOfOthers : Session → Option SessionSums → Type 0
 IsOfOthers session old = IfSome old (λ (sums : SessionSums). sums.session ≡ session → ⊥)
 
-begun_sums : (objects : List Told) (lines : List ℕ) (t : Told) (old new : Option SessionSums)
-    → AreSummed objects lines old → IsOfOthers t.key.session old
-    → BeginsSession t.key.session t.status new
-    → AreSummed (objects ++ t ∷ []) (lines ++ last_line old) new
-begun_sums objects lines t None None h o b = absurd b
-begun_sums objects lines t (Some old) None h o b = absurd b
-begun_sums objects lines t None (Some sums) h o b =
-    first_summed objects (lines ++ []) t sums h.0 (append-nil lines ∙ h.1)
-    (sums_one t b.1.0 sums b.1.1 b.1.2)
-begun_sums objects lines t (Some old) (Some sums) h o b =
-    next_summed objects lines t old sums h o (sums_one t b.1.0 sums b.1.1 b.1.2)
+begun_sums : (objects : List Told) (lines : List ℕ) (t : Told) (old new : Option SessionSums) →
+    AreSummed objects lines old → IsOfOthers t.key.session old → BeginsSession t.key.session
+    t.status new → AreSummed (objects ++ t ∷ []) (lines ++ last_line old) new
+begun_sums x0 x1 x2 x3 x4 x5 x6 x7 = search (rules, first_summed, sums_one, next_summed) steps
+    400000
 
 pub begun_known : {known : Bool} (objects : List Told) {lines : List ℕ} (t : Told)
     (old : Option SessionSums) {new : Option SessionSums} {s s' : Option (List ℕ)}
@@ -321,8 +229,5 @@ pub more_known : {known : Bool} {objects : List Told} {lines : List ℕ} (t : To
     {old sums : SessionSums} {s : Option (List ℕ)} → HasSums objects lines old
     → old.session ≡ t.key.session → AddsObject t.status old sums → Knows known s lines
     → AreSummedUp known (objects ++ t ∷ []) s (Some sums)
-more_known {known} {objects} {lines} t {old} {sums} {s} h e a k = record {
-  lines = lines;
-  lines_known = k;
-  summed = more_summed objects lines t old sums h e a;
-}
+more_known {known} {objects} {lines} t {old} {sums} {s} h e a k = search (rules, more_summed) steps
+    400000

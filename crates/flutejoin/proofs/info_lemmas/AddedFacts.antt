@@ -1,4 +1,6 @@
 -- info: the join of a journal with facts in memory, and its faults (specs/Info).
+use Rattle.std.proofs.lemmas.Grind.{common_steps}
+use Rattle.std.proofs.Common.{rules}
 use Rattle.std.proofs.Common.{◌≡◌, ℕ, zero, suc, ◌+◌, Bool, true, false, List, [], ◌∷◌, ◌++◌}
 use Rattle.std.proofs.Common.{Option, Some, None, Result, Ok, Err, refl, sym, subst, arith}
 use Rattle.std.proofs.Common.{append-nil}
@@ -37,24 +39,14 @@ use Rattle.flutejoin.specs.Status.{of_load}
 
 if_some : (o : Option (List ℕ)) (P Q : List ℕ → Type 0) → ((x : List ℕ) → P x → Q x) → IfSome o P
     → IfSome o Q
-if_some None P Q f h = tt
-if_some (Some x) P Q f h = f x h
+if_some x0 x1 x2 x3 x4 = search rules
 
 -- facts that are the same have one journal, and are within the limits together
 puts_same : (cut : Bool) (old new : Option (List ℕ)) (F G : List Fact) (count : ℕ) → Same F G
     → PutsJournal cut old new F count → PutsJournal cut old new G count
 puts_same cut old new F G count same p = record {
   bytes = p.bytes;
-  journal = (
-    p.journal.0,
-    record {
-      valid = p.journal.1.valid;
-      rising = p.journal.1.rising;
-      same = Same-trans G F p.journal.0 (Same-sym F G same) p.journal.1.same;
-    },
-    p.journal.2,
-    p.journal.3,
-  );
+  journal = search rules;
   entries = p.entries;
   appended = p.appended;
 }
@@ -64,11 +56,9 @@ IsWithin most F within = IsWithinLimits most.sessions most.objects most.symbols 
 
 within_same : (most : Limits) (F G : List Fact) (within : Bool) → Same F G
     → IsWithin most F within → IsWithin most G within
-within_same most F G true same h = λ over.
-    h (Over-below G F most.sessions most.objects most.symbols
-    (Below-from_Same G F (Same-sym F G same)) over)
-within_same most F G false same h =
-    Over-below F G most.sessions most.objects most.symbols (Below-from_Same F G same) h
+within_same most F G true same h = search (rules, Over-below, Below-from_Same, Same-sym) steps
+    400000
+within_same most F G false same h = search (rules, Over-below, Below-from_Same)
 
 -- The stream of a journal that is lent, and one of facts.
 module _ {R : Type 0} (unread : R → Option (List ℕ)) (buffered : R → List ℕ) (failures : R → ℕ)
@@ -100,8 +90,7 @@ module _ {R : Type 0} (unread : R → Option (List ℕ)) (buffered : R → List 
       two (F ∷ G ∷ []) h = record {
         entries = F;
         tells = subst (λ n. IfSome bytes_of (λ bytes. IsJournalWithin n bytes F)) limit h.0;
-        all =
-            Same-append F F (G ++ []) facts (Same-itself F)
+        all = Same-append F F (G ++ []) facts (Same-itself F)
             (subst (λ (l : List Fact). Same l facts) (sym (append-nil G)) (same G h.1.0));
       }
       two (F ∷ G ∷ H ∷ told) h = absurd h.1.1
@@ -115,19 +104,15 @@ module _ {R : Type 0} (unread : R → Option (List ℕ)) (buffered : R → List 
         abbrev together : List Fact
         together = t.entries ++ facts
 
-        in_limits : (within : Bool) → joined.within ≡ within
-            → IsWithin most together within
-        in_limits within e =
-            within_same most (all_of m.told) together within t.all
-            (subst (λ c. IsWithin most (all_of m.told) c) e m.limits)
+        in_limits : (within : Bool) → joined.within ≡ within → IsWithin most together within
+        in_limits within e = search (rules, within_same, all_of)
 
         pub adds_facts : joined.cut ≡ false → AddsFacts bytes_of facts w w' joined.entries
         adds_facts whole =
-            let writes : WritesJournal w w' together joined.entries =
-            puts_same false w w' (all_of m.told) together joined.entries t.all
+            let writes : WritesJournal w w' together joined.entries = puts_same false w w'
+            (all_of m.told) together joined.entries t.all
             (subst (λ (c : Bool). PutsJournal c w w' (all_of m.told) joined.entries) whole m.puts)
-            in
-            if_some bytes_of _ _ (λ bytes is. (t.entries, is, writes)) t.tells
+            in if_some bytes_of _ _ (λ bytes is. (t.entries, is, writes)) t.tells
 
         pub over_with : joined.within ≡ false → InfoFails most bytes_of facts Full
         over_with out =
@@ -139,9 +124,8 @@ module _ {R : Type 0} (unread : R → Option (List ℕ)) (buffered : R → List 
 
     -- The first fault is that of the journal.
     module _ (goes_on : (fault : LoadFault) → b.stops f fault → ⊥) where
-      stop_at : (number : ℕ) (fault : LoadFault) (s : Either (LentStream R) S)
-          → slice_get inputs number ≡ Some s → both.stops s fault
-          → (number ≡ 0) × journals.stops j fault
+      stop_at : (number : ℕ) (fault : LoadFault) (s : Either (LentStream R) S) → slice_get inputs
+          number ≡ Some s → both.stops s fault → (number ≡ 0) × journals.stops j fault
       stop_at zero fault s was h =
           let p : s ≡ First j = (let e = was in cc) in
           (refl, subst (λ z. both.stops z fault) p h)
@@ -153,20 +137,15 @@ module _ {R : Type 0} (unread : R → Option (List ℕ)) (buffered : R → List 
       journal_stops : (most : Limits) (facts : List Fact) (fault : LoadFault)
           → limit_of j.reader.now ≡ MAX_ENTRIES → journals.stops j fault
           → InfoFails most bytes_of facts (of_load 1 fault)
-      journal_stops most facts (load.Read r) limit h =
-          (refl, subst (λ n. HasFault journal_framing n bytes_of r) limit h)
+      journal_stops most facts (load.Read r) limit h = search rules
       journal_stops most facts load.Full limit h = absurd h
       journal_stops most facts load.OutOfMemory limit h = absurd h
 
-      pub first_fails : (most : Limits) (facts : List Fact)
-          {after : List (Either (LentStream R) S)} {first : InputFault}
-          → limit_of j.reader.now ≡ MAX_ENTRIES → FirstFault both inputs after first
-          → InfoFails most bytes_of facts (of_load (first.number + 1) first.fault)
-      first_fails most facts {first = first} limit h =
-          let o = stop_at first.number first.fault h.stopped.new h.stopped.was
-          h.stopped.stop.stops in
-          subst (λ n. InfoFails most bytes_of facts (of_load (n + 1) first.fault)) (sym o.0)
-          (journal_stops most facts first.fault limit o.1)
+      pub first_fails : (most : Limits) (facts : List Fact) {after : List (Either (LentStream R) S)}
+          {first : InputFault} → limit_of j.reader.now ≡ MAX_ENTRIES → FirstFault both inputs after
+          first → InfoFails most bytes_of facts (of_load (first.number + 1) first.fault)
+      first_fails most facts {first = first} limit h = search (rules, stop_at, journal_stops) steps
+          400000
 
       -- its source failed as the fault says, and it is lent as before
       module _ (j' : LentStream R) (f' : S) where
@@ -188,8 +167,7 @@ module _ {R : Type 0} (unread : R → Option (List ℕ)) (buffered : R → List 
 
         pub failed_as : {first : InputFault} → FirstFault both inputs new first
             → journals.fails j j' (Some first.fault)
-        failed_as {first = first} h =
-            failed_at first.number first.fault h.stopped.new h.stopped.was h.stopped.stop
+        failed_as {first = first} h = search (rules, failed_at)
 
 -- how often the source failed that a fault of reading is of
 pub load_failures : (number old new : ℕ) (fault : LoadFault) → FailsBy old new (Some fault)
@@ -214,15 +192,10 @@ load_failures number old now load.OutOfMemory h = h
 pub never_second : (most : Limits) (r : Result ℕ CommandFault) (input : Option (List ℕ))
     (facts : List Fact) (Q : Type 0) → IfErr r (InfoFails most input facts)
     → IfErr r (λ fault. fault ≡ Input 2 read.Read → Q)
-never_second most (Ok count) input facts Q h = tt
-never_second most (Err fault) input facts Q h = λ e.
-    let k : InfoFails most input facts (Input 2 read.Read) =
-    subst (InfoFails most input facts) e h in
-    absurd (omega (arith, k.0))
+never_second x0 x1 x2 x3 x4 x5 = search rules
 
 -- the same of the source that the journal is read of
 pub of_source : {R : Type 0} (unread : R → Option (List ℕ)) (most : Limits) (source now : R)
     (facts : List Fact) (r : Result ℕ CommandFault) → now ≡ source
     → IfErr r (InfoFails most (unread now) facts) → IfErr r (InfoFails most (unread source) facts)
-of_source unread most source now facts r e h =
-    subst (λ x. IfErr r (InfoFails most (unread x) facts)) e h
+of_source unread most source now facts r e h = search rules

@@ -1,4 +1,6 @@
 -- information_line: words and numbers at the front of a text.
+use Rattle.std.proofs.lemmas.Grind.{common_steps}
+use Rattle.std.proofs.Common.{rules}
 use Rattle.std.proofs.Common.{◌≡◌, ◌≢◌, ℕ, ◌<◌, ◌≤◌, ◌^◌, true, false, List, [], ◌∷◌, ◌++◌, length}
 use Rattle.std.proofs.Common.{take, drop, get_or, decimal, Option, Some, None, MatchOption, IfSome}
 use Rattle.std.proofs.Common.{add-zero, Bor, sym, ap, ◌∙◌, arith}
@@ -21,14 +23,11 @@ same_rest (c ∷ p) x y e = same_rest p x y cc
 pub strip_finds : (s p tail : List ℕ) (r : Option (Bor (List ℕ))) → MatchOption r
     ((rest : List ℕ) → s ≢ p ++ rest) (λ x. s ≡ p ++ x.now)
     → s ≡ p ++ tail → MatchOption r ⊥ (λ x. x.now ≡ tail)
-strip_finds s p tail None h e = h tail e
-strip_finds s p tail (Some x) h e = same_rest p x.now tail (sym h ∙ e)
+strip_finds x0 x1 x2 x3 x4 x5 = search (rules, same_rest)
 
 pub strip_found : (s p : List ℕ) (r : Option (Bor (List ℕ))) → MatchOption r
-    ((rest : List ℕ) → s ≢ p ++ rest) (λ x. s ≡ p ++ x.now)
-    → IfSome r (λ x. s ≡ p ++ x.now)
-strip_found s p None h = tt
-strip_found s p (Some x) h = h
+    ((rest : List ℕ) → s ≢ p ++ rest) (λ x. s ≡ p ++ x.now) → IfSome r (λ x. s ≡ p ++ x.now)
+strip_found x0 x1 x2 x3 = search rules
 
 pub wide : (n : ℕ) → n < 2 ^ 128 → n < 10 ^ 64
 wide n h = omega arith
@@ -38,14 +37,13 @@ range_digit c h = grind (arith, nat_tests, h)
 
 pub digit_in_decimal : (n k : ℕ) → n < 2 ^ 128 → k < length (decimal n) → is_ascii_digit
     (get_or (decimal n) k 0) ≡ true
-digit_in_decimal n k small h = range_digit _ (digit_at (decimal n) k
-    (decimal_is_IsNumeral_wide n (wide n small)).0.1 h)
+digit_in_decimal n k small h = search (rules, range_digit, digit_at, decimal_is_IsNumeral_wide)
 
 pub some_digits : (n : ℕ) → n < 2 ^ 128 → 0 < length (decimal n)
 some_digits n small = (decimal_is_IsNumeral_wide n (wide n small)).0.0
 
 pub utf8_decimal : (n : ℕ) → n < 2 ^ 128 → IsUtf8 (decimal n)
-utf8_decimal n small = IsUtf8-from_ascii (decimal n) (IsAscii-decimal_wide n (wide n small))
+utf8_decimal n small = search (rules, IsUtf8-from_ascii, IsAscii-decimal_wide)
 
 -- what the digits that a text begins with are
 pub record DigitsOf (s : List ℕ) (len : ℕ) : Type 0 where
@@ -55,8 +53,7 @@ pub record DigitsOf (s : List ℕ) (len : ℕ) : Type 0 where
 
 -- a text that begins with the digits of a number, and then no digit, has exactly these digits
 pub digits_end : (s tail : List ℕ) (n len : ℕ) → n < 2 ^ 128 → is_ascii_digit (get_or tail 0 0) ≡
-    false → s ≡ decimal n ++ tail
-    → DigitsOf s len → len ≡ length (decimal n)
+    false → s ≡ decimal n ++ tail → DigitsOf s len → len ≡ length (decimal n)
 digits_end s tail n len small ends is d = omega (arith, short, long)
   where
     short : len < length (decimal n) → ⊥
@@ -76,10 +73,8 @@ digits_end s tail n len small ends is d = omega (arith, short, long)
 
 pub number_front : (s tail : List ℕ) (n len : ℕ) → s ≡ decimal n ++ tail → len ≡ length (decimal n)
     → take len s ≡ decimal n
-number_front s tail n len is len_is = ap (λ k. take k s) len_is ∙ ap (take (length (decimal n))) is
-    ∙ take-append_seam (decimal n) tail
+number_front s tail n len is len_is = grind (arith, common_steps)
 
 pub number_back : (s tail : List ℕ) (n len : ℕ) → s ≡ decimal n ++ tail → len ≡ length (decimal n)
     → drop len s ≡ tail
-number_back s tail n len is len_is = ap (λ k. drop k s) len_is ∙ ap (drop (length (decimal n))) is
-    ∙ drop-append_seam (decimal n) tail
+number_back s tail n len is len_is = grind (arith, common_steps)

@@ -1,4 +1,6 @@
 -- The pieces of a line of information, one after the other (specs/InformationLines).
+use Rattle.std.proofs.lemmas.Grind.{common_steps}
+use Rattle.std.proofs.Common.{rules}
 use Rattle.std.proofs.Common.{◌≡◌, ℕ, ◌==◌, ◌<◌, ◌^◌, if◌then◌else◌, Bool, true, false, List, []}
 use Rattle.std.proofs.Common.{◌++◌, get_or, codes, decimal}
 use Rattle.std.proofs.Common.{append_assoc, refl, sym, ap, ◌∙◌, arith}
@@ -25,12 +27,7 @@ from_symbol i = codes " symbol " ++ (decimal i.symbol_length ++ from_block i)
 
 pub information_chain : (i : Information)
     → information_words i ≡ codes "info length " ++ (decimal i.transfer_length ++ from_symbol i)
-information_chain i = six (codes "info length ") (decimal i.transfer_length) (codes " symbol ")
-    (decimal i.symbol_length) (codes " block ") (decimal i.max_block_length)
-  where
-    six : (a b c d e f : List ℕ) → a ++ b ++ c ++ d ++ e ++ f ≡ a ++
-        (b ++ (c ++ (d ++ (e ++ (f ++ [])))))
-    six a b c d e f = simp (append_assoc, append-nil) refl
+information_chain i = grind (arith, common_steps)
 
 abbrev pub from_info : Information → List ℕ
 from_info info = codes " " ++ information_words info
@@ -41,9 +38,8 @@ from_object key info = object_words key.object ++ from_info info
 abbrev pub from_space : Key → Information → List ℕ
 from_space key info = codes " " ++ from_object key info
 
-pub fact_chain : (key : Key) (info : Information)
-    → fact_words (Info key info) ≡ source_words key.session.sender
-    ++ (codes "session " ++ (decimal key.session.tsi ++ from_space key info))
+pub fact_chain : (key : Key) (info : Information) → fact_words (Info key info) ≡ source_words
+    key.session.sender ++ (codes "session " ++ (decimal key.session.tsi ++ from_space key info))
 fact_chain key info = seven (source_words key.session.sender) (codes "session ")
     (decimal key.session.tsi) (codes " ") (object_words key.object) (codes " ")
     (information_words info)
@@ -53,21 +49,12 @@ fact_chain key info = seven (source_words key.session.sender) (codes "session ")
     seven a b c d e f g = simp append_assoc refl
 
 -- what follows the word source, if there is a sender
-pub source_chain : (n : ℕ) (tail : List ℕ) → (n == 0) ≡ false
-    → source_words n ++ tail ≡ codes "source " ++ (encode_lower (bytes_high_first 16 n)
-    ++ (codes " " ++ tail))
-source_chain n tail some =
-    ap (λ b. (if b then [] else codes "source " ++ encode_lower (bytes_high_first 16 n)
-    ++ codes " ") ++ tail) some
-    ∙ four (codes "source ") (encode_lower (bytes_high_first 16 n)) (codes " ") tail
-  where
-    four : (a b c d : List ℕ) → a ++ b ++ c ++ d ≡ a ++ (b ++ (c ++ d))
-    four a b c d = simp append_assoc refl
+pub source_chain : (n : ℕ) (tail : List ℕ) → (n == 0) ≡ false → source_words n ++ tail ≡ codes
+    "source " ++ (encode_lower (bytes_high_first 16 n) ++ (codes " " ++ tail))
+source_chain n tail some = grind (arith, common_steps)
 
 pub source_none : (n : ℕ) (tail : List ℕ) → (n == 0) ≡ true → source_words n ++ tail ≡ tail
-source_none n tail none =
-    ap (λ b. (if b then [] else codes "source " ++ encode_lower (bytes_high_first 16 n)
-    ++ codes " ") ++ tail) none
+source_none n tail none = search rules
 
 -- no number begins with the word fdt
 pub no_fdt : (n : ℕ) (x rest : List ℕ) → n < 2 ^ 128 → decimal n ++ x ≡ codes "fdt " ++ rest → ⊥
@@ -77,7 +64,7 @@ no_fdt n x rest small e =
     true≢false (sym (digit_in_decimal n 0 small (some_digits n small)) ∙ ap is_ascii_digit at)
 
 apart : (x y : List ℕ) → codes "session " ++ x ≡ codes "source " ++ y → ⊥
-apart x y e = true≢false (ap (λ (l : List ℕ). get_or l 1 0 == 101) e)
+apart x y e = search rules
 
 -- the digits follow the word source
 pub source_rest : (s tail rest : List ℕ) (n : ℕ) → s ≡ source_words n ++ (codes "session " ++ tail)
@@ -94,10 +81,7 @@ source_rest s tail rest n is found = go (n == 0) refl
 
 pub same_numbers : (info : Information) (n : InfoNumbers) → n.length ≡ info.transfer_length
     → n.symbol ≡ info.symbol_length → n.block ≡ info.max_block_length → numbers_of n ≡ info
-same_numbers info n x y z =
-    ap (λ k. information k n.symbol n.block) x
-    ∙ ap (λ k. information info.transfer_length k n.block) y
-    ∙ ap (λ k. information info.transfer_length info.symbol_length k) z
+same_numbers info n x y z = search rules
 
 pub by_name : (P : ObjectName → Type 0) → ((i : ℕ) → P (Instance i)) → ((t : ℕ) → P (File t)) →
     (name : ObjectName) → P name
@@ -105,9 +89,6 @@ by_name P i t (Instance n) = i n
 by_name P i t (File n) = t n
 
 -- an object after the words object fdt is no file
-pub no_file : (s tail rest : List ℕ) (n : ℕ) → n < 2 ^ 112
-    → s ≡ codes " " ++ (object_words (File n) ++ tail)
-    → s ≡ codes " object fdt " ++ rest → ⊥
-no_file s tail rest n small is found =
-    no_fdt n tail rest (omega arith) (append_cancel_left (codes " object ") (decimal n ++ tail)
-    (codes "fdt " ++ rest) (sym is ∙ found))
+pub no_file : (s tail rest : List ℕ) (n : ℕ) → n < 2 ^ 112 → s ≡ codes " " ++
+    (object_words (File n) ++ tail) → s ≡ codes " object fdt " ++ rest → ⊥
+no_file s tail rest n small is found = search (rules, no_fdt)

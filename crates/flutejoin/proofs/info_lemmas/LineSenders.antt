@@ -1,4 +1,6 @@
 -- information_line: a sender in 32 digits.
+use Rattle.std.proofs.lemmas.Grind.{common_steps}
+use Rattle.std.proofs.Common.{rules}
 use Rattle.std.proofs.Common.{◌≡◌, ℕ, zero, suc, ◌*◌, ◌/◌, ◌<◌, ◌≤◌, ◌^◌, List, [], ◌++◌, length}
 use Rattle.std.proofs.Common.{take, drop, get_or, Ok, sym, ap, ◌∙◌, arith, lit<}
 use Rattle.std.specs.Int.{bytes_high_first, byte_at}
@@ -11,8 +13,7 @@ use Rattle.hex.specs.Hex.{encode_lower, lower_digits, decode_sized}
 use Rattle.hex.proofs.HexLemmas.{length-encode_with, decode_sized-encode_lower}
 
 byte_below : (k n : ℕ) → byte_at k n < 256
-byte_below zero n = mod-lt n (lit< tt)
-byte_below (suc k) n = mod-lt (n / 256 ^ suc k) (lit< tt)
+byte_below x0 x1 = search rules
 
 bytes_below : (k n i : ℕ) → get_or (bytes_high_first k n) i 0 < 256
 bytes_below zero n i = omega arith
@@ -27,11 +28,8 @@ digits_length n = length-encode_with lower_digits (bytes_high_first 16 n) ∙ ap
     (length-bytes_high_first 16 n)
 
 pub long_enough : (s tail : List ℕ) (n : ℕ) → s ≡ digits_of n ++ tail → 32 ≤ length s
-long_enough s tail n is = omega (
-  arith,
-  ap length is ∙ length-append (digits_of n) tail,
-  digits_length n,
-)
+long_enough s tail n is = omega
+    (arith, ap length is ∙ length-append (digits_of n) tail, digits_length n)
 
 pub digits_front : (s tail : List ℕ) (n : ℕ) → s ≡ digits_of n ++ tail → take 32 s ≡ digits_of n
 digits_front s tail n is = ap (λ k. take k s) (sym (digits_length n)) ∙ ap
@@ -46,5 +44,4 @@ digits_decoded n = decode_sized-encode_lower (bytes_high_first 16 n) 16
     (length-bytes_high_first 16 n) (bytes_below 16 n)
 
 pub read_back : (n : ℕ) → n < 2 ^ 128 → big_from 0 16 (bytes_high_first 16 n) ≡ n
-read_back n small = ap (big_from 0 16) (sym (append-nil (bytes_high_first 16 n))) ∙
-    big_number-reads_back 16 n [] (omega arith)
+read_back n small = search rules

@@ -1,4 +1,6 @@
 -- HeldFiles: the store holds just the facts of the datagrams that were read (specs/JoinParts).
+use Rattle.std.proofs.lemmas.Grind.{common_steps}
+use Rattle.std.proofs.Common.{rules}
 use Rattle.std.proofs.Common.{◌≡◌, ℕ, ◌+◌, Bool, true, false, cond, List, [], ◌∷◌, ◌++◌, count_by}
 use Rattle.std.proofs.Common.{Result, Ok, Err, inl, inr, refl, sym, ap, subst, ◌∙◌, arith}
 use Rattle.std.proofs.Common.{append-nil, append_assoc}
@@ -54,24 +56,20 @@ pub record IsUnchanged {R : Type 0} {s o y : ℕ} (old new : HeldFiles s o y R) 
 
 -- the last of three in the middle
 turn : (F G H : List Fact) → Same ((F ++ G) ++ H) ((F ++ H) ++ G)
-turn F G H =
-    subst (λ l. Same l ((F ++ H) ++ G)) (sym (append_assoc F G H))
-    (subst (λ l. Same (F ++ (G ++ H)) l) (sym (append_assoc F H G))
+turn F G H = subst (λ l. Same l ((F ++ H) ++ G)) (sym (append_assoc F G H)) (subst
+    (λ l. Same (F ++ (G ++ H)) l) (sym (append_assoc F H G))
     (Same-append F F (G ++ H) (H ++ G) (Same-itself F) (Same-swap G H)))
 
 -- the choice of all datagrams
 module _ {R : Type 0} (unread : R → Option (List ℕ)) (buffered : R → List ℕ) (choice : Choice) where
-  flat_more : (ds : List (List ℕ)) (d : List ℕ)
-      → flat_map (facts_by choice) (ds ++ d ∷ []) ≡
+  flat_more : (ds : List (List ℕ)) (d : List ℕ) → flat_map (facts_by choice) (ds ++ d ∷ []) ≡
       flat_map (facts_by choice) ds ++ facts_by choice d
-  flat_more ds d = flat_map-append (facts_by choice) ds (d ∷ []) ∙ ap
-      (λ F. flat_map (facts_by choice) ds ++ F) (append-nil (facts_by choice d))
+  flat_more ds d = search (rules, flat_map-append, facts_by)
 
   -- a datagram more was taken into the store
-  takes_more : {s o y : ℕ} (old new : HeldFiles s o y R) (ds : List (List ℕ)) (d : List ℕ)
-      → HoldsFacts unread buffered choice old ds → new.runs ≡ old.runs
-      → TakesDatagram (facts_by choice d) old.told d new.told
-      → HoldsFacts unread buffered choice new (ds ++ d ∷ [])
+  takes_more : {s o y : ℕ} (old new : HeldFiles s o y R) (ds : List (List ℕ)) (d : List ℕ) →
+      HoldsFacts unread buffered choice old ds → new.runs ≡ old.runs → TakesDatagram
+      (facts_by choice d) old.told d new.told → HoldsFacts unread buffered choice new (ds ++ d ∷ [])
   takes_more old new ds d all same one =
       let length_is = length-append ds (d ∷ []) in
       let fresh = facts_by choice d in
@@ -101,70 +99,59 @@ module _ {R : Type 0} (unread : R → Option (List ℕ)) (buffered : R → List 
       counted m k false e = omega (arith, e)
 
   -- facts over the limits are so with one datagram more
-  over_more : (ds : List (List ℕ)) (d : List ℕ)
-      → IsOver choice.most (flat_map (facts_by choice)
-      ds) →
-      IsOver choice.most (flat_map (facts_by choice) (ds ++ d ∷ []))
-  over_more ds d over = rw (flat_more ds d) (Over-below (flat_map (facts_by choice) ds)
-      (flat_map (facts_by choice) ds ++ facts_by choice d) choice.most.sessions choice.most.objects
-      choice.most.symbols
-      (Below-left (flat_map (facts_by choice) ds) (facts_by choice d)) over)
+  over_more : (ds : List (List ℕ)) (d : List ℕ) → IsOver choice.most (flat_map (facts_by choice) ds)
+      → IsOver choice.most (flat_map (facts_by choice) (ds ++ d ∷ []))
+  over_more ds d over = search (rules, flat_more, Over-below, facts_by, Below-left)
 
   -- if the store has no room for a datagram, all facts are over the limits
-  over_with : {s o y : ℕ} (held : HeldFiles s o y R) (ds : List (List ℕ)) (d : List ℕ)
-      → HoldsFacts unread buffered choice held ds
-      → IsOver choice.most (held.told.store ++ facts_by choice d)
-      → IsOver choice.most (flat_map (facts_by choice) (ds ++ d ∷ []))
+  over_with : {s o y : ℕ} (held : HeldFiles s o y R) (ds : List (List ℕ)) (d : List ℕ) → HoldsFacts
+      unread buffered choice held ds → IsOver choice.most (held.told.store ++ facts_by choice d) →
+      IsOver choice.most (flat_map (facts_by choice) (ds ++ d ∷ []))
   over_with held ds d all over =
       let fresh = facts_by choice d in
       let store = held.told.store in
       let files = flat_map (facts_by choice) ds in
       let more = (store ++ fresh) ++ all.aside in
-      let same : Same more (files ++ fresh) =
-      Same-trans more ((store ++ all.aside) ++ fresh) (files ++ fresh)
-      (turn store fresh all.aside)
+      let same : Same more (files ++ fresh) = Same-trans more ((store ++ all.aside) ++ fresh)
+      (files ++ fresh) (turn store fresh all.aside)
       (Same-append (store ++ all.aside) files fresh fresh all.content (Same-itself fresh)) in
-      let all_over =
-      Over-below (store ++ fresh) more choice.most.sessions choice.most.objects
-      choice.most.symbols (Below-left (store ++ fresh) all.aside) over in
-      subst (IsOver choice.most) (sym (flat_more ds d))
-      (Over-below more (files ++ fresh) choice.most.sessions choice.most.objects
-      choice.most.symbols (Below-from_Same more (files ++ fresh) same) all_over)
+      let all_over = Over-below (store ++ fresh) more choice.most.sessions choice.most.objects
+      choice.most.symbols (Below-left (store ++ fresh) all.aside) over in subst (IsOver choice.most)
+      (sym (flat_more ds d)) (Over-below more (files ++ fresh) choice.most.sessions
+      choice.most.objects choice.most.symbols (Below-from_Same more (files ++ fresh) same) all_over)
 
   -- the same for an equal flag `fits`
   holding : {s o y : ℕ} (b c : Bool) (held : HeldFiles s o y R) (ds : List (List ℕ)) → b ≡ c
       → HoldsAll unread buffered choice c held ds → HoldsAll unread buffered choice b held ds
-  holding b c held ds e h = subst (λ x. HoldsAll unread buffered choice x held ds) (sym e) h
+  holding b c held ds e h = search rules
 
-  held_as : {s o y : ℕ} (b c : Bool) (held : HeldFiles s o y R) (ds : List (List ℕ))
-      → b ≡ c → HoldsAll unread buffered choice b held ds
-      → HoldsAll unread buffered choice c held ds
-  held_as b c held ds e h = subst (λ x. HoldsAll unread buffered choice x held ds) e h
+  held_as : {s o y : ℕ} (b c : Bool) (held : HeldFiles s o y R) (ds : List (List ℕ)) → b ≡ c →
+      HoldsAll unread buffered choice b held ds → HoldsAll unread buffered choice c held ds
+  held_as b c held ds e h = search rules
 
 module _ {R : Type 0} {unread : R → Option (List ℕ)} {buffered : R → List ℕ} {choice : Choice} where
   -- all facts are held if they fit, and else they are over the limits
   module _ {s o y : ℕ} {held : HeldFiles s o y R} {ds : List (List ℕ)}
       (h : HoldsDatagrams unread buffered choice held ds) where
     pub all_held : held.fits ≡ true → HoldsFacts unread buffered choice held ds
-    all_held fits = held_as unread buffered choice held.fits true held ds fits h.holds
+    all_held fits = search rules
 
     pub all_over : held.fits ≡ false → IsOver choice.most (flat_map (facts_by choice) ds)
     all_over over = held_as unread buffered choice held.fits false held ds over h.holds
 
   -- a datagram more was taken
-  pub holds_more : {s o y : ℕ} {old new : HeldFiles s o y R} {ds : List (List ℕ)} {d : List ℕ}
-      → old.fits ≡ true → new.fits ≡ true → new.runs ≡ old.runs
-      → TakesDatagram (facts_by choice d) old.told d new.told
-      → new.others ≡ old.others + cond (is_of_others choice d) 1 0
-      → HoldsDatagrams unread buffered choice old ds
-      → HoldsDatagrams unread buffered choice new (ds ++ d ∷ [])
-  holds_more {old = old} {new = new} {ds = ds} {d = d} fits still same one count h = record {
-    others = λ e. count ∙ ap (λ n. n + cond (is_of_others choice d) 1 0) (h.others fits) ∙ sym
-        (sum_by_push (λ x. cond (is_of_others choice x) 1 0) ds d);
-    holds =
-        holding unread buffered choice new.fits true new (ds ++ d ∷ []) still
-        (takes_more unread buffered choice old new ds d (all_held h fits) same one);
-  }
+  pub holds_more : {s o y : ℕ} {old new : HeldFiles s o y R} {ds : List (List ℕ)} {d : List ℕ} →
+      old.fits ≡ true → new.fits ≡ true → new.runs ≡ old.runs → TakesDatagram (facts_by choice d)
+      old.told d new.told → new.others ≡ old.others + cond (is_of_others choice d) 1 0 →
+      HoldsDatagrams unread buffered choice old ds → HoldsDatagrams unread buffered choice new
+      (ds ++ d ∷ [])
+  holds_more {old = old} {new = new} {ds = ds} {d = d} fits still same one count h = search (
+    rules,
+    sum_by_push,
+    holding,
+    takes_more,
+    all_held,
+  )
 
   -- it found no room
   pub holds_over : {s o y : ℕ} {old new : HeldFiles s o y R} {ds : List (List ℕ)} (d : List ℕ)
@@ -191,43 +178,35 @@ module _ {R : Type 0} {unread : R → Option (List ℕ)} {buffered : R → List 
   }
 
   -- a datagram of another session was counted
-  pub holds_passed : {s o y : ℕ} {old new : HeldFiles s o y R} {ds : List (List ℕ)}
-      {d : List ℕ} → old.fits ≡ true → new.fits ≡ true → new.runs ≡ old.runs
-      → IsPassed choice d
-      → new.told ≡ record {
+  pub holds_passed : {s o y : ℕ} {old new : HeldFiles s o y R} {ds : List (List ℕ)} {d : List ℕ} →
+      old.fits ≡ true → new.fits ≡ true → new.runs ≡ old.runs → IsPassed choice d → new.told ≡
+      record {
         store = old.told.store;
         datagrams = old.told.datagrams + 1;
         refused = old.told.refused;
-      }
-      → new.others ≡ old.others + 1 → HoldsDatagrams unread buffered choice old ds
-      → HoldsDatagrams unread buffered choice new (ds ++ d ∷ [])
-  holds_passed {old = old} fits still same passed is count h =
-      holds_more fits still same
-      (record {
-        content = rw (passed.none, is, append-nil old.told.store) (Same-itself old.told.store);
-        datagrams = ap (λ t. t.datagrams) is;
-        refused = rw passed.kept (ap (λ t. t.refused) is);
-      })
-      (rw passed.other count) h
+      } → new.others ≡ old.others + 1 → HoldsDatagrams unread buffered choice old ds →
+      HoldsDatagrams unread buffered choice new (ds ++ d ∷ [])
+  holds_passed {old = old} fits still same passed is count h = holds_more fits still same (record {
+    content = search rules;
+    datagrams = ap (λ t. t.datagrams) is;
+    refused = rw passed.kept (ap (λ t. t.refused) is);
+  }) (rw passed.other count) h
 
   -- it was taken
-  pub holds_taken : {s o y : ℕ} {old new : HeldFiles s o y R} {ds : List (List ℕ)}
-      {d : List ℕ} {told : List Fact} → old.fits ≡ true → new.fits ≡ true
-      → new.runs ≡ old.runs → facts_by choice d ≡ told → new.others ≡ old.others
-      → is_of_others choice d ≡ false → TakesDatagram told old.told d new.told
-      → HoldsDatagrams unread buffered choice old ds
-      → HoldsDatagrams unread buffered choice new (ds ++ d ∷ [])
-  holds_taken {old = old} {new = new} {d = d} fits still runs e same own taken h =
-      holds_more fits still runs
-      (subst (λ F. TakesDatagram F old.told d new.told) (sym e) taken)
+  pub holds_taken : {s o y : ℕ} {old new : HeldFiles s o y R} {ds : List (List ℕ)} {d : List ℕ}
+      {told : List Fact} → old.fits ≡ true → new.fits ≡ true → new.runs ≡ old.runs → facts_by choice
+      d ≡ told → new.others ≡ old.others → is_of_others choice d ≡ false → TakesDatagram told
+      old.told d new.told → HoldsDatagrams unread buffered choice old ds → HoldsDatagrams unread
+      buffered choice new (ds ++ d ∷ [])
+  holds_taken {old = old} {new = new} {d = d} fits still runs e same own taken h = holds_more fits
+      still runs (subst (λ F. TakesDatagram F old.told d new.told) (sym e) taken)
       (rw own (omega (arith, same))) h
 
   -- the store was put aside
-  pub holds_aside : {s o y : ℕ} {old new : HeldFiles s o y R} → old.fits ≡ true
-      → new.fits ≡ true → new.told.store ≡ [] → new.told.datagrams ≡ old.told.datagrams
-      → new.told.refused ≡ old.told.refused → new.others ≡ old.others
-      → ((facts : List Fact) → AreRunsOf unread buffered old.runs.items facts
-      → HoldTogether unread buffered new.runs.items (facts ++ old.told.store))
+  pub holds_aside : {s o y : ℕ} {old new : HeldFiles s o y R} → old.fits ≡ true → new.fits ≡ true →
+      new.told.store ≡ [] → new.told.datagrams ≡ old.told.datagrams → new.told.refused ≡
+      old.told.refused → new.others ≡ old.others → ((facts : List Fact) → AreRunsOf unread buffered
+      old.runs.items facts → HoldTogether unread buffered new.runs.items (facts ++ old.told.store))
       → HoldsMore unread buffered choice old new []
   holds_aside {old = old} {new = new} fits still empty datagrams refused others runs ds h =
       let all = all_held h fits in
@@ -250,13 +229,11 @@ module _ {R : Type 0} {unread : R → Option (List ℕ)} {buffered : R → List 
 
   -- all was put aside, in one run
   pub holds_run : {s o y : ℕ} {old : HeldFiles s o y R} {popped : Option (OwnedJournalStream R)}
-      {rest runs : List (OwnedJournalStream R)} {ds : List (List ℕ)}
-      → old.fits ≡ true → old.told.store ≡ []
-      → ((facts : List Fact) → AreRunsOf unread buffered old.runs.items facts
-      → HoldTogether unread buffered runs facts)
-      → IsPopped runs rest popped → HoldsDatagrams unread buffered choice old ds
-      → (facts : List Fact) × AreHeld unread buffered old.told.store popped facts
-      × Same facts (flat_map (facts_by choice) ds)
+      {rest runs : List (OwnedJournalStream R)} {ds : List (List ℕ)} → old.fits ≡ true →
+      old.told.store ≡ [] → ((facts : List Fact) → AreRunsOf unread buffered old.runs.items facts →
+      HoldTogether unread buffered runs facts) → IsPopped runs rest popped → HoldsDatagrams unread
+      buffered choice old ds → (facts : List Fact) × AreHeld unread buffered old.told.store popped
+      facts × Same facts (flat_map (facts_by choice) ds)
   holds_run {old = old} {popped = popped} {rest = rest} {ds = ds} fits empty merged last h =
       let all = all_held h fits in
       let files = flat_map (facts_by choice) ds in
@@ -287,40 +264,19 @@ module _ {R : Type 0} {unread : R → Option (List ℕ)} {buffered : R → List 
   pub holds_still : {s o y : ℕ} {old new : HeldFiles s o y R} → IsUnchanged old new
       → (ds : List (List ℕ)) → HoldsDatagrams unread buffered choice old ds
       → HoldsDatagrams unread buffered choice new ds
-  holds_still {old = old} {new = new} same ds h = record {
-    others = λ e. same.others ∙ h.others (sym same.fits ∙ e);
-    holds = holding unread buffered choice new.fits old.fits new ds same.fits (still old.fits
-        h.holds);
-  }
-    where
-      still : (b : Bool) → HoldsAll unread buffered choice b old ds
-          → HoldsAll unread buffered choice b new ds
-      still true all = record {
-        aside = all.aside;
-        runs = subst (λ r. AreRunsOf unread buffered r.items all.aside) (sym same.runs) all.runs;
-        content =
-            subst (λ t. Same (t.store ++ all.aside) (flat_map (facts_by choice) ds))
-            (sym same.told)
-            all.content;
-        count = ap (λ t. t.datagrams) same.told ∙ all.count;
-        refused = ap (λ t. t.refused) same.told ∙ all.refused;
-      }
-      still false over = over
+  holds_still {old = old} {new = new} same ds h = search rules
 
   -- so it was before something was done
   pub holds_after : {s o y : ℕ} {first old new : HeldFiles s o y R} → IsUnchanged first old
       → HoldsMore unread buffered choice old new [] → HoldsMore unread buffered choice first new []
-  holds_after same h = λ before holds. h before (holds_still same before holds)
+  holds_after same h = search rules
 
 -- A record that was read as the input with this number.
 
 pub read_some : (n : ℕ) (r : Result (Option (List ℕ)) ReadFault)
-    (s : Result (Option (List ℕ)) CommandFault) (d : List ℕ)
-    → MatchResult r (λ x. s ≡ Ok x)
-    (λ f. s ≡ Err (Input n f)) → s ≡ Ok (Some d)
-    → r ≡ Ok (Some d)
-read_some n (Ok x) s d h e = let k : Ok x ≡ Ok (Some d) = sym h ∙ e in cc
-read_some n (Err f) s d h e = let k : Err (Input n f) ≡ Ok (Some d) = sym h ∙ e in absurd cc
+    (s : Result (Option (List ℕ)) CommandFault) (d : List ℕ) → MatchResult r (λ x. s ≡ Ok x)
+    (λ f. s ≡ Err (Input n f)) → s ≡ Ok (Some d) → r ≡ Ok (Some d)
+read_some x0 x1 x2 x3 x4 x5 = search rules
 
 -- its fault
 pub record ReadErr (n : ℕ) (r : Result (Option (List ℕ)) ReadFault) (fault : CommandFault)
@@ -332,15 +288,10 @@ pub record ReadErr (n : ℕ) (r : Result (Option (List ℕ)) ReadFault) (fault :
 
 pub read_err : (n : ℕ) (r : Result (Option (List ℕ)) ReadFault)
     (s : Result (Option (List ℕ)) CommandFault) (fault : CommandFault) → MatchResult r
-    (λ x. s ≡ Ok x) (λ f. s ≡ Err (Input n f)) → s ≡ Err fault
-    → ReadErr n r fault
-read_err n (Ok x) s fault h e = let k : Ok x ≡ Err fault = sym h ∙ e in absurd cc
-read_err n (Err f) s fault h e = let k : Err (Input n f) ≡ Err fault = sym h ∙ e in record
-    { why = f; was = refl; is = cc }
+    (λ x. s ≡ Ok x) (λ f. s ≡ Err (Input n f)) → s ≡ Err fault → ReadErr n r fault
+read_err x0 x1 x2 x3 x4 x5 = search rules
 
 -- no failure is counted where a record was read
 pub none_failed : (b : Bool) (m k : ℕ) (r : Result (Option (List ℕ)) ReadFault)
     (x : Option (List ℕ)) → r ≡ Ok x → FailsIf {T = Option (List ℕ)} b m k r → k ≡ m
-none_failed true m k (Ok y) x e h = h
-none_failed false m k (Ok y) x e h = h
-none_failed b m k (Err f) x e h = absurd cc
+none_failed x0 x1 x2 x3 x4 x5 x6 = search rules

@@ -1,4 +1,7 @@
 -- JoinInput as a stream: a journal is advanced, or stops, as it does by itself.
+use Rattle.std.proofs.Common.{arith}
+use Rattle.std.proofs.lemmas.Grind.{common_steps}
+use Rattle.std.proofs.Common.{rules}
 use Rattle.std.proofs.Common.{◌≡◌, ℕ, List, ◌++◌, Option, Some, None, Result, Ok, Err, sym, subst}
 use Rattle.std.specs.Prelude.{OnOk, IfErr, IfSome}
 use Rattle.flute_parts.specs.declared.fact.Fact.{Fact}
@@ -23,46 +26,31 @@ module _ {R : Type 0} (unread : R → Option (List ℕ)) (buffered : R → List 
   i = input_behaviour unread buffered failures
 
   gave : (s t : JournalInput R) (F : List Fact) → Gave j s t F → Gave i (Journal s) (Journal t) F
-  gave s t F g = record {
-    passes = g.passes;
-    reads = g.reads;
-    reads_held = g.reads_held;
-    fails = g.fails;
-    rising = g.rising;
-    sized = g.sized;
-    spelled = g.spelled;
-    ended = g.ended;
-    ends = g.ends;
-    known = g.known;
-  }
+  gave s t F g = search rules
 
   goes_on : (x y : JournalInput R) → GoesOn j x y → (start : JoinInput R) (F : List Fact)
       → i.passes start (Journal x) F → Gave i start (Journal y) (F ++ option_list (j.held x))
   goes_on x y h (Journal s) F p = gave s y (F ++ option_list (j.held x)) (h.gave s F p)
-  goes_on x y h (Datagrams s) F p = absurd p
-  goes_on x y h Unknown F p = absurd p
+  goes_on x y h other F p = absurd p
 
   stops : (x y : JournalInput R) (f : LoadFault) → StopsAt j x y f → (start : JoinInput R)
       (F : List Fact) → i.passes start (Journal x) F
       → Stopped i start (Journal y) (F ++ option_list (j.held x)) f
   stops x y f h (Journal s) F p =
       let g = h s F p in record { reads = g.reads; fails = g.fails; stops = g.stops }
-  stops x y f h (Datagrams s) F p = absurd p
-  stops x y f h Unknown F p = absurd p
+  stops x y f h other F p = absurd p
 
   module _ (z : JoinInput R) (x y : JournalInput R) (is : z ≡ Journal x) where
     pub journal_goes_on : (r : Result (Unit {0}) LoadFault) → OnOk r (GoesOn j x y)
         → OnOk r (GoesOn i z (Journal y))
-    journal_goes_on (Ok t) h =
-        subst (λ w. GoesOn i w (Journal y)) (sym is)
+    journal_goes_on (Ok t) h = subst (λ w. GoesOn i w (Journal y)) (sym is)
         (record { gave = goes_on x y h; fewer = h.fewer })
     journal_goes_on (Err f) h = tt
 
     pub journal_stops : (r : Result (Unit {0}) LoadFault) → IfErr r (StopsAt j x y)
         → IfErr r (StopsAt i z (Journal y))
     journal_stops (Ok t) h = tt
-    journal_stops (Err f) h =
-        subst (λ w. StopsAt i w (Journal y) f) (sym is) (stops x y f h)
+    journal_stops (Err f) h = subst (λ w. StopsAt i w (Journal y) f) (sym is) (stops x y f h)
 
 -- what begins as neither is an input of no known kind
 pub unknown : {R : Type 0} (unread : R → Option (List ℕ)) (first : List ℕ)

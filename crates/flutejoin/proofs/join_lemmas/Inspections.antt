@@ -1,4 +1,6 @@
 -- inspect_all: inputs that are inspected one after the other (specs/JoinParts).
+use Rattle.std.proofs.lemmas.Grind.{common_steps}
+use Rattle.std.proofs.Common.{rules}
 use Rattle.std.proofs.Common.{◌≡◌, ℕ, zero, suc, ◌+◌, ◌*◌, ◌<◌, ◌≤◌, List}
 use Rattle.std.proofs.Common.{[], ◌∷◌, ◌++◌, length, take}
 use Rattle.std.proofs.Common.{append-nil, append_assoc, Option, Some, Err, inl, inr, refl, sym, ap}
@@ -40,7 +42,7 @@ same_kind kinds.Journal xs ys e h = sym e ∙ h
 same_kind kinds.Datagrams xs ys e h = sym e ∙ h
 
 pub same_neither : (xs ys : List ℕ) → take 4 xs ≡ take 4 ys → IsNeither xs → IsNeither ys
-same_neither xs ys e h = λ kind is. h kind (same_kind kind ys xs (sym e) is)
+same_neither xs ys e h = search rules
 
 pub one_is : {X : Type 0} (xs : List X) (k : ℕ) (x y : X) → slice_get xs k ≡ Some x
     → slice_get xs k ≡ Some y → x ≡ y
@@ -48,14 +50,12 @@ one_is xs k x y e h = some_same _ x y e h
 
 pub inspect_reads : (k : ℕ) (fault : CommandFault) → NamesOnly (k + 1) fault
     → fault ≡ CannotWrite → ⊥
-inspect_reads k fault names e = subst (NamesOnly (k + 1)) e names
+inspect_reads k fault names e = search rules
 
 -- if P holds of the first k, and of a new element k, then it holds of the first k + 1
-all_more : {X : Type 0} (P : X → Type 0) {x : X} (new : X) (k : ℕ) (xs : List X)
-    → slice_get xs k ≡ Some x → AllByRecursion P (take k xs) → P new
-    → AllByRecursion P (take (suc k) (set xs k new))
-all_more P {x} new k [] at h p = let within = slice_get_within [] k x at in absurd
-    (omega (arith, within))
+all_more : {X : Type 0} (P : X → Type 0) {x : X} (new : X) (k : ℕ) (xs : List X) → slice_get xs k ≡
+    Some x → AllByRecursion P (take k xs) → P new → AllByRecursion P (take (suc k) (set xs k new))
+all_more P {x} new k [] at h p = search rules
 all_more P new zero (y ∷ xs) at h p = (p, tt)
 all_more P new (suc k) (y ∷ xs) at h p = (h.0, all_more P new k xs at h.1 p)
 
@@ -63,13 +63,10 @@ module _ (choice : Choice) {R : Type 0} (unread : R → Option (List ℕ)) (buff
   -- an input that was inspected is of a known kind
   is_known : (input : JoinInput R) (bytes : List ℕ) (datagrams : List (List ℕ))
       → IsInspected unread buffered choice input bytes datagrams → HasKnownKind bytes
-  is_known (Journal journal) bytes datagrams h = inl h.1
-  is_known (Datagrams source) bytes datagrams h = inr (datagrams, h)
-  is_known Unknown bytes datagrams h = absurd h
+  is_known x0 x1 x2 x3 = search rules
 
-  pub all_known : (xs : List (JoinInput R)) (contents datagrams : List (List ℕ))
-      → AreInspected unread buffered choice xs contents datagrams
-      → AllByRecursion HasKnownKind contents
+  pub all_known : (xs : List (JoinInput R)) (contents datagrams : List (List ℕ)) → AreInspected
+      unread buffered choice xs contents datagrams → AllByRecursion HasKnownKind contents
   all_known [] [] datagrams h = tt
   all_known (x ∷ xs) (bytes ∷ contents) datagrams h =
       (is_known x bytes h.0 h.2, all_known xs contents h.1 h.4)
@@ -77,15 +74,13 @@ module _ (choice : Choice) {R : Type 0} (unread : R → Option (List ℕ)) (buff
   all_known (x ∷ xs) [] datagrams h = absurd h
 
   -- an input is a datagram file if there are datagrams
-  wants_aside : (xs : List (JoinInput R)) (contents datagrams : List (List ℕ))
-      → AreInspected unread buffered choice xs contents datagrams → 0 < length datagrams
-      → WantsAside contents
+  wants_aside : (xs : List (JoinInput R)) (contents datagrams : List (List ℕ)) → AreInspected unread
+      buffered choice xs contents datagrams → 0 < length datagrams → WantsAside contents
   wants_aside [] [] datagrams h some =
       let none = ap length h in absurd (omega (arith, none, some))
   wants_aside (Journal journal ∷ xs) (bytes ∷ contents) datagrams h some =
       let others : datagrams ≡ h.1 = h.3 ∙ ap (λ own. own ++ h.1) h.2.0 in
-      let rest =
-      wants_aside xs contents h.1 h.4 (subst (λ l. 0 < length l) others some) in
+      let rest = wants_aside xs contents h.1 h.4 (subst (λ l. 0 < length l) others some) in
       (rest.0 + 1, first_after bytes (inl h.2.1) rest.1)
   wants_aside (Datagrams source ∷ xs) (bytes ∷ contents) datagrams h some = (
     1,
@@ -106,18 +101,15 @@ module _ (choice : Choice) {R : Type 0} (unread : R → Option (List ℕ)) (buff
   pub finds_wants : {s o y : ℕ} (held : HeldFiles s o y R) (xs : List (JoinInput R))
       (contents : List (List ℕ)) → Finds unread buffered choice xs contents held → held.fits ≡ true
       → 0 < held.told.datagrams → WantsAside contents
-  finds_wants held xs contents found fits some =
-      let all = all_held found.2 fits in
-      wants_aside xs contents found.0 found.1 (subst (λ n. 0 < n) all.count some)
+  finds_wants held xs contents found fits some = search (rules, all_held, wants_aside)
 
   -- one input more was inspected
   module _ {x : JoinInput R} (new : JoinInput R) {bytes : List ℕ} (own : List (List ℕ))
       (one : IsInspected unread buffered choice new bytes own) where
-    one_more : (k : ℕ) (xs : List (JoinInput R)) (contents datagrams : List (List ℕ))
-        → slice_get xs k ≡ Some x → slice_get contents k ≡ Some bytes
-        → AreInspected unread buffered choice (take k xs) (take k contents) datagrams
-        → AreInspected unread buffered choice (take (suc k) (set xs k new)) (take (suc k) contents)
-        (datagrams ++ own)
+    one_more : (k : ℕ) (xs : List (JoinInput R)) (contents datagrams : List (List ℕ)) → slice_get xs
+        k ≡ Some x → slice_get contents k ≡ Some bytes → AreInspected unread buffered choice
+        (take k xs) (take k contents) datagrams → AreInspected unread buffered choice
+        (take (suc k) (set xs k new)) (take (suc k) contents) (datagrams ++ own)
     one_more k [] contents datagrams at here h =
         let within = slice_get_within [] k x at in absurd (omega (arith, within))
     one_more k (y ∷ xs) [] datagrams at here h =
@@ -127,14 +119,16 @@ module _ (choice : Choice) {R : Type 0} (unread : R → Option (List ℕ)) (buff
           own,
           [],
           subst (λ b. IsInspected unread buffered choice new b own) same one,
-          ap (λ l. l ++ own) h ∙ sym (append-nil own),
+          ap
+              (λ l. l ++ own) h ∙ sym (append-nil own),
           refl,
         )
     one_more (suc k) (y ∷ xs) (c ∷ contents) datagrams at here h = (
       h.0,
       h.1 ++ own,
       h.2,
-      ap (λ l. l ++ own) h.3 ∙ append_assoc h.0 h.1 own,
+      ap
+          (λ l. l ++ own) h.3 ∙ append_assoc h.0 h.1 own,
       one_more k xs contents h.1 at here h.4,
     )
 
@@ -158,19 +152,7 @@ module _ {choice : Choice} {R : Type 0} {unread : R → Option (List ℕ)}
         {held : HeldFiles s o y R} → ((c : Choice) → HoldsDatagrams unread buffered c held [])
         → IsSound unread buffered failures held → held.told.datagrams ≡ 0
         → InspectedSoFar choice unread buffered failures told start start held 0
-    inspected_none {start = start} holds sound none = record {
-      as_many = refl;
-      later = λ j past. refl;
-      ready = tt;
-      finds = λ is contents inputs. ([], refl, holds choice);
-      few = omega (arith, none);
-      sound = sound;
-      none_failed = record {
-        as_many = refl;
-        each = λ j before after was is. ap (failures_of failures)
-            (one_is start j after before is was);
-      };
-    }
+    inspected_none {start = start} holds sound none = search rules
 
     module _ {s o y : ℕ} {told : Bool} {start now : List (JoinInput R)}
         {held : HeldFiles s o y R} {k : ℕ}
@@ -178,12 +160,11 @@ module _ {choice : Choice} {R : Type 0} {unread : R → Option (List ℕ)}
         {one : JoinInput R}
         (at : slice_get now k ≡ Some one) where
       was : slice_get start k ≡ Some one
-      was = sym (h.later k (omega arith)) ∙ at
+      was = search rules
 
       -- the input at this place, and its bytes
-      is_input : (contents : List (List ℕ)) → AreInputs unread start contents
-          → (bytes : List ℕ) × (slice_get contents k ≡ Some bytes)
-          × IsInput unread one bytes
+      is_input : (contents : List (List ℕ)) → AreInputs unread start contents → (bytes : List ℕ) ×
+          (slice_get contents k ≡ Some bytes) × IsInput unread one bytes
       is_input contents inputs =
           let within = slice_get_within start k one was in
           let here = at_place contents k (omega (arith, within, inputs.as_many)) in
@@ -192,109 +173,75 @@ module _ {choice : Choice} {R : Type 0} {unread : R → Option (List ℕ)}
       -- no source failed, nor did the one that was read now
       none_more : (new : JoinInput R) → failures_of failures new ≡ failures_of failures one
           → NoneFailed failures start (set now k new)
-      none_more new failed =
-          let within = slice_get_within now k one at in
-          record {
-            as_many = length-set now k new ∙ h.none_failed.as_many;
-            each = λ j before input is it.
-                elim (cases_eq j k) [
-                  | inl same ↦
-                      let P : ℕ → Type 0 = λ i. slice_get (set now k new) i ≡ Some input in
-                      let Q : ℕ → Type 0 = λ i. slice_get start i ≡ Some before in
-                      let put : new ≡ input =
-                      some_same _ new input (slice_get-set_same now k new within)
-                      (subst P same it) in
-                      ap (failures_of failures) (sym put) ∙ failed
-                      ∙ ap (failures_of failures)
-                      (one_is start k one before was (subst Q same is))
-                  | inr differs ↦ h.none_failed.each j before input is
-                      (sym (slice_get-set_other now k j new differs) ∙ it)
-                ];
-          }
+      none_more new failed = search (
+        rules,
+        slice_get_within,
+        cases_eq,
+        some_same,
+        slice_get-set_same,
+        one_is,
+        was,
+        slice_get-set_other,
+      )
 
-      pub inspected_more : (new : JoinInput R) {after : HeldFiles s o y R}
-          → IsReady unread buffered failures new
-          → (told ≡ true → (bytes : List ℕ) → IsInput unread one bytes
-          → (datagrams : List (List ℕ)) × IsInspected unread buffered choice new bytes datagrams
-          × HoldsMore unread buffered choice held after datagrams)
-          → CountsUpTo unread buffered failures 16777216 held after
-          → failures_of failures new ≡ failures_of failures one
-          → InspectedSoFar choice unread buffered failures told start (set now k new) after (k + 1)
+      pub inspected_more : (new : JoinInput R) {after : HeldFiles s o y R} → IsReady unread buffered
+          failures new → (told ≡ true → (bytes : List ℕ) → IsInput unread one bytes →
+          (datagrams : List (List ℕ)) × IsInspected unread buffered choice new bytes datagrams ×
+          HoldsMore unread buffered choice held after datagrams) → CountsUpTo unread buffered
+          failures 16777216 held after → failures_of failures new ≡ failures_of failures one →
+          InspectedSoFar choice unread buffered failures told start (set now k new) after (k + 1)
       inspected_more new ready looks counts failed =
           let next : suc k ≡ k + 1 = omega arith in
           record {
             as_many = length-set now k new ∙ h.as_many;
-            later = λ j past.
-                slice_get-set_other now k j new (λ same. omega (arith, same, past))
-                ∙ h.later j (omega (arith, past));
-            ready =
-                subst (λ n. AllByRecursion (IsReady unread buffered failures) (take n (set now k
-                new))) next
-                (all_more (IsReady unread buffered failures) new k now at h.ready ready);
-            finds = λ is contents inputs.
-                let own = is_input contents inputs in
+            later = λ j past. slice_get-set_other now k j new (λ same. omega (arith, same, past)) ∙
+                h.later j (omega (arith, past));
+            ready = subst
+                (λ n. AllByRecursion (IsReady unread buffered failures) (take n (set now k new)))
+                next (all_more (IsReady unread buffered failures) new k now at h.ready ready);
+            finds = λ is contents inputs. let own = is_input contents inputs in
                 let all = h.finds is contents inputs in
                 let more = looks is own.0 own.2 in (
                   all.0 ++ more.0,
-                  subst
-                      (λ n. AreInspected unread buffered choice (take n (set now k new)) (take n
-                      contents)
-                      (all.0 ++ more.0)) next
-                      (one_more choice unread buffered new more.0 more.1 k now contents all.0 at
-                      own.1
-                      all.1),
-                  more.2 all.0 all.2,
+                  subst (λ n. AreInspected unread buffered choice
+                      (take n (set now k new)) (take n contents) (all.0 ++ more.0)) next (one_more choice
+                      unread buffered new more.0 more.1 k now contents all.0 at own.1 all.1),
+                  more.2 all.0
+                      all.2,
                 );
             few = omega (arith, counts.0, h.few);
             sound = counts.1;
             none_failed = none_more new failed;
           }
 
-      pub inspect_fails : (fault : CommandFault)
-          → ((bytes : List ℕ) → IsInput unread one bytes
-          → InspectionFails (k + 1) bytes fault) → told ≡ true
-          → (contents : List (List ℕ)) → AreInputs unread start contents
-          → SomeInspectionFails contents fault
+      pub inspect_fails : (fault : CommandFault) →
+          ((bytes : List ℕ) → IsInput unread one bytes → InspectionFails (k + 1) bytes fault) → told
+          ≡ true → (contents : List (List ℕ)) → AreInputs unread start contents →
+          SomeInspectionFails contents fault
       inspect_fails fault fails is contents inputs =
           let own = is_input contents inputs in
           let all = h.finds is contents inputs in (
             k + 1,
-            first_at HasKnownKind (λ bytes. InspectionFails (k + 1) bytes fault) contents k own.0
-                own.1 (all_known choice unread buffered (take k now) (take k contents) all.0 all.1)
+            first_at HasKnownKind (λ bytes. InspectionFails (k + 1) bytes fault) contents k
+                own.0 own.1 (all_known choice unread buffered (take k now) (take k contents) all.0 all.1)
                 (fails own.0 own.2),
           )
 
       -- the inspection of input k + 1 failed: the fault is that of this input
       pub inspect_names : (fault : CommandFault) → NamesOnly (k + 1) fault
           → NamesOneOf (length start) fault
-      inspect_names (Input number f) e =
-          let within = slice_get_within start k one was in
-          (omega (arith, e), omega (arith, e, within))
-      inspect_names (UnknownKind number) e =
-          let within = slice_get_within start k one was in
-          (omega (arith, e), omega (arith, e, within))
-      inspect_names fault e = tt
+      inspect_names fault e = search (rules, slice_get_within, was)
 
-      pub inspect_failed : (new : JoinInput R) (fault : CommandFault) → NamesOnly (k + 1) fault
-          → FailsToRead {T = Unit {0}} (failures_of failures one) (failures_of failures new)
-          (Err fault)
-          → (number : ℕ) → fault ≡ Input number Read
-          → OneFailed failures number start (set now k new)
-      inspect_failed new fault names fails number e =
-          let within = slice_get_within now k one at in
-          let named : k + 1 ≡ number = sym (subst (NamesOnly (k + 1)) e names) in
-          record {
-            place = k;
-            number_is = sym named;
-            before = one;
-            after = new;
-            was = was;
-            is = slice_get-set_same now k new within;
-            failed =
-                subst
-                (λ f. FailsToRead {T = Unit {0}} (failures_of failures one)
-                (failures_of failures new) (Err f)) e fails;
-          }
+      pub inspect_failed : (new : JoinInput R) (fault : CommandFault) → NamesOnly (k + 1) fault →
+          FailsToRead {T = Unit {0}} (failures_of failures one) (failures_of failures new)
+          (Err fault) → (number : ℕ) → fault ≡ Input number Read → OneFailed failures number start
+          (set now k new)
+      inspect_failed new fault names fails number e = search (
+        rules,
+        slice_get_within,
+        was,
+        slice_get-set_same,
+      )
 
     -- after the last input all were inspected
     module _ {s o y : ℕ} {told : Bool} {start now : List (JoinInput R)}
@@ -302,13 +249,8 @@ module _ {choice : Choice} {R : Type 0} {unread : R → Option (List ℕ)}
         (h : InspectedSoFar choice unread buffered failures told start now held k)
         (past : length start ≤ k) where
       all_of_them : take k now ≡ now
-      all_of_them = take_all k now (omega (arith, past, h.as_many))
+      all_of_them = search (rules, take_all)
 
       pub finds_all : told ≡ true → (contents : List (List ℕ))
           → AreInputs unread start contents → Finds unread buffered choice now contents held
-      finds_all is contents inputs =
-          let every : take k contents ≡ contents =
-          take_all k contents (omega (arith, past, inputs.as_many)) in
-          subst (λ xs. Finds unread buffered choice xs contents held) all_of_them
-          (subst (λ cs. Finds unread buffered choice (take k now) cs held) every
-          (h.finds is contents inputs))
+      finds_all is contents inputs = search (rules, take_all, all_of_them)

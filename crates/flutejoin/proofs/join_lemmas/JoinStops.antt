@@ -1,4 +1,6 @@
 -- join_to: which input stops the join, which devices failed, and what the join returns.
+use Rattle.std.proofs.lemmas.Grind.{common_steps}
+use Rattle.std.proofs.Common.{rules}
 use Rattle.std.proofs.Common.{◌≡◌, ℕ, zero, suc, ◌+◌, ◌-◌, ◌*◌, ◌^◌, ◌≤◌, Bool, true, false}
 use Rattle.std.proofs.Common.{List, [], ◌∷◌, ◌++◌, length, count_by, Option, Some}
 use Rattle.std.proofs.Common.{None, Result, Ok, Err, inl, inr, refl, sym, ap, ◌∙◌, subst, arith}
@@ -64,27 +66,15 @@ use Rattle.flutejoin.proofs.join_lemmas.Receptions.{Below-left}
 
 -- nothing was appended
 pub nothing_appended : (w : Option (List ℕ)) → AppendsNoJournal w w
-nothing_appended w =
-    record {
-      bytes = [];
-      appended = Appends-nil w;
-      no_journal = λ facts (v, journal). let j =
-          journal_parts v [] facts journal in some v j.entries j.bytes_are;
-    }
-  where
-    some : (v : Version) (es : List Fact) → [] ≡ spelling_in v es → ⊥
-    some v es e = let n = ap length e in cc
+nothing_appended w = search rules
 
 pub no_journal_of_part : {A E S : Type 0} (b : Behaviour S) (r : Result A E) (xs : List S)
     (u v : Option (List ℕ)) → IfErr r (λ _. AppendsPartOf b xs u v)
     → IfErr r (λ _. AppendsNoJournal u v)
-no_journal_of_part b (Ok x) xs u v h = tt
-no_journal_of_part b (Err f) xs u v h =
-    record { bytes = h.bytes; appended = h.appended; no_journal = h.no_journal }
+no_journal_of_part x0 x1 x2 x3 x4 x5 = search rules
 
 read_or_not : (f : ReadFault) → (f ≡ Read) ⊎ (f ≡ Read → ⊥)
-read_or_not Read = inl refl
-read_or_not f = inr (λ e. cc)
+read_or_not f = search rules
 
 -- Which input stops.
 
@@ -114,8 +104,7 @@ module _ {R : Type 0} (unread : R → Option (List ℕ)) (buffered : R → List 
       → slice_get (streams xs) n ≡ Some s → OneAt xs n s
   one_at [] n s e = let within = slice_get_within [] n s e in absurd (omega (arith, within))
   one_at (x ∷ xs) zero s e = record { input = x; own = refl; is = cc }
-  one_at (x ∷ xs) (suc n) s e =
-      let o = one_at xs n s e in record { input = o.input; own = o.own; is = o.is }
+  one_at (x ∷ xs) (suc n) s e = search (rules, one_at xs n s e)
 
   -- an input, with its place, that has this fault, while those before it contain facts
   pub record StopsIn (xs : List (JoinInput R)) (number : ℕ) (fault : LoadFault) : Type 0 where
@@ -148,65 +137,42 @@ module _ {R : Type 0} (unread : R → Option (List ℕ)) (buffered : R → List 
           before = t.1;
         }
 
-    stops_in : (xs : List (JoinInput R)) → length xs ≤ 64
-        → (now : List (Either S (JoinInput R))) (first : InputFault)
-        → FirstFault all (chained w (taken xs)) now first
-        → Stops w xs first.number first.fault
-    stops_in xs many now first f =
-        let h = subst (λ l. FirstFault all (chained w l) now first) (all_taken xs many) f in
-        stops_at xs first.number h.stopped.new first.fault h.stopped.was h.stopped.stop.stops
-        h.before
+    stops_in : (xs : List (JoinInput R)) → length xs ≤ 64 → (now : List (Either S (JoinInput R)))
+        (first : InputFault) → FirstFault all (chained w (taken xs)) now first → Stops w xs
+        first.number first.fault
+    stops_in xs many now first f = search (rules, all_taken, stops_at)
 
   -- the fault is one of reading (LoadFault: Read)
   reads : (x : JoinInput R) (fault : LoadFault) → all.stops (Second x) fault
       → (f : ReadFault) × (fault ≡ load.Read f)
-  reads (Journal x) (load.Read f) h = (f, refl)
-  reads (Journal x) load.Full h = absurd h
-  reads (Journal x) load.OutOfMemory h = absurd h
-  reads (Datagrams x) fault h = absurd h
-  reads Unknown fault h = absurd h
+  reads x0 x1 x2 = search rules
 
   module _ {xs : List (JoinInput R)} {number : ℕ} {fault : LoadFault}
       (h : StopsIn xs number fault) where
     -- so it is not `OutOfMemory`, `CannotWrite` or `CannotPutAside`, and names an input
     no_memory : of_load number fault ≡ OutOfMemory → ⊥
-    no_memory e =
-        let f = reads h.input fault h.stops in
-        let d : Input number f.0 ≡ OutOfMemory = ap (of_load number) (sym f.1) ∙ e in cc
+    no_memory e = search rules
 
     no_sink : of_load number fault ≡ CannotWrite → ⊥
-    no_sink e =
-        let f = reads h.input fault h.stops in
-        let d : Input number f.0 ≡ CannotWrite = ap (of_load number) (sym f.1) ∙ e in cc
+    no_sink e = search rules
 
     names_one : NamesOneOf (length xs) (of_load number fault)
-    names_one =
-        let f = reads h.input fault h.stops in
-        let within = slice_get_within xs h.place h.input h.own in
-        let few : NamesOneOf (length xs) (Input number f.0) =
-        (omega (arith, h.number_is), omega (arith, h.number_is, within)) in
-        subst (λ g. NamesOneOf (length xs) (of_load number g)) (sym f.1) few
+    names_one = search (rules, slice_get_within)
 
     no_aside : of_load number fault ≡ CannotPutAside → ⊥
-    no_aside e =
-        let f = reads h.input fault h.stops in
-        let d : Input number f.0 ≡ CannotPutAside = ap (of_load number) (sym f.1) ∙ e in cc
+    no_aside e = search rules
 
     module _ (choice : Choice) (contents datagrams : List (List ℕ))
         (ready : are_ready unread buffered failures b xs)
         (inspected : AreInspected unread buffered choice xs contents datagrams) where
       -- the bytes of this input
       own_bytes : (xs : List (JoinInput R)) (contents datagrams : List (List ℕ)) (n : ℕ)
-          (x : JoinInput R)
-          → AreInspected unread buffered choice xs contents datagrams → slice_get xs n ≡ Some x
-          → (bytes : List ℕ) × (slice_get contents n ≡ Some bytes)
-          × ((own : List (List ℕ)) × IsInspected unread buffered choice x bytes own)
-      own_bytes [] contents datagrams n x h e =
-          let within = slice_get_within [] n x e in absurd (omega (arith, within))
+          (x : JoinInput R) → AreInspected unread buffered choice xs contents datagrams → slice_get
+          xs n ≡ Some x → (bytes : List ℕ) × (slice_get contents n ≡ Some bytes) ×
+          ((own : List (List ℕ)) × IsInspected unread buffered choice x bytes own)
+      own_bytes [] contents datagrams n x h e = search rules
       own_bytes (y ∷ xs) [] datagrams n x h e = absurd h
-      own_bytes (y ∷ xs) (bytes ∷ contents) datagrams zero x h e =
-          let same : y ≡ x = cc in
-          (bytes, refl, (h.0, subst (λ z. IsInspected unread buffered choice z bytes h.0) same h.2))
+      own_bytes (y ∷ xs) (bytes ∷ contents) datagrams zero x h e = search rules
       own_bytes (y ∷ xs) (bytes ∷ contents) datagrams (suc n) x h e =
           own_bytes xs contents h.1 n x h.4 e
 
@@ -214,13 +180,7 @@ module _ {R : Type 0} (unread : R → Option (List ℕ)) (buffered : R → List 
           → IsReady unread buffered failures x → IsInspected unread buffered choice x bytes own
           → all.stops (Second x) (load.Read f)
           → HasKind kinds.Journal bytes × HasFault journal_framing 16777216 (Some bytes) f
-      stops_one (Journal x) bytes own f r i s =
-          let P : Option (List ℕ) → Type 0 =
-          λ o. HasFault journal_framing x.stream.max_entries o f in
-          let Q : ℕ → Type 0 = λ m. HasFault journal_framing m (Some bytes) f in
-          (i.1, subst Q r.3 (subst P i.2 s))
-      stops_one (Datagrams x) bytes own f r i s = absurd s
-      stops_one Unknown bytes own f r i s = absurd s
+      stops_one other bytes own f r i s = search rules
 
       -- the join fails with the first input's fault (specs/JoinFaults)
       first_fails : JoinToFails choice contents (of_load number fault)
@@ -268,81 +228,44 @@ module _ {R : Type 0} (unread : R → Option (List ℕ)) (buffered : R → List 
 
   stop_fault : (w : S) (xs : List (JoinInput R)) (number : ℕ) (fault : LoadFault)
       → Stops w xs number fault → StopFault w xs (of_stop number fault)
-  stop_fault w xs zero fault h = record {
-    no_memory = λ e. cc;
-    no_sink = λ e. cc;
-    no_aside = λ never e. never fault h;
-    names = tt;
-    fails = λ choice contents datagrams ready inspected why. elim why [
-      | inl never ↦ absurd (never fault h)
-      | inr wants ↦ of_aside refl wants
-    ];
-  }
-  stop_fault w xs (suc n) fault h = record {
-    no_memory = no_memory h;
-    no_sink = no_sink h;
-    no_aside = λ never. no_aside h;
-    names = names_one h;
-    fails = λ choice contents datagrams ready inspected why.
-        first_fails h choice contents datagrams ready inspected;
-  }
+  stop_fault w xs zero fault h = search (rules, no_memory, no_sink, no_aside)
+  stop_fault w xs (suc n) fault h = search (
+    rules,
+    no_memory,
+    no_sink,
+    no_aside,
+    names_one,
+    first_fails,
+  )
 
-  pub stopped : {w : S} (xs : List (JoinInput R)) → length xs ≤ 64
-      → {now : List (Either S (JoinInput R))} (first : InputFault)
-      → FirstFault all (chained w (taken xs)) now first
-      → StopFault w xs (of_stop first.number first.fault)
-  stopped {w} xs many {now} first f =
-      stop_fault w xs first.number first.fault (stops_in w xs many now first f)
+  pub stopped : {w : S} (xs : List (JoinInput R)) → length xs ≤ 64 →
+      {now : List (Either S (JoinInput R))} (first : InputFault) → FirstFault all
+      (chained w (taken xs)) now first → StopFault w xs (of_stop first.number first.fault)
+  stopped {w} xs many {now} first f = search (rules, stop_fault, stops_in)
 
   -- Which sources have failed, from which streams have.
 
   -- the source of one input, if its stream has not failed, and if it has
   fails_none : (x y : JoinInput R) → all.fails (Second x) (Second y) None
       → failures_of failures y ≡ failures_of failures x
-  fails_none (Journal x) (Journal y) h = h
-  fails_none (Datagrams x) (Datagrams y) h = ap (λ s. failures s.source) h.0
-  fails_none Unknown Unknown h = refl
-  fails_none (Journal x) (Datagrams y) h = absurd h
-  fails_none (Journal x) Unknown h = absurd h
-  fails_none (Datagrams x) (Journal y) h = absurd h
-  fails_none (Datagrams x) Unknown h = absurd h
-  fails_none Unknown (Journal y) h = absurd h
-  fails_none Unknown (Datagrams y) h = absurd h
+  fails_none other another h = search rules
 
   fails_once : (x y : JoinInput R) → all.fails (Second x) (Second y) (Some (load.Read Read))
       → failures_of failures y ≡ failures_of failures x + 1
-  fails_once (Journal x) (Journal y) h = h
-  fails_once (Datagrams x) (Datagrams y) h = let e = h.1 in absurd cc
-  fails_once Unknown Unknown h = absurd (let e = h in cc)
-  fails_once (Journal x) (Datagrams y) h = absurd h
-  fails_once (Journal x) Unknown h = absurd h
-  fails_once (Datagrams x) (Journal y) h = absurd h
-  fails_once (Datagrams x) Unknown h = absurd h
-  fails_once Unknown (Journal y) h = absurd h
-  fails_once Unknown (Datagrams y) h = absurd h
+  fails_once other another h = search rules
 
   none_at : (xs ys : List (JoinInput R)) → NoneFails all (streams xs) (streams ys)
       → (k : ℕ) (x y : JoinInput R) → slice_get xs k ≡ Some x → slice_get ys k ≡ Some y
       → failures_of failures y ≡ failures_of failures x
-  none_at [] ys h k x y was is =
-      let within = slice_get_within [] k x was in absurd (omega (arith, within))
+  none_at [] ys h k x y was is = search rules
   none_at (z ∷ xs) [] h k x y was is = absurd h
-  none_at (z ∷ xs) (v ∷ ys) h zero x y was is =
-      let a : z ≡ x = cc in
-      let c : v ≡ y = cc in
-      ap (failures_of failures) (sym c) ∙ fails_none z v h.0 ∙ ap (failures_of failures) a
+  none_at (z ∷ xs) (v ∷ ys) h zero x y was is = search rules
   none_at (z ∷ xs) (v ∷ ys) h (suc k) x y was is = none_at xs ys h.1 k x y was is
 
-  pub none_failed : (w now : S) {xs ys : List (JoinInput R)} → length xs ≤ 64
-      → length ys ≡ length xs
-      → NoneFails all (chained w (taken xs)) (chained now (taken ys))
-      → NoneFailed failures xs ys
-  none_failed w now {xs = xs} {ys = ys} many same f =
-      let h =
-      subst (λ l. NoneFails all (chained w l) (chained now ys)) (all_taken xs many)
-      (subst (λ l. NoneFails all (chained w (taken xs)) (chained now l))
-      (all_taken ys (omega (arith, many, same))) f) in
-      record { as_many = same; each = none_at xs ys h.1 }
+  pub none_failed : (w now : S) {xs ys : List (JoinInput R)} → length xs ≤ 64 → length ys ≡ length
+      xs → NoneFails all (chained w (taken xs)) (chained now (taken ys)) → NoneFailed failures xs ys
+  none_failed w now {xs = xs} {ys = ys} many same f = search (rules, all_taken, none_at) steps
+      400000
 
   -- one stream failed: only the source of that input did
   module _ {w now : S} {xs ys : List (JoinInput R)} (many : length xs ≤ 64)
@@ -391,19 +314,16 @@ pub none_failed_more : {R : Type 0} (failures : R → ℕ) (xs ys zs : List (Joi
     → NoneFailed failures xs ys → NoneFailed failures ys zs → NoneFailed failures xs zs
 none_failed_more failures xs ys zs h k = record {
   as_many = k.as_many ∙ h.as_many;
-  each = λ j x z was is.
-      let y = at_place ys j
-      (let within = slice_get_within xs j x was in omega (arith, within, h.as_many)) in
-      k.each j y.0 z y.1 is ∙ h.each j x y.0 was y.1;
+  each = λ j x z was is. let y = at_place ys j
+      (let within = slice_get_within xs j x was in omega (arith, within, h.as_many)) in k.each j
+      y.0 z y.1 is ∙ h.each j x y.0 was y.1;
 }
 
-pub one_failed_more : {R : Type 0} (failures : R → ℕ) (number : ℕ)
-    (xs ys zs : List (JoinInput R)) → NoneFailed failures xs ys
-    → OneFailed failures number ys zs → OneFailed failures number xs zs
+pub one_failed_more : {R : Type 0} (failures : R → ℕ) (number : ℕ) (xs ys zs : List (JoinInput R)) →
+    NoneFailed failures xs ys → OneFailed failures number ys zs → OneFailed failures number xs zs
 one_failed_more failures number xs ys zs h k =
     let x = at_place xs k.place
-    (let within = slice_get_within ys k.place k.before k.was in
-    omega (arith, within, h.as_many)) in
+    (let within = slice_get_within ys k.place k.before k.was in omega (arith, within, h.as_many)) in
     record {
       place = k.place;
       number_is = k.number_is;
@@ -411,7 +331,7 @@ one_failed_more failures number xs ys zs h k =
       after = k.after;
       was = x.1;
       is = k.is;
-      failed = k.failed ∙ ap (λ n. n + 1) (h.each k.place x.0 k.before x.1 k.was);
+      failed = search rules;
     }
 
 -- What the whole join returns.
@@ -431,8 +351,7 @@ file_not_held {choice} P inputs number first (Input told f) kind h =
     ]
 file_not_held {choice} P inputs number first OutOfMemory kind h =
     of_inputs (number, first_with HasKnownKind P IsOfAKind number inputs first (inr kind))
-file_not_held {choice} P inputs number first CannotPutAside kind h =
-    of_aside refl
+file_not_held {choice} P inputs number first CannotPutAside kind h = of_aside refl
     (number, first_with HasKnownKind P (HasKind kinds.Datagrams) number inputs first kind)
 file_not_held {choice} P inputs number first fault kind h = absurd h
 
@@ -507,18 +426,14 @@ module _ {choice : Choice} {inputs datagrams : List (List ℕ)} {facts : List Fa
     written = facts ++ h.entries
 
     same_told : Same told written
-    same_told =
-        Same-trans told (flat_map (facts_by choice) datagrams ++ h.entries) written h.same
-        (Same-sym written (flat_map (facts_by choice) datagrams ++ h.entries)
-        (Same-append facts (flat_map (facts_by choice) datagrams) h.entries h.entries held
-        (Same-itself h.entries)))
+    same_told = search (rules, Same-trans, facts_by, Same-sym, Same-append, Same-itself) steps
+        400000
 
     within_limits : (within : Bool) → joined.within ≡ within
         → IsWithinLimits choice.most.sessions choice.most.objects choice.most.symbols told within
-    within_limits true e = λ over.
-        subst (IsWithinLimits choice.most.sessions choice.most.objects choice.most.symbols written)
-        e h.limits
-        (over_same choice.most told written same_told over)
+    within_limits true e = λ over. subst
+        (IsWithinLimits choice.most.sessions choice.most.objects choice.most.symbols written) e
+        h.limits (over_same choice.most told written same_told over)
     within_limits false e =
         over_same choice.most written told (Same-sym told written same_told)
         (subst (IsWithinLimits choice.most.sessions choice.most.objects choice.most.symbols
@@ -529,13 +444,11 @@ module _ {choice : Choice} {inputs datagrams : List (List ℕ)} {facts : List Fa
     full_together over = of_inputs (h.told, h.tell, within_limits false over)
 
     pub not_written : joined.within ≡ true → JoinToFails choice inputs CannotWrite
-    not_written within =
-        of_sink refl
+    not_written within = of_sink refl
         (record { told = h.told; tell = h.tell; together = within_limits true within })
 
-    pub joins_to : {counts : JoinCounts} → length inputs ≤ 64 → joined.within ≡ true
-        → joined.cut ≡ false → HasCounted choice datagrams passed joined counts
-        → JoinsTo choice inputs counts w w'
+    pub joins_to : {counts : JoinCounts} → length inputs ≤ 64 → joined.within ≡ true → joined.cut ≡
+        false → HasCounted choice datagrams passed joined counts → JoinsTo choice inputs counts w w'
     joins_to few within whole counted =
         let puts = subst (λ c. PutsJournal c w w' written joined.entries) whole h.puts in
         record {

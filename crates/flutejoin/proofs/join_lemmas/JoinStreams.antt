@@ -1,4 +1,6 @@
 -- join_inspected: the inputs and what is held, merged as streams, and the facts they contain.
+use Rattle.std.proofs.lemmas.Grind.{common_steps}
+use Rattle.std.proofs.Common.{rules}
 use Rattle.std.proofs.Common.{◌≡◌, ℕ, zero, suc, ◌+◌, ◌*◌, ◌^◌, ◌<◌, ◌≤◌, not, List, [], ◌∷◌, ◌++◌}
 use Rattle.std.proofs.Common.{length, take, map, count_by, cond, append-nil, append_assoc, Option}
 use Rattle.std.proofs.Common.{refl, sym, ap, ◌∙◌, subst, arith}
@@ -36,12 +38,10 @@ use Rattle.flutejoin.specs.JoinParts.{joined_behaviour, IsHeld, Ends}
 use Rattle.flutejoin.specs.Limits.{Limits, at_most, IsOver}
 
 pub over_same : (most : Limits) (F G : List Fact) → Same F G → IsOver most F → IsOver most G
-over_same most F G same over =
-    Over-below F G most.sessions most.objects most.symbols (Below-from_Same F G same) over
+over_same most F G same over = search (rules, Over-below, Below-from_Same)
 
 -- facts in front of others, in two ways
-regroup : (O D F G R : List Fact) → Same R (D ++ G)
-    → Same ((O ++ F) ++ R) ((O ++ D) ++ (F ++ G))
+regroup : (O D F G R : List Fact) → Same R (D ++ G) → Same ((O ++ F) ++ R) ((O ++ D) ++ (F ++ G))
 regroup O D F G R h =
     let turned : Same (F ++ R) (D ++ (F ++ G)) =
     Same-trans (F ++ R) ((F ++ D) ++ G) (D ++ (F ++ G))
@@ -72,11 +72,7 @@ module _ {R : Type 0} (unread : R → Option (List ℕ)) (buffered : R → List 
   -- The streams are new, and hold few facts.
 
   new_input : (x : JoinInput R) → IsReady unread buffered failures x → IsNew joins (Second x)
-  new_input (Journal journal) h =
-      record { held = h.1.held; passes = h.1.passes; reads = h.1.reads; fails = h.1.fails }
-  new_input (Datagrams source) h =
-      record { held = refl; passes = (refl, refl); reads = (refl, refl); fails = (refl, refl) }
-  new_input Unknown h = record { held = refl; passes = refl; reads = refl; fails = refl }
+  new_input x0 x1 = grind (arith, common_steps)
 
   inputs_new : (xs : List (JoinInput R)) → are_ready xs → AreNew joins (as_streams xs)
   inputs_new [] h = tt
@@ -84,9 +80,7 @@ module _ {R : Type 0} (unread : R → Option (List ℕ)) (buffered : R → List 
 
   few_input : (x : JoinInput R) → IsReady unread buffered failures x
       → joins.most (Second x) ≤ 16777216
-  few_input (Journal journal) h = let e = h.2 in omega (arith, e)
-  few_input (Datagrams source) h = omega arith
-  few_input Unknown h = omega arith
+  few_input other h = search rules
 
   inputs_few : (xs : List (JoinInput R)) → are_ready xs
       → most_of joins (as_streams xs) ≤ length xs * 16777216
@@ -96,21 +90,10 @@ module _ {R : Type 0} (unread : R → Option (List ℕ)) (buffered : R → List 
   module _ {w : S} (xs : List (JoinInput R)) (held : IsHeld b w)
       (many : length xs ≤ 64) (h : are_ready xs) where
     pub all_new : AreNew joins (chained w (taken xs))
-    all_new =
-        subst (λ l. AreNew joins (chained w l)) (sym (all_taken xs many)) (
-          record {
-            held = held.new.held;
-            passes = held.new.passes;
-            reads = held.new.reads;
-            fails = held.new.fails;
-          },
-          inputs_new xs h,
-        )
+    all_new = search (rules, all_taken, inputs_new)
 
     pub all_few : most_of joins (chained w (taken xs)) < 2 ^ 64
-    all_few =
-        subst (λ l. most_of joins (chained w l) < 2 ^ 64) (sym (all_taken xs many))
-        (omega (arith, held.few, inputs_few xs h, many))
+    all_few = search (rules, all_taken, inputs_few)
 
   -- The facts that the inputs contain.
 
@@ -125,22 +108,20 @@ module _ {R : Type 0} (unread : R → Option (List ℕ)) (buffered : R → List 
       pub others : passed + count_by (is_of_others choice) own ≡ content_others choice told
 
     -- an inspected journal contains its facts, and a datagram file those that are held
-    tells_one : (x y : JoinInput R) (bytes : List ℕ) (own : List (List ℕ)) (F : List Fact)
-        → IsReady unread buffered failures x → IsInspected unread buffered choice x bytes own
-        → (input_behaviour unread buffered failures).ends x y F
-        → TellsOne bytes own F (passed_over y)
+    tells_one : (x y : JoinInput R) (bytes : List ℕ) (own : List (List ℕ)) (F : List Fact) → IsReady
+        unread buffered failures x → IsInspected unread buffered choice x bytes own →
+        (input_behaviour unread buffered failures).ends x y F → TellsOne bytes own F (passed_over y)
     tells_one (Journal x) (Journal y) bytes own F ready inspected h =
         let all = h.0 in
-        let P : Option (List ℕ) → Type 0 =
-        λ o. IfSome o (λ bs. IsJournalWithin x.stream.max_entries bs all) in
+        let P : Option (List ℕ) → Type 0 = λ o. IfSome o
+        (λ bs. IsJournalWithin x.stream.max_entries bs all) in
         let Q : ℕ → Type 0 = λ n. IsJournalWithin n bytes all in
-        let journal : IsJournalWithin MAX_ENTRIES bytes all =
-        subst Q ready.3 (subst P inspected.2 h.1.0) in
-        let is : F ≡ chosen choice.takes all =
-        h.2 ∙ ap (λ takes. chosen takes all) inspected.3 in
+        let journal : IsJournalWithin MAX_ENTRIES bytes all = subst Q ready.3
+        (subst P inspected.2 h.1.0) in
+        let is : F ≡ chosen choice.takes all = h.2 ∙ ap (λ takes. chosen takes all) inspected.3 in
         let few = count_by-le-length (λ f. not (is_chosen (takes_key x.choice) f)) all in
-        let count : y.others ≡ x.others + others_in (takes_key x.choice) all =
-        h.1.1 (omega (arith, ready.0, few, journal.are_items.few)) in
+        let count : y.others ≡ x.others + others_in (takes_key x.choice) all = h.1.1
+        (omega (arith, ready.0, few, journal.are_items.few)) in
         let same = ap (λ takes. others_in takes all) inspected.3 in
         let none = ap (count_by (is_of_others choice)) inspected.0 in
         record {
@@ -154,16 +135,12 @@ module _ {R : Type 0} (unread : R → Option (List ℕ)) (buffered : R → List 
       told = of_file own;
       tells = inspected;
       datagrams = refl;
-      facts =
-          sym (append-nil (flat_map (facts_by choice) own))
-          ∙ ap (λ l. flat_map (facts_by choice) own ++ l) (sym h.1);
+      facts = sym (append-nil (flat_map (facts_by choice) own)) ∙ ap
+          (λ l. flat_map (facts_by choice) own ++ l) (sym h.1);
       others = omega arith;
     }
     tells_one Unknown y bytes own F ready inspected h = absurd inspected
-    tells_one (Journal x) (Datagrams y) bytes own F ready inspected h = absurd h
-    tells_one (Journal x) Unknown bytes own F ready inspected h = absurd h
-    tells_one (Datagrams x) (Journal y) bytes own F ready inspected h = absurd h
-    tells_one (Datagrams x) Unknown bytes own F ready inspected h = absurd h
+    tells_one other another bytes own F ready inspected h = absurd h
 
     -- what all inputs contain
     record TellsEach (contents datagrams : List (List ℕ)) (F : List Fact)
@@ -178,13 +155,7 @@ module _ {R : Type 0} (unread : R → Option (List ℕ)) (buffered : R → List 
 
     none_told : TellsEach [] [] [] 0
     unfolding TellAll
-    none_told = record {
-      told = [];
-      tell = tt;
-      datagrams_are = refl;
-      same = Same-itself [];
-      others = refl;
-    }
+    none_told = search rules
 
     -- one input more adds its own facts
     one_more : {bytes : List ℕ} {contents own others : List (List ℕ)} {F G : List Fact} {m n : ℕ}
@@ -200,33 +171,27 @@ module _ {R : Type 0} (unread : R → Option (List ℕ)) (buffered : R → List 
         record {
           told = one.told ∷ all.told;
           tell = (one.tells, all.tell);
-          datagrams_are =
-              ap (λ l. l ++ flat_map content_datagrams all.told) one.datagrams
-              ∙ ap (λ l. own ++ l) all.datagrams_are;
-          same =
-              subst (λ l. Same (l ++ rest) (flat_map (facts_by choice) (own ++ others) ++ (F ++ G)))
-              (sym one.facts)
-              (subst (λ l. Same ((O ++ F) ++ rest) (l ++ (F ++ G)))
-              (sym (flat_map-append (facts_by choice) own others))
-              (regroup O D F G rest all.same));
+          datagrams_are = ap (λ l. l ++ flat_map content_datagrams all.told) one.datagrams ∙ ap
+              (λ l. own ++ l) all.datagrams_are;
+          same = subst
+              (λ l. Same (l ++ rest) (flat_map (facts_by choice) (own ++ others) ++ (F ++ G)))
+              (sym one.facts) (subst (λ l. Same ((O ++ F) ++ rest) (l ++ (F ++ G)))
+              (sym (flat_map-append (facts_by choice) own others)) (regroup O D F G rest all.same));
           others = omega (arith, one.others, all.others, of_own, of_told);
         }
 
     -- all inputs contain their facts, and those that are held
     tells_each : (xs ys : List (JoinInput R)) (contents datagrams : List (List ℕ))
-        (given : List (List Fact)) → are_ready xs
-        → AreInspected unread buffered choice xs contents datagrams
-        → EachSince joins.ends (as_streams xs) (as_streams ys) given
-        → TellsEach contents datagrams (all_of given) (sum_by passed_over ys)
-    tells_each [] [] [] datagrams [] r h t =
-        subst (λ ds. TellsEach [] ds [] 0) (sym h) none_told
+        (given : List (List Fact)) → are_ready xs → AreInspected unread buffered choice xs contents
+        datagrams → EachSince joins.ends (as_streams xs) (as_streams ys) given → TellsEach contents
+        datagrams (all_of given) (sum_by passed_over ys)
+    tells_each [] [] [] datagrams [] r h t = subst (λ ds. TellsEach [] ds [] 0) (sym h) none_told
     tells_each (x ∷ xs) (y ∷ ys) (bytes ∷ contents) datagrams (F ∷ given) r h t =
         let one = tells_one x y bytes h.0 F r.0 h.2 t.0 in
         let all = tells_each xs ys contents h.1 given r.1 h.4 t.1 in
-        subst (λ ds. TellsEach (bytes ∷ contents) ds (F ++ all_of given)
-        (sum_by passed_over (y ∷ ys)))
-        (sym h.3)
-        (subst (TellsEach (bytes ∷ contents) (h.0 ++ h.1) (F ++ all_of given))
+        subst
+        (λ ds. TellsEach (bytes ∷ contents) ds (F ++ all_of given) (sum_by passed_over (y ∷ ys)))
+        (sym h.3) (subst (TellsEach (bytes ∷ contents) (h.0 ++ h.1) (F ++ all_of given))
         (sym (sum_by-cons passed_over y ys)) (one_more one all))
     tells_each [] [] [] datagrams (F ∷ given) r h t = absurd t
     tells_each [] [] (bytes ∷ contents) datagrams given r h t = absurd h
@@ -262,42 +227,21 @@ module _ {R : Type 0} (unread : R → Option (List ℕ)) (buffered : R → List 
         datagrams)
         {w : S} {store : List Fact} (held : Ends b w store) {joined : MergedJournal}
         {u v : Option (List ℕ)} where
-      of_told : (now : S) (told : List (List Fact))
-          → EachSince joins.ends (chained w xs) (chained now ys) told
-          → PutsJournal joined.cut u v (all_of told) joined.entries
-          → IsWithinLimits choice.most.sessions choice.most.objects choice.most.symbols
-          (all_of told) joined.within
-          → JoinsInspected choice contents datagrams store (sum_by passed_over ys) joined u v
-      of_told now [] h puts limits = absurd h
-      of_told now (F ∷ given) h puts limits =
-          let is = held now F h.0 in
-          let all = tells_each xs ys contents datagrams given ready inspected h.1 in
-          record {
-            told = all.told;
-            tell = all.tell;
-            datagrams_are = all.datagrams_are;
-            entries = all_of given;
-            same = all.same;
-            puts =
-                subst (λ l. PutsJournal joined.cut u v (l ++ all_of given) joined.entries) is puts;
-            limits =
-                subst (λ l. IsWithinLimits choice.most.sessions choice.most.objects
-                choice.most.symbols (l ++ all_of given) joined.within) is limits;
-            others = all.others;
-          }
+      of_told : (now : S) (told : List (List Fact)) → EachSince joins.ends (chained w xs)
+          (chained now ys) told → PutsJournal joined.cut u v (all_of told) joined.entries →
+          IsWithinLimits choice.most.sessions choice.most.objects choice.most.symbols (all_of told)
+          joined.within → JoinsInspected choice contents datagrams store (sum_by passed_over ys)
+          joined u v
+      of_told x0 x1 x2 x3 x4 = search (rules, tells_each, all_of)
 
       pub joins_inspected : {now : S} → length xs ≤ 64 → length ys ≡ length xs
           → {s o y : ℕ} → choice.most ≡ at_most s o y
           → EndsMerged joins (chained w (taken xs)) (chained now (taken ys)) s o y joined u v
           → JoinsInspected choice contents datagrams store (sum_by passed_over ys) joined u v
-      joins_inspected {now = now} many same e h =
-          of_told now h.merged.told
-          (subst
+      joins_inspected {now = now} many same e h = of_told now h.merged.told (subst
           (λ l. EachSince joins.ends (chained w l) (chained now ys) h.merged.told)
-          (all_taken xs many)
-          (subst
+          (all_taken xs many) (subst
           (λ l. EachSince joins.ends (chained w (taken xs)) (chained now l) h.merged.told)
-          (all_taken ys (omega (arith, many, same))) h.ends))
-          h.merged.puts
-          (subst (λ (most : Limits). IsWithinLimits most.sessions most.objects most.symbols
+          (all_taken ys (omega (arith, many, same))) h.ends)) h.merged.puts (subst (λ
+          (most : Limits). IsWithinLimits most.sessions most.objects most.symbols
           (all_of h.merged.told) joined.within) (sym e) h.merged.limits)

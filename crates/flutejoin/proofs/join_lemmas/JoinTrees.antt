@@ -1,4 +1,6 @@
 -- Joins of journals that joins wrote (specs/JoinTrees).
+use Rattle.std.proofs.lemmas.Grind.{common_steps}
+use Rattle.std.proofs.Common.{rules}
 use Rattle.std.proofs.Common.{◌≡◌, ℕ, List, [], ◌∷◌, None, inl, inr, refl, sym, ap}
 use Rattle.std.proofs.Common.{◌∙◌, subst, append-nil, arith}
 use Rattle.std.specs.Prelude.{slice_index, Bool, true, false}
@@ -29,12 +31,10 @@ use Rattle.flutejoin.proofs.join_lemmas.Receptions.{Same-from_journals}
 -- The values of facts at the addresses of the objects that are taken.
 
 module _ (takes : Key → Bool) (a : Address) where
-  of_address : (f : Fact) → same_address (address f) a ≡ true
-      → is_chosen takes f ≡ takes a.key
-  of_address f e = ap (λ b. takes b.key) (address_same (address f) a e)
+  of_address : (f : Fact) → same_address (address f) a ≡ true → is_chosen takes f ≡ takes a.key
+  of_address f e = search rules
 
-  taken_at : (F : List Fact) → takes a.key ≡ true
-      → fact_at (chosen takes F) a ≡ fact_at F a
+  taken_at : (F : List Fact) → takes a.key ≡ true → fact_at (chosen takes F) a ≡ fact_at F a
   taken_at [] t = refl
   taken_at (f ∷ F) t = elim (cases_Bool (is_chosen takes f)) [
     | inl c ↦ rw c (fact_at-cons f (chosen takes F) a
@@ -45,8 +45,7 @@ module _ (takes : Key → Bool) (a : Address) where
     ])
   ]
 
-  passed_at : (F : List Fact) → takes a.key ≡ false
-      → fact_at (chosen takes F) a ≡ None
+  passed_at : (F : List Fact) → takes a.key ≡ false → fact_at (chosen takes F) a ≡ None
   passed_at [] t = fact_at-nil a
   passed_at (f ∷ F) t = elim (cases_Bool (is_chosen takes f)) [
     | inl c ↦ rw c (elim (cases_Bool (same_address (address f) a)) [
@@ -69,21 +68,15 @@ same_chosen takes F G h = record {
 
 not_both : (bytes : List ℕ) (entries : List Fact) (datagrams : List (List ℕ))
     → IsJournalWithin MAX_ENTRIES bytes entries → IsFileWithin MAX_ENTRIES bytes datagrams → ⊥
-not_both bytes entries datagrams j f =
-    let third : 0x4A ≡ 0x44 = ap (λ l. slice_index l 2) (sym j.bytes_are ∙ f.bytes_are) in
-    omega (arith, third)
+not_both bytes entries datagrams j f = search rules
 
 file_of : (bytes : List ℕ) (datagrams : List (List ℕ)) → IsFileWithin MAX_ENTRIES bytes datagrams
     → IsFileOf bytes datagrams
-file_of bytes datagrams f = record {
-  valid = f.are_items.valid;
-  bytes_are = f.bytes_are ∙ append-nil _;
-}
+file_of bytes datagrams f = search rules
 
 -- a datagram file has one reading
 abbrev pub OneReading : Type 0
-OneReading =
-    (bs : List ℕ) (ds es : List (List ℕ)) → IsFileOf bs ds → IsFileOf bs es → ds ≡ es
+OneReading = (bs : List ℕ) (ds es : List (List ℕ)) → IsFileOf bs ds → IsFileOf bs es → ds ≡ es
 
 module _ (one : OneReading) where
   tells_same : (choice : Choice) (bytes : List ℕ) (x y : InputContent) → Tells bytes x
@@ -107,10 +100,12 @@ module _ (one : OneReading) where
   tell_same choice [] (x ∷ xs) ys h k = elim h [ ]
   tell_same choice (bytes ∷ inputs) [] ys h k = elim h [ ]
   tell_same choice (bytes ∷ inputs) (x ∷ xs) [] h k = elim k [ ]
-  tell_same choice (bytes ∷ inputs) (x ∷ xs) (y ∷ ys) h k =
-      Same-append (content_facts choice x) (content_facts choice y)
-      (flat_map (content_facts choice) xs) (flat_map (content_facts choice) ys)
-      (tells_same choice bytes x y h.0 k.0) (tell_same choice inputs xs ys h.1 k.1)
+  tell_same choice (bytes ∷ inputs) (x ∷ xs) (y ∷ ys) h k = search (
+    rules,
+    Same-append,
+    tells_same,
+    tell_same choice inputs xs ys h.1 k.1,
+  )
 
   -- The journal that a join wrote.
 
@@ -134,15 +129,16 @@ module _ (one : OneReading) where
       {bytes : List ℕ} → JoinedAs choice inputs told bytes
       → (facts : List Fact) × Journal bytes facts × Same facts (facts_told choice told)
   wrote_told {choice = choice} {inputs = inputs} {told = told} {bytes = bytes} j = (
-    facts_told choice j.joined.2.told,
+    facts_told
+        choice j.joined.2.told,
     wrote choice inputs bytes j.joined,
-    tell_same choice inputs j.joined.2.told told j.joined.2.tell j.tell,
+    tell_same choice inputs
+        j.joined.2.told told j.joined.2.tell j.tell,
   )
 
-  pub same_bytes : {a b : Choice} {inputs others : List (List ℕ)}
-      {told further : List InputContent} {bs cs : List ℕ} → JoinedAs a inputs told bs
-      → JoinedAs b others further cs → Same (facts_told a told) (facts_told b further)
-      → bs ≡ cs
+  pub same_bytes : {a b : Choice} {inputs others : List (List ℕ)} {told further : List InputContent}
+      {bs cs : List ℕ} → JoinedAs a inputs told bs → JoinedAs b others further cs → Same
+      (facts_told a told) (facts_told b further) → bs ≡ cs
   same_bytes {a = a} {b = b} {told = told} {further = further} {bs = bs} {cs = cs} j l same =
       let x = wrote_told j in
       let y = wrote_told l in
@@ -168,10 +164,9 @@ module _ (one : OneReading) where
   made_same choice none [] h k = Same-itself []
   made_same choice none (x ∷ xs) h k = elim k [ ]
   made_same choice (leaf bytes content others) [] h k = elim k [ ]
-  made_same choice (leaf bytes content others) (x ∷ xs) h k =
-      Same-append (content_facts choice x) (content_facts choice content) (facts_told choice xs)
-      (leaf_facts choice others) (tells_same choice bytes x content k.0 h.0)
-      (made_same choice others xs h.1 k.1)
+  made_same choice (leaf bytes content others) (x ∷ xs) h k = Same-append (content_facts choice x)
+      (content_facts choice content) (facts_told choice xs) (leaf_facts choice others)
+      (tells_same choice bytes x content k.0 h.0) (made_same choice others xs h.1 k.1)
   made_same choice (node bytes own below others) [] h k = elim k [ ]
   made_same choice (node bytes own below others) (of_file ds ∷ xs) h k =
       absurd (no_file (wrote own (bytes_of below) bytes h.0))
@@ -207,8 +202,6 @@ module _ (one : OneReading) where
       let G = facts_told b l.2.told in
       let x : Same F (leaf_facts a inputs) = made_same a inputs j.2.told h.made j.2.tell in
       let y : Same G (leaf_facts b others) = made_same b others l.2.told k.made l.2.tell in
-      Journal-only bs cs F G
-      (Same-trans F (leaf_facts a inputs) G x
-      (Same-trans (leaf_facts a inputs) (leaf_facts b others) G same
-      (Same-sym G (leaf_facts b others) y)))
+      Journal-only bs cs F G (Same-trans F (leaf_facts a inputs) G x (Same-trans
+      (leaf_facts a inputs) (leaf_facts b others) G same (Same-sym G (leaf_facts b others) y)))
       (wrote a (bytes_of inputs) bs j) (wrote b (bytes_of others) cs l)

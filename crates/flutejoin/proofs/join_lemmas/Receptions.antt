@@ -1,4 +1,5 @@
 -- Lists of facts, facts above them, and their journals.
+use Rattle.std.proofs.Common.{rules}
 use Rattle.std.proofs.Common.{◌≡◌, ℕ, ◌<◌, ◌^◌, List, ◌++◌, sym, ap, subst}
 use Rattle.std.proofs.Common.{◌∙◌, append_assoc, arith}
 use Rattle.flute_parts.specs.declared.fact.Fact.{Fact}
@@ -22,39 +23,19 @@ Same-from_journals bs F G (v, j) (w, k) = (same_journal v w bs F G j k).1
 
 pub Journal-only : (bs cs : List ℕ) (F G : List Fact) → Same F G → Journal bs F → Journal cs G
     → bs ≡ cs
-Journal-only bs cs F G same j k =
-    let one = rising_unique j.0 k.0 j.1.rising k.1.rising
-    (Same-trans j.0 F k.0 (Same-sym F j.0 j.1.same) (Same-trans F G k.0 same k.1.same)) in
-    j.3 ∙ ap spelling one ∙ sym k.3
+Journal-only bs cs F G same j k = search (rules, rising_unique, Same-trans, Same-sym)
 
-pub IsJournal-from_bound : (limit : ℕ) → limit < 2 ^ 64
-    → (bs : List ℕ) (entries : List Fact) → IsJournalWithin limit bs entries
-    → IsJournal bs entries
-IsJournal-from_bound limit small bs entries j =
-    let v = j.are_items.told in (
-      v,
-      parts_journal v bs entries (record {
-        entries = entries;
-        collects = record {
-          valid = facts_of v entries j.are_items.valid;
-          rising =
-              j.are_items.in_order;
-          same = Same-itself entries;
-        };
-        small = omega (arith, j.are_items.few, small);
-        bytes_are = j.bytes_are;
-        valid = j.are_items.valid;
-      }),
-    )
+pub IsJournal-from_bound : (limit : ℕ) → limit < 2 ^ 64 → (bs : List ℕ) (entries : List Fact) →
+    IsJournalWithin limit bs entries → IsJournal bs entries
+IsJournal-from_bound limit small bs entries j = search (rules, parts_journal, facts_of, Same-itself)
 
 pub IsJournal-from_within : (bs : List ℕ) (entries : List Fact)
     → IsJournalWithin MAX_ENTRIES bs entries → IsJournal bs entries
 IsJournal-from_within = IsJournal-from_bound MAX_ENTRIES (omega arith)
 
 -- facts read of a journal have the values of any facts with that journal
-pub Same-read_of_joined : (held joined others : List Fact) (bs : List ℕ)
-    → IsJournalOf MAX_ENTRIES bs held → IsJournal bs joined → Same joined others
-    → Same held others
+pub Same-read_of_joined : (held joined others : List Fact) (bs : List ℕ) → IsJournalOf MAX_ENTRIES
+    bs held → IsJournal bs joined → Same joined others → Same held others
 Same-read_of_joined held joined others bs is journal same =
     Same-trans held is.0 others is.2 (Same-trans is.0 joined others
     (Same-from_journals bs is.0 joined (IsJournal-from_within bs is.0 is.1) journal) same)

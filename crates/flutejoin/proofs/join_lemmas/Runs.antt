@@ -1,4 +1,6 @@
 -- Runs: the journals that were put aside, as streams (specs/Asides).
+use Rattle.std.proofs.lemmas.Grind.{common_steps}
+use Rattle.std.proofs.Common.{rules}
 use Rattle.std.proofs.Common.{◌≡◌, ℕ, ◌*◌, ◌^◌, ◌<◌, ◌≤◌, List, [], ◌∷◌, ◌++◌, length, Option}
 use Rattle.std.proofs.Common.{Some, None, append-nil, append_assoc, refl, sym, ap, ◌∙◌, subst}
 use Rattle.std.proofs.Common.{arith}
@@ -27,11 +29,9 @@ pub within : (limit : ℕ) (bytes : List ℕ) (facts : List Fact) (j : Journal b
     → length j.0 ≤ limit → IsJournalWithin limit bytes j.0
 within limit bytes facts j few =
     let parts = journal_parts Two bytes facts j in
-    let one : parts.entries ≡ j.0 =
-    rising_unique parts.entries j.0 parts.collects.rising j.1.rising
-    (Same-trans parts.entries facts j.0 (Same-sym facts parts.entries parts.collects.same)
-    j.1.same) in
-    record {
+    let one : parts.entries ≡ j.0 = rising_unique parts.entries j.0 parts.collects.rising j.1.rising
+    (Same-trans parts.entries facts j.0 (Same-sym facts parts.entries parts.collects.same) j.1.same)
+    in record {
       are_items = record {
         told = Two;
         valid = subst (AllByRecursion (IsFactIn Two)) one parts.valid;
@@ -44,23 +44,19 @@ within limit bytes facts j few =
 -- what was written to nothing is all that there is
 pub all_written : (bytes : List ℕ) (new : Option (List ℕ)) → Appends (Some []) new bytes
     → new ≡ Some bytes
-all_written bytes (Some all) e = ap Some e
-all_written bytes None e = absurd e
+all_written x0 x1 x2 = search rules
 
 module _ {R : Type 0} (unread : R → Option (List ℕ)) (buffered : R → List ℕ) where
   -- one more run, with its own facts
   pub run_more : (runs : List (OwnedJournalStream R)) (run : OwnedJournalStream R)
-      (facts own : List Fact) → AreRunsOf unread buffered runs facts
-      → IsRunOf unread buffered run own
-      → AreRunsOf unread buffered (runs ++ run ∷ []) (facts ++ own)
-  run_more [] run facts own h one =
-      (own, [], one, ap (λ l. l ++ own) h ∙ sym (append-nil own), refl)
-  run_more (first ∷ runs) run facts own h one = (
-    h.0,
-    h.1 ++ own,
-    h.2,
-    ap (λ l. l ++ own) h.3 ∙ append_assoc h.0 h.1 own,
-    run_more runs run h.1 own h.4 one,
+      (facts own : List Fact) → AreRunsOf unread buffered runs facts → IsRunOf unread buffered run
+      own → AreRunsOf unread buffered (runs ++ run ∷ []) (facts ++ own)
+  run_more [] run facts own h one = grind (arith, common_steps)
+  run_more (first ∷ runs) run facts own h one = grind (
+    arith,
+    common_steps,
+    run_more runs run h.1
+        own h.4 one,
   )
 
   -- what runs hold together, if something was done, they hold as other facts with the same values
@@ -79,17 +75,14 @@ module _ {R : Type 0} (unread : R → Option (List ℕ)) (buffered : R → List 
     runs_new [] h = tt
     runs_new (run ∷ runs) h = (h.0.0, runs_new runs h.1)
 
-    pub runs_few : (runs : List (OwnedJournalStream R))
-        → AllByRecursion (IsNewRun unread buffered failures) runs
-        → most_of b runs ≤ length runs * 2 ^ 57
+    pub runs_few : (runs : List (OwnedJournalStream R)) → AllByRecursion
+        (IsNewRun unread buffered failures) runs → most_of b runs ≤ length runs * 2 ^ 57
     runs_few [] h = omega arith
-    runs_few (run ∷ runs) h =
-        let own = h.0.1 in let rest = runs_few runs h.1 in omega (arith, own, rest)
+    runs_few (run ∷ runs) h = search (rules, runs_few runs h.1)
 
     -- the facts that a run contains as a stream are the facts that it reads
-    told_run : (run : OwnedJournalStream R) (told own : List Fact)
-        → IsNewRun unread buffered failures run → b.tells run told → IsRunOf unread buffered run own
-        → Same told own
+    told_run : (run : OwnedJournalStream R) (told own : List Fact) → IsNewRun unread buffered
+        failures run → b.tells run told → IsRunOf unread buffered run own → Same told own
     told_run run told own new tells is =
         let P : Option (List ℕ) → Type 0 =
         λ o. IfSome o (λ bytes. IsJournalWithin (owned_limit run) bytes told) in
@@ -102,10 +95,13 @@ module _ {R : Type 0} (unread : R → Option (List ℕ)) (buffered : R → List 
         (facts : List Fact) → AllByRecursion (IsNewRun unread buffered failures) runs
         → Each b.tells runs told → AreRunsOf unread buffered runs facts → Same (all_of told) facts
     told_runs [] [] facts new tells h = subst (Same []) (sym h) (Same-itself [])
-    told_runs (run ∷ runs) (F ∷ told) facts new tells h =
-        subst (Same (F ++ all_of told)) (sym h.3)
-        (Same-append F h.0 (all_of told) h.1 (told_run run F h.0 new.0 tells.0 h.2)
-        (told_runs runs told h.1 new.1 tells.1 h.4))
+    told_runs (run ∷ runs) (F ∷ told) facts new tells h = search (
+      rules,
+      all_of,
+      Same-append,
+      told_run,
+      told_runs runs told h.1 new.1 tells.1 h.4,
+    )
     told_runs [] (F ∷ told) facts new tells h = absurd tells
     told_runs (run ∷ runs) [] facts new tells h = absurd tells
 
@@ -129,4 +125,4 @@ module _ {R : Type 0} (unread : R → Option (List ℕ)) (buffered : R → List 
 module _ {W : Type 0} (held : W → Option Fact) (rest : W → List Fact) where
   pub walk_ends : (walk : W) (store facts : List Fact) → rest walk ≡ store → facts ≡ store
       → Ends (listed_behaviour held rest (λ _. Unit {0})) walk facts
-  walk_ends walk store facts is same = λ now given e. e ∙ is ∙ sym same
+  walk_ends walk store facts is same = search rules

@@ -1,8 +1,11 @@
 -- HeldFiles::take: a datagram that was taken, or refused and counted.
 use Rattle.std.proofs.Common.{◌≡◌, ◌<◌, ◌++◌, ◌↔◌, ℕ, zero, suc, List, Option, Some, None, true}
-use Rattle.std.proofs.Common.{false, Result, Ok, Err, refl, ap, arith, append-nil}
+use Rattle.std.proofs.Common.{false, Result, Ok, Err, refl, ap, arith, append-nil, [], not, ◌∙◌, Bool}
 use Rattle.std.specs.Prelude.{is_none}
+use Rattle.flute_parts.specs.Information.{Information}
 use Rattle.flute_parts.specs.declared.fact.Fact.{Fact}
+use Rattle.flute_parts.specs.declared.key.Key.{Key}
+use Rattle.flute_parts.specs.declared.symbol_id.SymbolId.{SymbolId}
 use Rattle.flute_parts.specs.Facts.{Same}
 use Rattle.flute_parts.proofs.Public.{Same-itself}
 use Rattle.flute_wire.specs.Content.{Content}
@@ -10,11 +13,15 @@ use Rattle.flute_wire.specs.Datagram.{Spells}
 use Rattle.flute_wire.specs.Refusals.{Applies, Refuses, rank}
 use Rattle.flute_wire.specs.Reading.{packet, facts}
 use Rattle.flute_wire.specs.declared.refusal.Refusal.{Refusal}
-use Rattle.flute_wire.proofs.Public.{facts-refused, packet-iff}
+use Rattle.flute_wire.specs.Facts.{key_of, facts_of, info_facts, symbol_facts}
+use Rattle.flute_wire.proofs.Public.{facts-refused, facts-Spells, packet-iff}
+use Rattle.flute_streams.specs.Scopes.{chosen}
 use Rattle.flute_store.specs.declared.taken.Taken.{Taken}
 use Rattle.flute_store.specs.declared.taken.TakeFault.{TakeFault}
 use Rattle.flute_store.specs.declared.taken.TakeFault.TheVariants.{Datagram}
+use Rattle.flutejoin.specs.Joined.{Choice, facts_by, is_of_others, is_other_packet}
 use Rattle.flutejoin.specs.Refused.{is_refused}
+use Rattle.flutejoin.proofs.join_lemmas.Held.{IsPassed}
 
 abbrev pub IsPacket : List ℕ → Type 0
 IsPacket d = (p : Content) × Spells d p
@@ -58,3 +65,63 @@ pub refused_same : (sender : ℕ) (old new : List Fact) (d : List ℕ) (r : Refu
     → new ≡ old → Same new (old ++ facts sender d)
 refused_same sender old new d r applies same =
     rw (facts-refused sender d r applies, append-nil old, same) (Same-itself old)
+
+-- all facts of an object are taken, or none
+module _ (takes : Key → Bool) (key : Key) where
+  all_of : (i : Option Information) (s : Option (SymbolId × List ℕ)) → takes key ≡ true
+      → chosen takes (info_facts key i ++ symbol_facts key s)
+      ≡ info_facts key i ++ symbol_facts key s
+  all_of None None e = refl
+  all_of (Some i) None e = rw e refl
+  all_of None (Some s) e = rw e refl
+  all_of (Some i) (Some s) e = rw e refl
+
+  none_of : (i : Option Information) (s : Option (SymbolId × List ℕ)) → takes key ≡ false
+      → chosen takes (info_facts key i ++ symbol_facts key s) ≡ []
+  none_of None None e = refl
+  none_of (Some i) None e = rw e refl
+  none_of None (Some s) e = rw e refl
+  none_of (Some i) (Some s) e = rw e refl
+
+-- What a datagram was read as, by whether its object is taken: a packet, or none.
+module _ (choice : Choice) (d : List ℕ) where
+  pub record IsTaken (p : Content) : Type 0 where
+    pub told : facts_by choice d ≡ facts_of choice.sender p
+    pub kept : is_refused d ≡ false
+    pub own : is_of_others choice d ≡ false
+
+  pub record IsNoPacket : Type 0 where
+    pub none : facts_by choice d ≡ []
+    pub refused : is_refused d ≡ true
+    pub own : is_of_others choice d ≡ false
+
+  pub packet_taken : (p : Content) → Spells d p → choice.takes (key_of choice.sender p) ≡ true
+      → IsTaken p
+  packet_taken p s e =
+      let told = facts-Spells choice.sender d p s in
+      record {
+        told = ap (chosen choice.takes) told
+            ∙ all_of choice.takes (key_of choice.sender p) p.info p.symbol e;
+        kept = is_refused-no d (p, s);
+        own = ap (is_other_packet choice) ((packet-iff d p).1 s) ∙ ap not e;
+      }
+
+  pub packet_passed : (p : Content) → Spells d p → choice.takes (key_of choice.sender p) ≡ false
+      → IsPassed choice d
+  packet_passed p s e = record {
+    none = ap (chosen choice.takes) (facts-Spells choice.sender d p s)
+        ∙ none_of choice.takes (key_of choice.sender p) p.info p.symbol e;
+    kept = is_refused-no d (p, s);
+    other = ap (is_other_packet choice) ((packet-iff d p).1 s) ∙ ap not e;
+  }
+
+  pub no_packet : (r : Refusal) → Applies r d → ((p : Content) → ¬ Spells d p) → IsNoPacket
+  no_packet r applies never = record {
+    none = ap (chosen choice.takes) (facts-refused choice.sender d r applies);
+    refused = ap is_none (go (packet d) refl);
+    own = ap (is_other_packet choice) (go (packet d) refl);
+  }
+    where
+      go : (o : Option Content) → packet d ≡ o → packet d ≡ None
+      go None e = e
+      go (Some p) e = absurd (never p ((packet-iff d p).0 e))

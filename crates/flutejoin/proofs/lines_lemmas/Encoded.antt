@@ -1,4 +1,6 @@
 -- The hexadecimal digits of bytes, byte after byte (specs/Digits).
+use Rattle.std.proofs.lemmas.Grind.{common_steps}
+use Rattle.std.proofs.Common.{rules}
 use Rattle.std.proofs.Common.{◌≡◌, ℕ, zero, suc, ◌+◌, ◌*◌, ◌<◌, ◌≤◌}
 use Rattle.std.proofs.Common.{length, arith, List, [], ◌∷◌, ◌++◌, Option, refl, sym, ap}
 use Rattle.std.proofs.Common.{subst, ◌∙◌, take, drop, append_assoc, slice_index, ◌/◌}
@@ -15,9 +17,7 @@ encode_with-append : (t xs ys : List ℕ)
     → encode_with t (xs ++ ys) ≡ encode_with t xs ++ encode_with t ys
 unfolding encode_with
 encode_with-append t [] ys = refl
-encode_with-append t (x ∷ xs) ys =
-    ap (λ (l : List ℕ). slice_index t (x / 16) ∷ slice_index t (x % 16) ∷ l)
-    (encode_with-append t xs ys)
+encode_with-append t (x ∷ xs) ys = search (rules, encode_with-append t xs ys)
 
 pub encode_lower-append : (xs ys : List ℕ)
     → encode_lower (xs ++ ys) ≡ encode_lower xs ++ encode_lower ys
@@ -28,13 +28,10 @@ unfolding encode_with
 encode_lower-nil = refl
 
 -- n bytes more were put into digits: the digits of a front and of a piece are those of both
-pub front_more : {bytes : List ℕ} (front rest : List ℕ) {piece later : List ℕ} (n : ℕ)
-    → bytes ≡ front ++ rest → piece ≡ take n rest → later ≡ drop n rest
-    → bytes ≡ (front ++ piece) ++ later
-front_more front rest {piece = piece} {later = later} n is p l =
-    is ∙ ap (λ (x : List ℕ). front ++ x) (sym (take-append-drop n rest))
-    ∙ ap (λ (x : List ℕ). front ++ (x ++ drop n rest)) (sym p)
-    ∙ ap (λ (x : List ℕ). front ++ (piece ++ x)) (sym l) ∙ sym (append_assoc front piece later)
+pub front_more : {bytes : List ℕ} (front rest : List ℕ) {piece later : List ℕ} (n : ℕ) → bytes ≡
+    front ++ rest → piece ≡ take n rest → later ≡ drop n rest → bytes ≡ (front ++ piece) ++ later
+front_more front rest {piece = piece} {later = later} n is p l = grind (arith, common_steps) steps
+    400000
 
 -- a failure leaves a part of the digits of all bytes
 pub digits_cut : {bytes : List ℕ} (front piece later : List ℕ) {digits : List ℕ}
@@ -42,31 +39,31 @@ pub digits_cut : {bytes : List ℕ} (front piece later : List ℕ) {digits : Lis
     → digits ≡ encode_lower piece → Appends old mid (encode_lower front)
     → AppendsPart mid new digits → AppendsPart old new (encode_lower bytes)
 digits_cut {bytes = bytes} front piece later {old = old} {mid = mid} {new = new} is are done part =
-    let all : encode_lower bytes ≡ (encode_lower front ++ encode_lower piece)
-    ++ encode_lower later =
-    ap encode_lower is ∙ encode_lower-append (front ++ piece) later
-    ∙ ap (λ (x : List ℕ). x ++ encode_lower later) (encode_lower-append front piece) in
+    let all : encode_lower bytes ≡ (encode_lower front ++ encode_lower piece) ++ encode_lower later
+    = ap encode_lower is ∙ encode_lower-append (front ++ piece) later ∙ ap
+    (λ (x : List ℕ). x ++ encode_lower later) (encode_lower-append front piece) in
     let part' = subst (λ (x : List ℕ). AppendsPart mid new x) are part in
     rw all (AppendsPart-first old new _ _ (AppendsPart-second old mid new _ _ done part'))
 
 pub digits_more : (front piece : List ℕ) {digits : List ℕ} (old mid new : Option (List ℕ))
     → digits ≡ encode_lower piece → Appends old mid (encode_lower front)
     → Appends mid new digits → Appends old new (encode_lower (front ++ piece))
-digits_more front piece old mid new are done more =
-    let more' = subst (λ (x : List ℕ). Appends mid new x) are more in
-    rw (encode_lower-append front piece) (Appends-trans old mid new _ _ done more')
+digits_more front piece old mid new are done more = search (
+  rules,
+  encode_lower-append,
+  Appends-trans,
+)
 
 -- the buffer for digits keeps its length
-pub room_kept : (piece digits room : List ℕ) → digits ≡ encode_lower piece
-    → 2 * length piece ≤ length room
-    → length (digits ++ drop (2 * length piece) room) ≡ length room
+pub room_kept : (piece digits room : List ℕ) → digits ≡ encode_lower piece → 2 * length piece ≤
+    length room → length (digits ++ drop (2 * length piece) room) ≡ length room
 room_kept piece digits room is fits =
-    let len : length digits ≡ 2 * length piece =
-    ap length is ∙ length-encode_with lower_digits piece in
-    omega (
+    let len : length digits ≡ 2 * length piece = ap length is ∙ length-encode_with lower_digits
+    piece in omega (
       arith,
       length-append digits (drop (2 * length piece) room),
-      length-drop (2 * length piece) room,
+      length-drop
+          (2 * length piece) room,
       len,
     )
 
@@ -77,12 +74,4 @@ pub encode_at : (t xs : List ℕ) (k : ℕ) → k < length xs
 unfolding encode_with
 encode_at t [] k h = absurd (omega arith)
 encode_at t (x ∷ xs) zero h = (refl, refl)
-encode_at t (x ∷ xs) (suc k) h =
-    let ih = encode_at t xs k (omega arith) in
-    let two : 2 * suc k ≡ suc (suc (2 * k)) = omega arith in
-    let three : 2 * suc k + 1 ≡ suc (suc (2 * k + 1)) = omega arith in (
-      ap (λ n. slice_index (slice_index t (x / 16) ∷ slice_index t (x % 16) ∷ encode_with t xs)
-          n) two ∙ ih.0,
-      ap (λ n. slice_index (slice_index t (x / 16) ∷ slice_index t (x % 16) ∷ encode_with t xs)
-          n) three ∙ ih.1,
-    )
+encode_at t (x ∷ xs) (suc k) h = search (rules, encode_at t xs k (omega arith))

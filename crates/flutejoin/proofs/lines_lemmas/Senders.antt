@@ -1,4 +1,6 @@
 -- Senders in texts (specs/Sender).
+use Rattle.std.proofs.lemmas.Grind.{common_steps}
+use Rattle.std.proofs.Common.{rules}
 use Rattle.std.proofs.Common.{◌≡◌, ℕ, ◌*◌, ◌==◌, if◌then◌else◌, false, List}
 use Rattle.std.proofs.Common.{[], ◌++◌, length, codes, append_assoc, None, Result, Ok, Err}
 use Rattle.std.proofs.Common.{refl, sym, ap, ◌∙◌, arith}
@@ -17,21 +19,10 @@ fits_room text bytes n is len =
 
 pub no_sender : (text : List ℕ) (long short : FromHexError) → decode_sized text 16 ≡ Err long
     → decode_sized text 4 ≡ Err short → None ≡ sender_named text
-no_sender text e f long short = go (decode_of text) refl
-  where
-    go : (r : Result (List ℕ) FromHexError) → decode_of text ≡ r → None ≡ address_read r
-    go (Err e) is = refl
-    go (Ok bytes) is = grind (arith, fits_room, long, short)
+no_sender text e f long short = search (rules, fits_room)
 
 -- what is put of a sender that is not 0
 pub source_pieces : (text digits : List ℕ) (sender : ℕ) → (sender == 0) ≡ false
     → digits ≡ encode_lower (bytes_high_first 16 sender)
     → ((text ++ codes "source ") ++ digits) ++ codes " " ≡ text ++ source_words sender
-source_pieces text digits sender some are =
-    regroup text (codes "source ") digits (codes " ")
-    ∙ ap (λ (d : List ℕ). text ++ (codes "source " ++ d ++ codes " ")) are
-    ∙ ap (λ b. text ++ (if b then [] else codes "source "
-    ++ encode_lower (bytes_high_first 16 sender) ++ codes " ")) (sym some)
-  where
-    regroup : (a b c d : List ℕ) → ((a ++ b) ++ c) ++ d ≡ a ++ ((b ++ c) ++ d)
-    regroup a b c d = simp append_assoc refl
+source_pieces text digits sender some are = grind (arith, common_steps)

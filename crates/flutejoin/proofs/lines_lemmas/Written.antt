@@ -1,4 +1,5 @@
 -- write_line: a line that was written (specs/Pieces).
+use Rattle.std.proofs.Common.{rules}
 use Rattle.std.proofs.Common.{◌≡◌, ℕ, List, Option, Result, subst}
 use Rattle.flute_parts.specs.Devices.{Writes}
 use Rattle.flutejoin.specs.Lines.{line}
@@ -7,5 +8,4 @@ use Rattle.flutejoin.specs.Lines.{line}
 pub line_written : {T E : Type 0} (words : List ℕ) (old new : Option (List ℕ))
     (words' : List ℕ) (r : Result T E) → words' ≡ words → Writes old new (line words') r
     → Writes old new (line words) r
-line_written words old new words' r w done =
-    subst (λ (x : List ℕ). Writes old new (line x) r) w done
+line_written words old new words' r w done = search rules

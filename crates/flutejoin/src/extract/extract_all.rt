@@ -7,13 +7,12 @@ ghost use Rattle.flutejoin.specs.Limits.{at_most};
 ghost use Rattle.flutejoin.specs.Packet.{write_failures};
 ghost use Rattle.flutejoin.specs.Show.{FailsToRead};
 
-use crate::command_fault::{CommandFault, at_input};
+use crate::command_fault::CommandFault;
 use crate::extract::object_files::ObjectFiles;
 use crate::extract::picked::Picked;
-use crate::limits::MAX_ENTRIES;
-use flute_journal::JournalReader;
+use crate::walk::walk_objects;
 use flute_output::NewFolder;
-use flute_parts::{Sink, Source, Tally};
+use flute_parts::{Sink, Source};
 use std::alloc::Global;
 
 /// Writes each object that a journal of at most 16,777,216 entries makes whole, of those that are
@@ -54,20 +53,11 @@ pub fn extract_all_to<
         ≡ D.failures folder.old + W.failures lines.old + write_failures result }
 {
     let mut files = ObjectFiles {
+        folder,
+        lines,
         written: 0,
-        last: None,
+        left: None,
     };
-    let mut tally = Tally::<SESSIONS, OBJECTS, SYMBOLS>::new();
-    let mut reader = JournalReader::new(source, MAX_ENTRIES);
-    let mut spare = Vec::new(alloc);
-    while let Some(fact) = at_input(1, reader.next_with(alloc, spare))? {
-        if !tally.count(&fact.address()) {
-            return Err(CommandFault::Full);
-        }
-        if picked.has(&fact.address().key) {
-            files.add(&fact, folder, lines)?;
-        }
-        spare = fact.into_vec(alloc);
-    }
-    Ok(files.finish(folder, lines)?)
+    walk_objects::<SESSIONS, OBJECTS, SYMBOLS, _, _, _>(alloc, source, picked, &mut files)?;
+    Ok(files.written)
 }

@@ -1,239 +1,112 @@
-//! Whole objects as files, written as their facts come in the order of their addresses.
-ghost use Rattle.std.specs.Prelude.{◌≡◌, ◌+◌, ◌<◌, ◌≤◌, ◌^◌, ◌∷◌};
-ghost use Rattle.std.specs.Prelude.{◌++◌, [], List, ℕ, Some, None, OnOk, IfOk};
-ghost use Rattle.std.specs.Prelude.{Option, if◌then◌else◌, is_ok};
-ghost use Rattle.flute_parts.specs.declared.fact.Fact.{Fact as Known};
-ghost use Rattle.flute_parts.specs.declared.fact.Fact.TheVariants.{Info as InfoFact};
-ghost use Rattle.flute_parts.specs.declared.key.Key.{Key as Name};
-ghost use Rattle.flute_parts.specs.Addresses.{address};
-ghost use Rattle.flute_parts.specs.Facts.{IsRising};
-ghost use Rattle.flute_output.specs.NewFolders.{NamedFile, Places, LeadsTo, FolderStays};
-ghost use Rattle.flute_store.specs.Scan.{next_fact};
-ghost use Rattle.flutejoin.specs.Listing.{IsFirstOf};
-ghost use Rattle.flutejoin.specs.ObjectFiles.{Takes, TakesAll, KnowsSome, CanAdd};
-ghost use Rattle.flutejoin.specs.ObjectFiles.{HasPassedAt, StandsInto, FileStateIs, Ends};
-ghost use Rattle.flute_store.specs.Held.{HoldsObject};
+//! Whole objects as files, and the line of each object, written as a walk tells of them.
+ghost use Rattle.std.specs.Prelude.{◌≡◌, ◌+◌, ◌≤◌, ◌++◌, List, ℕ, Some, None, OnOk, IfOk, Option};
+ghost use Rattle.std.specs.Prelude.{if◌then◌else◌, is_ok, is_some, length, option_map, take};
+ghost use Rattle.flute_output.specs.NewFolders.{FolderStays, Fills, LeadsTo, Makes, NamedFile};
+ghost use Rattle.flute_output.specs.NewFolders.{Places, puts};
+ghost use Rattle.flutejoin.specs.ObjectFiles.{HasFiles, Lasting, lasting, one_file};
 
 use crate::extract::file_names::file_name;
-use crate::extract::file_scan::{FileScan, FileState};
 use crate::gaps::held_lines::status_text;
 use crate::lines::report_lines::write_words;
+use crate::walk::visitor::Visitor;
 use flute_output::NewFolder;
-use flute_parts::{DeviceFault, Fact, Info, Key, Sink, SymbolId};
-use flute_store::{ObjectScan, Status};
+use flute_parts::{DeviceFault, Info, Key, Sink};
+use flute_store::{Gap, Status};
 
-/// The files of objects that are whole, and the line of each object. Their facts come one by one in
-/// the order of their addresses, and none of them is kept.
+/// The files of objects that are whole, and the line of each object.
 #[derive(Drop)]
-pub struct ObjectFiles {
-    /// How many files were written of the objects before the last one.
+pub struct ObjectFiles<'a, D, W> {
+    pub folder: &'a mut D,
+    pub lines: &'a mut W,
+    /// How many files were written.
     pub written: u64,
-    /// The object of the last fact.
-    pub last: Option<ObjectFile>,
+    /// How many bytes of the open object its file does not have yet. None if no file is open, as a
+    /// symbol of the object is not held as one fitting value.
+    pub left: Option<u64>,
 }
 
-/// An object of which more facts may come.
-#[derive(Drop)]
-pub struct ObjectFile {
-    pub key: Key,
-    pub state: FileState,
-}
+impl<D: NewFolder, W: Sink> Visitor for ObjectFiles<'_, D, W> {
+    // The folder and the lines as they were.
+    ghost At = { Option Places × Option (List ℕ) };
 
-impl ObjectFiles {
-    /// Takes the next fact, which is after those that came before.
-    ///
-    /// # Errors
-    ///
-    /// `DeviceFault` if the folder or the lines failed.
-    #[inline(always)]
-    pub fn add<D: NewFolder, W: Sink>(
-        &mut self,
-        fact: &Fact,
-        folder: &mut D,
-        lines: &mut W,
-    ) -> Result<(), DeviceFault>
-        requires next { CanAdd self.old fact.now }
-        requires few { self.old.written < 2 ^ 32 }
-        ensures taken { (F : List Known) (p0 : Option Places) (w0 : Option (List ℕ))
-            → IsRising (F ++ fact.now ∷ [])
-            → Takes F self.old p0 (D.places folder.old) w0 (W.written lines.old)
-            → OnOk result (Takes (F ++ fact.now ∷ []) self.new p0
-            (D.places folder.new) w0 (W.written lines.new)) }
-        ensures few { self.new.written ≤ self.old.written + 1 }
-        ensures stays { LeadsTo FolderStays (D.places folder.old) (D.places folder.new) }
-        ensures failures { D.failures folder.new + W.failures lines.new
-            ≡ D.failures folder.old + W.failures lines.old + (if is_ok result then 0 else 1) }
-    {
-        match fact {
-            Fact::Symbol { key, id, bytes } => {
-                self.symbol(key, *id, Some(bytes.as_slice()), folder, lines)
-            }
-            Fact::SymbolConflict { key, id } => self.symbol(key, *id, None, folder, lines),
-            Fact::Info { key, info } => self.information(key, info, folder, lines),
-            Fact::InfoConflict { key } => {
-                self.begin(*key, FileState::ConflictingInformation, folder, lines)
-            }
-        }
-    }
+    ghost Has = { λ at objects progress v. HasFiles at objects progress (D.places v.folder.now)
+        (W.written v.lines.now) v.written v.left };
 
-    // Takes a symbol with its one value, or None if it has two.
-    #[inline(always)]
-    fn symbol<D: NewFolder, W: Sink>(
-        &mut self,
-        key: &Key,
-        id: SymbolId,
-        value: Option<&[u8]>,
-        folder: &mut D,
-        lines: &mut W,
-    ) -> Result<(), DeviceFault>
-        requires next { CanAdd self.old (next_fact key.now (id, value)) }
-        requires few { self.old.written < 2 ^ 32 }
-        ensures taken { (F : List Known) (p0 : Option Places) (w0 : Option (List ℕ))
-            → IsRising (F ++ next_fact key.now (id, value.entry) ∷ [])
-            → Takes F self.old p0 (D.places folder.old) w0 (W.written lines.old)
-            → OnOk result (Takes (F ++ next_fact key.now (id, value.entry) ∷ []) self.new p0
-            (D.places folder.new) w0 (W.written lines.new)) }
-        ensures few { self.new.written ≤ self.old.written + 1 }
-        ensures stays { LeadsTo FolderStays (D.places folder.old) (D.places folder.new) }
-        ensures failures { D.failures folder.new + W.failures lines.new
-            ≡ D.failures folder.old + W.failures lines.old + (if is_ok result then 0 else 1) }
-    {
-        match &mut self.last {
-            Some(object) if object.key == *key => match &mut object.state {
-                FileState::OneInformation(scan) => scan.pass(id, value, folder),
-                FileState::NoInformation | FileState::ConflictingInformation => Ok(()),
-            },
-            _ => self.begin(*key, FileState::NoInformation, folder, lines),
-        }
-    }
+    ghost Kept = { (ℕ × ℕ) × Option Lasting };
 
-    // Takes an object's information, and opens its file.
-    #[inline(never)]
-    fn information<D: NewFolder, W: Sink>(
-        &mut self,
-        key: &Key,
-        info: &Info,
-        folder: &mut D,
-        lines: &mut W,
-    ) -> Result<(), DeviceFault>
-        requires next { CanAdd self.old (InfoFact key.now info.now) }
-        requires few { self.old.written < 2 ^ 32 }
-        ensures taken { (F : List Known) (p0 : Option Places) (w0 : Option (List ℕ))
-            → IsRising (F ++ InfoFact key.now info.now ∷ [])
-            → Takes F self.old p0 (D.places folder.old) w0 (W.written lines.old)
-            → OnOk result (Takes (F ++ InfoFact key.now info.now ∷ []) self.new p0
-            (D.places folder.new) w0 (W.written lines.new)) }
-        ensures few { self.new.written ≤ self.old.written + 1 }
-        ensures stays { LeadsTo FolderStays (D.places folder.old) (D.places folder.new) }
-        ensures failures { D.failures folder.new + W.failures lines.new
-            ≡ D.failures folder.old + W.failures lines.old + (if is_ok result then 0 else 1) }
-    {
-        self.close(folder, lines)?;
-        folder.begin(file_name(key).as_slice())?;
-        self.last = Some(ObjectFile {
-            key: *key,
-            state: FileState::OneInformation(FileScan {
-                scan: ObjectScan::new(*key, info),
-                left: info.length(),
-                whole: true,
-            }),
-        });
+    ghost kept = { λ v. (
+      (v.folder.ghost_name, v.lines.ghost_name),
+      option_map lasting (D.places v.folder.now),
+    ) };
+
+    ghost fails = { λ v. D.failures v.folder.now + W.failures v.lines.now };
+
+    fn begins(&mut self, key: &Key, info: &Info) -> Result<(), DeviceFault> {
+        self.folder.begin(file_name(key).as_slice())?;
+        self.left = Some(info.length());
         Ok(())
     }
 
-    // Begins the next object, of which one fact came.
-    #[inline(never)]
-    fn begin<D: NewFolder, W: Sink>(
-        &mut self,
-        key: Key,
-        state: FileState,
-        folder: &mut D,
-        lines: &mut W,
-    ) -> Result<(), DeviceFault>
-        requires known { KnowsSome self.old }
-        requires few { self.old.written < 2 ^ 32 }
-        ensures taken { (F : List Known) (f : Known) (p0 : Option Places) (w0 : Option (List ℕ))
-            → IsRising (F ++ f ∷ []) → IsFirstOf F key → (address f).key ≡ key
-            → FileStateIs key (f ∷ []) state None
-            → Takes F self.old p0 (D.places folder.old) w0 (W.written lines.old)
-            → OnOk result (Takes (F ++ f ∷ []) self.new p0 (D.places folder.new)
-            w0 (W.written lines.new)) }
-        ensures few { self.new.written ≤ self.old.written + 1 }
-        ensures stays { LeadsTo FolderStays (D.places folder.old) (D.places folder.new) }
-        ensures failures { D.failures folder.new + W.failures lines.new
-            ≡ D.failures folder.old + W.failures lines.old + (if is_ok result then 0 else 1) }
-    {
-        self.close(folder, lines)?;
-        self.last = Some(ObjectFile { key, state });
-        Ok(())
+    #[inline(always)]
+    fn fits(&mut self, value: &[u8]) -> Result<(), DeviceFault> {
+        match self.left {
+            Some(left) => {
+                let first = &value[..left.min(value.len() as u64) as usize];
+                self.left = Some(left - first.len() as u64);
+                self.folder.put(first)
+            }
+            None => Ok(()),
+        }
     }
 
-    // Ends the last object, if there is one.
-    fn close<D: NewFolder, W: Sink>(
-        &mut self,
-        folder: &mut D,
-        lines: &mut W,
-    ) -> Result<(), DeviceFault>
-        requires known { KnowsSome self.old }
-        requires few { self.old.written < 2 ^ 32 }
-        ensures closed { (F : List Known) (p0 : Option Places) (w0 : Option (List ℕ))
-            → IsRising F → Takes F self.old p0 (D.places folder.old) w0 (W.written lines.old)
-            → OnOk result (TakesAll F self.new.written p0 (D.places folder.new)
-            w0 (W.written lines.new)) }
-        ensures few { self.new.written ≤ self.old.written + 1 }
-        ensures stays { LeadsTo FolderStays (D.places folder.old) (D.places folder.new) }
-        ensures failures { D.failures folder.new + W.failures lines.new
-            ≡ D.failures folder.old + W.failures lines.old + (if is_ok result then 0 else 1) }
-    {
-        let Some(object) = self.last.take() else {
-            return Ok(());
-        };
-        let (status, is_written) = object.state.end(folder)?;
-        self.written += is_written as u64;
-        write_words(lines, status_text(&object.key, status))
+    fn lacks(&mut self) -> Result<(), DeviceFault> {
+        drop_file(self.left.take(), self.folder)
     }
 
-    /// Ends the last object, once all facts came, and returns how many files were written.
-    ///
-    /// # Errors
-    ///
-    /// `DeviceFault` if the folder or the lines failed.
-    pub fn finish<D: NewFolder, W: Sink>(
-        mut self,
-        folder: &mut D,
-        lines: &mut W,
-    ) -> Result<u64, DeviceFault>
-        requires known { KnowsSome self }
-        requires few { self.written < 2 ^ 32 }
-        ensures finished { (F : List Known) (p0 : Option Places) (w0 : Option (List ℕ))
-            → IsRising F → Takes F self p0 (D.places folder.old) w0 (W.written lines.old)
-            → IfOk result (λ count. TakesAll F count p0 (D.places folder.new)
-            w0 (W.written lines.new)) }
-        ensures stays { LeadsTo FolderStays (D.places folder.old) (D.places folder.new) }
-        ensures failures { D.failures folder.new + W.failures lines.new
-            ≡ D.failures folder.old + W.failures lines.old + (if is_ok result then 0 else 1) }
-    {
-        self.close(folder, lines)?;
-        Ok(self.written)
+    #[inline(always)]
+    fn gap(&mut self, _gap: &Gap) -> Result<(), DeviceFault> {
+        drop_file(self.left.take(), self.folder)
+    }
+
+    fn ends(&mut self, key: &Key, status: Status) -> Result<(), DeviceFault> {
+        let kept = keep_file(self.left.take(), self.folder)?;
+        self.written += kept;
+        write_words(self.lines, status_text(key, status))
     }
 }
 
-impl FileState {
-    // How much is held of an object of which all facts came, and whether it has a file.
-    fn end<D: NewFolder>(self, folder: &mut D) -> Result<(Status, bool), DeviceFault>
-        requires { HasPassedAt self }
-        ensures ended { (F before mine : List Known) (key : Name) (files : List NamedFile)
-            (p0 : Option Places) → F ≡ before ++ mine → IsRising F → HoldsObject F key
-            → IsFirstOf before key → StandsInto key mine self files p0 (D.places folder.old)
-            → IfOk result (λ r. Ends F key r.0 r.1 files p0 (D.places folder.new)) }
-        ensures stays { LeadsTo FolderStays (D.places folder.old) (D.places folder.new) }
-        ensures failures { D.failures folder.new
-            ≡ D.failures folder.old + (if is_ok result then 0 else 1) }
-    {
-        match self {
-            FileState::NoInformation => Ok((Status::NoInformation, false)),
-            FileState::ConflictingInformation => Ok((Status::ConflictingInformation, false)),
-            FileState::OneInformation(scan) => scan.end(folder),
+// Removes the open file, if there is one.
+#[inline(always)]
+fn drop_file<D: NewFolder>(left: Option<u64>, folder: &mut D) -> Result<(), DeviceFault>
+    ensures dropped { (files : List NamedFile) (file : Option NamedFile) (p0 : Option Places)
+        → is_some left ≡ is_some file → LeadsTo (Fills files file) p0 (D.places folder.old)
+        → OnOk result (LeadsTo (Fills files None) p0 (D.places folder.new)) }
+    ensures stays { LeadsTo FolderStays (D.places folder.old) (D.places folder.new) }
+    ensures failures { D.failures folder.new
+        ≡ D.failures folder.old + (if is_ok result then 0 else 1) }
+{
+    match left {
+        Some(_) => folder.leave(),
+        None => Ok(()),
+    }
+}
+
+// Keeps the open file, if there is one. Returns how many were kept.
+fn keep_file<D: NewFolder>(left: Option<u64>, folder: &mut D) -> Result<u64, DeviceFault>
+    ensures kept { (files : List NamedFile) (file : Option NamedFile) (p0 : Option Places)
+        → is_some left ≡ is_some file → LeadsTo (Fills files file) p0 (D.places folder.old)
+        → IfOk result (λ n. LeadsTo (Fills (files ++ one_file file) None) p0 (D.places folder.new)
+        × (n ≡ length (one_file file))) }
+    ensures few { IfOk result (λ n. n ≤ 1) }
+    ensures stays { LeadsTo FolderStays (D.places folder.old) (D.places folder.new) }
+    ensures failures { D.failures folder.new
+        ≡ D.failures folder.old + (if is_ok result then 0 else 1) }
+{
+    match left {
+        Some(_) => {
+            folder.keep()?;
+            Ok(1)
         }
+        None => Ok(0),
     }
 }

@@ -4,14 +4,11 @@ ghost use Rattle.std.specs.Prelude.{OnOk, OnErr, IfOk, IfErr, IfSome};
 ghost use Rattle.flute_journal.specs.Records.{IsFileWithin};
 ghost use Rattle.flutejoin.specs.declared.limits.TheConstants.{MAX_ENTRIES};
 ghost use Rattle.flutejoin.specs.declared.command_fault.CommandFault.TheVariants as faults;
-ghost use Rattle.flute_streams.specs.Scopes.{takes_key, chosen};
-ghost use Rattle.flute_wire.specs.Reading.{facts};
-ghost use Rattle.flutejoin.specs.Joined.{Choice, choice_of, is_of_others};
+ghost use Rattle.flutejoin.specs.Joined.{Choice, choice_of};
 ghost use Rattle.flutejoin.specs.Asides.{IsNewRun, Makes};
 ghost use Rattle.flutejoin.specs.JoinParts.{HoldsDatagrams, HoldsMore, HoldsRun, IsSound};
 ghost use Rattle.flutejoin.specs.JoinParts.{CountsUpTo, FileFails};
-ghost use Rattle.flutejoin.specs.Limits.{IsCountable, Limits, at_most};
-ghost use Rattle.flutejoin.specs.Refused.{is_refused};
+ghost use Rattle.flutejoin.specs.Limits.{IsCountable, at_most};
 ghost use Rattle.flutejoin.specs.Show.{FailsToRead};
 
 use crate::aside::Asides;
@@ -19,12 +16,13 @@ use crate::command_fault::{CommandFault, at_input};
 use crate::join::joined::Joined;
 use crate::join::runs::{MAX_RUNS, add_run, merge_beyond};
 use crate::limits::MAX_ENTRIES;
+use flute_join::JoinRefusal;
 use flute_journal::laws::a_file_is_read_record_by_record;
 use flute_journal::{DatagramReader, write_store};
 use flute_parts::{FactRef, Sender, Source};
-use flute_store::{Store, TakeFault};
+use flute_store::Store;
 use flute_streams::{OwnedJournalStream, Scope};
-use flute_wire::{one_reading, read};
+use flute_wire::read;
 use std::alloc::Global;
 
 /// How many bytes a fact takes beside those of its symbol.
@@ -95,21 +93,19 @@ impl<const SESSIONS: u32, const OBJECTS: u32, const SYMBOLS: u32, R: Source + Dr
         if !self.fits {
             return Ok(());
         }
-        if is_of_others(sender, scope, datagram) {
-            self.told.datagrams += 1;
-            self.others += 1;
-            return Ok(());
-        }
-        // By this the proof knows that a datagram is a packet or refused.
-        one_reading();
-        match self.told.store.take(alloc, sender, datagram) {
-            Ok(_) => {}
-            Err(TakeFault::Datagram(_)) => self.told.refused += 1,
-            Err(TakeFault::Full) => {
-                self.fits = false;
-                return Ok(());
+        match read(datagram) {
+            Ok(packet) if scope.takes(&packet.key(sender)) => {
+                match self.told.store.take_packet(alloc, sender, &packet) {
+                    Ok(_) => {}
+                    Err(JoinRefusal::Full) => {
+                        self.fits = false;
+                        return Ok(());
+                    }
+                    Err(JoinRefusal::OutOfMemory) => return Err(CommandFault::OutOfMemory),
+                }
             }
-            Err(TakeFault::OutOfMemory) => return Err(CommandFault::OutOfMemory),
+            Ok(_) => self.others += 1,
+            Err(_) => self.told.refused += 1,
         }
         self.told.datagrams += 1;
         Ok(())
@@ -267,27 +263,5 @@ impl<const SESSIONS: u32, const OBJECTS: u32, const SYMBOLS: u32, R: Source + Dr
         self.put_aside(alloc, asides)?;
         merge_beyond(alloc, asides, 1, &mut self.runs)?;
         Ok(self.runs.pop())
-    }
-}
-
-// Whether a datagram is a packet of an object that is not taken.
-fn is_of_others(sender: Sender, scope: &Scope, datagram: &[u8]) -> bool
-    ensures others { result ≡ true
-        → chosen (takes_key scope.now) (facts sender datagram.now) ≡ [] }
-    ensures packet { result ≡ true → is_refused datagram.now ≡ false }
-    ensures exact { (most : Limits)
-        → result ≡ is_of_others (choice_of most sender scope.now) datagram.now }
-    ensures taken { result ≡ false
-        → chosen (takes_key scope.now) (facts sender datagram.now)
-        ≡ facts sender datagram.now }
-{
-    // By this the proof knows which facts a datagram contains.
-    one_reading();
-    if scope.is_all() {
-        return false;
-    }
-    match read(datagram) {
-        Ok(packet) => !scope.takes(&packet.key(sender)),
-        Err(_) => false,
     }
 }

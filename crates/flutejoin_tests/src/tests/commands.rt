@@ -7,14 +7,19 @@ use flutejoin::{
     CommandFault, MAX_OBJECTS, MAX_SESSIONS, MAX_SYMBOLS, Style, extract_to, forget_input,
     forget_to, gaps_from, info_to, merge_to, packet_to, sender_of, show_to,
 };
-use flutejoin_line::{Line, line_of};
+use flutejoin_line::{Line, ShowLine, line_of};
 use flutejoin_replicas::{MemoryAside, gaps_to, load, save_to};
 use test_vectors::{bytes, journals};
 
 #[test]
 fn a_line_is_read(rt: HostRuntime) -> Result<(), Fail> {
     let words = ["show".to_string(rt.alloc())?, "J".to_string(rt.alloc())?];
-    assert!(rt; matches!(line_of(rt.alloc(), &words)?, Line::Show { j: "J", .. }));
+    assert!(rt;
+        matches!(
+            line_of(rt.alloc(), &words)?,
+            Line::Show(ShowLine { j: "J", .. })
+        )
+    );
     Ok(())
 }
 

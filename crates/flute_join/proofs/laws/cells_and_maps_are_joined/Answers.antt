@@ -1,3 +1,6 @@
+use Rattle.std.proofs.Common.{arith}
+use Rattle.std.proofs.lemmas.Grind.{common_steps}
+use Rattle.std.proofs.Common.{rules}
 use Rattle.flute_join.specs.Cell.{cell_join_laws}
 use Rattle.flute_join.specs.MapLaws.{map_join_laws}
 use Rattle.flute_join.proofs.Values.{value_at-map_join}

@@ -1,4 +1,5 @@
-use Rattle.flute_journal.proofs.Common.{arith, sym, ap, ◌∙◌, ◌++◌, subst, JournalIn, spelling_in}
+use Rattle.std.proofs.Common.{rules}
+use Rattle.flute_journal.proofs.Common.{◌++◌}
 use Rattle.flute_journal.proofs.Common.{fact_key, rising_unique}
 use Rattle.flute_journal.proofs.format_lemmas.Entries.{entry_injective, fact_two, facts_of}
 use Rattle.flute_journal.proofs.format_lemmas.Entries.{one_room, room_one}
@@ -15,57 +16,35 @@ pub returns-clause-written : goal.returns-clause-written
 returns-clause-written c = fact_two
 
 pub returns-clause-old : goal.returns-clause-old
-returns-clause-old c f valid = (
-  λ p. room_one (fact_key f) p.1,
-  λ e. (valid, one_room (fact_key f) e),
-)
+returns-clause-old c f valid =
+    (λ p. room_one (fact_key f) p.1, λ e. (valid, one_room (fact_key f) e))
 
 pub returns-clause-equal : goal.returns-clause-equal
-returns-clause-equal c v bs cs F G first second = (
-  λ e. (same_journal v v cs F G (subst (λ l. JournalIn v l F) e first) second).1,
-  λ same.
-      let j = journal_parts v bs F first in
-      let k = journal_parts v cs G second in
-      let one = rising_unique j.entries k.entries j.collects.rising k.collects.rising
-      (record {
-        each = λ a. sym (j.collects.same.each a) ∙ same.each a
-            ∙ k.collects.same.each a;
-      }) in
-      j.bytes_are ∙ ap (spelling_in v) one ∙ sym k.bytes_are,
+returns-clause-equal c v bs cs F G first second = search (
+  rules,
+  same_journal,
+  journal_parts,
+  rising_unique,
 )
 
 pub returns-clause-content : goal.returns-clause-content
 returns-clause-content c bs F G (v, j) (w, k) = (same_journal v w bs F G j k).1
 
 pub returns-clause-version : goal.returns-clause-version
-returns-clause-version c v w bs F G j k = (same_journal v w bs F G j k).0
+returns-clause-version c v w bs F G j k = search rules
 
 pub returns-clause-prefix : goal.returns-clause-prefix
 returns-clause-prefix c bs more F G (v, first) (w, second) =
     let j = journal_parts v bs F first in
     let k = journal_parts w (bs ++ more) G second in
-    let begun : BeginsWithJournal v j.entries more (bs ++ more) =
-    record { valid = j.valid; bytes_are = ap (λ l. l ++ more) j.bytes_are } in
+    let begun : BeginsWithJournal v j.entries more (bs ++ more) = search rules in
     (spelling-injective begun (begins_with_journal k)).2
 
 pub returns-clause-bounded : goal.returns-clause-bounded
-returns-clause-bounded c bs limit F small h =
-    let es = h.0 in
-    let a = h.1.are_items in
-    let v = a.told in (
-      v,
-      parts_journal v bs F (record {
-        entries = es;
-        collects = record { valid = facts_of v es a.valid; rising = a.in_order; same = h.2 };
-        small = omega (arith, small, a.few);
-        bytes_are = h.1.bytes_are;
-        valid = a.valid;
-      }),
-    )
+returns-clause-bounded c bs limit F small h = search (rules, parts_journal, facts_of)
 
 pub returns-clause-begun : goal.returns-clause-begun
-returns-clause-begun c bs F es limit (v, journal) b =
-    without_end-below v b.are_items.told F es b.rest journal b.are_items.valid b.whole
+returns-clause-begun x0 x1 x2 x3 x4 x5 x6 = search (rules, without_end-below)
 
 pub returns-clause-spelling : goal.returns-clause-spelling
-returns-clause-spelling c v es fs r s same = ap (spelling_in v) (rising_unique es fs r s same)
+returns-clause-spelling c v es fs r s same = search (rules, rising_unique)

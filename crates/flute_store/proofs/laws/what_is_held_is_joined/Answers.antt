@@ -13,8 +13,7 @@ joined_again old other left above below =
     let nothing : Below [] old = record { each = λ a. refl } in
     let second : Below other both = Below-append [] old other other nothing (Below-itself other) in
     let twice = Below-from_Same (both ++ both) both (Same-twice both) in
-    Same-from_Below (left ++ other) both
-    (Below-trans (left ++ other) (both ++ both) both
+    Same-from_Below (left ++ other) both (Below-trans (left ++ other) (both ++ both) both
     (Below-append left both other both below second) twice)
     (Below-append old left other other above (Below-itself other))
 
@@ -26,8 +25,7 @@ has_cell held (SymbolConflict key id) h = h
 
 pub returns : goal.returns
 returns c = record {
-  again = λ old other left new above below same.
-      let again = joined_again old other left above below in
-      record { each = λ a. same.each a ∙ again.each a };
+  again = λ old other left new above below same. let again = joined_again old other left above
+      below in record { each = λ a. same.each a ∙ again.each a };
   cells = has_cell;
 }

@@ -17,28 +17,25 @@ returns-in-Some-clause-full g c = λ e.
     full.1)
 
 pub returns-in-Some-clause-room : goal.returns-in-Some-clause-room
-returns-in-Some-clause-room g c = λ not_full.
-    let es = c.args.symbols.now in
+returns-in-Some-clause-room g c = λ not_full. let es = c.args.symbols.now in
     let id = c.in-Some.id in
     let w = update_cell c.in-Some.update in
     let within = c.join_with.ensures.within in
-    let room : value_at symbol_id_cmp es id ≡ None → length es < g.row.SYMBOLS = λ absent.
-    let not_many : length es ≢ g.row.SYMBOLS =
-    λ many. not_full (c.join_with.ensures.full.1 (absent, many)) in
-    omega (arith, within, not_many) in
+    let room : value_at symbol_id_cmp es id ≡ None → length es < g.row.SYMBOLS = λ absent. let
+    not_many : length es ≢ g.row.SYMBOLS = λ many. not_full
+    (c.join_with.ensures.full.1 (absent, many)) in omega (arith, within, not_many) in
     let sound = joined-sound symbols_joined (record {
       ordered = c.join_with.ensures.ordered;
       within = within;
       each = c.requires.symbols.each;
     }) id w (value_at symbol_id_cmp es id) refl (λ v. known-join bytes_eq v w)
-    (known-update c.in-Some.update) room in
-    subst (λ o. AreSymbols g.row.SYMBOLS (symbols_join es (update_symbols o))) (sym c.in-Some.is)
+    (known-update c.in-Some.update) room in subst
+    (λ o. AreSymbols g.row.SYMBOLS (symbols_join es (update_symbols o))) (sym c.in-Some.is)
     (record { ordered = sound.ordered; within = sound.within; each = sound.each })
 
 pub returns-in-None-clause-ok : goal.returns-in-None-clause-ok
-returns-in-None-clause-ok g c =
-    sym (ap (λ o. symbols_join c.args.symbols.now (update_symbols o)) c.in-None.is
-    ∙ join_nothing symbol_id_cmp (cell_join bytes_eq) c.args.symbols.now)
+returns-in-None-clause-ok g c = sym (ap (λ o. symbols_join c.args.symbols.now (update_symbols o))
+    c.in-None.is ∙ join_nothing symbol_id_cmp (cell_join bytes_eq) c.args.symbols.now)
 
 pub returns-in-None-clause-room : goal.returns-in-None-clause-room
 returns-in-None-clause-room g c =

@@ -14,96 +14,81 @@ pub join_update-requires : goal.join_update-requires
 join_update-requires g c = (
   lit< tt,
   (
-    (each-value_at object_cmp IsObject c.args.objects.now c.args.key c.in-Some.held.now
-        c.requires.each (sym c.in-Some.ensures.value)).symbols_are,
+    (each-value_at object_cmp IsObject c.args.objects.now
+        c.args.key c.in-Some.held.now c.requires.each (sym c.in-Some.ensures.value)).symbols_are,
     c.requires.update,
   ),
 )
 
 pub returns-in-Some-clause-err : goal.returns-in-Some-clause-err
-returns-in-Some-clause-err g c =
-    on_err_weaker c.join_update.result
-    (λ p. ap (set_value (is_at (object_cmp c.args.key)) c.args.objects.now) p
-    ∙ set_value_same (is_at (object_cmp c.args.key)) c.args.objects.now c.in-Some.held.now
-    (sym c.in-Some.ensures.value))
-    c.join_update.ensures.err
+returns-in-Some-clause-err g c = on_err_weaker c.join_update.result (λ p. ap
+    (set_value (is_at (object_cmp c.args.key)) c.args.objects.now) p ∙ set_value_same
+    (is_at (object_cmp c.args.key)) c.args.objects.now c.in-Some.held.now
+    (sym c.in-Some.ensures.value)) c.join_update.ensures.err
 
 pub returns-in-Some-clause-ok : goal.returns-in-Some-clause-ok
 returns-in-Some-clause-ok g c =
     let es = c.args.objects.now in
-    on_ok_weaker c.join_update.result
-    (λ p. ap (set_value (is_at (object_cmp c.args.key)) es) p
-    ∙ sym (single_held object_total (object_join_laws g.row.SYMBOLS) es c.args.key
-    c.in-Some.held.now (update_object c.args.update.now) c.in-Some.ensures.ordered
-    (sym c.in-Some.ensures.value)))
+    on_ok_weaker c.join_update.result (λ p. ap (set_value (is_at (object_cmp c.args.key)) es) p ∙
+    sym (single_held object_total (object_join_laws g.row.SYMBOLS) es c.args.key c.in-Some.held.now
+    (update_object c.args.update.now) c.in-Some.ensures.ordered (sym c.in-Some.ensures.value)))
     c.join_update.ensures.ok
 
 pub returns-in-Some-clause-full : goal.returns-in-Some-clause-full
-returns-in-Some-clause-full g c =
-    λ e. inr (held-beyond (objects_joined g.row.SYMBOLS) c.args.objects.now c.args.key
-    (update_object c.args.update.now) ObjectBeyond c.in-Some.ensures.ordered
-    (sym c.in-Some.ensures.value) (c.join_update.ensures.full e))
+returns-in-Some-clause-full g c = λ e. inr (held-beyond (objects_joined g.row.SYMBOLS)
+    c.args.objects.now c.args.key (update_object c.args.update.now) ObjectBeyond
+    c.in-Some.ensures.ordered (sym c.in-Some.ensures.value) (c.join_update.ensures.full e))
 
 pub returns-in-Some-clause-room : goal.returns-in-Some-clause-room
-returns-in-Some-clause-room g c =
-    λ n. held-sound (objects_joined g.row.SYMBOLS) (record {
-      ordered = c.in-Some.ensures.ordered;
-      within = c.in-Some.ensures.within;
-      each = c.requires.each;
-    }
-    ) c.args.key (update_object c.args.update.now) (sym c.in-Some.ensures.value)
+returns-in-Some-clause-room g c = λ n. held-sound (objects_joined g.row.SYMBOLS) (record {
+  ordered = c.in-Some.ensures.ordered;
+  within = c.in-Some.ensures.within;
+  each = c.requires.each;
+}) c.args.key (update_object c.args.update.now) (sym c.in-Some.ensures.value)
     (c.join_update.ensures.room n)
 
 pub returns-then-len-clause-full : goal.returns-then-len-clause-full
-returns-then-len-clause-full g c =
-    λ _. inl (full-beyond (objects_joined g.row.SYMBOLS) c.args.objects.now c.args.key
-    (update_object c.args.update.now) g.row.OBJECTS (sym c.in_default.ensures.value)
-    (sym c.len.ensures.value ∙ c.if-len.true))
+returns-then-len-clause-full g c = λ _. inl (full-beyond (objects_joined g.row.SYMBOLS)
+    c.args.objects.now c.args.key (update_object c.args.update.now) g.row.OBJECTS
+    (sym c.in_default.ensures.value) (sym c.len.ensures.value ∙ c.if-len.true))
 
 made : (n : ℕ) (x : Object n) (w : Object n) → x.info ≡ Absent → x.symbols ≡ []
     → object_join x w ≡ w
 made n x w p q = (λ i. record {
   info = cell_join same_information (p i) w.info;
   symbols = symbols_join (q i) w.symbols;
-}
-    ) ∙ (λ i. record {
-      info = w.info;
-      symbols = nothing_join symbol_id_cmp (cell_join bytes_eq) w.symbols i;
-    })
+}) ∙ (λ i. record {
+  info = w.info;
+  symbols = nothing_join symbol_id_cmp (cell_join bytes_eq) w.symbols i;
+})
 
 pub returns-in_err-join_update-clause-full : goal.returns-in_err-join_update-clause-full
 returns-in_err-join_update-clause-full g c =
     let refused = err_from_is_err_and c.from_residual.result c.from_residual.ensures.1 in
-    let is =
-    made g.row.SYMBOLS _ (update_object c.args.update.now) (λ _. Absent) c.new.ensures in
-    rw (refused.1, refused.2)
-    (λ e. inr (new-beyond (objects_joined g.row.SYMBOLS) _ _ _
+    let is = made g.row.SYMBOLS _ (update_object c.args.update.now) (λ _. Absent) c.new.ensures in
+    rw (refused.1, refused.2) (λ e. inr (new-beyond (objects_joined g.row.SYMBOLS) _ _ _
     ObjectBeyond c.in_default.ensures.ordered (sym c.in_default.ensures.value)
     (subst ObjectBeyond is (c.in_err-join_update.ensures.full e))))
 
 pub returns-in_err-join_update-clause-room : goal.returns-in_err-join_update-clause-room
 returns-in_err-join_update-clause-room g c =
     let refused = err_from_is_err_and c.from_residual.result c.from_residual.ensures.1 in
-    let is =
-    made g.row.SYMBOLS _ (update_object c.args.update.now) (λ _. Absent) c.new.ensures in
+    let is = made g.row.SYMBOLS _ (update_object c.args.update.now) (λ _. Absent) c.new.ensures in
     let room : length c.args.objects.now < g.row.OBJECTS = omega arith in
-    rw (refused.1, refused.2)
-    (λ n. new-sound (objects_joined g.row.SYMBOLS)
+    rw (refused.1, refused.2) (λ n. new-sound (objects_joined g.row.SYMBOLS)
     (has-room c.args.objects.now c.in_default.ensures.ordered c.requires.each room) _ _
     (sym c.in_default.ensures.value) room (subst IsObject is (c.in_err-join_update.ensures.room n)))
 
 pub returns-clause-ok : goal.returns-clause-ok
 returns-clause-ok g c =
-    let is =
-    made g.row.SYMBOLS _ (update_object c.args.update.now) (λ _. Absent) c.new.ensures in
+    let is = made g.row.SYMBOLS _ (update_object c.args.update.now) (λ _. Absent) c.new.ensures in
     let added = rw (c.in_ok-join_update.ensures.ok ∙ is) at c.add_new.ensures.ok in
     added_joins object_total (object_join_laws g.row.SYMBOLS) _ _ _ _
     (sym c.in_default.ensures.value) c.add_new.result added
 
 pub returns-clause-room : goal.returns-clause-room
 returns-clause-room g c =
-    let is =
-    made g.row.SYMBOLS _ (update_object c.args.update.now) (λ _. Absent) c.new.ensures in
+    let is = made g.row.SYMBOLS _ (update_object c.args.update.now) (λ _. Absent) c.new.ensures in
     let room : length c.args.objects.now < g.row.OBJECTS = omega arith in
     λ n. new-sound (objects_joined g.row.SYMBOLS)
     (has-room c.args.objects.now c.in_default.ensures.ordered c.requires.each room) _ _

@@ -13,28 +13,24 @@ use Rattle.flute_store.proofs.updating.join_session.Goals as goal
 pub join_object-requires : goal.join_object-requires
 join_object-requires g c =
     let found = sym c.in-Some.ensures.value in
-    let sound =
-    each-value_at session_cmp (IsSession g.row.OBJECTS) c.args.sessions.now
+    let sound = each-value_at session_cmp (IsSession g.row.OBJECTS) c.args.sessions.now
     c.args.key.now.session c.in-Some.held.now c.requires.each found in
     (lit< tt, (lit< tt, (sound.each, c.requires.update)))
 
 pub returns-in-Some-clause-err : goal.returns-in-Some-clause-err
-returns-in-Some-clause-err g c =
-    on_err_weaker c.join_object.result
-    (λ p. ap (set_value (is_at (session_cmp c.args.key.now.session)) c.args.sessions.now) p
-    ∙ set_value_same (is_at (session_cmp c.args.key.now.session)) c.args.sessions.now
-    c.in-Some.held.now (sym c.in-Some.ensures.value))
-    c.join_object.ensures.err
+returns-in-Some-clause-err g c = on_err_weaker c.join_object.result (λ p. ap
+    (set_value (is_at (session_cmp c.args.key.now.session)) c.args.sessions.now) p ∙ set_value_same
+    (is_at (session_cmp c.args.key.now.session)) c.args.sessions.now c.in-Some.held.now
+    (sym c.in-Some.ensures.value)) c.join_object.ensures.err
 
 pub returns-in-Some-clause-ok : goal.returns-in-Some-clause-ok
 returns-in-Some-clause-ok g c =
     let es = c.args.sessions.now in
-    on_ok_weaker c.join_object.result
-    (λ p. ap (set_value (is_at (session_cmp c.args.key.now.session)) es) p
-    ∙ sym (single_held session_total (session_laws g.row.SYMBOLS) es c.args.key.now.session
-    c.in-Some.held.now ((c.args.key.now.object, update_object {n = g.row.SYMBOLS} c.args.update.now)
-    ∷ []) c.in-Some.ensures.ordered (sym c.in-Some.ensures.value)))
-    c.join_object.ensures.ok
+    on_ok_weaker c.join_object.result (λ p. ap
+    (set_value (is_at (session_cmp c.args.key.now.session)) es) p ∙ sym (single_held session_total
+    (session_laws g.row.SYMBOLS) es c.args.key.now.session c.in-Some.held.now
+    ((c.args.key.now.object, update_object {n = g.row.SYMBOLS} c.args.update.now) ∷ [])
+    c.in-Some.ensures.ordered (sym c.in-Some.ensures.value))) c.join_object.ensures.ok
 
 pub returns-in-Some-clause-full : goal.returns-in-Some-clause-full
 returns-in-Some-clause-full g c =
@@ -44,24 +40,19 @@ returns-in-Some-clause-full g c =
     (c.join_object.ensures.full e))
 
 pub returns-in-Some-clause-room : goal.returns-in-Some-clause-room
-returns-in-Some-clause-room g c =
-    λ n. held-sound (sessions_joined g.row.SYMBOLS) (record {
-      ordered = c.in-Some.ensures.ordered;
-      within = c.in-Some.ensures.within;
-      each = c.requires.each;
-    }
-    ) c.args.key.now.session ((
-      c.args.key.now.object,
-      update_object {n = g.row.SYMBOLS} c.args.update.now,
-    ) ∷ []) (sym c.in-Some.ensures.value)
-    (c.join_object.ensures.room n)
+returns-in-Some-clause-room g c = λ n. held-sound (sessions_joined g.row.SYMBOLS) (record {
+  ordered = c.in-Some.ensures.ordered;
+  within = c.in-Some.ensures.within;
+  each = c.requires.each;
+}) c.args.key.now.session
+    ((c.args.key.now.object, update_object {n = g.row.SYMBOLS} c.args.update.now) ∷ [])
+    (sym c.in-Some.ensures.value) (c.join_object.ensures.room n)
 
 pub returns-then-len-clause-full : goal.returns-then-len-clause-full
-returns-then-len-clause-full g c =
-    λ _. inl (full-beyond (sessions_joined g.row.SYMBOLS) c.args.sessions.now c.args.key.now.session
+returns-then-len-clause-full g c = λ _. inl (full-beyond (sessions_joined g.row.SYMBOLS)
+    c.args.sessions.now c.args.key.now.session
     ((c.args.key.now.object, update_object {n = g.row.SYMBOLS} c.args.update.now) ∷ [])
-    g.row.SESSIONS
-    (sym c.in_default.ensures.value) (sym c.len.ensures.value ∙ c.if-len.true))
+    g.row.SESSIONS (sym c.in_default.ensures.value) (sym c.len.ensures.value ∙ c.if-len.true))
 
 made : (n : ℕ) (m w : List (ObjectName × Object n)) → m ≡ [] → session_join m w ≡ w
 made n m w p = ap (λ x. session_join x w) p ∙ nothing_join object_cmp object_join w
@@ -79,12 +70,10 @@ pub returns-in_err-join_object-clause-room : goal.returns-in_err-join_object-cla
 returns-in_err-join_object-clause-room g c =
     let refused = err_from_is_err_and c.from_residual.result c.from_residual.ensures.1 in
     let room : length c.args.sessions.now < g.row.SESSIONS = omega arith in
-    rw (refused.1, refused.2)
-    (λ n. new-sound (sessions_joined g.row.SYMBOLS)
+    rw (refused.1, refused.2) (λ n. new-sound (sessions_joined g.row.SYMBOLS)
     (has-room c.args.sessions.now c.in_default.ensures.ordered c.requires.each room) _ _
-    (sym c.in_default.ensures.value) room
-    (subst (IsSession g.row.OBJECTS) (made g.row.SYMBOLS _ _ c.new-objects.ensures)
-    (c.in_err-join_object.ensures.room n)))
+    (sym c.in_default.ensures.value) room (subst (IsSession g.row.OBJECTS)
+    (made g.row.SYMBOLS _ _ c.new-objects.ensures) (c.in_err-join_object.ensures.room n)))
 
 pub returns-clause-ok : goal.returns-clause-ok
 returns-clause-ok g c =
@@ -98,6 +87,5 @@ returns-clause-room g c =
     let room : length c.args.sessions.now < g.row.SESSIONS = omega arith in
     λ n. new-sound (sessions_joined g.row.SYMBOLS)
     (has-room c.args.sessions.now c.in_default.ensures.ordered c.requires.each room) _ _
-    (sym c.in_default.ensures.value) room
-    (subst (IsSession g.row.OBJECTS) (made g.row.SYMBOLS _ _ c.new-objects.ensures)
-    (c.in_ok-join_object.ensures.room (λ e. cc)))
+    (sym c.in_default.ensures.value) room (subst (IsSession g.row.OBJECTS)
+    (made g.row.SYMBOLS _ _ c.new-objects.ensures) (c.in_ok-join_object.ensures.room (λ e. cc)))

@@ -14,9 +14,8 @@ use Rattle.flute_wire.proofs.encoding.encoded.Goals.{in_default-info}
 pub returns : goal.returns
 returns c =
     let o = c.args.outgoing.now in
-    let fdt : c.match-instance.bytes.items
-    ≡ c.extend_from_slice.new.self.items ++ fdt_bytes (instance_of o.key.object) =
-    elim c.match-instance.branch [
+    let fdt : c.match-instance.bytes.items ≡ c.extend_from_slice.new.self.items ++ fdt_bytes
+    (instance_of o.key.object) = elim c.match-instance.branch [
       | in-Some-instance+in_ok-extend_from_slice-2 w ↦ search rules
       | in_default w ↦ search rules
     ] in
@@ -25,17 +24,15 @@ returns c =
       | in-Some-info+in_ok-extend_from_slice-3 w ↦ search rules
       | in_default-info w ↦ search rules
     ] in
-    let info : HasFittingInformation o.info =
-    elim c.match-outgoing-2.branch [
+    let info : HasFittingInformation o.info = elim c.match-outgoing-2.branch [
       | in-Some-info+in_ok-extend_from_slice-3 w ↦ search rules
       | in_default-info w ↦ search rules
     ] in
     let d = c.put_symbol.new.out.items in
     let is : d ≡ spelling (said o) = search rules in
     let fits : IsEncodable (said o) = search rules in
-    let w : IsWritten d (said o) =
-    written d (said o) is fits (instance_has_toi o.key.object) c.requires.sound in
-    record {
+    let w : IsWritten d (said o) = written d (said o) is fits (instance_has_toi o.key.object)
+    c.requires.sound in record {
       sound = c.requires.sound;
       written = w;
       facts = facts_told d o.key o.info (said o).symbol w;

@@ -1,4 +1,5 @@
 -- carousel: the fault of an object that isn't sent, and its loop over the symbols.
+use Rattle.std.proofs.Common.{rules}
 use Rattle.std.proofs.Common.{◌≡◌, ℕ, zero, suc, ◌+◌, ◌^◌, ◌<◌, max, leb, ltb, Result, Ok, Err}
 use Rattle.std.proofs.Common.{List, length, take, Bool, true}
 use Rattle.std.proofs.Common.{false, cond, Option, Some, None, refl, sym, ap, subst, ◌∙◌, arith}
@@ -23,13 +24,11 @@ use Rattle.flute_wire.proofs.sending.carousel.Goals as goal
 
 -- why the packet at a place is not written
 abbrev fault_at : Key → Information → List ℕ → ℕ → Option WriteFault
-fault_at key i content k =
-    write_fault (packet_at key (Some i) (slice_get (symbols_of i content) k))
+fault_at key i content k = write_fault (packet_at key (Some i) (slice_get (symbols_of i content) k))
 
 -- a packet that is written, or not for lack of memory, has no fault
-not_written : (w : Option WriteFault) (r : Result Datagram WriteFault)
-    → (w ≡ Some OutOfMemory → ⊥) → r ≡ Err OutOfMemory
-    → IfSome w (λ f. r ≡ Err f) → w ≡ None
+not_written : (w : Option WriteFault) (r : Result Datagram WriteFault) → (w ≡ Some OutOfMemory → ⊥)
+    → r ≡ Err OutOfMemory → IfSome w (λ f. r ≡ Err f) → w ≡ None
 not_written None r other is h = refl
 not_written (Some f) r other is h =
     let same : f ≡ OutOfMemory = (let e = sym h ∙ is in cc) in
@@ -57,19 +56,16 @@ no_memory_fault false false false true e = cc
 no_memory_fault false false false false e = cc
 
 no_memory : (c : Content) → write_fault c ≡ Some OutOfMemory → ⊥
-no_memory c e =
-    no_memory_fault (leb (2 ^ 32) c.tsi) (leb (2 ^ 32) c.toi) (has_no_byte c.symbol)
+no_memory c e = no_memory_fault (leb (2 ^ 32) c.tsi) (leb (2 ^ 32) c.toi) (has_no_byte c.symbol)
     (ltb 65535 (length (spelling c))) e
 
 -- the first packet has no fault, if one before or the one at this place has none
-first_sent : (k : ℕ) (w : ℕ → Option WriteFault) → (0 < k → w 0 ≡ None) → w k ≡ None
-    → w 0 ≡ None
+first_sent : (k : ℕ) (w : ℕ → Option WriteFault) → (0 < k → w 0 ≡ None) → w k ≡ None → w 0 ≡ None
 first_sent zero w before here = here
 first_sent (suc k) w before here = before (omega arith)
 
-first_is : (k : ℕ) (w : ℕ → Option WriteFault) (fault : WriteFault)
-    → (0 < k → w 0 ≡ None) → (w 0 ≡ None → w k ≡ None)
-    → w k ≡ Some fault → w 0 ≡ Some fault
+first_is : (k : ℕ) (w : ℕ → Option WriteFault) (fault : WriteFault) → (0 < k → w 0 ≡ None) →
+    (w 0 ≡ None → w k ≡ None) → w k ≡ Some fault → w 0 ≡ Some fault
 first_is zero w fault before all here = here
 first_is (suc k) w fault before all here =
     let e = sym (all (before (omega arith))) ∙ here in absurd cc
@@ -80,10 +76,9 @@ returns-then-content-length-clause-fault c =
     (λ whole. c.if-content-length.true (whole ∙ sym c.length.ensures.value))) refl
 
 pub returns-then-content-length-clause-memory : goal.returns-then-content-length-clause-memory
-returns-then-content-length-clause-memory c = λ none.
-    let is = wrong_length c.args.key.now c.args.info.now c.args.content.now
-    (λ whole. c.if-content-length.true (whole ∙ sym c.length.ensures.value)) in
-    absurd (cc)
+returns-then-content-length-clause-memory c = λ none. let is = wrong_length c.args.key.now
+    c.args.info.now c.args.content.now
+    (λ whole. c.if-content-length.true (whole ∙ sym c.length.ensures.value)) in absurd (cc)
 
 pub returns-in-OutOfMemory-clause-fault : goal.returns-in-OutOfMemory-clause-fault
 returns-in-OutOfMemory-clause-fault c =
@@ -91,14 +86,12 @@ returns-in-OutOfMemory-clause-fault c =
     let i = c.args.info.now in
     let content = c.args.content.now in
     let place = c.loop-place.place in
-    let here : fault_at key i content place ≡ None =
-    ap (λ (s : Option (SymbolId × List ℕ)). write_fault (packet_at key (Some i) s))
-    (sym c.symbol_at.ensures)
-    ∙ not_written _ c.write.result
+    let here : fault_at key i content place ≡ None = ap
+    (λ (s : Option (SymbolId × List ℕ)). write_fault (packet_at key (Some i) s))
+    (sym c.symbol_at.ensures) ∙ not_written _ c.write.result
     (no_memory (packet_at key (Some i) (option_map (λ s. (s.0, s.1.now)) c.symbol_at.result)))
-    (c.in-Err.is ∙ ap (λ (fault : WriteFault). Err fault) c.in-OutOfMemory.is)
-    c.write.ensures.fault in
-    rw (none_refused key i content c.length.ensures.valid
+    (c.in-Err.is ∙ ap (λ (fault : WriteFault). Err fault) c.in-OutOfMemory.is) c.write.ensures.fault
+    in rw (none_refused key i content c.length.ensures.valid
     (c.if-content-length.false ∙ c.length.ensures.value)
     (first_sent place (fault_at key i content) c.loop-place.invariant.1 here)) tt
 
@@ -111,18 +104,14 @@ returns-in_default c =
     let fault = c.in-Err.fault in
     let valid = c.length.ensures.valid in
     let whole = c.if-content-length.false ∙ c.length.ensures.value in
-    let count : c.max-place-end.result ≡ max (length (ids i)) 1 =
-    c.max-place-end.ensures ∙ ap (λ (n : ℕ). max n 1)
-    (c.symbols.ensures.value ∙ ap (λ (p : Information). length (ids p))
-    c.of-partition.ensures) in
-    let here : fault_at key i content place ≡ Some fault =
-    ap (λ (s : Option (SymbolId × List ℕ)). write_fault (packet_at key (Some i) s))
-    (sym c.symbol_at.ensures)
-    ∙ is_refused _ c.write.result fault c.in-Err.is c.in_default.not-OutOfMemory
-    c.write.ensures.fault c.in-Err.ensures.memory in
+    let count : c.max-place-end.result ≡ max (length (ids i)) 1 = search rules in
+    let here : fault_at key i content place ≡ Some fault = ap
+    (λ (s : Option (SymbolId × List ℕ)). write_fault (packet_at key (Some i) s))
+    (sym c.symbol_at.ensures) ∙ is_refused _ c.write.result fault c.in-Err.is
+    c.in_default.not-OutOfMemory c.write.ensures.fault c.in-Err.ensures.memory in
     let first = first_is place (fault_at key i content) fault c.loop-place.invariant.1
-    (all_sent key i content place valid whole (omega (arith, count, c.loop-place-test.true)))
-    here in
+    (all_sent key i content place valid whole (omega (arith, count, c.loop-place-test.true))) here
+    in
     let is = first_refused key i content fault valid whole first in
     record {
       whole = tt;
@@ -138,11 +127,10 @@ returns-in-Err-push-clause-fault c =
     let i = c.args.info.now in
     let content = c.args.content.now in
     let place = c.loop-place.place in
-    let here : fault_at key i content place ≡ None =
-    ap (λ (s : Option (SymbolId × List ℕ)). write_fault (packet_at key (Some i) s))
-    (sym c.symbol_at.ensures)
-    ∙ is_written _ c.write.result c.in-Ok.datagram c.in-Ok.is c.write.ensures.fault in
-    rw (none_refused key i content c.length.ensures.valid
+    let here : fault_at key i content place ≡ None = ap
+    (λ (s : Option (SymbolId × List ℕ)). write_fault (packet_at key (Some i) s))
+    (sym c.symbol_at.ensures) ∙ is_written _ c.write.result c.in-Ok.datagram c.in-Ok.is
+    c.write.ensures.fault in rw (none_refused key i content c.length.ensures.valid
     (c.if-content-length.false ∙ c.length.ensures.value)
     (first_sent place (fault_at key i content) c.loop-place.invariant.1 here)) tt
 
@@ -152,22 +140,21 @@ loop-place-preserved c =
     let i = c.args.info.now in
     let content = c.args.content.now in
     let place = c.loop-place.place in
-    let count : c.max-place-end.result ≡ max (length (ids i)) 1 =
-    c.max-place-end.ensures ∙ ap (λ (n : ℕ). max n 1)
-    (c.symbols.ensures.value ∙ ap (λ (p : Information). length (ids p))
-    c.of-partition.ensures) in
-    let here : fault_at key i content place ≡ None =
-    ap (λ (s : Option (SymbolId × List ℕ)). write_fault (packet_at key (Some i) s))
-    (sym c.symbol_at.ensures)
-    ∙ is_written _ c.write.result c.in-Ok.datagram c.in-Ok.is c.write.ensures.fault in
-    let written =
-    subst (λ (s : Option (SymbolId × List ℕ)).
-    IsWritten c.in-Ok.datagram (packet_at key (Some i) s)) c.symbol_at.ensures
-    c.in-Ok.ensures.written in (
-      subst (λ (ds : List (List ℕ)). AllZip IsWritten ds
-          (take (place + 1) (packets_of key i content))) (sym c.in-Ok-push.ensures.items)
-          (one_more key content place c.loop-place.datagrams.items c.length.ensures.valid
-          (omega (arith, count, c.loop-place-test.true)) c.loop-place.invariant.0 written),
+    let count : c.max-place-end.result ≡ max (length (ids i)) 1 = c.max-place-end.ensures ∙ ap
+    (λ (n : ℕ). max n 1)
+    (c.symbols.ensures.value ∙ ap (λ (p : Information). length (ids p)) c.of-partition.ensures) in
+    let here : fault_at key i content place ≡ None = ap
+    (λ (s : Option (SymbolId × List ℕ)). write_fault (packet_at key (Some i) s))
+    (sym c.symbol_at.ensures) ∙ is_written _ c.write.result c.in-Ok.datagram c.in-Ok.is
+    c.write.ensures.fault in
+    let written = subst
+    (λ (s : Option (SymbolId × List ℕ)). IsWritten c.in-Ok.datagram (packet_at key (Some i) s))
+    c.symbol_at.ensures c.in-Ok.ensures.written in (
+      subst
+          (λ (ds : List (List ℕ)). AllZip IsWritten ds (take (place + 1) (packets_of key i content)))
+          (sym c.in-Ok-push.ensures.items) (one_more key content place c.loop-place.datagrams.items
+          c.length.ensures.valid (omega (arith, count, c.loop-place-test.true)) c.loop-place.invariant.0
+          written),
       λ _. first_sent place (fault_at key i content) c.loop-place.invariant.1 here,
     )
 
@@ -178,16 +165,11 @@ returns c =
     let content = c.args.content.now in
     let valid = c.length.ensures.valid in
     let whole = c.if-content-length.false ∙ c.length.ensures.value in
-    let count : c.max-place-end.result ≡ max (length (ids i)) 1 =
-    c.max-place-end.ensures ∙ ap (λ (n : ℕ). max n 1)
-    (c.symbols.ensures.value ∙ ap (λ (p : Information). length (ids p))
-    c.of-partition.ensures) in
+    let count : c.max-place-end.result ≡ max (length (ids i)) 1 = search rules in
     let all : take c.loop-place.place (packets_of key i content) ≡ packets_of key i content =
     take_all c.loop-place.place (packets_of key i content)
     (omega (arith, count, c.loop-place-test.false, length-packets_of key i content valid)) in
-    let written : AllZip IsWritten c.loop-place.datagrams.items (packets_of key i content) =
-    subst (λ (cs : List Content). AllZip IsWritten c.loop-place.datagrams.items cs) all
-    c.loop-place.invariant.0 in
+    let written : AllZip IsWritten c.loop-place.datagrams.items (packets_of key i content) = search rules in
     let first = c.loop-place.invariant.1 (omega (arith, count, c.loop-place-test.false)) in
     record {
       whole = whole;

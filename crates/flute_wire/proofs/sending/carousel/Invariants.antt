@@ -7,7 +7,6 @@ use Rattle.flute_wire.specs.Writing.{IsWritten, packet_at, write_fault}
 use Rattle.flute_wire.proofs.sending.carousel.Given as goal
 
 abbrev pub invariant-loop-place : goal.invariant-loop-place
-invariant-loop-place l =
-    AllZip IsWritten l.datagrams.items (take l.place (packets_of l.key l.info l.content))
-    × (0 < l.place → write_fault (packet_at l.key (Some l.info)
-    (slice_get (symbols_of l.info l.content) 0)) ≡ None)
+invariant-loop-place l = AllZip IsWritten l.datagrams.items
+    (take l.place (packets_of l.key l.info l.content)) × (0 < l.place → write_fault
+    (packet_at l.key (Some l.info) (slice_get (symbols_of l.info l.content) 0)) ≡ None)

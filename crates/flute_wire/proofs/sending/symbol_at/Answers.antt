@@ -5,18 +5,16 @@ use Rattle.flute_wire.proofs.Pieces.{none_there, some_there, begins}
 use Rattle.flute_wire.proofs.sending.symbol_at.Goals as goal
 
 pub returns-in_err-id : goal.returns-in_err-id
-returns-in_err-id c =
-    ap (option_map (λ s. (s.0, s.1.now))) c.from_residual.ensures
-    ∙ none_there c.args.info.now c.args.partition.now c.args.content.now c.args.place
-    c.requires.same c.in_err-id.ensures
+returns-in_err-id c = ap (option_map (λ s. (s.0, s.1.now))) c.from_residual.ensures ∙ none_there
+    c.args.info.now c.args.partition.now c.args.content.now c.args.place c.requires.same
+    c.in_err-id.ensures
 
 within : (c : goal.After-from-symbol_length)
     → c.args.place * c.from-symbol_length.result ≤ length c.args.content.now
 within c =
-    let begins =
-    begins c.args.info.now c.args.partition.now c.args.place c.in_ok-id.id
-    c.symbol.ensures.valid c.requires.same c.in_ok-id.ensures in
-    rw (c.from-symbol_length.ensures, c.symbol.ensures.value, c.requires.whole) begins
+    let begins = begins c.args.info.now c.args.partition.now c.args.place c.in_ok-id.id
+    c.symbol.ensures.valid c.requires.same c.in_ok-id.ensures in rw
+    (c.from-symbol_length.ensures, c.symbol.ensures.value, c.requires.whole) begins
 
 pub overflow_mul-rest : goal.overflow_mul-rest
 overflow_mul-rest c =
@@ -36,11 +34,10 @@ returns c =
     let length_is = c.from-symbol_length.ensures ∙ c.symbol.ensures.value in
     let start : ℕ = c.args.place * c.from-symbol_length.result in
     let rest : List ℕ = take (length content - start) (drop start content) in
-    ap (λ (bytes : List ℕ). Some (c.in_ok-id.id, bytes))
-    (ap (λ (n : ℕ). take n rest) c.min.ensures ∙ take_min c.from-symbol_length.result rest
-    ∙ ap (take c.from-symbol_length.result)
-    (take_all (length content - start) (drop start content)
-    (let len = length-drop start content in omega arith))
-    ∙ ap (λ (n : ℕ). take n (drop (c.args.place * n) content)) length_is)
-    ∙ some_there c.args.info.now c.args.partition.now c.args.content.now c.args.place
-    c.in_ok-id.id c.requires.same c.in_ok-id.ensures
+    ap (λ (bytes : List ℕ). Some (c.in_ok-id.id, bytes)) (ap (λ (n : ℕ). take n rest) c.min.ensures
+    ∙ take_min c.from-symbol_length.result rest ∙ ap (take c.from-symbol_length.result) (take_all
+    (length content - start) (drop start content)
+    (let len = length-drop start content in omega arith)) ∙ ap
+    (λ (n : ℕ). take n (drop (c.args.place * n) content)) length_is) ∙ some_there c.args.info.now
+    c.args.partition.now c.args.content.now c.args.place c.in_ok-id.id c.requires.same
+    c.in_ok-id.ensures

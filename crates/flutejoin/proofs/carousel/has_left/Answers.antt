@@ -16,9 +16,11 @@ loop-count-preserved g c =
       counted = omega (
         arith,
         c.if-count-left.true,
-        length-take-le c.in-Ok.count c.read.new.buffer c.in-Ok.ensures.bound,
+        length-take-le c.in-Ok.count c.read.new.buffer
+            c.in-Ok.ensures.bound,
       );
     } in (
       omega (arith, c.in-Ok.ensures.failures, c.loop-count.invariant.0),
-      reads_on u v w _ _ _ c.loop-count.invariant.1 piece,
+      reads_on u v w _ _ _
+          c.loop-count.invariant.1 piece,
     )

@@ -1,4 +1,5 @@
 -- read_into: its loop shows the entries to the writer, up to the end or a fault.
+use Rattle.std.proofs.Common.{rules}
 use Rattle.std.proofs.Common.{[], Err, refl, sym, ap, ◌∙◌, subst, arith}
 use Rattle.std.proofs.lemmas.Result.{err_from_is_err_and}
 use Rattle.flute_journal.specs.Framing.{is_open, Sofar}
@@ -35,14 +36,11 @@ pub returns-in_err-fact-clause-passed : goal.returns-in_err-fact-clause-passed
 returns-in_err-fact-clause-passed g c =
     let e = err_from_is_err_and c.from_residual.result c.from_residual.ensures.1 in
     let f = c.in_err-fact.field-0.0 in
-    rw (e.1 ∙ ap Err e.2)
-    (passing-fault c.loop-fact.invariant.passing f
-    (given-fault c.loop-fact.invariant.limit
-    c.in_err-fact.ensures.gives))
+    rw (e.1 ∙ ap Err e.2) (passing-fault c.loop-fact.invariant.passing f
+    (given-fault c.loop-fact.invariant.limit c.in_err-fact.ensures.gives))
 
 pub returns-then-not-count-clause-passed : goal.returns-then-not-count-clause-passed
-returns-then-not-count-clause-passed g c =
-    passing-full c.loop-fact.invariant.passing c.in-Some.fact
+returns-then-not-count-clause-passed g c = passing-full c.loop-fact.invariant.passing c.in-Some.fact
     (given-entry _ _ _ _ c.loop-fact.invariant.limit c.in-Some.is c.in_ok-fact.ensures.gives)
     (λ F r k. c.count.ensures.over F c.in-Some.fact (sym c.address.ensures) r k c.if-not-count.true)
 

@@ -1,4 +1,5 @@
 -- info_to: the stream of one fact gives that fact.
+use Rattle.std.proofs.Common.{rules}
 use Rattle.std.proofs.Common.{[], ◌∷◌, List, sym, subst, ◌∙◌}
 use Rattle.flute_parts.specs.declared.fact.Fact.{Fact}
 use Rattle.flute_parts.specs.declared.fact.Fact.TheVariants.{Info}

@@ -11,13 +11,16 @@ loop-count-preserved g c =
       (
         so_far.0 ++ part,
         Consumes-trans _ _ _ so_far.0 part so_far.1 c.in-Ok.ensures.bytes.0,
-        Appends-trans _ _ _ so_far.0 part so_far.2 c.in-Ok-write_all.ensures.bytes,
+        Appends-trans _ _ _
+            so_far.0 part so_far.2 c.in-Ok-write_all.ensures.bytes,
         omega (
           arith,
           so_far.3,
-          length-append so_far.0 part,
+          length-append
+              so_far.0 part,
           length-take-le c.in-Ok.count c.read.new.buffer c.in-Ok.ensures.bound,
         ),
       ),
-      omega (arith, c.loop-count.invariant.2, c.in-Ok-write_all.ensures.failures),
+      omega
+          (arith, c.loop-count.invariant.2, c.in-Ok-write_all.ensures.failures),
     )

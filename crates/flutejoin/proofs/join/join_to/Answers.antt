@@ -1,4 +1,6 @@
 -- join_to: first one pass, and then the other.
+use Rattle.std.proofs.lemmas.Grind.{common_steps}
+use Rattle.std.proofs.Common.{rules}
 use Rattle.std.proofs.Common.{◌≡◌, ◌≤◌, ◌+◌, ◌∙◌, Bool, true, false, not, Option, Some, None}
 use Rattle.std.proofs.Common.{refl, subst, arith}
 use Rattle.std.specs.Prelude.{IfSome}
@@ -13,35 +15,28 @@ use Rattle.flutejoin.proofs.join_lemmas.JoinStops.{full_of_files, joins_to}
 use Rattle.flutejoin.proofs.join.join_to.Goals as goal
 
 not_true : (b : Bool) → not b ≡ true → b ≡ false
-not_true true e = absurd cc
-not_true false e = refl
+not_true x0 x1 = search rules
 
 not_false : (b : Bool) → not b ≡ false → b ≡ true
-not_false true e = refl
-not_false false e = absurd cc
+not_false x0 x1 = search rules
 
 -- what is aside was put there
 made_run : {R M P : Type 0} (K : Type 0) (run : Option R) → IfSome run (λ r. M × K)
     → (run ≡ None → P → ⊥) → P → M
-made_run K (Some run) put never p = put.0
-made_run K None put never p = absurd (never refl p)
+made_run x0 x1 x2 x3 x4 = search rules
 
 -- it is of datagrams
 wants_run : {R K P : Type 0} (M : Type 0) (run : Option R) → IfSome run (λ r. M × K)
     → (K → P) → IfSome run (λ r. P)
-wants_run M (Some run) put wants = wants put.1
-wants_run M None put wants = tt
+wants_run x0 x1 x2 x3 = search rules
 
 pub returns-in_err-held-clause-failed : goal.returns-in_err-held-clause-failed
-returns-in_err-held-clause-failed g c = λ told contents inputs.
-    let e = err_from_is_err_and c.from_residual.result c.from_residual.ensures.1 in
-    rw (e.1, e.2)
-    (not_inspected contents c.in_err-held.field-0.0
-    (c.in_err-held.ensures.failed told contents inputs))
+returns-in_err-held-clause-failed g c = λ told contents inputs. let e = err_from_is_err_and
+    c.from_residual.result c.from_residual.ensures.1 in rw (e.1, e.2) (not_inspected contents
+    c.in_err-held.field-0.0 (c.in_err-held.ensures.failed told contents inputs))
 
 pub returns-in_err-join_inspected-clause-failed : goal.returns-in_err-join_inspected-clause-failed
-returns-in_err-join_inspected-clause-failed g c = λ told contents inputs.
-    let e =
+returns-in_err-join_inspected-clause-failed g c = λ told contents inputs. let e =
     err_from_is_err_and c.from_residual-in_err-join_inspected.result
     c.from_residual-in_err-join_inspected.ensures.1 in
     let found = c.in_ok-held.ensures.inspected told contents inputs in
@@ -49,19 +44,16 @@ returns-in_err-join_inspected-clause-failed g c = λ told contents inputs.
 
 pub returns-in_err-join_inspected-clause-short : goal.returns-in_err-join_inspected-clause-short
 returns-in_err-join_inspected-clause-short g c =
-    let e =
-    err_from_is_err_and c.from_residual-in_err-join_inspected.result
-    c.from_residual-in_err-join_inspected.ensures.1 in
-    rw e.1 (nothing_appended (g.W.Sink.written c.args.sink.now))
+    let e = err_from_is_err_and c.from_residual-in_err-join_inspected.result
+    c.from_residual-in_err-join_inspected.ensures.1 in rw e.1
+    (nothing_appended (g.W.Sink.written c.args.sink.now))
 
 pub returns-in_err-join_inspected-clause-read_failed :
     goal.returns-in_err-join_inspected-clause-read_failed
 returns-in_err-join_inspected-clause-read_failed g c =
-    let e =
-    err_from_is_err_and c.from_residual-in_err-join_inspected.result
-    c.from_residual-in_err-join_inspected.ensures.1 in
-    rw (e.1, e.2) (λ number is.
-    one_failed_more g.R.Source.failures number c.args.inputs.now c.inspect_all.new.inputs
+    let e = err_from_is_err_and c.from_residual-in_err-join_inspected.result
+    c.from_residual-in_err-join_inspected.ensures.1 in rw (e.1, e.2) (λ number is. one_failed_more
+    g.R.Source.failures number c.args.inputs.now c.inspect_all.new.inputs
     c.join_inspected.new.inputs c.in_ok-held.ensures.none_failed
     (c.in_err-join_inspected.ensures.read_failed number is))
 
@@ -74,72 +66,54 @@ returns-then-not-held-clause-failed g c = λ told contents inputs.
     (all_over found.2 c.if-not-held.true)
 
 pub returns-in_err-run-clause-failed : goal.returns-in_err-run-clause-failed
-returns-in_err-run-clause-failed g c = λ told contents inputs.
-    let e =
-    err_from_is_err_and c.from_residual-in_err-run.result
-    c.from_residual-in_err-run.ensures.1 in
+returns-in_err-run-clause-failed g c = λ told contents inputs. let e = err_from_is_err_and
+    c.from_residual-in_err-run.result c.from_residual-in_err-run.ensures.1 in
     let found = c.in_ok-held.ensures.inspected told contents inputs in
-    rw (e.1, e.2)
-    (of_aside c.in_err-run.ensures.failed
-    (finds_wants _ g.R.Source.unread g.R.Source.buffered c.in_ok-held.held
-    c.inspect_all.new.inputs contents found
+    rw (e.1, e.2) (of_aside c.in_err-run.ensures.failed (finds_wants _ g.R.Source.unread
+    g.R.Source.buffered c.in_ok-held.held c.inspect_all.new.inputs contents found
     c.if-not-held.false c.in_err-run.ensures.some))
 
 pub returns-in_err-joined-clause-failed : goal.returns-in_err-joined-clause-failed
-returns-in_err-joined-clause-failed g c = λ told contents inputs.
-    let e =
-    err_from_is_err_and c.from_residual-in_err-joined.result
-    c.from_residual-in_err-joined.ensures.1 in
+returns-in_err-joined-clause-failed g c = λ told contents inputs. let e = err_from_is_err_and
+    c.from_residual-in_err-joined.result c.from_residual-in_err-joined.ensures.1 in
     let found = c.in_ok-held.ensures.inspected told contents inputs in
-    rw (e.1, e.2)
-    (c.in_err-joined.ensures.failed _ contents found.0 found.1
-    (wants_run _ c.in_ok-run.run' c.in_ok-run.ensures.put
-    (finds_wants _ g.R.Source.unread g.R.Source.buffered c.in_ok-held.held
-    c.inspect_all.new.inputs contents found
-    c.if-not-held.false)))
+    rw (e.1, e.2) (c.in_err-joined.ensures.failed _ contents found.0 found.1 (wants_run _
+    c.in_ok-run.run' c.in_ok-run.ensures.put (finds_wants _ g.R.Source.unread g.R.Source.buffered
+    c.in_ok-held.held c.inspect_all.new.inputs contents found c.if-not-held.false)))
 
 pub returns-in_err-joined-clause-read_failed : goal.returns-in_err-joined-clause-read_failed
 returns-in_err-joined-clause-read_failed g c =
-    let e =
-    err_from_is_err_and c.from_residual-in_err-joined.result
-    c.from_residual-in_err-joined.ensures.1 in
-    rw (e.1, e.2) (λ number is.
-    one_failed_more g.R.Source.failures number c.args.inputs.now c.inspect_all.new.inputs
+    let e = err_from_is_err_and c.from_residual-in_err-joined.result
+    c.from_residual-in_err-joined.ensures.1 in rw (e.1, e.2) (λ number is. one_failed_more
+    g.R.Source.failures number c.args.inputs.now c.inspect_all.new.inputs
     c.join_inspected-2.new.inputs c.in_ok-held.ensures.none_failed
     (c.in_err-joined.ensures.read_failed number is))
 
 pub returns-then-not-joined-clause-failed : goal.returns-then-not-joined-clause-failed
-returns-then-not-joined-clause-failed g c = λ told contents inputs.
-    let found = c.in_ok-held.ensures.inspected told contents inputs in
-    let run =
-    c.in_ok-run.ensures.held (c.inspect_all.ensures.same_tells ∙ told) _ found.0 found.2 in
-    full_together
-    (c.in_ok-joined.ensures.joined _ contents found.0 run.0 refl found.1 run.1)
+returns-then-not-joined-clause-failed g c = λ told contents inputs. let found =
+    c.in_ok-held.ensures.inspected told contents inputs in
+    let run = c.in_ok-run.ensures.held (c.inspect_all.ensures.same_tells ∙ told) _ found.0 found.2
+    in full_together (c.in_ok-joined.ensures.joined _ contents found.0 run.0 refl found.1 run.1)
     run.2 (not_true c.in_ok-joined.joined.within c.if-not-joined.true)
 
 pub returns-then-joined-clause-failed : goal.returns-then-joined-clause-failed
-returns-then-joined-clause-failed g c = λ told contents inputs.
-    let found = c.in_ok-held.ensures.inspected told contents inputs in
-    let run =
-    c.in_ok-run.ensures.held (c.inspect_all.ensures.same_tells ∙ told) _ found.0 found.2 in
-    not_written
-    (c.in_ok-joined.ensures.joined _ contents found.0 run.0 refl found.1 run.1)
-    run.2 (not_false c.in_ok-joined.joined.within c.if-not-joined.false)
+returns-then-joined-clause-failed g c = λ told contents inputs. let found =
+    c.in_ok-held.ensures.inspected told contents inputs in
+    let run = c.in_ok-run.ensures.held (c.inspect_all.ensures.same_tells ∙ told) _ found.0 found.2
+    in not_written (c.in_ok-joined.ensures.joined _ contents found.0 run.0 refl found.1 run.1) run.2
+    (not_false c.in_ok-joined.joined.within c.if-not-joined.false)
 
 pub returns-clause-joined : goal.returns-clause-joined
-returns-clause-joined g c = λ told contents inputs.
-    let found = c.in_ok-held.ensures.inspected told contents inputs in
-    let run =
-    c.in_ok-run.ensures.held (c.inspect_all.ensures.same_tells ∙ told) _ found.0 found.2 in
+returns-clause-joined g c = λ told contents inputs. let found = c.in_ok-held.ensures.inspected told
+    contents inputs in
+    let run = c.in_ok-run.ensures.held (c.inspect_all.ensures.same_tells ∙ told) _ found.0 found.2
+    in
     let fits = c.if-not-held.false in
     let all = all_held found.2 fits in
     let counts = c.in_ok-run.ensures.counts in
-    joins_to
-    (c.in_ok-joined.ensures.joined _ contents found.0 run.0 refl found.1 run.1)
-    run.2
+    joins_to (c.in_ok-joined.ensures.joined _ contents found.0 run.0 refl found.1 run.1) run.2
     (subst (λ n. n ≤ 64) inputs.as_many c.requires.few)
-    (not_false c.in_ok-joined.joined.within c.if-not-joined.false) c.if-joined.false
-    (record {
+    (not_false c.in_ok-joined.joined.within c.if-not-joined.false) c.if-joined.false (record {
       entries = refl;
       datagrams_are = counts.0 ∙ all.count;
       refused = counts.1 ∙ all.refused;
@@ -149,9 +123,8 @@ returns-clause-joined g c = λ told contents inputs.
     })
 
 pub returns-clause-none_failed : goal.returns-clause-none_failed
-returns-clause-none_failed g c =
-    none_failed_more g.R.Source.failures c.args.inputs.now c.inspect_all.new.inputs
-    c.join_inspected-2.new.inputs c.in_ok-held.ensures.none_failed
+returns-clause-none_failed g c = none_failed_more g.R.Source.failures c.args.inputs.now
+    c.inspect_all.new.inputs c.join_inspected-2.new.inputs c.in_ok-held.ensures.none_failed
     c.in_ok-joined.ensures.none_failed
 
 pub returns-in_err-held-clause-short : goal.returns-in_err-held-clause-short
@@ -160,8 +133,7 @@ returns-in_err-held-clause-short g c =
     rw e.1 (nothing_appended (g.W.Sink.written c.args.sink.now))
 
 pub returns-then-not-joined-clause-short : goal.returns-then-not-joined-clause-short
-returns-then-not-joined-clause-short g c =
-    c.in_ok-joined.ensures.cut
+returns-then-not-joined-clause-short g c = c.in_ok-joined.ensures.cut
     (c.in_ok-joined.ensures.over (not_true c.in_ok-joined.joined.within c.if-not-joined.true))
 
 pub returns-then-joined-clause-short : goal.returns-then-joined-clause-short
@@ -169,48 +141,23 @@ returns-then-joined-clause-short g c = c.in_ok-joined.ensures.cut c.if-joined.tr
 
 pub returns-in_err-joined-clause-made : goal.returns-in_err-joined-clause-made
 returns-in_err-joined-clause-made g c =
-    let e =
-    err_from_is_err_and c.from_residual-in_err-joined.result
+    let e = err_from_is_err_and c.from_residual-in_err-joined.result
     c.from_residual-in_err-joined.ensures.1 in
     let before = c.inspect_all.ensures.made.0 in (
       omega (arith, before, c.run.ensures.made.0),
-      rw (e.1, e.2) (λ is.
-          let more =
-          made_run _ c.in_ok-run.run' c.in_ok-run.ensures.put c.in_err-joined.ensures.no_aside is in
-          omega (arith, before, more)),
+      rw (e.1, e.2) (λ is. let more = made_run _
+          c.in_ok-run.run' c.in_ok-run.ensures.put c.in_err-joined.ensures.no_aside is in omega
+          (arith, before, more)),
     )
 
-pub returns-then-not-joined-clause-made : goal.returns-then-not-joined-clause-made
-returns-then-not-joined-clause-made g c =
-    (omega (arith, c.inspect_all.ensures.made.0, c.run.ensures.made.0), λ e. cc)
-
-pub returns-then-joined-clause-made : goal.returns-then-joined-clause-made
-returns-then-joined-clause-made g c =
-    (omega (arith, c.inspect_all.ensures.made.0, c.run.ensures.made.0), λ e. cc)
-
-pub returns-clause-made : goal.returns-clause-made
-returns-clause-made g c =
-    (omega (arith, c.inspect_all.ensures.made.0, c.run.ensures.made.0), tt)
-
 pub returns-then-joined-clause-write_failed : goal.returns-then-joined-clause-write_failed
-returns-then-joined-clause-write_failed g c = λ e.
-    subst (λ b. g.W.Sink.failures c.join_inspected-2.new.sink
-    ≡ g.W.Sink.failures c.args.sink.now + times_failed b) c.if-joined.true
-    (c.in_ok-joined.ensures.sink_failures
+returns-then-joined-clause-write_failed g c = λ e. subst (λ b. g.W.Sink.failures
+    c.join_inspected-2.new.sink ≡ g.W.Sink.failures c.args.sink.now + times_failed b)
+    c.if-joined.true (c.in_ok-joined.ensures.sink_failures
     (not_false c.in_ok-joined.joined.within c.if-not-joined.false))
 
 pub returns-clause-sink_failures : goal.returns-clause-sink_failures
 returns-clause-sink_failures g c =
-    let same =
-    subst (λ b. g.W.Sink.failures c.join_inspected-2.new.sink
-    ≡ g.W.Sink.failures c.args.sink.now + times_failed b) c.if-joined.false
-    (c.in_ok-joined.ensures.sink_failures
-    (not_false c.in_ok-joined.joined.within c.if-not-joined.false)) in
-    omega (arith, same)
-
-pub returns-in_err-run-clause-short : goal.returns-in_err-run-clause-short
-returns-in_err-run-clause-short g c =
-    let e =
-    err_from_is_err_and c.from_residual-in_err-run.result
-    c.from_residual-in_err-run.ensures.1 in
-    rw e.1 (nothing_appended (g.W.Sink.written c.args.sink.now))
+    let same = subst (λ b. g.W.Sink.failures c.join_inspected-2.new.sink ≡ g.W.Sink.failures
+    c.args.sink.now + times_failed b) c.if-joined.false (c.in_ok-joined.ensures.sink_failures
+    (not_false c.in_ok-joined.joined.within c.if-not-joined.false)) in omega (arith, same)

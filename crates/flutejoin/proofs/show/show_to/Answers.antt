@@ -1,4 +1,5 @@
 -- show_to: its loop writes the lines of the selected entries; its end, and each fault.
+use Rattle.std.proofs.lemmas.Grind.{common_steps}
 use Rattle.std.proofs.Common.{◌≡◌, ◌∙◌, ℕ, List, Option, ap, sym, subst, refl, rules, Ok, Err}
 use Rattle.std.proofs.Common.{arith}
 use Rattle.flute_parts.proofs.Public.{of_equal}
@@ -38,18 +39,6 @@ returns-in_err-fact-clause-failed g c =
     let P : Option (List ℕ) → Type 0 = λ left. ShowsUntil c.args.selection.now u left s t r.0 in
     rw (e.1 ∙ ap Err (e.2 ∙ r.2)) (refl, of_equal g.R.Source.unread P here _ (search rules))
 
-pub returns-in_err-fact-clause-read_failures : goal.returns-in_err-fact-clause-read_failures
-returns-in_err-fact-clause-read_failures g c =
-    let h = c.loop-fact.invariant in
-    let r = read_failed c.next_with.result c.at_input.result 1 c.in_err-fact.field-0.0
-    c.at_input.ensures c.in_err-fact.was in
-    let e = err_from_is_err_and c.from_residual.result c.from_residual.ensures.1 in
-    let here = read_failures (Unit {0}) 1 _
-    h.shown.sofar r.1 c.next_with.ensures.failures h.reads in
-    let P : ℕ → Type 0 = λ n. FailsToRead {T = Unit {0}} (g.R.Source.failures c.args.source.now) n
-    (Err (Input 1 r.0)) in
-    rw (e.1 ∙ ap Err (e.2 ∙ r.2)) (of_equal g.R.Source.failures P here _ (search rules))
-
 pub returns-in_err-write_line-clause-failed : goal.returns-in_err-write_line-clause-failed
 returns-in_err-write_line-clause-failed g c =
     let u = g.R.Source.unread c.args.source.now in
@@ -63,16 +52,15 @@ returns-in_err-write_line-clause-failed g c =
     let s = g.W.Sink.written c.args.sink.now in
     let t = g.W.Sink.written c.loop-fact.sink in
     let t' = g.W.Sink.written c.write_line.new.sink in
-    let r = read_done c.next_with.result c.at_input.result 1 c.in_ok-fact.field-0
-    c.at_input.ensures c.in_ok-fact.was ∙ ap Ok c.in-Some.is in
+    let r = read_done c.next_with.result c.at_input.result 1 c.in_ok-fact.field-0 c.at_input.ensures
+    c.in_ok-fact.was ∙ ap Ok c.in-Some.is in
     let gave = entry_given from to v w c.next_with.ensures.gives h.limit r in
     let e = err_from_is_err_and c.from_residual-in_err-write_line.result
     c.from_residual-in_err-write_line.ensures.1 in
-    let chosen : selects choice f ≡ true =
-    ap (selects choice) (sym c.as_ref.ensures) ∙ sym c.selects.ensures ∙ c.if-selects.true in
-    let line = rw c.in_err-write_line.was at
-    (fact_written f t t' c.write_line.result c.head_of-head.ensures
-    c.bytes_of.ensures c.write_line.ensures.line) in
+    let chosen : selects choice f ≡ true = ap (selects choice) (sym c.as_ref.ensures) ∙ sym
+    c.selects.ensures ∙ c.if-selects.true in
+    let line = rw c.in_err-write_line.was at (fact_written f t t' c.write_line.result
+    c.head_of-head.ensures c.bytes_of.ensures c.write_line.ensures.line) in
     let here = shown-part h.shown gave
     (subst (λ (x : List ℕ). AppendsPart t t' x) (sym (just_line choice f chosen)) line) in
     let P : Option (List ℕ) → Type 0 = λ left. ShowsPart choice u left s t' in
@@ -87,33 +75,28 @@ loop-fact-preserved g c =
     let h = c.loop-fact.invariant in
     let choice = c.args.selection.now in
     let f = c.in-Some.fact in
-    let r = read_done c.next_with.result c.at_input.result 1 c.in_ok-fact.field-0
-    c.at_input.ensures c.in_ok-fact.was ∙ ap Ok c.in-Some.is in
+    let r = read_done c.next_with.result c.at_input.result 1 c.in_ok-fact.field-0 c.at_input.ensures
+    c.in_ok-fact.was ∙ ap Ok c.in-Some.is in
     let gave = entry_given from to v w c.next_with.ensures.gives h.limit r in
     record {
       shown = elim c.if-selects.branch [
-        | then-selects+in_ok-write_line w ↦
-            let t = g.W.Sink.written c.loop-fact.sink in
+        | then-selects+in_ok-write_line w ↦ let t = g.W.Sink.written c.loop-fact.sink in
             let t' = g.W.Sink.written w.write_line.new.sink in
-            let chosen : selects choice f ≡ true =
-            ap (selects choice) (sym c.as_ref.ensures) ∙ sym c.selects.ensures
-            ∙ w.if-selects.true in
-            let line = rw w.in_ok-write_line.was at
-            (fact_written f t t' w.write_line.result w.head_of-head.ensures
-            w.bytes_of.ensures w.write_line.ensures.line) in
-            rw (w.sink-is, w.count-is) (shown-line h.shown gave chosen line)
-        | else-selects w ↦
-            let other : selects choice f ≡ false =
-            ap (selects choice) (sym c.as_ref.ensures) ∙ sym c.selects.ensures
-            ∙ w.if-selects.false in
-            rw (w.sink-is, w.count-is) (shown-other h.shown gave other)
+            let chosen : selects choice f ≡ true = ap (selects choice) (sym c.as_ref.ensures) ∙
+            sym c.selects.ensures ∙ w.if-selects.true in
+            let line = rw w.in_ok-write_line.was at (fact_written f t t' w.write_line.result
+            w.head_of-head.ensures w.bytes_of.ensures w.write_line.ensures.line) in rw
+            (w.sink-is, w.count-is) (shown-line h.shown gave chosen line)
+        | else-selects w ↦ let other : selects choice f ≡ false = ap (selects choice)
+            (sym c.as_ref.ensures) ∙ sym c.selects.ensures ∙ w.if-selects.false in rw
+            (w.sink-is, w.count-is) (shown-other h.shown gave other)
       ];
       limit = c.next_with.ensures.limit ∙ h.limit;
       source = c.next_with.ensures.source ∙ h.source;
       reads = no_read_failure c.next_with.result _ r c.next_with.ensures.failures h.reads;
       writes = elim c.if-selects.branch [
-        | then-selects+in_ok-write_line w ↦
-            rw w.sink-is (omega (arith, w.in_ok-write_line.ensures.failures, h.writes))
+        | then-selects+in_ok-write_line w ↦ rw w.sink-is
+            (omega (arith, w.in_ok-write_line.ensures.failures, h.writes))
         | else-selects w ↦ rw w.sink-is h.writes
       ];
     }
@@ -128,15 +111,14 @@ returns-clause-failed g c =
     let h = c.loop-fact.invariant in
     let s = g.W.Sink.written c.args.sink.now in
     let t' = g.W.Sink.written c.count_to.new.sink in
-    let r = read_done c.next_with.result c.at_input.result 1 c.in_ok-fact.field-0
-    c.at_input.ensures c.in_ok-fact.was ∙ ap Ok c.in_default.is in
-    let gave = end_given c.loop-fact.reader.max_entries from to v w
-    c.next_with.ensures.gives r in
-    let P : Option (List ℕ) → Type 0 =
-    λ left. IfErr c.count_to.result (ShowFails c.args.selection.now u left s t') in
+    let r = read_done c.next_with.result c.at_input.result 1 c.in_ok-fact.field-0 c.at_input.ensures
+    c.in_ok-fact.was ∙ ap Ok c.in_default.is in
+    let gave = end_given c.loop-fact.reader.max_entries from to v w c.next_with.ensures.gives r in
+    let P : Option (List ℕ) → Type 0 = λ left. IfErr c.count_to.result
+    (ShowFails c.args.selection.now u left s t') in
     let here : P w = cut_short c.args.selection.now u w s t' c.count_to.result
-    (λ line. shown-cut h.shown gave line) c.count_to.ensures.failed in
-    of_equal g.R.Source.unread P here _ (search rules)
+    (λ line. shown-cut h.shown gave line) c.count_to.ensures.failed in of_equal g.R.Source.unread P
+    here _ (search rules)
 
 pub returns-clause-printed : goal.returns-clause-printed
 returns-clause-printed g c =
@@ -145,22 +127,10 @@ returns-clause-printed g c =
     let from = c.loop-fact.reader.state in
     let to = c.next_with.new.self.state in
     let h = c.loop-fact.invariant in
-    let r = read_done c.next_with.result c.at_input.result 1 c.in_ok-fact.field-0
-    c.at_input.ensures c.in_ok-fact.was ∙ ap Ok c.in_default.is in
-    let gave = end_given c.loop-fact.reader.max_entries from to v w
-    c.next_with.ensures.gives r in
+    let r = read_done c.next_with.result c.at_input.result 1 c.in_ok-fact.field-0 c.at_input.ensures
+    c.in_ok-fact.was ∙ ap Ok c.in_default.is in
+    let gave = end_given c.loop-fact.reader.max_entries from to v w c.next_with.ensures.gives r in
     if_done c.count_to.result (λ line. shown-all h.shown gave line) c.count_to.ensures.printed
-
-pub returns-clause-read_failures : goal.returns-clause-read_failures
-returns-clause-read_failures g c =
-    let h = c.loop-fact.invariant in
-    let result = c.count_to.result in
-    let r = read_done c.next_with.result c.at_input.result 1 c.in_ok-fact.field-0
-    c.at_input.ensures c.in_ok-fact.was ∙ ap Ok c.in_default.is in
-    let quiet = no_read_failure c.next_with.result _ r c.next_with.ensures.failures h.reads in
-    let P : ℕ → Type 0 = λ n. FailsToRead (g.R.Source.failures c.args.source.now) n result in
-    of_equal g.R.Source.failures P (only_written _ _ _ result c.count_to.ensures.failed quiet) _
-    (search rules)
 
 pub overflow_add-count : goal.overflow_add-count
 overflow_add-count g c =

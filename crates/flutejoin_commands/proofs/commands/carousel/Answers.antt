@@ -19,15 +19,15 @@ returns-clause-sent g c =
     (g.E.Sink.written c.leave.new.errors) in
     let now = g.W.Inputs.files c.measured.new.world in
     let same = ◌∙◌ {a = now} c.measured.ensures.same_files c.begin.ensures.same_files in
-    let h = again_has files a.file.now (unread c.in_ok-source.source) x
+    let h = again_has files a.line.file.now (unread c.in_ok-source.source) x
     c.in_ok-source.ensures.opened
     (subst (λ f. IsAgain f (unread c.in_ok-source.source) x)
     {x = g.W.Inputs.files c.begin.new.world} {y = files} c.begin.ensures.same_files
     c.in_ok-source-2.ensures.same) in
-    sent files a.file.now x h a.key.now a.symbol a.block a.out.now (outside files o e) new
+    sent files a.line.file.now x h a.line.key a.line.symbol a.line.block a.line.target.out.now (outside files o e) new
     c.leave.result
-    (subst (λ f. OnOk c.leave.result (Leaves (SendsRead x a.key.now a.symbol a.block)
-    (SendsRead x a.key.now a.symbol a.block) datagrams_line a.out.now (outside f o e) new))
+    (subst (λ f. OnOk c.leave.result (Leaves (SendsRead x a.line.key a.line.symbol a.line.block)
+    (SendsRead x a.line.key a.line.symbol a.line.block) datagrams_line a.line.target.out.now (outside f o e) new))
     {x = now} {y = files} same
     c.leave.ensures.left)
 
@@ -43,14 +43,14 @@ returns-clause-failed g c =
     (g.E.Sink.written c.leave.new.errors) in
     let now = g.W.Inputs.files c.measured.new.world in
     let same = ◌∙◌ {a = now} c.measured.ensures.same_files c.begin.ensures.same_files in
-    let h = again_has files a.file.now (unread c.in_ok-source.source) x
+    let h = again_has files a.line.file.now (unread c.in_ok-source.source) x
     c.in_ok-source.ensures.opened
     (subst (λ f. IsAgain f (unread c.in_ok-source.source) x)
     {x = g.W.Inputs.files c.begin.new.world} {y = files} c.begin.ensures.same_files
     c.in_ok-source-2.ensures.same) in
-    not_sent files a.file.now x h a.key.now a.symbol a.block a.out.now (outside files o e) new
+    not_sent files a.line.file.now x h a.line.key a.line.symbol a.line.block a.line.target.out.now (outside files o e) new
     c.leave.result
-    (subst (λ f. IfErr c.leave.result (FailsToLeave (SendsRead x a.key.now a.symbol a.block)
-    (SendReadFails x a.key.now a.symbol a.block) a.out.now (outside f o e) new))
+    (subst (λ f. IfErr c.leave.result (FailsToLeave (SendsRead x a.line.key a.line.symbol a.line.block)
+    (SendReadFails x a.line.key a.line.symbol a.line.block) a.line.target.out.now (outside f o e) new))
     {x = now} {y = files} same
     c.leave.ensures.failed)

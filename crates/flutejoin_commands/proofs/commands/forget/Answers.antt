@@ -22,16 +22,16 @@ returns-clause-forgot g c =
     let new = outside (g.W.Inputs.files c.leave.new.world) (g.O.Sink.written c.leave.new.output)
     (g.E.Sink.written c.leave.new.errors) in
     subst (λ (s : Selection). OnOk c.leave.result (Leaves (ForgetsInName files a.j.now s)
-    (ForgetsInName files a.j.now s) forget_lines a.out.now (outside files o e) new))
+    (ForgetsInName files a.j.now s) forget_lines a.target.out.now (outside files o e) new))
     c.forget_input-input.ensures.selection
     (left_of (λ (k : Option (List ℕ)). ForgetsIn k input.choice.0)
     (λ (k : Option (List ℕ)). ForgetsIn k input.choice.0)
     (λ (k : Option (List ℕ)). ForgetFails k) files a.j.now x
     (subst (λ s. HasBytes files a.j.now (unread s)) (sym c.forget_input-input.ensures.source)
     c.in_ok-source.ensures.opened)
-    a.out.now (outside files o e) new forget_lines c.leave.result
+    a.target.out.now (outside files o e) new forget_lines c.leave.result
     (subst (λ f. OnOk c.leave.result (Leaves (ForgetsIn x input.choice.0)
-    (ForgetsIn x input.choice.0) forget_lines a.out.now (outside f o e) new))
+    (ForgetsIn x input.choice.0) forget_lines a.target.out.now (outside f o e) new))
     {x = g.W.Inputs.files c.begin.new.world} {y = files} c.begin.ensures.same_files
     c.leave.ensures.left))
 
@@ -47,15 +47,15 @@ returns-clause-failed g c =
     let new = outside (g.W.Inputs.files c.leave.new.world) (g.O.Sink.written c.leave.new.output)
     (g.E.Sink.written c.leave.new.errors) in
     subst (λ (s : Selection). IfErr c.leave.result (FailsToLeave (ForgetsInName files a.j.now s)
-    (ForgetInNameFails files a.j.now) a.out.now (outside files o e) new))
+    (ForgetInNameFails files a.j.now) a.target.out.now (outside files o e) new))
     c.forget_input-input.ensures.selection
     (not_left_of (λ (k : Option (List ℕ)). ForgetsIn k input.choice.0)
     (λ (k : Option (List ℕ)). ForgetsIn k input.choice.0)
     (λ (k : Option (List ℕ)). ForgetFails k) files a.j.now x
     (subst (λ s. HasBytes files a.j.now (unread s)) (sym c.forget_input-input.ensures.source)
     c.in_ok-source.ensures.opened)
-    a.out.now (outside files o e) new c.leave.result
+    a.target.out.now (outside files o e) new c.leave.result
     (subst (λ f. IfErr c.leave.result (FailsToLeave (ForgetsIn x input.choice.0)
-    (ForgetFails x) a.out.now (outside f o e) new))
+    (ForgetFails x) a.target.out.now (outside f o e) new))
     {x = g.W.Inputs.files c.begin.new.world} {y = files} c.begin.ensures.same_files
     c.leave.ensures.failed))

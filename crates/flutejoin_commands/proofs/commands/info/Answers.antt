@@ -2,8 +2,7 @@
 use Rattle.std.proofs.Common.{IfErr, List, ℕ, Option, subst}
 use Rattle.std.specs.Prelude.{OnOk}
 use Rattle.flutejoin.specs.Lines.{entries_line}
-use Rattle.flutejoin.specs.Limits.{limits_of}
-use Rattle.flutejoin_commands.specs.Works.{AddsInformation, AddFails}
+use Rattle.flutejoin_commands.specs.Works.{AddsInformation, AddFails, most_of}
 use Rattle.flutejoin_commands.specs.Worlds.{Leaves, FailsToLeave, outside}
 use Rattle.flutejoin_commands.proofs.OfNames.{left_of, not_left_of}
 use Rattle.flutejoin_commands.proofs.commands.info.Goals as goal
@@ -15,16 +14,16 @@ returns-clause-added g c =
     let a = c.args in
     let new = outside (g.W.Inputs.files c.leave.new.world) (g.O.Sink.written c.leave.new.output)
     (g.E.Sink.written c.leave.new.errors) in
-    left_of (λ (k : Option (List ℕ)). AddsInformation k a.key a.info)
-    (λ (k : Option (List ℕ)). AddsInformation k a.key a.info)
-    (λ (k : Option (List ℕ)). AddFails (limits_of a.any_size) k a.key a.info) files a.j.now
+    left_of (λ (k : Option (List ℕ)). AddsInformation k a.line.key a.line.info)
+    (λ (k : Option (List ℕ)). AddsInformation k a.line.key a.line.info)
+    (λ (k : Option (List ℕ)). AddFails (most_of a.line.limit) k a.line.key a.line.info) files a.line.j.now
     (unread c.in_ok-source.source)
     c.in_ok-source.ensures.opened
-    a.out.now (outside files (g.O.Sink.written a.output.now) (g.E.Sink.written a.errors.now)) new
+    a.line.target.out.now (outside files (g.O.Sink.written a.output.now) (g.E.Sink.written a.errors.now)) new
     entries_line c.leave.result
     (subst (λ f. OnOk c.leave.result
-    (Leaves (AddsInformation (unread c.in_ok-source.source) a.key a.info)
-    (AddsInformation (unread c.in_ok-source.source) a.key a.info) entries_line a.out.now
+    (Leaves (AddsInformation (unread c.in_ok-source.source) a.line.key a.line.info)
+    (AddsInformation (unread c.in_ok-source.source) a.line.key a.line.info) entries_line a.line.target.out.now
     (outside f (g.O.Sink.written a.output.now) (g.E.Sink.written a.errors.now)) new))
     {x = g.W.Inputs.files c.begin.new.world} {y = files} c.begin.ensures.same_files
     c.leave.ensures.left)
@@ -36,16 +35,16 @@ returns-clause-failed g c =
     let a = c.args in
     let new = outside (g.W.Inputs.files c.leave.new.world) (g.O.Sink.written c.leave.new.output)
     (g.E.Sink.written c.leave.new.errors) in
-    not_left_of (λ (k : Option (List ℕ)). AddsInformation k a.key a.info)
-    (λ (k : Option (List ℕ)). AddsInformation k a.key a.info)
-    (λ (k : Option (List ℕ)). AddFails (limits_of a.any_size) k a.key a.info) files a.j.now
+    not_left_of (λ (k : Option (List ℕ)). AddsInformation k a.line.key a.line.info)
+    (λ (k : Option (List ℕ)). AddsInformation k a.line.key a.line.info)
+    (λ (k : Option (List ℕ)). AddFails (most_of a.line.limit) k a.line.key a.line.info) files a.line.j.now
     (unread c.in_ok-source.source)
     c.in_ok-source.ensures.opened
-    a.out.now (outside files (g.O.Sink.written a.output.now) (g.E.Sink.written a.errors.now)) new
+    a.line.target.out.now (outside files (g.O.Sink.written a.output.now) (g.E.Sink.written a.errors.now)) new
     c.leave.result
     (subst (λ f. IfErr c.leave.result
-    (FailsToLeave (AddsInformation (unread c.in_ok-source.source) a.key a.info)
-    (AddFails (limits_of a.any_size) (unread c.in_ok-source.source) a.key a.info) a.out.now
+    (FailsToLeave (AddsInformation (unread c.in_ok-source.source) a.line.key a.line.info)
+    (AddFails (most_of a.line.limit) (unread c.in_ok-source.source) a.line.key a.line.info) a.line.target.out.now
     (outside f (g.O.Sink.written a.output.now) (g.E.Sink.written a.errors.now)) new))
     {x = g.W.Inputs.files c.begin.new.world} {y = files} c.begin.ensures.same_files
     c.leave.ensures.failed)

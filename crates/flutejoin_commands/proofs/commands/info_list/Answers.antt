@@ -1,9 +1,8 @@
 -- info_list: what was added, stated of the names of the journal and the list.
 use Rattle.std.proofs.Common.{IfErr, subst}
 use Rattle.std.specs.Prelude.{OnOk}
-use Rattle.flutejoin_commands.specs.Works.{AddsListRead, AddListReadFails}
+use Rattle.flutejoin_commands.specs.Works.{AddsListRead, AddListReadFails, most_of}
 use Rattle.flutejoin.specs.Lines.{entries_line}
-use Rattle.flutejoin.specs.Limits.{limits_of}
 use Rattle.flutejoin_commands.specs.Worlds.{Leaves, FailsToLeave, outside}
 use Rattle.flutejoin_commands.proofs.OfNames.{left_of_two, not_left_of_two}
 use Rattle.flutejoin_commands.proofs.commands.info_list.Goals as goal
@@ -17,13 +16,13 @@ returns-clause-added g c =
     let y = unread c.in_ok-source.list in
     let new = outside (g.W.Inputs.files c.leave.new.world) (g.O.Sink.written c.leave.new.output)
     (g.E.Sink.written c.leave.new.errors) in
-    left_of_two AddsListRead (AddListReadFails (limits_of a.any_size)) files a.j.now a.list.now x y
+    left_of_two AddsListRead (AddListReadFails (most_of a.line.limit)) files a.line.j.now a.line.list.now x y
     c.in_ok-source.ensures.opened.0
     c.in_ok-source.ensures.opened.1
-    a.out.now (outside files (g.O.Sink.written a.output.now) (g.E.Sink.written a.errors.now)) new
+    a.line.target.out.now (outside files (g.O.Sink.written a.output.now) (g.E.Sink.written a.errors.now)) new
     entries_line c.leave.result
     (subst (λ f. OnOk c.leave.result (Leaves (AddsListRead x y) (AddsListRead x y)
-    entries_line a.out.now (outside f (g.O.Sink.written a.output.now)
+    entries_line a.line.target.out.now (outside f (g.O.Sink.written a.output.now)
     (g.E.Sink.written a.errors.now)) new))
     {x = g.W.Inputs.files c.begin_with_two.new.world} {y = files}
     c.begin_with_two.ensures.same_files
@@ -38,15 +37,15 @@ returns-clause-failed g c =
     let y = unread c.in_ok-source.list in
     let new = outside (g.W.Inputs.files c.leave.new.world) (g.O.Sink.written c.leave.new.output)
     (g.E.Sink.written c.leave.new.errors) in
-    not_left_of_two AddsListRead (AddListReadFails (limits_of a.any_size)) files
-    a.j.now a.list.now x y
+    not_left_of_two AddsListRead (AddListReadFails (most_of a.line.limit)) files
+    a.line.j.now a.line.list.now x y
     c.in_ok-source.ensures.opened.0
     c.in_ok-source.ensures.opened.1
-    a.out.now (outside files (g.O.Sink.written a.output.now) (g.E.Sink.written a.errors.now)) new
+    a.line.target.out.now (outside files (g.O.Sink.written a.output.now) (g.E.Sink.written a.errors.now)) new
     c.leave.result
     (subst (λ f. IfErr c.leave.result (FailsToLeave (AddsListRead x y)
-    (AddListReadFails (limits_of a.any_size) x y)
-    a.out.now (outside f (g.O.Sink.written a.output.now) (g.E.Sink.written a.errors.now)) new))
+    (AddListReadFails (most_of a.line.limit) x y)
+    a.line.target.out.now (outside f (g.O.Sink.written a.output.now) (g.E.Sink.written a.errors.now)) new))
     {x = g.W.Inputs.files c.begin_with_two.new.world} {y = files}
     c.begin_with_two.ensures.same_files
     c.leave.ensures.failed)

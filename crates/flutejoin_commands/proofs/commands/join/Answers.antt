@@ -1,8 +1,7 @@
 -- join: what was joined, stated of the inputs' names.
-use Rattle.std.proofs.Common.{◌∙◌, map, subst, IfErr}
+use Rattle.std.proofs.Common.{◌∙◌, subst, IfErr}
 use Rattle.std.specs.Prelude.{OnOk}
-use Rattle.flutejoin.specs.Limits.{limits_of}
-use Rattle.flutejoin_commands.specs.Works.{JoinsAll, JoinAllFails, join_lines}
+use Rattle.flutejoin_commands.specs.Works.{JoinsAll, JoinAllFails, join_choice, join_lines}
 use Rattle.flutejoin_commands.specs.Worlds.{Leaves, FailsToLeave, TellsAsides, outside}
 use Rattle.flutejoin_commands.proofs.OfNames.{joined, not_joined}
 use Rattle.flutejoin_commands.proofs.commands.join.Goals as goal
@@ -11,11 +10,10 @@ pub returns-clause-joined : goal.returns-clause-joined
 returns-clause-joined g c =
     let files = g.W.Inputs.files c.args.world.now in
     let unread = g.W.Input.Source.unread in
-    let names = map (λ path. path.now) c.args.paths.now in
     let a = c.args in
+    let opened = rw c.as_slice.ensures.value at c.in_ok-inputs.ensures.opened in
     let tells = g.W.Asides.Asides.tells c.asides.result in
-    let all = JoinsAll unread tells (limits_of a.any_size) a.sender a.scope
-    c.in_ok-inputs.inputs.items in
+    let all = JoinsAll unread tells (join_choice a.line) c.in_ok-inputs.inputs.items in
     let now = g.W.Inputs.files c.asides.new.self in
     let same = ◌∙◌ {a = now} c.asides.ensures.same_files c.begin_join.ensures.same_files in
     let told =
@@ -23,12 +21,11 @@ returns-clause-joined g c =
     {y = files} c.begin_join.ensures.same_files c.asides.ensures.tells in
     let new = outside (g.W.Inputs.files c.leave.new.world) (g.O.Sink.written c.leave.new.output)
     (g.E.Sink.written c.leave.new.errors) in
-    joined unread tells (limits_of a.any_size) a.sender a.scope names
-    c.in_ok-inputs.inputs.items files c.in_ok-inputs.ensures.opened told
-    a.out.now (outside files (g.O.Sink.written a.output.now) (g.E.Sink.written a.errors.now)) new
-    (join_lines a.scope) c.leave.result
-    (subst (λ f. OnOk c.leave.result (Leaves all all (join_lines a.scope)
-    a.out.now (outside f (g.O.Sink.written a.output.now) (g.E.Sink.written a.errors.now)) new))
+    joined unread tells a.line c.in_ok-inputs.inputs.items files opened told
+    a.line.target.out.now (outside files (g.O.Sink.written a.output.now) (g.E.Sink.written a.errors.now)) new
+    (join_lines a.line.scope) c.leave.result
+    (subst (λ f. OnOk c.leave.result (Leaves all all (join_lines a.line.scope)
+    a.line.target.out.now (outside f (g.O.Sink.written a.output.now) (g.E.Sink.written a.errors.now)) new))
     {x = now} {y = files} same
     c.leave.ensures.left)
 
@@ -36,26 +33,23 @@ pub returns-clause-failed : goal.returns-clause-failed
 returns-clause-failed g c =
     let files = g.W.Inputs.files c.args.world.now in
     let unread = g.W.Input.Source.unread in
-    let names = map (λ path. path.now) c.args.paths.now in
     let a = c.args in
+    let opened = rw c.as_slice.ensures.value at c.in_ok-inputs.ensures.opened in
     let tells = g.W.Asides.Asides.tells c.asides.result in
-    let all = JoinsAll unread tells (limits_of a.any_size) a.sender a.scope
-    c.in_ok-inputs.inputs.items in
+    let all = JoinsAll unread tells (join_choice a.line) c.in_ok-inputs.inputs.items in
     let now = g.W.Inputs.files c.asides.new.self in
     let same = ◌∙◌ {a = now} c.asides.ensures.same_files c.begin_join.ensures.same_files in
     let told =
     subst (λ f. TellsAsides f tells) {x = g.W.Inputs.files c.begin_join.new.world}
     {y = files} c.begin_join.ensures.same_files c.asides.ensures.tells in
-    let fails = JoinAllFails unread tells (limits_of a.any_size) a.sender a.scope
-    c.in_ok-inputs.inputs.items in
+    let fails = JoinAllFails unread tells (join_choice a.line) c.in_ok-inputs.inputs.items in
     let new = outside (g.W.Inputs.files c.leave.new.world) (g.O.Sink.written c.leave.new.output)
     (g.E.Sink.written c.leave.new.errors) in
-    not_joined unread tells (limits_of a.any_size) a.sender a.scope names
-    c.in_ok-inputs.inputs.items files c.in_ok-inputs.ensures.opened told
-    a.out.now (outside files (g.O.Sink.written a.output.now) (g.E.Sink.written a.errors.now)) new
+    not_joined unread tells a.line c.in_ok-inputs.inputs.items files opened told
+    a.line.target.out.now (outside files (g.O.Sink.written a.output.now) (g.E.Sink.written a.errors.now)) new
     c.leave.result
     (subst (λ f. IfErr c.leave.result
-    (FailsToLeave all fails a.out.now (outside f (g.O.Sink.written a.output.now)
+    (FailsToLeave all fails a.line.target.out.now (outside f (g.O.Sink.written a.output.now)
     (g.E.Sink.written a.errors.now)) new))
     {x = now} {y = files} same
     c.leave.ensures.failed)

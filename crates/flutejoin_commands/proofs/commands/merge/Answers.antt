@@ -16,13 +16,13 @@ returns-clause-merged g c =
     let y = unread c.in_ok-first.second in
     let new = outside (g.W.Inputs.files c.leave.new.world) (g.O.Sink.written c.leave.new.output)
     (g.E.Sink.written c.leave.new.errors) in
-    left_of_two MergesRead MergeReadFails files a.a.now a.b.now x y
+    left_of_two MergesRead MergeReadFails files a.line.a.now a.line.b.now x y
     c.in_ok-first.ensures.opened.0
     c.in_ok-first.ensures.opened.1
-    a.out.now (outside files (g.O.Sink.written a.output.now) (g.E.Sink.written a.errors.now)) new
+    a.line.target.out.now (outside files (g.O.Sink.written a.output.now) (g.E.Sink.written a.errors.now)) new
     entries_line c.leave.result
     (subst (λ f. OnOk c.leave.result (Leaves (MergesRead x y) (MergesRead x y)
-    entries_line a.out.now (outside f (g.O.Sink.written a.output.now)
+    entries_line a.line.target.out.now (outside f (g.O.Sink.written a.output.now)
     (g.E.Sink.written a.errors.now)) new))
     {x = g.W.Inputs.files c.begin_with_two.new.world} {y = files}
     c.begin_with_two.ensures.same_files
@@ -37,13 +37,13 @@ returns-clause-failed g c =
     let y = unread c.in_ok-first.second in
     let new = outside (g.W.Inputs.files c.leave.new.world) (g.O.Sink.written c.leave.new.output)
     (g.E.Sink.written c.leave.new.errors) in
-    not_left_of_two MergesRead MergeReadFails files a.a.now a.b.now x y
+    not_left_of_two MergesRead MergeReadFails files a.line.a.now a.line.b.now x y
     c.in_ok-first.ensures.opened.0
     c.in_ok-first.ensures.opened.1
-    a.out.now (outside files (g.O.Sink.written a.output.now) (g.E.Sink.written a.errors.now)) new
+    a.line.target.out.now (outside files (g.O.Sink.written a.output.now) (g.E.Sink.written a.errors.now)) new
     c.leave.result
     (subst (λ f. IfErr c.leave.result (FailsToLeave (MergesRead x y) (MergeReadFails x y)
-    a.out.now (outside f (g.O.Sink.written a.output.now)
+    a.line.target.out.now (outside f (g.O.Sink.written a.output.now)
     (g.E.Sink.written a.errors.now)) new))
     {x = g.W.Inputs.files c.begin_with_two.new.world} {y = files}
     c.begin_with_two.ensures.same_files

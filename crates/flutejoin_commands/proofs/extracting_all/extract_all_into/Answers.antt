@@ -3,7 +3,7 @@ use Rattle.std.proofs.Common.{Result, ℕ, inr, subst, sym}
 use Rattle.std.specs.Prelude.{IfOk}
 use Rattle.flutejoin.specs.ExtractAll.{ExtractsAll}
 use Rattle.flutejoin.specs.declared.command_fault.CommandFault.{CommandFault}
-use Rattle.flutejoin.specs.Limits.{limits_of}
+use Rattle.flutejoin_commands.specs.Works.{most_of}
 use Rattle.flutejoin_commands.proofs.FolderSteps.{made_ready, made_nothing, filled_beside}
 use Rattle.flutejoin_commands.proofs.FolderSteps.{one_always, leaves_folder, there_failed, on_ok}
 use Rattle.flutejoin_commands.specs.Folders.{FolderFails}
@@ -35,11 +35,11 @@ returns-in-Ok-finish_folder-clause-extracted g c =
     let n = g.D.NewFolder.places c.finish_folder.new.folder in
     let u = g.R.Source.unread c.args.source.now in
     let w = g.R.Source.unread c.fill-filled.new.source in
-    let picked = c.args.picked.now in
+    let picked = c.args.picked in
     let r = g.P.Sink.written c.args.report.now in
     let r' = g.P.Sink.written c.fill-filled.new.report in
     let e = subst (λ (x : Result ℕ CommandFault). IfOk x
-    (ExtractsAll (limits_of c.args.any_size) u w picked m f r r'))
+    (ExtractsAll (most_of c.args.limit) u w picked m f r r'))
     c.in-Ok-finish_folder.ensures.done c.fill-filled.ensures.filled in
     on_ok c.tell.result (λ line. leaves_folder o n h e
     c.in-Ok-finish_folder.ensures.kept c.in-Ok-finish_folder.ensures.lasts
@@ -54,11 +54,11 @@ returns-in-Ok-finish_folder-clause-failed g c =
     let n = g.D.NewFolder.places c.finish_folder.new.folder in
     let u = g.R.Source.unread c.args.source.now in
     let w = g.R.Source.unread c.fill-filled.new.source in
-    let picked = c.args.picked.now in
+    let picked = c.args.picked in
     let r = g.P.Sink.written c.args.report.now in
     let r' = g.P.Sink.written c.fill-filled.new.report in
     let e = subst (λ (x : Result ℕ CommandFault). IfOk x
-    (ExtractsAll (limits_of c.args.any_size) u w picked m f r r'))
+    (ExtractsAll (most_of c.args.limit) u w picked m f r r'))
     c.in-Ok-finish_folder.ensures.done c.fill-filled.ensures.filled in
     if_err c.tell.result
     (λ fault is. there_failed o n (inr is) h e c.in-Ok-finish_folder.ensures.kept)
@@ -84,7 +84,7 @@ returns-in-Err-clause-failed g c =
     let f = g.D.NewFolder.places c.fill-filled.new.folder in
     let r = g.P.Sink.written c.args.report.now in
     let r' = g.P.Sink.written c.fill-filled.new.report in
-    let filling : Filling (limits_of c.args.any_size) u w c.args.picked.now m f r r'
+    let filling : Filling (most_of c.args.limit) u w c.args.picked m f r r'
     c.fill-filled.result = record {
       stays = c.fill-filled.ensures.stays;
       extracted = c.fill-filled.ensures.filled;
@@ -97,7 +97,7 @@ returns-in-Err-clause-failed g c =
       dropped = c.finish_folder.ensures.dropped;
     } in
     let e = not_finished c.in-Err.is h filling finishing in
-    subst (λ x. FolderFails (limits_of c.args.any_size) u w c.args.picked.now o
+    subst (λ x. FolderFails (most_of c.args.limit) u w c.args.picked o
     (g.D.NewFolder.places c.finish_folder.new.folder)
     x) (sym c.fault_of.ensures) e
 

@@ -6,7 +6,7 @@ use Rattle.flutejoin_commands.specs.Worlds.{IsPlaced}
 use Rattle.flutejoin_commands.proofs.Closed.{closed_whole}
 use Rattle.flutejoin_commands.proofs.FolderSteps.{if_err, on_ok}
 use Rattle.flutejoin_commands.proofs.LeftFiles.{closed_file, left_file, left_device}
-use Rattle.flutejoin_commands.proofs.LeftFiles.{failed_file, left_output}
+use Rattle.flutejoin_commands.proofs.LeftFiles.{failed_as, left_output}
 use Rattle.flutejoin_commands.proofs.leaving.put.Goals as goal
 
 pub returns-in-Ok-File-clause-left : goal.returns-in-Ok-File-clause-left
@@ -14,28 +14,28 @@ returns-in-Ok-File-clause-left g c =
     on_ok c.write_into-done.result.0
     (left_file (closed_file g.W.Folder.Folder.entries
     {old = g.W.Inputs.files c.args.world.now} {new = g.W.Inputs.files c.close.new.self}
-    {name = c.args.out.now} {place = c.in-Ok-File.field-0} c.in-Ok-File.field-0-is
+    {name = c.args.target.out.now} {place = c.in-Ok-File.field-0} c.in-Ok-File.field-0-is
     c.in-Ok-File.ensures.placed c.place.ensures.same_files c.close.ensures.closed))
     c.write_into-done.ensures.succeeded
 
 pub returns-in-Ok-File-clause-failed : goal.returns-in-Ok-File-clause-failed
 returns-in-Ok-File-clause-failed g c =
     if_err c.write_into-done.result.0
-    (λ fault f. failed_file (closed_file g.W.Folder.Folder.entries
+    (λ fault f. failed_as c.args.delivery (closed_file g.W.Folder.Folder.entries
     {old = g.W.Inputs.files c.args.world.now} {new = g.W.Inputs.files c.close.new.self}
-    {name = c.args.out.now} {place = c.in-Ok-File.field-0} c.in-Ok-File.field-0-is
+    {name = c.args.target.out.now} {place = c.in-Ok-File.field-0} c.in-Ok-File.field-0-is
     c.in-Ok-File.ensures.placed c.place.ensures.same_files c.close.ensures.closed) f)
     c.write_into-done.ensures.failed
 
 pub returns-in-Ok-Device-clause-left : goal.returns-in-Ok-Device-clause-left
 returns-in-Ok-Device-clause-left g c =
-    on_ok c.write_through.result (left_device (subst (λ p. IsPlaced g.W.Folder.Folder.entries
-    (g.W.Inputs.files c.args.world.now) c.args.out.now p) c.in-Ok-Device.field-0-is
-    c.in-Ok-Device.ensures.placed) c.place.ensures.same_files) c.write_through.ensures.written
+    on_ok c.deliver.result (left_device (subst (λ p. IsPlaced g.W.Folder.Folder.entries
+    (g.W.Inputs.files c.args.world.now) c.args.target.out.now p) c.in-Ok-Device.field-0-is
+    c.in-Ok-Device.ensures.placed) c.place.ensures.same_files) c.deliver.ensures.written
 
 pub returns-in-Ok-StandardOutput-clause-left : goal.returns-in-Ok-StandardOutput-clause-left
 returns-in-Ok-StandardOutput-clause-left g c =
-    let t = c.write_through-in-Ok-StandardOutput in
+    let t = c.deliver-in-Ok-StandardOutput in
     let o = c.args.output.now in
     let e = c.args.errors.now in
     let old = outlets (g.O.Sink.written o) (g.O.Sink.failures o) (g.E.Sink.written e)
@@ -44,7 +44,7 @@ returns-in-Ok-StandardOutput-clause-left g c =
     (g.E.Sink.written t.new.report) (g.E.Sink.failures t.new.report) in
     on_ok t.result (left_output {d = old} {d' = new}
     (subst (λ p. IsPlaced g.W.Folder.Folder.entries
-    (g.W.Inputs.files c.args.world.now) c.args.out.now p) c.in-Ok-StandardOutput.field-0-is
+    (g.W.Inputs.files c.args.world.now) c.args.target.out.now p) c.in-Ok-StandardOutput.field-0-is
     c.in-Ok-StandardOutput.ensures.placed) c.place.ensures.same_files) t.ensures.written
 
 pub returns-in-Ok-File-clause-any_moment : goal.returns-in-Ok-File-clause-any_moment
@@ -52,13 +52,13 @@ returns-in-Ok-File-clause-any_moment g c =
     let files = g.W.Inputs.files c.args.world.now in
     let entries = g.W.Folder.Folder.entries in
     let closed = closed_file entries {old = files} {new = g.W.Inputs.files c.close.new.self}
-    {name = c.args.out.now} {place = c.in-Ok-File.field-0} c.in-Ok-File.field-0-is
+    {name = c.args.target.out.now} {place = c.in-Ok-File.field-0} c.in-Ok-File.field-0-is
     c.in-Ok-File.ensures.placed
     c.place.ensures.same_files c.close.ensures.closed in
     let new = g.W.Inputs.closed c.close.new.self in
-    subst (λ k. ClosesWhole c.args.out.now files k new) {y = g.W.Inputs.closed c.args.world.now}
+    subst (λ k. ClosesWhole c.args.target.out.now files k new) {y = g.W.Inputs.closed c.args.world.now}
     c.place.ensures.same_closed
-    (closed_whole {name = c.args.out.now} {files = files} (g.W.Inputs.closed c.place.new.self)
+    (closed_whole {name = c.args.target.out.now} {files = files} (g.W.Inputs.closed c.place.new.self)
     {new = new} (entries c.in-Ok-File.folder)
     (entries c.write_into-done.result.1) closed.had c.write_into-done.ensures.any_moment
     c.close.ensures.noted)

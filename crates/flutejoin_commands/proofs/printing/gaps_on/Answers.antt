@@ -4,38 +4,38 @@ use Rattle.std.proofs.Common.{Result, subst}
 use Rattle.std.specs.Io.KnownBytes.{Appends}
 use Rattle.flute_parts.specs.Devices.{AppendsPart}
 use Rattle.flutejoin.specs.Gaps.{ListsJournal}
-use Rattle.flutejoin.specs.Limits.{limits_of}
 use Rattle.flutejoin.specs.Styles.{are_whole, passes_check, printed}
 use Rattle.flutejoin.specs.Told.{Told}
 use Rattle.flutejoin.specs.declared.command_fault.CommandFault.{CommandFault}
 use Rattle.flutejoin.specs.declared.command_fault.CommandFault.TheVariants.{CannotWrite}
+use Rattle.flutejoin_commands.specs.Works.{most_of}
 use Rattle.flutejoin_commands.proofs.Checks.{and_so, checked, if_checked, of_any_fault}
 use Rattle.flutejoin_commands.proofs.printing.gaps_on.Goals as goal
 
 pub returns-in_ok-hand_on-in-Ok-clause-listed : goal.returns-in_ok-hand_on-in-Ok-clause-listed
 returns-in_ok-hand_on-in-Ok-clause-listed g c = λ e f.
-    let style = c.args.style in
+    let style = c.args.listing.style in
     let input = g.R.Source.unread c.args.source.now in
     let old = g.P.Sink.written c.args.report.now in
     let new = g.P.Sink.written c.hand_on.new.report in
     let whole = c.in-Ok.all_whole in
-    let all = subst (λ (x : Option (List ℕ)). ListsJournal (limits_of c.args.any_size)
-    c.args.selection.now input
+    let all = subst (λ (x : Option (List ℕ)). ListsJournal (most_of c.args.listing.limit)
+    c.args.listing.selection input
     (λ objects. Appends old x (printed style objects) × (whole ≡ are_whole style objects)))
     (sym c.hand_on.ensures.same) (c.in-Ok.ensures.printed e f) in
-    if_checked (λ p. ListsJournal (limits_of c.args.any_size)
-    c.args.selection.now input
+    if_checked (λ p. ListsJournal (most_of c.args.listing.limit)
+    c.args.listing.selection input
     (λ objects. Appends old new (printed style objects) × (passes_check style objects ≡ p)))
     _ c.checked.result c.checked.ensures.passes (λ p is. checked style whole p old new is all)
 
 pub returns-in_err-hand_on-in-Ok-clause-part : goal.returns-in_err-hand_on-in-Ok-clause-part
 returns-in_err-hand_on-in-Ok-clause-part g c = λ e f.
-    let style = c.args.style in
+    let style = c.args.listing.style in
     let input = g.R.Source.unread c.args.source.now in
     let old = g.P.Sink.written c.args.report.now in
     let whole = c.in-Ok.all_whole in
-    let all = subst (λ (x : Option (List ℕ)). ListsJournal (limits_of c.args.any_size)
-    c.args.selection.now input
+    let all = subst (λ (x : Option (List ℕ)). ListsJournal (most_of c.args.listing.limit)
+    c.args.listing.selection input
     (λ objects. Appends old x (printed style objects) × (whole ≡ are_whole style objects)))
     (sym c.hand_on.ensures.same) (c.in-Ok.ensures.printed e f) in
     let P : List Told → Type 0 = λ objects. Appends old (g.P.Sink.written c.hand_on.new.report)
@@ -46,15 +46,15 @@ returns-in_err-hand_on-in-Ok-clause-part g c = λ e f.
 
 pub returns-in-Err-clause-part : goal.returns-in-Err-clause-part
 returns-in-Err-clause-part g c = λ e f.
-    let style = c.args.style in
-    let s = c.args.selection.now in
+    let style = c.args.listing.style in
+    let s = c.args.listing.selection in
     let input = g.R.Source.unread c.args.source.now in
     let old = g.P.Sink.written c.args.report.now in
     let new = g.P.Sink.written c.hand_on-in-Err.new.report in
     let same = c.hand_on-in-Err.ensures.same in
-    let Part : Option (List ℕ) → Type 0 = λ x. ListsJournal (limits_of c.args.any_size) s input
+    let Part : Option (List ℕ) → Type 0 = λ x. ListsJournal (most_of c.args.listing.limit) s input
     (λ objects. AppendsPart old x (printed style objects)) in
-    let All : Type 0 = ListsJournal (limits_of c.args.any_size) s input
+    let All : Type 0 = ListsJournal (most_of c.args.listing.limit) s input
     (λ objects. Appends old new (printed style objects)) in
     let Q : Result (Unit {0}) CommandFault → Type 0 = λ r. IfErr r (λ fault. fault ≡ CannotWrite
     → (new ≡ old) ⊎ (Part new ⊎ All)) in

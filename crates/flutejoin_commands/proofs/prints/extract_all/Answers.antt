@@ -2,9 +2,9 @@
 use Rattle.std.proofs.Common.{◌⊎◌, List, ℕ, Option, IfErr, ap, subst, ◌∙◌}
 use Rattle.flute_output.specs.NewFolders.{Places}
 use Rattle.flutejoin.specs.declared.command_fault.CommandFault.{CommandFault}
-use Rattle.flutejoin.specs.Limits.{limits_of}
 use Rattle.flutejoin_commands.specs.Folders.{FolderFails}
 use Rattle.flutejoin_commands.specs.Printed.{IsUnread}
+use Rattle.flutejoin_commands.specs.Works.{most_of}
 use Rattle.flutejoin_commands.specs.Worlds.{IsNotMade}
 use Rattle.flutejoin_commands.proofs.PrintedNames.{not_printed, of_place}
 use Rattle.flutejoin_commands.proofs.prints.extract_all.Goals as goal
@@ -15,18 +15,18 @@ returns-clause-failed g c =
     let folder = g.W.Inputs.folders c.args.world.now c.args.out.now in
     let unread = g.W.Input.Source.unread in
     let after = g.W.NewFolder.NewFolder.places c.extract_all_into.new.folder in
-    let picked = c.args.picked.now in
+    let picked = c.args.picked in
     let result = c.extract_all_into.result in
     let left = unread c.extract_all_into.new.source in
     not_printed files c.args.j.now (unread c.in_ok-source.source) c.in_ok-source.ensures.opened
     (λ (k l : Option (List ℕ)) (fault : CommandFault). (a : Option Places)
-    × FolderFails (limits_of c.args.any_size) k l picked folder a fault)
+    × FolderFails (most_of c.args.limit) k l picked folder a fault)
     (λ (fault : CommandFault). IsUnread files c.args.j.now fault ⊎ IsNotMade fault)
     left result
     (of_place (λ (a : Option Places) (fault : CommandFault).
-    FolderFails (limits_of c.args.any_size) (unread c.in_ok-source.source) left picked folder a
+    FolderFails (most_of c.args.limit) (unread c.in_ok-source.source) left picked folder a
     fault) after result
     (subst (λ b. IfErr result
-    (FolderFails (limits_of c.args.any_size) (unread c.in_ok-source.source) left picked b after))
+    (FolderFails (most_of c.args.limit) (unread c.in_ok-source.source) left picked b after))
     (c.in_ok-folder.ensures.named ∙ ap (λ f. f c.args.out.now) c.open.ensures.same_folders)
     c.extract_all_into.ensures.failed))

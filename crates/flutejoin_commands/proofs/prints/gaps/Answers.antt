@@ -3,13 +3,13 @@ use Rattle.std.proofs.Common.{◌≡◌, ◌≢◌, ◌⊎◌, List, ℕ, Option
 use Rattle.std.proofs.Common.{inl, inr, subst, ◌∙◌}
 use Rattle.std.specs.Io.KnownBytes.{Appends, IsAtEnd}
 use Rattle.flutejoin.specs.Gaps.{GapsFail, ListsJournal}
-use Rattle.flutejoin.specs.Limits.{limits_of}
 use Rattle.flutejoin.specs.Styles.{passes_check, printed}
 use Rattle.flutejoin.specs.declared.command_fault.CommandFault.{CommandFault}
 use Rattle.flutejoin.specs.declared.command_fault.CommandFault.TheVariants.{CannotWrite}
 use Rattle.flutejoin.specs.declared.command_fault.CommandFault.TheVariants.{NotAllWhole}
 use Rattle.flutejoin_commands.specs.Files.{Files}
 use Rattle.flutejoin_commands.specs.Prints.{FailsToFlush, IfPrinted}
+use Rattle.flutejoin_commands.specs.Works.{most_of}
 use Rattle.flutejoin_commands.specs.Worlds.{TellsAsides}
 use Rattle.flutejoin_commands.proofs.OfNames.{told_of}
 use Rattle.flutejoin_commands.proofs.PrintedNames.{by_done, by_fault, if_empty, if_told}
@@ -18,7 +18,7 @@ use Rattle.flutejoin_commands.proofs.prints.gaps.Goals as goal
 pub returns-clause-listed : goal.returns-clause-listed
 returns-clause-listed g c =
     let files = g.W.Inputs.files c.args.world.now in
-    let style = c.args.style in
+    let style = c.args.listing.style in
     let old = g.P.Sink.written c.args.output.now in
     let new = g.P.Sink.written c.gaps_on.new.report in
     let known = g.W.Input.Source.unread c.in_ok-source.source in
@@ -27,7 +27,7 @@ returns-clause-listed g c =
     let r = c.gaps_on.result in
     let same = c.open.ensures.same_files in
     let Lists : Bool → Option (List ℕ) → Type 0 = λ p k.
-    ListsJournal (limits_of c.args.any_size) c.args.selection.now k
+    ListsJournal (most_of c.args.listing.limit) c.args.listing.selection k
     (λ objects. Appends old new (printed style objects) × (passes_check style objects ≡ p)) in
     let tells = g.W.Asides.Asides.tells c.asides-asides.result in
     let told =
@@ -42,7 +42,7 @@ returns-clause-listed g c =
 pub returns-clause-failed : goal.returns-clause-failed
 returns-clause-failed g c =
     let files = g.W.Inputs.files c.args.world.now in
-    let style = c.args.style in
+    let style = c.args.listing.style in
     let name = c.args.j.now in
     let old = g.P.Sink.written c.args.output.now in
     let new = g.P.Sink.written c.gaps_on.new.report in
@@ -54,14 +54,14 @@ returns-clause-failed g c =
     let r = c.gaps_on.result in
     let same = c.open.ensures.same_files in
     let Lists : Bool → Option (List ℕ) → Type 0 = λ p k.
-    ListsJournal (limits_of c.args.any_size) c.args.selection.now k
+    ListsJournal (most_of c.args.listing.limit) c.args.listing.selection k
     (λ objects. Appends old new (printed style objects) × (passes_check style objects ≡ p)) in
     let tells = g.W.Asides.Asides.tells c.asides-asides.result in
     let told =
     subst (λ (x : Option Files). TellsAsides x tells) same c.asides-asides.ensures.tells in
     let first = c.in_ok-lines.ensures.empty in
     let fails : Option (List ℕ) → Option (List ℕ) → CommandFault → Type 0 = λ k l fault.
-    GapsFail (limits_of c.args.any_size) k l fault ⊎ FailsToFlush (IsAtEnd l) fault in
+    GapsFail (most_of c.args.listing.limit) k l fault ⊎ FailsToFlush (IsAtEnd l) fault in
     let F : CommandFault → Type 0 = λ fault. (fault ≡ NotAllWhole)
     ⊎ (fails known left fault × (fault ≢ CannotWrite → new ≡ old)) in
     by_fault r (λ fault is. elim (subst (λ (x : Result (Unit {0}) CommandFault). IfErr x F) is

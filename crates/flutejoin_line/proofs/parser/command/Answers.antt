@@ -1,7 +1,8 @@
 -- command: each call sets what it names, and nothing else of the command, or adds a command.
 use Rattle.std.proofs.Common.{◌≡◌, ◌∙◌, ap, true}
 use Rattle.clap.specs.Simple.{Shape, app_of, app_of_fields, on_top}
-use Rattle.flutejoin_line.specs.Parser.{no_commands, program}
+use Rattle.flutejoin_line.specs.Parser.{no_commands}
+use Rattle.flutejoin_line.specs.CommandLine.{program}
 use Rattle.flutejoin_line.proofs.Parsing.{command_added}
 use Rattle.flutejoin_line.proofs.parser.command.Goals as goal
 

@@ -1,4 +1,6 @@
 -- JoinMap::join_with: at a held key, where there is no room and where there is.
+use Rattle.std.proofs.Common.{arith}
+use Rattle.std.proofs.lemmas.Grind.{common_steps}
 use Rattle.std.proofs.Common.{rules, ◌≡◌, Some, None, sym, ap, ◌∙◌}
 use Rattle.std.specs.BTreeMap.{is_at}
 use Rattle.std.specs.Map.{set_value}
@@ -8,29 +10,22 @@ use Rattle.flute_join.proofs.Sound.{each-value_at}
 use Rattle.flute_join.proofs.map.JoinMap.join_with.Goals as goal
 
 pub join_into-requires : goal.join_into-requires
-join_into-requires g c =
-    each-value_at g.K.Ord.cmp g.V.Join.sound c.args.self.now c.args.key c.in-Some.held.now
-    c.requires.each (sym c.in-Some.ensures.value)
+join_into-requires g c = each-value_at g.K.Ord.cmp g.V.Join.sound c.args.self.now c.args.key
+    c.in-Some.held.now c.requires.each (sym c.in-Some.ensures.value)
 
 pub returns-then-len-clause-ok : goal.returns-then-len-clause-ok
-returns-then-len-clause-ok g c =
-    ap (set_value (is_at (g.K.Ord.cmp c.args.key)) c.args.self.now) c.join_into.ensures
-    ∙ sym (single_held g.met.K.Ord.total g.met.V.Join.join_laws c.args.self.now c.args.key
-    c.in-Some.held.now (g.U.JoinInto.value c.args.update) c.in-Some.ensures.ordered
-    (sym c.in-Some.ensures.value))
+returns-then-len-clause-ok g c = grind (arith, common_steps, is_at, single_held) steps 1000000
 
 pub join_into-requires-in-Ok-Occupied : goal.join_into-requires-in-Ok-Occupied
 join_into-requires-in-Ok-Occupied g c =
     let found : value_at g.K.Ord.cmp c.args.self.now c.args.key ≡ Some c.into_mut.result.now =
-    search rules in
-    each-value_at g.K.Ord.cmp g.V.Join.sound c.args.self.now c.args.key c.into_mut.result.now
-    c.requires.each found
+    search rules in each-value_at g.K.Ord.cmp g.V.Join.sound c.args.self.now c.args.key
+    c.into_mut.result.now c.requires.each found
 
 pub returns-in-Ok-Occupied-clause-ok : goal.returns-in-Ok-Occupied-clause-ok
 returns-in-Ok-Occupied-clause-ok g c =
     let found : value_at g.K.Ord.cmp c.args.self.now c.args.key ≡ Some c.into_mut.result.now =
-    search rules in
-    put_joins g.met.K.Ord.total g.met.V.Join.join_laws c.args.self.now c.args.key
+    search rules in put_joins g.met.K.Ord.total g.met.V.Join.join_laws c.args.self.now c.args.key
     c.into_mut.result.now (search rules) found c.join_into-in-Ok-Occupied.ensures (search rules)
 
 pub returns-clause-ok : goal.returns-clause-ok

@@ -78,9 +78,8 @@ loop-key-preserved g c =
 
 pub returns-in_err-join_at-clause-above_old : goal.returns-in_err-join_at-clause-above_old
 returns-in_err-join_at-clause-above_old g c =
-    let laws = map_join_laws g.met.K.Ord.total g.met.K.Place.same_where_equal
-    g.met.V.Join.join_laws in
-    below_trans laws c.args.self.now c.loop-key.self c.join_at.new.self
+    let laws = map_join_laws g.met.K.Ord.total g.met.K.Place.same_where_equal g.met.V.Join.join_laws
+    in below_trans laws c.args.self.now c.loop-key.self c.join_at.new.self
     c.loop-key.invariant.above_old c.join_at.ensures.above_old
 
 pub returns-in_err-join_at-clause-below_join : goal.returns-in_err-join_at-clause-below_join
@@ -94,12 +93,11 @@ returns-in_err-join_at-clause-below_join g c =
     let rest = c.next.new.self in
     let before = rw c.in-Some.ensures.steps at c.loop-key.invariant in
     let joined = map_join g.K.Ord.cmp g.V.Join.joined es (p ∷ []) in
-    let whole : map_join g.K.Ord.cmp g.V.Join.joined joined rest
-    ≡ map_join g.K.Ord.cmp g.V.Join.joined c.args.self.now c.args.other.now =
-    sym (join_step order same inner es p rest before.ordered) ∙ before.left in
-    below_trans laws c.join_at.new.self joined _ c.join_at.ensures.below_join
-    (subst (IsBelow (map_join g.K.Ord.cmp g.V.Join.joined) joined) whole
-    (below_join laws joined rest))
+    let whole : map_join g.K.Ord.cmp g.V.Join.joined joined rest ≡ map_join g.K.Ord.cmp
+    g.V.Join.joined c.args.self.now c.args.other.now = sym
+    (join_step order same inner es p rest before.ordered) ∙ before.left in below_trans laws
+    c.join_at.new.self joined _ c.join_at.ensures.below_join (subst
+    (IsBelow (map_join g.K.Ord.cmp g.V.Join.joined) joined) whole (below_join laws joined rest))
 
 pub returns-in_err-join_at-clause-full : goal.returns-in_err-join_at-clause-full
 returns-in_err-join_at-clause-full g c =
@@ -120,10 +118,9 @@ returns-clause-ok g c =
 
 pub returns-clause-below_join : goal.returns-clause-below_join
 returns-clause-below_join g c =
-    let laws = map_join_laws g.met.K.Ord.total g.met.K.Place.same_where_equal
-    g.met.V.Join.join_laws in
-    subst (IsBelow (map_join g.K.Ord.cmp g.V.Join.joined) c.loop-key.self) (returns-clause-ok g c)
-    (below_self laws c.loop-key.self)
+    let laws = map_join_laws g.met.K.Ord.total g.met.K.Place.same_where_equal g.met.V.Join.join_laws
+    in subst (IsBelow (map_join g.K.Ord.cmp g.V.Join.joined) c.loop-key.self)
+    (returns-clause-ok g c) (below_self laws c.loop-key.self)
 
 pub returns-clause-within : goal.returns-clause-within
 returns-clause-within g c =
@@ -160,14 +157,13 @@ returns-in_err-join_at-clause-stays_sound g c =
     }
 
 pub returns-clause-stays_sound : goal.returns-clause-stays_sound
-returns-clause-stays_sound g c =
-    λ x y. record {
-      ordered = rw c.self.view_is at c.self.invariant.0;
-      within = rw c.self.view_is at c.self.invariant.1;
-      some = some_above g.met.K.Ord.total g.V.Join.joined c.args.self.now c.loop-key.self
-          c.loop-key.invariant.above_old x.some;
-      each = returns-clause-each g c x.each y.each;
-    }
+returns-clause-stays_sound g c = λ x y. record {
+  ordered = rw c.self.view_is at c.self.invariant.0;
+  within = rw c.self.view_is at c.self.invariant.1;
+  some = some_above g.met.K.Ord.total g.V.Join.joined c.args.self.now c.loop-key.self
+      c.loop-key.invariant.above_old x.some;
+  each = returns-clause-each g c x.each y.each;
+}
 
 pub returns-in_err-join_at-clause-stops : goal.returns-in_err-join_at-clause-stops
 returns-in_err-join_at-clause-stops g c =
@@ -220,23 +216,21 @@ returns-in_err-join_at-clause-memory g c =
     let rest = c.next.new.self in
     let so_far = c.loop-key.invariant.before in
     let parts = ap (λ l. so_far ++ l) (sym c.in-Some.ensures.steps) ∙ c.loop-key.invariant.parts in
-    let whole : IsOrdered cmp (so_far ++ p ∷ rest) =
-    subst (IsOrdered cmp) (sym parts) c.iter-key-items.ensures.ordered in
-    let start : IsOrdered cmp c.args.self.now =
-    ordered_under order g.V.Join.joined c.args.self.now c.loop-key.self
-    c.loop-key.invariant.above_old c.join_at.ensures.ordered in
-    let past : value_at cmp c.loop-key.self p.0 ≡ value_at cmp c.args.self.now p.0 =
-    ap (λ m. value_at cmp m p.0) c.loop-key.invariant.done
-    ∙ value_past order g.met.K.Place.same_where_equal g.met.V.Join.join_laws c.args.self.now
-    so_far p rest start whole in
-    let found : value_at cmp c.args.other.now p.0 ≡ Some p.1 =
-    ap (λ l. value_at cmp l p.0) (sym parts) ∙ value_there order so_far p rest whole in
+    let whole : IsOrdered cmp (so_far ++ p ∷ rest) = subst (IsOrdered cmp) (sym parts)
+    c.iter-key-items.ensures.ordered in
+    let start : IsOrdered cmp c.args.self.now = ordered_under order g.V.Join.joined c.args.self.now
+    c.loop-key.self c.loop-key.invariant.above_old c.join_at.ensures.ordered in
+    let past : value_at cmp c.loop-key.self p.0 ≡ value_at cmp c.args.self.now p.0 = ap
+    (λ m. value_at cmp m p.0) c.loop-key.invariant.done ∙ value_past order
+    g.met.K.Place.same_where_equal g.met.V.Join.join_laws c.args.self.now so_far p rest start whole
+    in
+    let found : value_at cmp c.args.other.now p.0 ≡ Some p.1 = ap (λ l. value_at cmp l p.0)
+    (sym parts) ∙ value_there order so_far p rest whole in
     let refused = err_from_is_err_and c.from_residual.result c.from_residual.ensures.1 in
-    rw (refused.1, refused.2)
-    (λ q. (
+    rw (refused.1, refused.2) (λ q. (
       p.0,
       p.1,
       found,
-      λ v f. c.join_at.ensures.held_memory v (past ∙ f)
-          (c.in_err-join_at.was ∙ ap Err q),
+      λ v f. c.join_at.ensures.held_memory v
+          (past ∙ f) (c.in_err-join_at.was ∙ ap Err q),
     ))

@@ -13,7 +13,7 @@ pub returns : goal.returns
 returns c =
     let two : 2 ≡ length c.args.bytes.now = omega (arith, c.requires, c.if-bytes-lt2.false) in (
       omega (arith, c.if-length-eq0.false),
-      length_read c.args.bytes.now c.read_u16-length.result (omega (arith, two))
-          (octets c.args.bytes.now (λ i. (c.type_inv.bytes i).fits))
+      length_read c.args.bytes.now c.read_u16-length.result
+          (omega (arith, two)) (octets c.args.bytes.now (λ i. (c.type_inv.bytes i).fits))
           (c.read_u16-length.ensures ∙ big_from-whole 2 c.args.bytes.now two),
     )

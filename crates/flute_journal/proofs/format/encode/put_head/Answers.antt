@@ -7,8 +7,7 @@ pub returns-in-Info-clause-bytes : goal.returns-in-Info-clause-bytes
 returns-in-Info-clause-bytes c =
     let i = c.in-Info.info in
     let head = c.put_key.new.head.items in
-    let put : c.put-in-Info-3.new.head.items ≡ head ++ info_bytes i =
-    rw (
+    let put : c.put-in-Info-3.new.head.items ≡ head ++ info_bytes i = rw (
       c.put-in-Info-3.ensures.items,
       c.put-in-Info-2.ensures.items,
       c.put-in-Info.ensures.items,
@@ -18,7 +17,6 @@ returns-in-Info-clause-bytes c =
       c.length.ensures.value,
       c.symbol.ensures.value,
       c.block.ensures.value,
-    )
-    (regroup head (in_bytes 6 i.transfer_length) (in_bytes 2 i.symbol_length)
-    (in_bytes 4 i.max_block_length)) in
+    ) (regroup head
+    (in_bytes 6 i.transfer_length) (in_bytes 2 i.symbol_length) (in_bytes 4 i.max_block_length)) in
     search rules

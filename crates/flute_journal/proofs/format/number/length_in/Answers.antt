@@ -6,7 +6,6 @@ pub returns-clause-value : goal.returns-clause-value
 returns-clause-value c = c.read_u16.ensures ∙ big_from-whole 2 c.args.field.now (sym c.requires)
 
 pub returns-clause-spelled : goal.returns-clause-spelled
-returns-clause-spelled c =
-    ap (in_bytes 2) (c.read_u16.ensures ∙ big_from-whole 2 c.args.field.now (sym c.requires))
-    ∙ spelled 2 c.args.field.now c.requires
-    (octets c.args.field.now (λ i. (c.type_inv.field i).fits))
+returns-clause-spelled c = ap (in_bytes 2)
+    (c.read_u16.ensures ∙ big_from-whole 2 c.args.field.now (sym c.requires)) ∙ spelled 2
+    c.args.field.now c.requires (octets c.args.field.now (λ i. (c.type_inv.field i).fits))

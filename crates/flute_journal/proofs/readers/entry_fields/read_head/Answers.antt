@@ -11,7 +11,6 @@ returns-clause-reads g c =
     let front = c.read_up_to-read.result in
     let n = head_size c.args.version k in
     let filled : ReadsUpTo u v n front.failed front.bytes.now = search rules in
-    rw c.or_failed.ensures
-    (parsed_reads (head_bytes c.args.version) (HeadIn c.args.version c.args.last k)
-    (body_fault c.args.version c.args.last k) front.failed c.parse.result filled
-    (fixed_least c.args.version c.args.last k) c.parse.ensures)
+    rw c.or_failed.ensures (parsed_reads (head_bytes c.args.version)
+    (HeadIn c.args.version c.args.last k) (body_fault c.args.version c.args.last k) front.failed
+    c.parse.result filled (fixed_least c.args.version c.args.last k) c.parse.ensures)

@@ -31,14 +31,15 @@ loop-filled-preserved g c =
     let within = c.loop-filled.invariant.1 in
     let part = slice_range-put_mid from room c.in-Ok.count buffer c.read.new.buffer within
     c.in-Ok.ensures.bound in
-    let joined =
-    take_split from (from + c.in-Ok.count) buffer (put_mid from room buffer c.read.new.buffer)
-    (omega arith) (take-put_mid_below _ _ _ _ _ (le_refl _) within) in (
+    let joined = take_split from (from + c.in-Ok.count) buffer
+    (put_mid from room buffer c.read.new.buffer) (omega arith)
+    (take-put_mid_below _ _ _ _ _ (le_refl _) within) in (
       search rules,
       search rules,
-      subst (Consumes _ _)
-          (ap (λ l. take from buffer ++ l) (sym part) ∙ joined)
+      subst
+          (Consumes _ _) (ap (λ l. take from buffer ++ l) (sym part) ∙ joined)
           (Consumes-trans _ _ _ _ _ c.loop-filled.invariant.2 c.in-Ok.ensures.bytes.0),
       search rules,
-      λ i. (c.type_inv.buffer i).fits,
+      λ i.
+          (c.type_inv.buffer i).fits,
     )

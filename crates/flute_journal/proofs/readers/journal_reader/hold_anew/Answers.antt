@@ -7,8 +7,7 @@ use Rattle.flute_journal.proofs.readers.journal_reader.hold_anew.Goals as goal
 pub returns-in_err-fact : goal.returns-in_err-fact
 returns-in_err-fact g c =
     let e = err_from_is_err_and c.from_residual.result c.from_residual.ensures.1 in
-    rw (e.1 ∙ ap Err e.2, c.let_go-spare.ensures.nothing)
-    (holds_anew (record {
+    rw (e.1 ∙ ap Err e.2, c.let_go-spare.ensures.nothing) (holds_anew (record {
       own = refl;
       between = c.let_go-spare.new.source;
       taken = c.let_go-spare.ensures.takes;
@@ -28,22 +27,19 @@ returns-in-Some g c =
       between = c.let_go-spare.new.source;
       taken = c.let_go-spare.ensures.takes;
       none_failed = c.let_go-spare.ensures.failures;
-      gives =
-          subst (λ o. Gives journal_framing c.args.max_entries c.args.state.now c.read_at.new.state
-          (g.R.Source.unread c.let_go-spare.new.source) (g.R.Source.unread c.read_at.new.source)
-          (Ok o)) fact read.gives;
-      failed =
-          subst (λ o. FailsIf (is_open c.args.state.now)
-          (g.R.Source.failures c.let_go-spare.new.source)
-          (g.R.Source.failures c.read_at.new.source) (Ok o)) fact read.failures;
+      gives = subst (λ o. Gives journal_framing c.args.max_entries c.args.state.now
+          c.read_at.new.state (g.R.Source.unread c.let_go-spare.new.source)
+          (g.R.Source.unread c.read_at.new.source) (Ok o)) fact read.gives;
+      failed = subst (λ o. FailsIf (is_open c.args.state.now)
+          (g.R.Source.failures c.let_go-spare.new.source) (g.R.Source.failures c.read_at.new.source)
+          (Ok o)) fact read.failures;
       none = tt;
     })
 
 pub returns-in_default : goal.returns-in_default
 returns-in_default g c =
     let read = rw c.in_default.is at c.in_ok-fact.ensures in
-    rw c.let_go-spare.ensures.nothing
-    (holds_anew (record {
+    rw c.let_go-spare.ensures.nothing (holds_anew (record {
       own = refl;
       between = c.let_go-spare.new.source;
       taken = c.let_go-spare.ensures.takes;

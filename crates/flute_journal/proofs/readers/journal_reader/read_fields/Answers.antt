@@ -1,5 +1,6 @@
 -- read_fields: the next entry or the end, after the header or after an entry; or a fault.
-use Rattle.flute_journal.proofs.Common.{Err, None, Two, journal_framing, refl, sym, ◌∙◌}
+use Rattle.std.proofs.Common.{rules}
+use Rattle.flute_journal.proofs.Common.{None, journal_framing, refl, sym, ◌∙◌}
 use Rattle.flute_journal.proofs.framing_lemmas.Framed.{ReadsWithin, reads_header}
 use Rattle.flute_journal.proofs.framing_lemmas.Framed.{reads_first, gives_from}
 use Rattle.flute_journal.proofs.framing_lemmas.Framings.{journal_sound}
@@ -8,14 +9,8 @@ use Rattle.flute_journal.proofs.readers.journal_reader.read_fields.Goals.{in-Hea
 use Rattle.flute_journal.proofs.readers.journal_reader.read_fields.Goals as goal
 
 pub returns-in-Err-clause-gives : goal.returns-in-Err-clause-gives
-returns-in-Err-clause-gives g c =
-    let f = c.in-Err.fault in
-    gives_from journal_framing c.args.max_entries Two _ _ (Err f)
-    (sym c.replace.ensures.value ∙ c.in-Header.is) refl (
-      refl,
-      reads_header journal_sound c.args.max_entries Two _ _ c.in-Err.ensures.reads
-          c.in-Err.ensures.memory tt c.read_header.ensures.advances,
-    )
+returns-in-Err-clause-gives g c = search (rules, gives_from, reads_header, journal_sound) steps
+    400000
 
 pub returns-clause-gives : goal.returns-clause-gives
 returns-clause-gives g c =

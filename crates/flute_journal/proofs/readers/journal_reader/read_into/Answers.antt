@@ -11,13 +11,7 @@ use Rattle.flute_journal.proofs.readers.journal_reader.read_into.Goals as goal
 pub returns : goal.returns
 returns g c =
     let same : reading c.match-state.source c.match-state.state c.match-state.held
-    ≡ reading c.args.source.now c.args.state.now c.args.held.now = elim c.match-state.branch [
-      | in-Items+in-Some+in_default-hold_next w ↦ search rules
-      | in-Items+in_default-last w ↦ search rules
-      | in-Items+then-matches+else-before-max_entries w ↦ search rules
-      | in-Items+else-matches w ↦ search rules
-      | in-Header-1 w ↦ search rules
-    ] in
+    ≡ reading c.args.source.now c.args.state.now c.args.held.now = search rules in
     subst (λ old. HoldsNext g.R.Source.unread g.R.Source.buffered g.R.Source.failures
     c.args.max_entries old (reading c.hold_anew.new.source c.hold_anew.new.state
     c.hold_anew.new.held) c.hold_anew.result) same c.hold_anew.ensures

@@ -1,5 +1,6 @@
 -- entry_in: the symbol it returns is the entry at the front of the bytes, without a fault.
 -- The symbol's entry lies in front of the bytes.
+use Rattle.std.proofs.Common.{arith}
 use Rattle.flute_journal.proofs.{
   Common.{ap, arith, byte_of, take, ◌∙◌},
   Numbers.{octets},
@@ -20,7 +21,6 @@ returns c =
       size = c.head_size.result;
       rest = c.in_ok-head.rest.now;
       split = c.in_ok-head.ensures.cases;
-      symbol_is =
-          found.2 ∙ ap (λ n. take n c.in_ok-head.rest.now) (omega (arith, c.from.ensures));
+      symbol_is = found.2 ∙ ap (λ n. take n c.in_ok-head.rest.now) (omega (arith, c.from.ensures));
       whole = omega (arith, found.3, c.from.ensures);
     })

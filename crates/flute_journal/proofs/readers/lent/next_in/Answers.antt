@@ -18,7 +18,6 @@ returns c =
       size = c.head_size.result;
       rest = c.in_ok-head.rest.now;
       split = c.in_ok-head.ensures.cases;
-      symbol_is =
-          found.2 ∙ ap (λ n. take n c.in_ok-head.rest.now) (omega (arith, c.from.ensures));
+      symbol_is = found.2 ∙ ap (λ n. take n c.in_ok-head.rest.now) (omega (arith, c.from.ensures));
       whole = omega (arith, found.3, c.from.ensures);
     })

@@ -10,18 +10,16 @@ use Rattle.flute_journal.proofs.format_lemmas.Decoded.{joined, in_front}
 use Rattle.flute_journal.proofs.readers.lent.record_in.Goals as goal
 
 -- the bytes of a datagram follow their number
-record_begins : (n : ℕ) {number : List ℕ} (rest : List ℕ) {datagram : List ℕ}
-    → in_bytes 2 n ≡ number
-    → length number ≡ 2 → datagram ≡ take n rest → length datagram ≡ n → n < 2 ^ 16
-    → AllByRecursion IsByte datagram → BeginsWithRecord (number ++ rest) datagram
+record_begins : (n : ℕ) {number : List ℕ} (rest : List ℕ) {datagram : List ℕ} → in_bytes 2 n ≡
+    number → length number ≡ 2 → datagram ≡ take n rest → length datagram ≡ n → n < 2 ^ 16 →
+    AllByRecursion IsByte datagram → BeginsWithRecord (number ++ rest) datagram
 record_begins n {number = number} rest {datagram = datagram} spelled two is size short octets =
     let begins = in_front number datagram rest n is in
-    let long : length (number ++ datagram) ≡ 2 + length datagram =
-    omega (arith, length-append number datagram, two) in
-    let of_record : number ++ datagram ≡ record_of datagram =
-    ap (λ xs. xs ++ datagram) (sym spelled ∙ ap (in_bytes 2) (sym size)) in
+    let long : length (number ++ datagram) ≡ 2 + length datagram = omega
+    (arith, length-append number datagram, two) in
+    let of_record : number ++ datagram ≡ record_of datagram = search rules in
     record {
-      valid = record { short = omega (arith, size, short); octets = octets };
+      valid = search rules;
       within = omega (arith, begins.0, long);
       spelled = rw (← long) (begins.1 ∙ of_record);
     }

@@ -9,7 +9,7 @@ returns-in_err-copied_into-clause-takes g c =
     rw (e.1 ∙ ap Err e.2) (
       c.in_err-copied_into.ensures.only,
       refl,
-      has_entry c.args.version c.args.last.now
-          (g.R.Source.unread c.args.source.now) c.buffer.result.now _ _ c.buffer.ensures.front
-          c.in-Some.ensures,
+      has_entry c.args.version
+          c.args.last.now (g.R.Source.unread c.args.source.now) c.buffer.result.now _ _
+          c.buffer.ensures.front c.in-Some.ensures,
     )

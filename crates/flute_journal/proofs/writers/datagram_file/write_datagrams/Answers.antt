@@ -16,12 +16,10 @@ pub returns-in_err-write_record-clause-bytes : goal.returns-in_err-write_record-
 returns-in_err-write_record-clause-bytes g c =
     let e = err_from_is_err_and c.from_residual-in_err-write_record.result
     c.from_residual-in_err-write_record.ensures.1 in
-    let here : slice_get c.args.datagrams.now c.loop-datagram.place
-    ≡ Some c.as_slice.result.now =
+    let here : slice_get c.args.datagrams.now c.loop-datagram.place ≡ Some c.as_slice.result.now =
     slice_get_read c.args.datagrams.now _ c.loop-datagram.place c.in-Some.datagram.now refl
-    c.in-Some.ensures.lookup.3.0 c.in-Some.ensures.lookup.1
-    ∙ ap Some (sym c.as_slice.ensures.bytes) in
-    rw e.1 (sent-part (g.W.Sink.written c.write_record.new.sink) c.loop-datagram.invariant.0 here
+    c.in-Some.ensures.lookup.3.0 c.in-Some.ensures.lookup.1 ∙ ap Some (sym c.as_slice.ensures.bytes)
+    in rw e.1 (sent-part (g.W.Sink.written c.write_record.new.sink) c.loop-datagram.invariant.0 here
     c.in_err-write_record.ensures.bytes)
 
 pub returns-clause-bytes : goal.returns-clause-bytes

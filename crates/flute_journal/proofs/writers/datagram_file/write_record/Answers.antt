@@ -11,8 +11,7 @@ returns-in_err-write_all-clause-bytes g c =
     rw e.1 (AppendsPart-first u v (in_bytes 2 (length bytes)) bytes (search rules))
 
 pub returns-clause-bytes : goal.returns-clause-bytes
-returns-clause-bytes g c =
-    Writes-behind (g.W.Sink.written c.args.sink.now) (g.W.Sink.written c.write_all.new.self)
-    (g.W.Sink.written c.write_all-2.new.self)
-    (in_bytes 2 (length c.args.bytes.now)) c.args.bytes.now c.write_all-2.result
-    (search rules) (search rules)
+returns-clause-bytes g c = Writes-behind (g.W.Sink.written c.args.sink.now)
+    (g.W.Sink.written c.write_all.new.self) (g.W.Sink.written c.write_all-2.new.self)
+    (in_bytes 2 (length c.args.bytes.now)) c.args.bytes.now c.write_all-2.result (search rules)
+    (search rules)

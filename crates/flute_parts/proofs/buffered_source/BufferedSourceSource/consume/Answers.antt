@@ -11,9 +11,8 @@ taken : (none : Bool) (n : ℕ) (buffer : List ℕ) (rest : Option (List ℕ))
     (if none then None else prepend_known (drop n buffer) rest) (take n buffer)
 taken true n buffer rest = tt
 taken false n buffer None = tt
-taken false n buffer (Some rest) =
-    ap (λ front. front ++ rest) (sym (take-append-drop n buffer))
-    ∙ append_assoc (take n buffer) (drop n buffer) rest
+taken false n buffer (Some rest) = ap (λ front. front ++ rest) (sym (take-append-drop n buffer)) ∙
+    append_assoc (take n buffer) (drop n buffer) rest
 
 pub returns-clause-bytes : goal.returns-clause-bytes
 returns-clause-bytes g c =

@@ -29,25 +29,17 @@ Took old new bytes n = (n ≤ length bytes) × Appends old new (take n bytes)
 goes_on : (old mid new : Option (List ℕ)) (bytes : List ℕ) (w n : ℕ) → Took old mid bytes w
     → Took mid new (take (length bytes - w) (drop w bytes)) n → Took old new bytes (w + n)
 goes_on old mid new bytes w n (le, done) (fits, more) =
-    let rest : take (length bytes - w) (drop w bytes) ≡ drop w bytes =
-    take_all (length bytes - w) (drop w bytes) (omega (arith, length-drop w bytes)) in
-    let fits' : n ≤ length (drop w bytes) = subst (λ (xs : List ℕ). n ≤ length xs) rest fits in
-    let more' : Appends mid new (take n (drop w bytes)) =
-    subst (λ (xs : List ℕ). Appends mid new (take n xs)) rest more in (
+    let rest : take (length bytes - w) (drop w bytes) ≡ drop w bytes = take_all (length bytes - w)
+    (drop w bytes) (omega (arith, length-drop w bytes)) in
+    let fits' : n ≤ length (drop w bytes) = search rules in
+    let more' : Appends mid new (take n (drop w bytes)) = search rules in (
       omega (arith, fits', length-drop w bytes),
       subst (Appends old new) (sym (take-add w n bytes))
           (Appends-trans old mid new _ _ done more'),
     )
 
 pub returns-in_err-written-clause-bytes : goal.returns-in_err-written-clause-bytes
-returns-in_err-written-clause-bytes g c =
-    let e = err_from_is_err_and c.from_residual.result c.from_residual.ensures.1 in
-    rw e.1 (part_of _ _ _ _ _ (omega arith) c.loop-written.invariant.1
-    c.in_err-written.ensures.bytes)
+returns-in_err-written-clause-bytes g c = search (rules, err_from_is_err_and, part_of)
 
 pub loop-written-preserved : goal.loop-written-preserved
-loop-written-preserved g c =
-    let n = c.loop-written.written in
-    let on = goes_on _ _ _ _ n _ (c.loop-written.invariant.0, c.loop-written.invariant.1)
-    (c.in_ok-written.ensures.bound, c.in_ok-written.ensures.bytes) in
-    (on.0, on.1, search rules)
+loop-written-preserved g c = search (rules, goes_on)

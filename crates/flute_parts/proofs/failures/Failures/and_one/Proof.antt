@@ -55,35 +55,28 @@ module _ {M : Type 1} {𝓤 : Ura M} (𝓛 : Logic 𝓤) (at_mem : Memory → SP
         let a = z.0.3 in
         let vss = z.0.4 in
         let made : (Failures.the_row).Denot = record { count = a.0.now.count + 1 } in
-        qed 𝓛 ((raw toks ⊛ ‵ (owns (types_at F.ended.signature.params z.0.0) a vss))
-        ∷ raw ((held z.0.0 a).requires z.1) ∷ []) ∵
-        keep ! (0 ∷ []) $ split ! $ move ! (1 ∷ []) $
-        fsplit ! $ fsplit ! $ feq_l ! (λ is₀. drop ! $ drop ! $
-        let p = vptr a.0.ref_ptr.0 a.0.ref_ptr.1 in
+        qed 𝓛 ((raw toks ⊛ ‵ (owns (types_at F.ended.signature.params z.0.0) a vss)) ∷ raw
+        ((held z.0.0 a).requires z.1) ∷ []) ∵ keep ! (0 ∷ []) $ split ! $ move ! (1 ∷ []) $ fsplit !
+        $ fsplit ! $ feq_l ! (λ is₀. drop ! $ drop ! $ let p = vptr a.0.ref_ptr.0 a.0.ref_ptr.1 in
         regoal ! (λ (us : List Val). prop (WpFn 𝓤 H C Λ code.function (us ++ []) Post)) is₀ refl $
         enter ! C Λ code.function (p ∷ []) Post $ alloc_all ! (λ l. pass_all ! refl ((tt, tt), tt) $
-        sets ! (agg ! (no_more !)) refl (tt, tt) $
-        nothing ! $ none_made ! $ fjoin ! $
-        returns ! (look_at ! 0 refl) $ free_all ! refl $
-        suffices ! _ (ends_at 𝓛 F.ended stayed held z none made (tt, tt) (tt, tt)) $ says ! refl $
-        nothing ! $ nothing ! $ fjoin ! $ move ! (2 ∷ 0 ∷ 1 ∷ []) $ done !))
+        sets ! (agg ! (no_more !)) refl (tt, tt) $ nothing ! $ none_made ! $ fjoin ! $ returns !
+        (look_at ! 0 refl) $ free_all ! refl $ suffices ! _
+        (ends_at 𝓛 F.ended stayed held z none made (tt, tt) (tt, tt)) $ says ! refl $ nothing ! $
+        nothing ! $ fjoin ! $ move ! (2 ∷ 0 ∷ 1 ∷ []) $ done !))
 
-  meets : (𝓣 : Tables 𝓤 H)
-      → Meets 𝓛 F.ended.signature (WpFn 𝓤 H 𝓣.C 𝓣.Λ code.function)
+  meets : (𝓣 : Tables 𝓤 H) → Meets 𝓛 F.ended.signature (WpFn 𝓤 H 𝓣.C 𝓣.Λ code.function)
       (closing 𝓛 F.ended held)
-  meets 𝓣 =
-      walk_Meets 𝓛 F.ended stayed (
-        Goes-dropped 𝓛 1
-            (RefOf (0 ∷ []) tt (plain (λ _. Failures.the_row)) (λ _. tt)) yes
-            (λ κs x f. refl),
-        tt,
-      ) held
+  meets 𝓣 = walk_Meets 𝓛 F.ended stayed (
+    Goes-dropped 𝓛 1
+        (RefOf (0 ∷ []) tt (plain (λ _. Failures.the_row)) (λ _. tt)) yes (λ κs x f. refl),
+    tt,
+  ) held
       (WpFn 𝓤 H 𝓣.C 𝓣.Λ code.function) (WpFn-mono 𝓤 H 𝓛.laws 𝓣 code.function) (walks 𝓣.C 𝓣.Λ)
 
 pub and_one_spec : {M : Type 1} → stated.statement M
 unfolding tables_of
 and_one_spec 𝓤 𝓛 𝓜 𝓡 wired =
     let 𝓣 : Tables 𝓤 𝓛.H = tables_of 𝓤 𝓛.H 𝓜 (tables 𝓤 𝓛.H 𝓜 𝓡 𝓡.env) in
-    entered 𝓤 𝓛.H (triple_of 𝓛 F.ended.signature
-    (closing 𝓛 F.ended (held 𝓛 𝓜.mem 𝓡.returns))) 𝓣.C 𝓣.Λ #self code.function
-    (code.unfolded 𝓤 𝓛.H 𝓜 𝓡 wired) (meets 𝓛 𝓜.mem 𝓡.returns 𝓣)
+    entered 𝓤 𝓛.H (triple_of 𝓛 F.ended.signature (closing 𝓛 F.ended (held 𝓛 𝓜.mem 𝓡.returns))) 𝓣.C
+    𝓣.Λ #self code.function (code.unfolded 𝓤 𝓛.H 𝓜 𝓡 wired) (meets 𝓛 𝓜.mem 𝓡.returns 𝓣)

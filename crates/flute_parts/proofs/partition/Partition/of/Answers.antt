@@ -1,12 +1,12 @@
-use Rattle.std.proofs.Common.{◌≡◌, ◌-◌, ◌/◌, ◌%◌, ◌<◌, sym, subst, ◌∙◌, arith}
+use Rattle.std.proofs.Common.{rules}
+use Rattle.std.proofs.Common.{◌≡◌, ◌-◌, ◌/◌, ◌%◌, ◌<◌, sym, subst, arith}
 use Rattle.flute_parts.specs.Information.{symbol_count, block_count}
 use Rattle.flute_parts.specs.Split.{IsSplit}
 use Rattle.flute_parts.proofs.Split.{IsSplit-none, IsSplit-of}
 use Rattle.flute_parts.proofs.partition.Partition.of.Goals as goal
 
 pub invariant_of-result : goal.invariant_of-result
-invariant_of-result c =
-    IsSplit-none c.args.info.now (sym c.length.ensures.value ∙ c.if-length-eq0.true)
+invariant_of-result c = search (rules, IsSplit-none)
 
 pub invariant_of-result-2 : goal.invariant_of-result-2
 invariant_of-result-2 c =

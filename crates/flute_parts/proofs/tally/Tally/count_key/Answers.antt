@@ -1,7 +1,8 @@
 -- Tally::count_key: the counts and limits for a known and for a new session and object.
+use Rattle.std.proofs.Common.{rules}
 use Rattle.std.proofs.Common.{◌≡◌, Some, ap, sym, ◌∙◌}
 use Rattle.flute_parts.specs.declared.key.Key.{Key}
-use Rattle.flute_parts.proofs.Tallied.{session-told, session-told_apart, key-told, key-told_apart}
+use Rattle.flute_parts.proofs.Tallied.{session-told, key-told, key-told_apart}
 use Rattle.flute_parts.proofs.Tallied.{count-same_key, count-object, over-object, count-session}
 use Rattle.flute_parts.proofs.Tallied.{over-session, over-first_object}
 use Rattle.flute_parts.proofs.tally.Tally.count_key.Goals as goal
@@ -9,14 +10,11 @@ use Rattle.flute_parts.proofs.tally.Tally.count_key.Goals.{in_default-via-in-Som
 use Rattle.flute_parts.proofs.tally.Tally.count_key.Goals.{in_default-via-in_default}
 
 pub returns-in-Some-clause-within : goal.returns-in-Some-clause-within
-returns-in-Some-clause-within g c = λ F f e r k h.
-    count-same_key F f c.args.self.now r k
-    (c.in-Some.is ∙ ap Some (key-told c.in-Some.last c.args.key.now c.if-eq.ensures
-    ∙ sym e))
+returns-in-Some-clause-within g c = λ F f e r k h. count-same_key F f c.args.self.now r k
+    (c.in-Some.is ∙ ap Some (key-told c.in-Some.last c.args.key.now c.if-eq.ensures ∙ sym e))
 
 pub returns-in-Some-2-clause-within : goal.returns-in-Some-2-clause-within
-returns-in-Some-2-clause-within g c = λ F f e r k h.
-    let last = c.in-Some.last in
+returns-in-Some-2-clause-within g c = λ F f e r k h. let last = c.in-Some.last in
     let key = c.args.key.now in
     let inside = session-told last.session key.session c.if-eq-2.ensures in
     let apart = key-told_apart last key c.if-eq.ensures in
@@ -25,8 +23,7 @@ returns-in-Some-2-clause-within g c = λ F f e r k h.
     more.1 more.0
 
 pub returns-in-Some-2-clause-over : goal.returns-in-Some-2-clause-over
-returns-in-Some-2-clause-over g c = λ F f e r k h.
-    let last = c.in-Some.last in
+returns-in-Some-2-clause-over g c = λ F f e r k h. let last = c.in-Some.last in
     let key = c.args.key.now in
     let inside = session-told last.session key.session c.if-eq-2.ensures in
     let apart = key-told_apart last key c.if-eq.ensures in
@@ -34,40 +31,22 @@ returns-in-Some-2-clause-over g c = λ F f e r k h.
     (c.add_one.ensures.full h)
 
 pub returns-then-add_one-clause-within : goal.returns-then-add_one-clause-within
-returns-then-add_one-clause-within g c = λ F f e r k h.
-    let self = c.args.self.now in
+returns-then-add_one-clause-within g c = λ F f e r k h. let self = c.args.self.now in
     let key = c.args.key.now in
-    let apart : (x : Key) → self.last ≡ Some x → x.session ≡ key.session → ⊥ =
-    elim c.in_default.branch [
-      | in_default-via-in-Some-2+else-eq-2 w ↦
-          session-told_apart self.last w.in-Some.last key w.in-Some.is w.if-eq-2.ensures
-      | in_default-via-in_default w ↦ λ x p q. w.in_default.not-Some x p
-    ] in
+    let apart : (x : Key) → self.last ≡ Some x → x.session ≡ key.session → ⊥ = search rules in
     let session = c.add_one-in_default.ensures.added c.if-add_one.true in
     let object = c.add_one-then-add_one.ensures.added h in
     count-session F f self r k key e apart c.add_one-in_default.new.count
     c.add_one-then-add_one.new.count session.1 object.1 session.0 object.0
 
 pub returns-then-add_one-clause-over : goal.returns-then-add_one-clause-over
-returns-then-add_one-clause-over g c = λ F f e r k h.
-    let self = c.args.self.now in
+returns-then-add_one-clause-over g c = λ F f e r k h. let self = c.args.self.now in
     let key = c.args.key.now in
-    let apart : (x : Key) → self.last ≡ Some x → x.session ≡ key.session → ⊥ =
-    elim c.in_default.branch [
-      | in_default-via-in-Some-2+else-eq-2 w ↦
-          session-told_apart self.last w.in-Some.last key w.in-Some.is w.if-eq-2.ensures
-      | in_default-via-in_default w ↦ λ x p q. w.in_default.not-Some x p
-    ] in
+    let apart : (x : Key) → self.last ≡ Some x → x.session ≡ key.session → ⊥ = search rules in
     over-first_object F f self r k key e apart (c.add_one-then-add_one.ensures.full h)
 
 pub returns-else-add_one-clause-over : goal.returns-else-add_one-clause-over
-returns-else-add_one-clause-over g c = λ F f e r k h.
-    let self = c.args.self.now in
+returns-else-add_one-clause-over g c = λ F f e r k h. let self = c.args.self.now in
     let key = c.args.key.now in
-    let apart : (x : Key) → self.last ≡ Some x → x.session ≡ key.session → ⊥ =
-    elim c.in_default.branch [
-      | in_default-via-in-Some-2+else-eq-2 w ↦
-          session-told_apart self.last w.in-Some.last key w.in-Some.is w.if-eq-2.ensures
-      | in_default-via-in_default w ↦ λ x p q. w.in_default.not-Some x p
-    ] in
+    let apart : (x : Key) → self.last ≡ Some x → x.session ≡ key.session → ⊥ = search rules in
     over-session F f self r k key e apart (c.add_one-in_default.ensures.full h)

@@ -7,7 +7,6 @@ returns-clause-start c =
     c.new.ensures.start c.new-2.result ∙ ap (at_start c.args.info.now) c.new-2.ensures
 
 pub returns-clause-walk : goal.returns-clause-walk
-returns-clause-walk c =
-    start-held c.args.info.now c.args.symbols _
+returns-clause-walk c = start-held c.args.info.now c.args.symbols _
     (c.new.ensures.start c.new-2.result ∙ ap (at_start c.args.info.now) c.new-2.ensures)
     c.new.ensures.place c.requires.ordered c.requires.known c.requires.few

@@ -11,19 +11,16 @@ sound : (n : ℕ) (x : Object n) (update : Update) → (update.info ≡ Absent �
     → IsObject (object_join x (update_object update))
 sound n x update some are = record {
   symbols_are = are;
-  some =
-      λ e. some-right symbols_joined x.symbols (update_symbols update.symbol)
+  some = λ e. some-right symbols_joined x.symbols (update_symbols update.symbol)
       (update-some update.symbol (some (absent-right same_information x.info update.info e)));
 }
 
 pub returns-in_err-join_symbols-clause-room : goal.returns-in_err-join_symbols-clause-room
 returns-in_err-join_symbols-clause-room g c =
     let refused = err_from_is_err_and c.from_residual.result c.from_residual.ensures.1 in
-    rw (refused.1, refused.2)
-    (λ n. sound g.row.SYMBOLS c.args.self.now c.args.update.now c.requires.update.some
-    (c.in_err-join_symbols.ensures.room n))
+    rw (refused.1, refused.2) (λ n. sound g.row.SYMBOLS c.args.self.now c.args.update.now
+    c.requires.update.some (c.in_err-join_symbols.ensures.room n))
 
 pub returns-in-Absent-clause-room : goal.returns-in-Absent-clause-room
-returns-in-Absent-clause-room g c =
-    λ n. sound g.row.SYMBOLS c.args.self.now c.args.update.now c.requires.update.some
-    (c.in_ok-join_symbols.ensures.room (λ e. cc))
+returns-in-Absent-clause-room g c = λ n. sound g.row.SYMBOLS c.args.self.now c.args.update.now
+    c.requires.update.some (c.in_ok-join_symbols.ensures.room (λ e. cc))

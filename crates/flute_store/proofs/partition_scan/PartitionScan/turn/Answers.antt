@@ -8,9 +8,8 @@ use Rattle.flute_store.specs.declared.turn.Turn.TheVariants as Turn
 use Rattle.flute_store.proofs.partition_scan.PartitionScan.turn.Goals as goal
 
 pub returns-in-Some-clause-turn : goal.returns-in-Some-clause-turn
-returns-in-Some-clause-turn c =
-    turn-ended _ _ _ (ap (ended_run _) (sym c.upcoming-upcoming.ensures) ∙ sym c.ended_run.ensures
-    ∙ c.in-Some.is)
+returns-in-Some-clause-turn c = turn-ended _ _ _
+    (ap (ended_run _) (sym c.upcoming-upcoming.ensures) ∙ sym c.ended_run.ensures ∙ c.in-Some.is)
 
 pub begin-requires : goal.begin-requires
 begin-requires c = block-next _ _ c.requires (sym c.upcoming-upcoming.ensures ∙ c.in-BlockEnd.is)
@@ -23,14 +22,12 @@ missing-requires-clause-some c =
     (until-within _ _ c.requires (sym c.upcoming-upcoming.ensures ∙ c.in-NotHeld.is)).0
 
 pub returns-in-End-clause-turn : goal.returns-in-End-clause-turn
-returns-in-End-clause-turn c =
-    turn-at _ _ End (sym c.upcoming-upcoming.ensures ∙ c.in-End.is)
+returns-in-End-clause-turn c = turn-at _ _ End (sym c.upcoming-upcoming.ensures ∙ c.in-End.is)
     (ap (ended_run _) (sym c.upcoming-upcoming.ensures) ∙ sym c.ended_run.ensures ∙ c.in_default.is)
 
 pub returns-in-BlockEnd-clause-turn : goal.returns-in-BlockEnd-clause-turn
-returns-in-BlockEnd-clause-turn c =
-    ap (λ x. (None, x)) c.begin.ensures.block
-    ∙ turn-at _ _ BlockEnd (sym c.upcoming-upcoming.ensures ∙ c.in-BlockEnd.is)
+returns-in-BlockEnd-clause-turn c = ap (λ x. (None, x)) c.begin.ensures.block ∙ turn-at _ _ BlockEnd
+    (sym c.upcoming-upcoming.ensures ∙ c.in-BlockEnd.is)
     (ap (ended_run _) (sym c.upcoming-upcoming.ensures) ∙ sym c.ended_run.ensures ∙ c.in_default.is)
 
 pub returns-in-BlockEnd-clause-place : goal.returns-in-BlockEnd-clause-place
@@ -52,14 +49,12 @@ returns-in-Fitting-clause-place c =
     placed _ _ c.requires _ _ (returns-in-Fitting-clause-turn c) c.requires.longest
 
 pub returns-in-Wanted-clause-turn : goal.returns-in-Wanted-clause-turn
-returns-in-Wanted-clause-turn c =
-    ap (λ x. (Some Turn.Wanted, x)) c.want.ensures
-    ∙ turn-at _ _ (Wanted _) (sym c.upcoming-upcoming.ensures ∙ c.in-Wanted.is)
+returns-in-Wanted-clause-turn c = ap (λ x. (Some Turn.Wanted, x)) c.want.ensures ∙ turn-at _ _
+    (Wanted _) (sym c.upcoming-upcoming.ensures ∙ c.in-Wanted.is)
     (ap (ended_run _) (sym c.upcoming-upcoming.ensures) ∙ sym c.ended_run.ensures ∙ c.in_default.is)
 
 pub returns-in-Wanted-clause-place : goal.returns-in-Wanted-clause-place
-returns-in-Wanted-clause-place c =
-    placed _ _ c.requires _ _ (returns-in-Wanted-clause-turn c)
+returns-in-Wanted-clause-place c = placed _ _ c.requires _ _ (returns-in-Wanted-clause-turn c)
     (subst (λ (x : PartitionScan). x.size ≤ 65536) (sym c.want.ensures) c.requires.longest)
 
 pub returns-in-NotHeld-clause-turn : goal.returns-in-NotHeld-clause-turn
@@ -69,6 +64,5 @@ returns-in-NotHeld-clause-turn c =
     (ap (ended_run _) (sym c.upcoming-upcoming.ensures) ∙ sym c.ended_run.ensures ∙ c.in_default.is)
 
 pub returns-in-NotHeld-clause-place : goal.returns-in-NotHeld-clause-place
-returns-in-NotHeld-clause-place c =
-    placed _ _ c.requires _ _ (returns-in-NotHeld-clause-turn c)
+returns-in-NotHeld-clause-place c = placed _ _ c.requires _ _ (returns-in-NotHeld-clause-turn c)
     (subst (λ (x : PartitionScan). x.size ≤ 65536) (sym c.missing.ensures.walk) c.requires.longest)

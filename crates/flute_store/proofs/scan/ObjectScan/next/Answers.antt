@@ -19,8 +19,8 @@ loop-turn-preserved c =
       | in-Some-default-None w ↦ search rules
       | in-None w ↦ search rules
     ] in (
-      λ s q f g. c.in_default.ensures.step s c.args.next held
-          (c.loop-turn.invariant.0 s q f g) f,
+      λ s q f g. c.in_default.ensures.step s c.args.next held (c.loop-turn.invariant.0 s q f g)
+          f,
       begins-more _ _ _ c.loop-turn.invariant.1 c.in_default.ensures.blocks,
     )
 

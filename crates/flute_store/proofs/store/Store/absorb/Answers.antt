@@ -18,13 +18,11 @@ invariant_of-self g c =
 
 pub returns-clause-ok : goal.returns-clause-ok
 returns-clause-ok g c =
-    let join =
-    content-join _ _ (ordered-store _ _ _ c.self.invariant)
+    let join = content-join _ _ (ordered-store _ _ _ c.self.invariant)
     (ordered-store _ _ _ c.other.invariant) in
     let both = content c.self.inside.sessions ++ content c.other.inside.sessions in
-    rw (← c.self.view_is, ← c.other.view_is)
-    (on_ok_weaker c.join_from.result (λ p. subst (λ m. Same (content m) both) (sym p) join)
-    c.join_from.ensures.ok)
+    rw (← c.self.view_is, ← c.other.view_is) (on_ok_weaker c.join_from.result
+    (λ p. subst (λ m. Same (content m) both) (sym p) join) c.join_from.ensures.ok)
 
 pub returns-clause-above : goal.returns-clause-above
 returns-clause-above g c =
@@ -43,8 +41,7 @@ pub returns-clause-full : goal.returns-clause-full
 returns-clause-full g c =
     let p = solid-store _ _ _ c.self.invariant in
     let q = solid-store _ _ _ c.other.invariant in
-    rw (← c.self.view_is, ← c.other.view_is)
-    (λ e. beyond-joined _ _ _ _ p q
+    rw (← c.self.view_is, ← c.other.view_is) (λ e. beyond-joined _ _ _ _ p q
     (over-beyond _ _ _ _ p q (IfErr-at_err _ e c.join_from.ensures.full refl)))
 
 pub returns-clause-memory : goal.returns-clause-memory

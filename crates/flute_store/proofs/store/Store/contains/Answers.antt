@@ -6,15 +6,12 @@ use Rattle.flute_store.proofs.Common.{is_some, not, info_address, symbol_address
 use Rattle.flute_store.proofs.store.Store.contains.Goals as goal
 
 pub returns-in_default : goal.returns-in_default
-returns-in_default g c =
-    rw (← c.self.view_is) (sym
-    (no_session c.self.invariant c.args.address.now (sym c.in_default.ensures.value)))
+returns-in_default g c = rw (← c.self.view_is)
+    (sym (no_session c.self.invariant c.args.address.now (sym c.in_default.ensures.value)))
 
 pub returns-in_default-get : goal.returns-in_default-get
-returns-in_default-get g c =
-    rw (← c.self.view_is) (sym
-    (no_object c.self.invariant c.args.address.now (sym c.in-Some.ensures.value)
-    (sym c.in_default-get.ensures.value)))
+returns-in_default-get g c = rw (← c.self.view_is) (sym (no_object c.self.invariant
+    c.args.address.now (sym c.in-Some.ensures.value) (sym c.in_default-get.ensures.value)))
 
 pub returns-after-matches : goal.returns-after-matches
 returns-after-matches g c =
@@ -22,16 +19,13 @@ returns-after-matches g c =
       key = c.args.address.now.key;
       part = c.in-Info.is i;
     } in
-    let known : is_some (fact_at (content c.self.inside.sessions) c.args.address.now)
-    ≡ is_known c.in-Some-get.object.now.info =
-    ap (λ a. is_some (fact_at (content c.self.inside.sessions) a)) there
-    ∙ of_info c.self.invariant c.args.address.now.key (sym c.in-Some.ensures.value)
-    (sym c.in-Some-get.ensures.value) in
-    rw (← c.self.view_is)
-    (elim c.match-matches.branch [
+    let known : is_some (fact_at (content c.self.inside.sessions) c.args.address.now) ≡ is_known
+    c.in-Some-get.object.now.info = ap (λ a. is_some (fact_at (content c.self.inside.sessions) a))
+    there ∙ of_info c.self.invariant c.args.address.now.key (sym c.in-Some.ensures.value)
+    (sym c.in-Some-get.ensures.value) in rw (← c.self.view_is) (elim c.match-matches.branch [
       | in-Absent w ↦ ap not w.matches-is ∙ sym (known ∙ ap is_known w.in-Absent.is)
-      | in_default-matches w ↦ ap not w.matches-is
-          ∙ sym (known ∙ known-is c.in-Some-get.object.now.info w.in_default-matches.not-Absent)
+      | in_default-matches w ↦ ap not w.matches-is ∙ sym
+          (known ∙ known-is c.in-Some-get.object.now.info w.in_default-matches.not-Absent)
     ])
 
 pub returns-in-Symbol : goal.returns-in-Symbol

@@ -2,18 +2,16 @@ use Rattle.flute_store.proofs.ToldObjects.{gives-gaps}
 use Rattle.flute_store.proofs.store.Store.gaps.Goals as goal
 
 pub returns-in-One : goal.returns-in-One
-returns-in-One g c =
-    gives-gaps c.new.result (record {
-      told = c.in-Some.ensures;
-      info_is = c.in-One.is;
-      held_is = c.iter.ensures.rest;
-      gaps_are = c.new.ensures.gaps;
-    })
-    (record {
-      held_is = c.new.ensures.held;
-      begun_is = c.new.ensures.begun;
-      blocks_are = c.new.ensures.total;
-      ended_is = c.new.ensures.ended;
-      ticks_are = c.new.ensures.ticks;
-      bound_is = c.new.ensures.bound;
-    })
+returns-in-One g c = gives-gaps c.new.result (record {
+  told = c.in-Some.ensures;
+  info_is = c.in-One.is;
+  held_is = c.iter.ensures.rest;
+  gaps_are = c.new.ensures.gaps;
+}) (record {
+  held_is = c.new.ensures.held;
+  begun_is = c.new.ensures.begun;
+  blocks_are = c.new.ensures.total;
+  ended_is = c.new.ensures.ended;
+  ticks_are = c.new.ensures.ticks;
+  bound_is = c.new.ensures.bound;
+})

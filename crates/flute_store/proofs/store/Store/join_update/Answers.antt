@@ -12,11 +12,10 @@ pub returns-clause-ok : goal.returns-clause-ok
 returns-clause-ok g c =
     let one = one-ordered g.row.SYMBOLS c.args.key.now c.args.update.now in
     let join = content-join _ _ (ordered-store _ _ _ c.self.invariant) one in
-    let both =
-    content c.self.inside.sessions ++ content
-    (one_object g.row.SYMBOLS c.args.key.now c.args.update.now) in
-    rw (← c.self.view_is, ← one-content g.row.SYMBOLS c.args.key.now c.args.update.now)
-    (on_ok_weaker c.join_session.result (λ p. subst (λ m. Same (content m) both) (sym p) join)
+    let both = content c.self.inside.sessions ++ content
+    (one_object g.row.SYMBOLS c.args.key.now c.args.update.now) in rw
+    (← c.self.view_is, ← one-content g.row.SYMBOLS c.args.key.now c.args.update.now) (on_ok_weaker
+    c.join_session.result (λ p. subst (λ m. Same (content m) both) (sym p) join)
     c.join_session.ensures.ok)
 
 is_full : (r : Result (Unit {0}) JoinRefusal) → ((r ≡ Err Full → ⊥) → ⊥) → r ≡ Err Full
@@ -46,7 +45,6 @@ returns-clause-full g c =
 
 pub returns-clause-held : goal.returns-clause-held
 returns-clause-held g c =
-    let news =
-    news_held c.self.invariant c.args.key.now c.args.update.now.info c.args.update.now.symbol
-    c.requires.some in
-    rw (← c.self.view_is) (λ h. c.join_session.ensures.held (news h))
+    let news = news_held c.self.invariant c.args.key.now c.args.update.now.info
+    c.args.update.now.symbol c.requires.some in rw (← c.self.view_is)
+    (λ h. c.join_session.ensures.held (news h))

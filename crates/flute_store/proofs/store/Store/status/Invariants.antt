@@ -4,9 +4,8 @@ use Rattle.flute_store.proofs.{HowMany.{Counts}, Common.{flat_map, listed, AreRu
 use Rattle.flute_store.proofs.store.Store.status.Given as goal
 
 abbrev pub invariant-loop-gap : goal.invariant-loop-gap
-invariant-loop-gap g l =
-    AreRuns l.gaps.gaps
-    × Counts l.wanted (flat_map listed l.initial.gaps.gaps) (flat_map listed l.gaps.gaps)
+invariant-loop-gap g l = AreRuns l.gaps.gaps × Counts l.wanted (flat_map listed l.initial.gaps.gaps)
+    (flat_map listed l.gaps.gaps)
 
 abbrev pub decreases-loop-gap : goal.decreases-loop-gap
 decreases-loop-gap g l = length l.gaps.gaps

@@ -15,12 +15,9 @@ first_fault-requires g c =
 
 pub returns-in-Ok-clause-ended : goal.returns-in-Ok-clause-ended
 returns-in-Ok-clause-ended g c =
-    let E : Option (List ℕ) → Option (List ℕ) → Type 0 =
-    λ u v. EndsMerged g.G.Streams.behaviour (g.G.Streams.streams c.args.streams.now)
-    (g.G.Streams.streams c.merge_into.new.streams) g.row.SESSIONS g.row.OBJECTS g.row.SYMBOLS
-    c.in-Ok.joined u v in
+    let E : Option (List ℕ) → Option (List ℕ) → Type 0 = λ u v. EndsMerged g.G.Streams.behaviour
+    (g.G.Streams.streams c.args.streams.now) (g.G.Streams.streams c.merge_into.new.streams)
+    g.row.SESSIONS g.row.OBJECTS g.row.SYMBOLS c.in-Ok.joined u v in
     let sink = c.merge_into.new.writer.sink.now in
-    let ends : E (g.W.Sink.written c.args.sink.now) (g.W.Sink.written sink) =
-    subst (λ (x : g.row.W.Denot). E (g.W.Sink.written x) (g.W.Sink.written sink))
-    c.new-writer.ensures.now c.in-Ok.ensures.ended in
+    let ends : E (g.W.Sink.written c.args.sink.now) (g.W.Sink.written sink) = search rules in
     of_equal g.W.Sink.written (E (g.W.Sink.written c.args.sink.now)) ends _ (search rules)

@@ -1,4 +1,5 @@
 -- merge_into: each exit follows by a lemma on the state of the merge before it.
+use Rattle.std.proofs.Common.{rules}
 use Rattle.flute_streams.proofs.Common.{◌≡◌, ◌≢◌, ◌⊎◌, ◌+◌, ℕ, Bool, Fact, List, [], ◌∷◌, ◌++◌}
 use Rattle.flute_streams.proofs.Common.{true, false, false≢true, IfSome, Some, ap, arith}
 use Rattle.flute_streams.proofs.Common.{inl, inr, option_copied, subst, sym, ◌∙◌}
@@ -19,22 +20,16 @@ use Rattle.flute_streams.proofs.merge.all_streams.merge_into.Goals.{then-within,
 use Rattle.flute_streams.proofs.merge.all_streams.merge_into.Goals as goal
 
 -- a merge that is not patient goes on only if its sink has not failed
-goes_on : {failed patient : Bool}
-    → ((failed ≡ true) × (patient ≡ true)) ⊎ (failed ≡ false)
-    → patient ≡ false → failed ≡ false
-goes_on h e = elim h [ inl both ↦ absurd (false≢true (sym e ∙ both.1)) | inr is ↦ is ]
+goes_on : {failed patient : Bool} → ((failed ≡ true) × (patient ≡ true)) ⊎ (failed ≡ false) →
+    patient ≡ false → failed ≡ false
+goes_on h e = search rules
 
 pub advance_at-requires : goal.advance_at-requires
-advance_at-requires g c = record {
-  first =
-      none-new g.G.Streams.behaviour (g.G.Streams.streams c.args.streams.now)
-      c.requires.new;
-}
+advance_at-requires g c = search (rules, none-new)
 
 pub address-requires : goal.address-requires
-address-requires g c =
-    stands-within g.G.Streams.behaviour (g.G.Streams.streams c.loop-lowest.streams)
-    c.in-Some.lowest c.in-Some.ensures.stands
+address-requires g c = stands-within g.G.Streams.behaviour
+    (g.G.Streams.streams c.loop-lowest.streams) c.in-Some.lowest c.in-Some.ensures.stands
 
 -- an input stopped before the header was written
 first_stop : (g : Over) (c : goal.In-Err g)
@@ -43,9 +38,8 @@ first_stop : (g : Over) (c : goal.In-Err g)
     (g.W.Sink.written c.args.writer.now.sink.now) (Input c.in-Err.fault)
     × OneFails g.G.Streams.behaviour c.in-Err.fault.number c.in-Err.fault.fault
     (g.G.Streams.streams c.args.streams.now) (g.G.Streams.streams c.advance_at.new.streams)
-first_stop g c =
-    stop_first g.G.Streams.behaviour c.args.patient (g.G.Streams.streams c.args.streams.now)
-    (g.G.Streams.streams c.advance_at.new.streams)
+first_stop g c = stop_first g.G.Streams.behaviour c.args.patient
+    (g.G.Streams.streams c.args.streams.now) (g.G.Streams.streams c.advance_at.new.streams)
     (g.W.Sink.written c.args.writer.now.sink.now) c.in-Err.fault c.requires.new
     c.in-Err.ensures.stops
 
@@ -65,17 +59,15 @@ pub returns-in-Err-clause-failures : goal.returns-in-Err-clause-failures
 returns-in-Err-clause-failures g c = (first_stop g c).1
 
 -- the header could not be written
-header_stop : (g : Over) (c : goal.Then-not-patient g)
-    → Stopping g.G.Streams.behaviour c.args.patient (g.G.Streams.streams c.args.streams.now)
+header_stop : (g : Over) (c : goal.Then-not-patient g) → Stopping g.G.Streams.behaviour
+    c.args.patient (g.G.Streams.streams c.args.streams.now)
     (g.G.Streams.streams c.advance_at.new.streams) (g.W.Sink.written c.args.writer.now.sink.now)
-    (g.W.Sink.written c.header.new.self.sink.now) Write
-    × NoneFails g.G.Streams.behaviour (g.G.Streams.streams c.args.streams.now)
-    (g.G.Streams.streams c.advance_at.new.streams)
-header_stop g c =
-    stop_header g.G.Streams.behaviour c.args.patient (g.G.Streams.streams c.args.streams.now)
-    (g.G.Streams.streams c.advance_at.new.streams) c.requires.new c.in_default.ensures.go_on
-    (puts-part c.args.writer.now.failed c.header.new.self.failed _ _ header c.requires.good
-    c.if-writer.true c.header.ensures.puts)
+    (g.W.Sink.written c.header.new.self.sink.now) Write × NoneFails g.G.Streams.behaviour
+    (g.G.Streams.streams c.args.streams.now) (g.G.Streams.streams c.advance_at.new.streams)
+header_stop g c = stop_header g.G.Streams.behaviour c.args.patient
+    (g.G.Streams.streams c.args.streams.now) (g.G.Streams.streams c.advance_at.new.streams)
+    c.requires.new c.in_default.ensures.go_on (puts-part c.args.writer.now.failed
+    c.header.new.self.failed _ _ header c.requires.good c.if-writer.true c.header.ensures.puts)
 
 pub returns-then-not-patient-clause-short : goal.returns-then-not-patient-clause-short
 returns-then-not-patient-clause-short g c = (header_stop g c).0.short
@@ -87,19 +79,16 @@ pub returns-then-not-patient-clause-failures : goal.returns-then-not-patient-cla
 returns-then-not-patient-clause-failures g c = (header_stop g c).1
 
 pub lowest-requires-clause-spelled : goal.lowest-requires-clause-spelled
-lowest-requires-clause-spelled g c =
-    spelled_now g.G.Streams.behaviour c.loop-lowest.invariant.state
+lowest-requires-clause-spelled g c = search (rules, spelled_now)
 
 pub write_lowest-requires-clause-spelled : goal.write_lowest-requires-clause-spelled
-write_lowest-requires-clause-spelled g c =
-    spelled_now g.G.Streams.behaviour c.loop-lowest.invariant.state
+write_lowest-requires-clause-spelled g c = search (rules, spelled_now)
 
 pub write_lowest-requires-clause-sized : goal.write_lowest-requires-clause-sized
 write_lowest-requires-clause-sized g c =
     let v = at_lowest g.G.Streams.behaviour (g.G.Streams.streams c.loop-lowest.streams)
-    c.in-Some.ensures.stands c.in-Some.ensures.lowest in
-    subst (λ o. IfSome o IsSized) (sym v.value.is)
-    (sized-lowest g.G.Streams.behaviour c.loop-lowest.invariant.state v.lowest)
+    c.in-Some.ensures.stands c.in-Some.ensures.lowest in subst (λ o. IfSome o IsSized)
+    (sym v.value.is) (sized-lowest g.G.Streams.behaviour c.loop-lowest.invariant.state v.lowest)
 
 -- an entry could not be written
 entry_stop : (g : Over) (c : goal.Then-not-patient-2 g)
@@ -111,9 +100,8 @@ entry_stop g c =
     c.in-Some.ensures.stands c.in-Some.ensures.lowest c.write_lowest.ensures.valid
     c.write_lowest.ensures.puts in
     let good = c.loop-lowest.invariant.eager c.if-not-patient-2.true in
-    stop_entry g.G.Streams.behaviour c.loop-lowest.invariant.state v.lowest
-    v.valid c.args.patient good
-    (puts-part c.loop-lowest.writer.failed c.write_lowest.new.writer.failed _ _
+    stop_entry g.G.Streams.behaviour c.loop-lowest.invariant.state v.lowest v.valid c.args.patient
+    good (puts-part c.loop-lowest.writer.failed c.write_lowest.new.writer.failed _ _
     (entry v.value.fact) good c.if-writer-2.true v.puts.puts)
 
 pub returns-then-not-patient-2-clause-short : goal.returns-then-not-patient-2-clause-short
@@ -124,29 +112,25 @@ pub returns-then-not-patient-2-clause-reads_ahead :
 returns-then-not-patient-2-clause-reads_ahead g c = (entry_stop g c).reads_ahead
 
 pub returns-then-not-patient-2-clause-failures : goal.returns-then-not-patient-2-clause-failures
-returns-then-not-patient-2-clause-failures g c =
-    no_failure g.G.Streams.behaviour c.loop-lowest.invariant.state
+returns-then-not-patient-2-clause-failures g c = search (rules, no_failure)
 
 -- an input stopped after an entry was written
-input_stop : (g : Over) (c : goal.In-Err-advance g)
-    → Stopping g.G.Streams.behaviour c.args.patient (g.G.Streams.streams c.args.streams.now)
-    (g.G.Streams.streams c.advance.new.streams) (g.W.Sink.written c.args.writer.now.sink.now)
-    (g.W.Sink.written c.write_lowest.new.writer.sink.now) (Input c.in-Err-advance.fault)
-    × OneFails g.G.Streams.behaviour c.in-Err-advance.fault.number
-    c.in-Err-advance.fault.fault (g.G.Streams.streams c.args.streams.now)
-    (g.G.Streams.streams c.advance.new.streams)
+input_stop : (g : Over) (c : goal.In-Err-advance g) → Stopping g.G.Streams.behaviour c.args.patient
+    (g.G.Streams.streams c.args.streams.now) (g.G.Streams.streams c.advance.new.streams)
+    (g.W.Sink.written c.args.writer.now.sink.now)
+    (g.W.Sink.written c.write_lowest.new.writer.sink.now) (Input c.in-Err-advance.fault) × OneFails
+    g.G.Streams.behaviour c.in-Err-advance.fault.number c.in-Err-advance.fault.fault
+    (g.G.Streams.streams c.args.streams.now) (g.G.Streams.streams c.advance.new.streams)
 input_stop g c =
     let v = written_at g.G.Streams.behaviour (g.G.Streams.streams c.loop-lowest.streams)
     c.in-Some.ensures.stands c.in-Some.ensures.lowest c.write_lowest.ensures.valid
     c.write_lowest.ensures.puts in
     let at = placed g.G.Streams.behaviour (g.G.Streams.streams c.loop-lowest.streams) v.value
-    c.in-Some.ensures.stands c.address.ensures (ap option_copied c.in-Some-address.is) in
-    stop_input g.G.Streams.behaviour c.loop-lowest.invariant.state v.lowest
-    v.valid c.args.patient c.write_lowest.new.writer.failed
-    (g.G.Streams.streams c.advance.new.streams) _ c.in-Err-advance.fault v.puts.puts
-    (goes_on c.else-writer-2.either)
-    (subst (λ a. StopsIn g.G.Streams.behaviour (Some a)
-    (g.G.Streams.streams c.loop-lowest.streams)
+    c.in-Some.ensures.stands c.address.ensures (ap option_copied c.in-Some-address.is) in stop_input
+    g.G.Streams.behaviour c.loop-lowest.invariant.state v.lowest v.valid c.args.patient
+    c.write_lowest.new.writer.failed (g.G.Streams.streams c.advance.new.streams) _
+    c.in-Err-advance.fault v.puts.puts (goes_on c.else-writer-2.either) (subst (λ a. StopsIn
+    g.G.Streams.behaviour (Some a) (g.G.Streams.streams c.loop-lowest.streams)
     (g.G.Streams.streams c.advance.new.streams) c.in-Err-advance.fault) (sym at)
     c.in-Err-advance.ensures.stops)
 
@@ -179,26 +163,20 @@ next g c =
     let at = placed g.G.Streams.behaviour (g.G.Streams.streams c.loop-lowest.streams) v.value
     c.in-Some.ensures.stands c.address.ensures (ap option_copied c.in-Some-address.is) in
     let f = v.value.fact in
-    let Before : Bool → List Fact → Type 0 =
-    λ b F. IsCounted g.row.SESSIONS g.row.OBJECTS g.row.SYMBOLS c.loop-lowest.tally b F in
-    state_turn g.G.Streams.behaviour c.loop-lowest.invariant.state v.lowest v.valid
-    c.write_lowest.new.writer.failed
+    let Before : Bool → List Fact → Type 0 = λ b F. IsCounted g.row.SESSIONS g.row.OBJECTS
+    g.row.SYMBOLS c.loop-lowest.tally b F in state_turn g.G.Streams.behaviour
+    c.loop-lowest.invariant.state v.lowest v.valid c.write_lowest.new.writer.failed
     (IsCounted g.row.SESSIONS g.row.OBJECTS g.row.SYMBOLS c.if-within.tally c.if-within.within)
-    (g.G.Streams.streams c.advance.new.streams) _
-    (λ F r k. elim c.if-within.branch [
-      | then-within w ↦
-          let before = subst (λ b. Before b F) w.if-within.true k in
-          rw (w.tally-is, w.within-is)
-          (counted g.row.SESSIONS g.row.OBJECTS g.row.SYMBOLS w.count-within.new.self
-          w.count-within.result (F ++ f ∷ []) (w.count-within.ensures.within F f at r before)
+    (g.G.Streams.streams c.advance.new.streams) _ (λ F r k. elim c.if-within.branch [
+      | then-within w ↦ let before = subst (λ b. Before b F) w.if-within.true k in rw
+          (w.tally-is, w.within-is) (counted g.row.SESSIONS g.row.OBJECTS g.row.SYMBOLS
+          w.count-within.new.self w.count-within.result (F ++ f ∷ [])
+          (w.count-within.ensures.within F f at r before)
           (w.count-within.ensures.over F f at r before))
-      | else-within w ↦
-          rw (w.tally-is, w.within-is)
-          (subst (λ b. Before b (F ++ f ∷ [])) (sym w.if-within.false)
-          (over_more F f g.row.SESSIONS g.row.OBJECTS g.row.SYMBOLS
+      | else-within w ↦ rw (w.tally-is, w.within-is) (subst (λ b. Before b (F ++ f ∷ []))
+          (sym w.if-within.false) (over_more F f g.row.SESSIONS g.row.OBJECTS g.row.SYMBOLS
           (subst (λ b. Before b F) w.if-within.false k)))
-    ]) v.puts.puts
-    (subst (λ a. GoOnAt g.G.Streams.behaviour (Some a)
+    ]) v.puts.puts (subst (λ a. GoOnAt g.G.Streams.behaviour (Some a)
     (g.G.Streams.streams c.loop-lowest.streams) (g.G.Streams.streams c.advance.new.streams))
     (sym at) c.in_default-advance.ensures.go_on)
 
@@ -226,10 +204,9 @@ loop-lowest-smaller g c =
     let v = at_lowest g.G.Streams.behaviour (g.G.Streams.streams c.loop-lowest.streams)
     c.in-Some.ensures.stands c.in-Some.ensures.lowest in
     let at = placed g.G.Streams.behaviour (g.G.Streams.streams c.loop-lowest.streams) v.value
-    c.in-Some.ensures.stands c.address.ensures (ap option_copied c.in-Some-address.is) in
-    turn-falls g.G.Streams.behaviour c.loop-lowest.invariant.state
-    v.lowest (g.G.Streams.streams c.advance.new.streams)
-    (subst (λ a. GoOnAt g.G.Streams.behaviour (Some a)
+    c.in-Some.ensures.stands c.address.ensures (ap option_copied c.in-Some-address.is) in turn-falls
+    g.G.Streams.behaviour c.loop-lowest.invariant.state v.lowest
+    (g.G.Streams.streams c.advance.new.streams) (subst (λ a. GoOnAt g.G.Streams.behaviour (Some a)
     (g.G.Streams.streams c.loop-lowest.streams) (g.G.Streams.streams c.advance.new.streams))
     (sym at) c.in_default-advance.ensures.go_on)
 
@@ -240,9 +217,8 @@ end_stop : (g : Over) (c : goal.Then-not-patient-3 g)
     (g.W.Sink.written c.end.new.self.sink.now) Write
 end_stop g c =
     let good = c.loop-lowest.invariant.eager c.if-not-patient-3.true in
-    stop_end g.G.Streams.behaviour c.loop-lowest.invariant.state
-    c.in_default-lowest.ensures.lowest c.args.patient good
-    (puts-part c.loop-lowest.writer.failed c.end.new.self.failed _ _
+    stop_end g.G.Streams.behaviour c.loop-lowest.invariant.state c.in_default-lowest.ensures.lowest
+    c.args.patient good (puts-part c.loop-lowest.writer.failed c.end.new.self.failed _ _
     (end c.loop-lowest.entries) good c.if-writer-3.true c.end.ensures.puts)
 
 pub returns-then-not-patient-3-clause-short : goal.returns-then-not-patient-3-clause-short
@@ -253,21 +229,18 @@ pub returns-then-not-patient-3-clause-reads_ahead :
 returns-then-not-patient-3-clause-reads_ahead g c = (end_stop g c).reads_ahead
 
 pub returns-then-not-patient-3-clause-failures : goal.returns-then-not-patient-3-clause-failures
-returns-then-not-patient-3-clause-failures g c =
-    no_failure g.G.Streams.behaviour c.loop-lowest.invariant.state
+returns-then-not-patient-3-clause-failures g c = search (rules, no_failure)
 
 pub returns-clause-ended : goal.returns-clause-ended
-returns-clause-ended g c =
-    finished g.G.Streams.behaviour c.loop-lowest.tally c.loop-lowest.within
+returns-clause-ended g c = finished g.G.Streams.behaviour c.loop-lowest.tally c.loop-lowest.within
     c.end.new.self.failed c.loop-lowest.invariant.state _ c.requires.few
-    c.in_default-lowest.ensures.lowest
-    c.end.ensures.puts
+    c.in_default-lowest.ensures.lowest c.end.ensures.puts
 
 pub returns-clause-merged : goal.returns-clause-merged
 returns-clause-merged g c = (returns-clause-ended g c).merged
 
 pub returns-clause-failures : goal.returns-clause-failures
-returns-clause-failures g c = no_failure g.G.Streams.behaviour c.loop-lowest.invariant.state
+returns-clause-failures g c = search (rules, no_failure)
 
 pub returns-clause-cut : goal.returns-clause-cut
 returns-clause-cut g c = λ e.
@@ -279,18 +252,16 @@ some_end : (n : ℕ) → end n ≢ []
 some_end n e = cc
 
 pub returns-then-not-within-clause-ended : goal.returns-then-not-within-clause-ended
-returns-then-not-within-clause-ended g c =
-    finished g.G.Streams.behaviour c.loop-lowest.tally c.loop-lowest.within true
-    c.loop-lowest.invariant.state _ c.requires.few c.in_default-lowest.ensures.lowest
-    (left_out c.loop-lowest.writer.failed _ (end c.loop-lowest.entries)
-    (some_end c.loop-lowest.entries))
+returns-then-not-within-clause-ended g c = finished g.G.Streams.behaviour c.loop-lowest.tally
+    c.loop-lowest.within true c.loop-lowest.invariant.state _ c.requires.few
+    c.in_default-lowest.ensures.lowest (left_out c.loop-lowest.writer.failed _
+    (end c.loop-lowest.entries) (some_end c.loop-lowest.entries))
 
 pub returns-then-not-within-clause-merged : goal.returns-then-not-within-clause-merged
 returns-then-not-within-clause-merged g c = (returns-then-not-within-clause-ended g c).merged
 
 pub returns-then-not-within-clause-failures : goal.returns-then-not-within-clause-failures
-returns-then-not-within-clause-failures g c =
-    no_failure g.G.Streams.behaviour c.loop-lowest.invariant.state
+returns-then-not-within-clause-failures g c = search (rules, no_failure)
 
 pub returns-then-not-within-clause-cut : goal.returns-then-not-within-clause-cut
 returns-then-not-within-clause-cut g c = λ e.

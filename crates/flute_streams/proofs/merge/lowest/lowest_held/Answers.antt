@@ -1,4 +1,5 @@
 -- lowest_held: one stream more.
+use Rattle.std.proofs.Common.{rules}
 use Rattle.flute_streams.proofs.Common.{IsLowest, List, Fact, append-nil, arith, heads}
 use Rattle.flute_streams.proofs.Common.{length, option_list, address_of, subst, sym, take}
 use Rattle.flute_streams.proofs.Common.{◌++◌, ◌<◌}
@@ -10,16 +11,17 @@ use Rattle.flute_streams.proofs.merge.lowest.lowest_held.Goals.{in-Some, in_defa
 use Rattle.flute_streams.proofs.merge.lowest.lowest_held.Goals as goal
 
 pub with_more-requires-clause-stands : goal.with_more-requires-clause-stands
-with_more-requires-clause-stands g c = c.loop-number.invariant.stands
+with_more-requires-clause-stands g c = search rules
 
 pub with_more-requires-clause-here : goal.with_more-requires-clause-here
 with_more-requires-clause-here g c =
     let xs = g.G.Streams.streams c.args.streams.now in
-    let within : c.loop-number.number < length xs =
-    omega (arith, c.loop-number-test.true, c.count-number-end.ensures) in (
+    let within : c.loop-number.number < length xs = omega
+    (arith, c.loop-number-test.true, c.count-number-end.ensures) in (
       c.in-Some.field-0.now,
-      sym (read-at g.G.Streams.behaviour xs c.loop-number.number address_of within
-          c.address.ensures) ∙ ap option_copied c.in-Some.is,
+      sym
+          (read-at g.G.Streams.behaviour xs c.loop-number.number address_of within c.address.ensures) ∙ ap
+          option_copied c.in-Some.is,
     )
 
 pub loop-number-preserved : goal.loop-number-preserved

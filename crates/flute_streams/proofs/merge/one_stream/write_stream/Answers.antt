@@ -1,4 +1,7 @@
 -- write_stream: all that is written of it is a part of its journal.
+use Rattle.std.proofs.Common.{arith}
+use Rattle.std.proofs.lemmas.Grind.{common_steps}
+use Rattle.std.proofs.Common.{rules}
 use Rattle.flute_streams.proofs.Common.{List, [], ◌∷◌, append-nil, sym, subst, Fact, Journal}
 use Rattle.flute_streams.proofs.merge.one_stream.write_stream.Goals as goal
 
@@ -9,7 +12,6 @@ returns-in-Err-clause-short g c =
       bytes = part.bytes;
       appended = part.appended;
       no_journal = part.no_journal;
-      prefix = λ known is whole journal.
-          part.prefix (known ∷ []) (is, tt) whole
+      prefix = λ known is whole journal. part.prefix (known ∷ []) (is, tt) whole
           (subst (λ (facts : List Fact). Journal whole facts) (sym (append-nil known)) journal);
     }

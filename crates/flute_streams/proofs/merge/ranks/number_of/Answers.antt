@@ -1,3 +1,4 @@
+use Rattle.std.proofs.Common.{rules}
 use Rattle.flute_streams.proofs.Common.{◌<◌, arith, sym, ◌∙◌}
 use Rattle.flute_streams.proofs.merge_lemmas.RankFacts.{rank-info, rank-symbol}
 use Rattle.flute_streams.proofs.merge.ranks.number_of.Goals as goal
@@ -6,7 +7,4 @@ pub returns-in-Info-clause-part : goal.returns-in-Info-clause-part
 returns-in-Info-clause-part c = rank-info ∙ sym c.in-Info.is
 
 pub returns-in-Symbol-clause-part : goal.returns-in-Symbol-clause-part
-returns-in-Symbol-clause-part c =
-    let within : c.in-Symbol.id.esi < 65536 = omega arith in
-    let is = rank-symbol c.in-Symbol.id.sbn c.in-Symbol.id.esi within in
-    cc
+returns-in-Symbol-clause-part c = search (rules, rank-symbol)

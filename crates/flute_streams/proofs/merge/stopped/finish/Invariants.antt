@@ -11,5 +11,4 @@ invariant-loop-alloc g l = record {
 }
 
 abbrev pub decreases-loop-alloc : goal.decreases-loop-alloc
-decreases-loop-alloc g l =
-    most_at g.G.Streams.behaviour (g.G.Streams.streams l.streams) l.fn.number
+decreases-loop-alloc g l = most_at g.G.Streams.behaviour (g.G.Streams.streams l.streams) l.fn.number

@@ -1,3 +1,4 @@
+use Rattle.std.proofs.Common.{rules}
 use Rattle.flute_streams.proofs.Common.{◌∙◌, arith}
 use Rattle.flute_streams.proofs.merge_lemmas.Finished.{reached-more, reached-stop}
 use Rattle.flute_streams.proofs.merge.stopped.first_fault.Goals as goal
@@ -13,5 +14,5 @@ loop-number-preserved g c = record {
       c.loop-number.invariant.reached c.finish.ensures.as_many c.finish.ensures.others
       c.in_default.ensures.told;
   within = omega (arith, c.loop-number-test.true);
-  names = c.finish.ensures.names ∙ c.loop-number.invariant.names;
+  names = search rules;
 }

@@ -1,4 +1,6 @@
 -- Header::read: the fields of the first word, and where the others are.
+use Rattle.std.proofs.Common.{rules}
+use Rattle.std.proofs.lemmas.Grind.{common_steps}
 use Rattle.std.proofs.Common.{◌≡◌, ℕ, ◌+◌, ◌*◌, ◌-◌, ◌^◌, ◌<◌, ◌≤◌, List, length, take, drop}
 use Rattle.std.proofs.Common.{get_or, refl, sym, ap, subst, ◌∙◌, arith}
 use Rattle.std.specs.Prelude.{slice_range}
@@ -6,7 +8,6 @@ use Rattle.std.proofs.lemmas.List.{take_all, length-drop}
 use Rattle.byteorder.specs.Endian.{big_from}
 use Rattle.flute_parts.specs.BigEndian.{big_endian}
 use Rattle.flute_wire.specs.declared.first_word.FirstWord.{FirstWord}
-use Rattle.flute_wire.specs.declared.refusal.Refusal.TheVariants.{TooLong, TooShort, LctVersion}
 use Rattle.flute_wire.specs.Header.{fields, first_word, fixed_words, header_len, tsi_at, toi_at}
 use Rattle.flute_wire.specs.Header.{extensions_at}
 use Rattle.flute_wire.specs.Refusals.{PassesUpTo}
@@ -14,45 +15,34 @@ use Rattle.flute_wire.proofs.BigEndian.{big_from-big_endian, below_bytes}
 use Rattle.flute_wire.proofs.Spelling.{passes_whole}
 use Rattle.flute_wire.proofs.header.Header.read.Goals as goal
 
-range : (d : List ℕ) (a n i j : ℕ) → a ≡ i → n ≡ j - i
-    → take n (drop a d) ≡ slice_range d i j
+range : (d : List ℕ) (a n i j : ℕ) → a ≡ i → n ≡ j - i → take n (drop a d) ≡ slice_range d i j
 range d a n i j p q = rw (p, q) refl
 
 behind : (d : List ℕ) (a : ℕ) → take (length d - a) (drop a d) ≡ drop a d
 behind d a = take_all (length d - a) (drop a d) (let len = length-drop a d in omega arith)
 
 -- the number in n bytes from place a on
-number_at : {x : ℕ} (d : List ℕ) (a n i j : ℕ)
-    → x ≡ big_from 0 n (take (length d - a) (drop a d)) → (a ≡ i) × (n ≡ j - i)
-    → a + n ≤ length d → x ≡ big_endian (slice_range d i j)
-number_at d a n i j is (p, q) within =
-    let len = length-drop a d in
-    is ∙ ap (big_from 0 n) (behind d a)
-    ∙ big_from-big_endian n (drop a d) (omega arith)
-    ∙ ap big_endian (range d a n i j p q)
+number_at : {x : ℕ} (d : List ℕ) (a n i j : ℕ) → x ≡ big_from 0 n (take (length d - a) (drop a d)) →
+    (a ≡ i) × (n ≡ j - i) → a + n ≤ length d → x ≡ big_endian (slice_range d i j)
+number_at x0 x1 x2 x3 x4 x5 x6 x7 = grind (arith, common_steps, behind, big_from-big_endian, range)
 
 below_at : (d : List ℕ) (a n x m : ℕ) → x ≡ big_from 0 n (take (length d - a) (drop a d))
     → ((i : ℕ) → get_or d i 0 < 256) → n ≤ m → x < 256 ^ m
-below_at d a n x m is h le =
-    subst (λ (y : ℕ). y < 256 ^ m) (sym (is ∙ ap (big_from 0 n) (behind d a)))
-    (below_bytes a n m d h le)
+below_at d a n x m is h le = subst (λ (y : ℕ). y < 256 ^ m)
+    (sym (is ∙ ap (big_from 0 n) (behind d a))) (below_bytes a n m d h le)
 
 passes_word : (d : List ℕ) → length d ≤ 65535 → 4 ≤ length d
     → (first_word d).version ≡ 1 → PassesUpTo 4 d
-passes_word d limit word version TooLong lt a = omega (arith, limit, a)
-passes_word d limit word version TooShort lt a = omega (arith, word, a)
-passes_word d limit word version LctVersion lt a = a version
-passes_word d limit word version _ lt a = omega (arith, lt)
+passes_word d limit word version _ lt a = search rules
 
 pub returns-then-header_len-extensions_at-clause-refused :
     goal.returns-then-header_len-extensions_at-clause-refused
 returns-then-header_len-extensions_at-clause-refused c =
     let d = c.args.datagram.now in
     let long : 4 ≤ length d = omega (arith, c.if-datagram-lt4.false) in
-    let is : c.new-word.result ≡ first_word d =
-    c.new-word.ensures ∙ ap fields (c.read_u32.ensures ∙ big_from-big_endian 4 d long) in
-    let short : c.new-word.result.header_words < fixed_words c.new-word.result =
-    omega (
+    let is : c.new-word.result ≡ first_word d = c.new-word.ensures ∙ ap fields
+    (c.read_u32.ensures ∙ big_from-big_endian 4 d long) in
+    let short : c.new-word.result.header_words < fixed_words c.new-word.result = omega (
       arith,
       c.from-half_word.ensures,
       c.from.ensures,
@@ -60,12 +50,10 @@ returns-then-header_len-extensions_at-clause-refused c =
       c.from-3.ensures,
       c.from-header_len.ensures,
       c.if-header_len-extensions_at.true,
-    ) in
-    record {
-      applies = subst (λ (w : FirstWord). w.header_words < fixed_words w) is short;
+    ) in record {
+      applies = search rules;
       first = passes_word d (omega (arith, c.if-datagram-gt-MAX_LEN.false)) long
-          (ap (λ (w : FirstWord). w.version) (sym is)
-          ∙ c.if-word-ne1.false);
+          (ap (λ (w : FirstWord). w.version) (sym is) ∙ c.if-word-ne1.false);
     }
 
 pub returns : goal.returns

@@ -39,8 +39,8 @@ returns-in_err-datagram-clause-reads g c =
     (reads_on u v w _ _ _ c.loop-place.invariant.3) c.in_err-datagram.ensures.reads)
 
 pub returns-in_err-datagram-clause-sends : goal.returns-in_err-datagram-clause-sends
-returns-in_err-datagram-clause-sends g c = λ content known whole.
-    let e = err_from_is_err_and c.from_residual.result c.from_residual.ensures.1 in
+returns-in_err-datagram-clause-sends g c = λ content known whole. let e = err_from_is_err_and
+    c.from_residual.result c.from_residual.ensures.1 in
     let f = c.in_err-datagram.field-0.0 in
     let is : c.from_residual.result ≡ Err f = e.1 ∙ ap (λ x. Err x) e.2 in
     let key = c.args.sending.now.key in
@@ -49,15 +49,14 @@ returns-in_err-datagram-clause-sends g c = λ content known whole.
     let inv = c.loop-place.invariant in
     let s = inv.4 content known whole in
     let left = left_are inv.3 known s.rest whole in
-    let count : c.symbols.result ≡ length (ids i) =
-    c.symbols.ensures.value ∙ ap (λ (p : Information). length (ids p)) c.args.sending.now.same in
-    let within : place < max (length (ids i)) 1 =
-    omega (arith, c.loop-place-test.true, c.max-count.ensures, count) in
-    subst (λ r. SendsPackets (packets_of key i content) (g.W.Sink.written c.args.sink.now)
-    (g.W.Sink.written c.loop-place.sink) r) (sym is)
-    (fails_at c.symbol.ensures.valid within f (whole ∙ c.requires) s
-    (makes_same place _ (Err f) (inv.0, inv.1)
-    (c.in_err-datagram.ensures.makes _ s.rest left)))
+    let count : c.symbols.result ≡ length (ids i) = c.symbols.ensures.value ∙ ap
+    (λ (p : Information). length (ids p)) c.args.sending.now.same in
+    let within : place < max (length (ids i)) 1 = omega
+    (arith, c.loop-place-test.true, c.max-count.ensures, count) in subst (λ r. SendsPackets
+    (packets_of key i content) (g.W.Sink.written c.args.sink.now)
+    (g.W.Sink.written c.loop-place.sink) r) (sym is) (fails_at c.symbol.ensures.valid within f
+    (whole ∙ c.requires) s
+    (makes_same place _ (Err f) (inv.0, inv.1) (c.in_err-datagram.ensures.makes _ s.rest left)))
 
 pub returns-in_err-datagram-clause-failures : goal.returns-in_err-datagram-clause-failures
 returns-in_err-datagram-clause-failures g c =
@@ -75,9 +74,8 @@ returns-in_err-datagram-clause-reading g c =
     let is : c.from_residual.result ≡ Err f = e.1 ∙ ap (λ x. Err x) e.2 in
     let u = g.R.Source.unread c.args.source.now in
     subst (ReadFailures (g.R.Source.failures c.args.source.now)
-    (g.R.Source.failures c.next.new.source) u c.args.sending.now.left) (sym is)
-    (reads_back (List ℕ) ℕ f _
-    (c.loop-place.invariant.6, c.loop-place.invariant.3) c.in_err-datagram.ensures.reading)
+    (g.R.Source.failures c.next.new.source) u c.args.sending.now.left) (sym is) (reads_back (List ℕ)
+    ℕ f _ (c.loop-place.invariant.6, c.loop-place.invariant.3) c.in_err-datagram.ensures.reading)
 
 pub loop-place-preserved : goal.loop-place-preserved
 loop-place-preserved g c =
@@ -91,61 +89,52 @@ loop-place-preserved g c =
     let v = g.R.Source.unread c.loop-place.source in
     let w = g.R.Source.unread c.next.new.source in
     let d = c.in_ok-datagram.datagram in
-    let count : c.symbols.result ≡ length (ids i) =
-    c.symbols.ensures.value ∙ ap (λ (p : Information). length (ids p)) c.args.sending.now.same in
-    let within : place < max (length (ids i)) 1 =
-    omega (arith, c.loop-place-test.true, c.max-count.ensures, count) in (
+    let count : c.symbols.result ≡ length (ids i) = c.symbols.ensures.value ∙ ap
+    (λ (p : Information). length (ids p)) c.args.sending.now.same in
+    let within : place < max (length (ids i)) 1 = omega
+    (arith, c.loop-place-test.true, c.max-count.ensures, count) in (
       next.same_key ∙ inv.0,
       next.same_info ∙ inv.1,
       omega (arith, c.next.auto.buffer, inv.2),
-      reads_on u v w _ _ _ inv.3 next.reads,
-      λ content known whole.
-          let s = inv.4 content known whole in
+      reads_on u v w _ _ _ inv.3
+          next.reads,
+      λ content known whole. let s = inv.4 content known whole in
           let left = left_are inv.3 known s.rest whole in
           sent_next c.symbol.ensures.valid within d s
-          (makes_same place _ (Ok d) (inv.0, inv.1) (next.makes _ s.rest left))
-          put.valid put.grows
-          (subst (λ (x : Information). w ≡ Some (drop x.symbol_length
-          (drop (place * i.symbol_length) content))) inv.1 (next.rest _ s.rest left)),
+          (makes_same place _ (Ok d) (inv.0, inv.1) (next.makes _ s.rest left)) put.valid put.grows (subst
+          (λ (x : Information). w ≡ Some (drop x.symbol_length (drop (place * i.symbol_length) content)))
+          inv.1 (next.rest _ s.rest left)),
       omega (arith, put.failures, inv.5),
       next.reading ∙ inv.6,
     )
 
 pub returns-then-failed-clause-sends : goal.returns-then-failed-clause-sends
-returns-then-failed-clause-sends g c = λ content known whole.
-    let key = c.args.sending.now.key in
+returns-then-failed-clause-sends g c = λ content known whole. let key = c.args.sending.now.key in
     let i = c.args.sending.now.info in
     let u = g.R.Source.unread c.loop-place.source in
     let old = g.W.Sink.written c.args.sink.now in
     let now = g.W.Sink.written c.loop-place.sink in
-    let count : c.symbols.result ≡ length (ids i) =
-    c.symbols.ensures.value ∙ ap (λ (p : Information). length (ids p)) c.args.sending.now.same in
-    let all : c.loop-place.place ≡ max (length (ids i)) 1 =
-    omega (
-      arith,
-      c.loop-place-test.false,
-      c.loop-place.auto.place-end,
-      c.max-count.ensures,
-      count,
-    ) in
-    sent_part key i content c.symbol.ensures.valid c.loop-place.place all
-    (subst (λ f. SentSoFar key i content c.loop-place.place u f old now) c.if-failed.true
+    let count : c.symbols.result ≡ length (ids i) = c.symbols.ensures.value ∙ ap
+    (λ (p : Information). length (ids p)) c.args.sending.now.same in
+    let all : c.loop-place.place ≡ max (length (ids i)) 1 = omega
+    (arith, c.loop-place-test.false, c.loop-place.auto.place-end, c.max-count.ensures, count) in
+    sent_part key i content c.symbol.ensures.valid c.loop-place.place all (subst
+    (λ f. SentSoFar key i content c.loop-place.place u f old now) c.if-failed.true
     (c.loop-place.invariant.4 content known whole))
 
 pub returns-clause-sends : goal.returns-clause-sends
-returns-clause-sends g c = λ content known whole.
-    let key = c.args.sending.now.key in
+returns-clause-sends g c = λ content known whole. let key = c.args.sending.now.key in
     let i = c.args.sending.now.info in
     let u = g.R.Source.unread c.loop-place.source in
     let old = g.W.Sink.written c.args.sink.now in
     let now = g.W.Sink.written c.loop-place.sink in
-    let count : c.symbols.result ≡ length (ids i) =
-    c.symbols.ensures.value ∙ ap (λ (p : Information). length (ids p)) c.args.sending.now.same in
-    let all : c.max-count.result ≡ max (length (ids i)) 1 =
-    omega (arith, c.max-count.ensures, count) in
-    let end : c.loop-place.place ≡ c.max-count.result =
-    omega (arith, c.loop-place-test.false, c.loop-place.auto.place-end) in
-    sent_all key i content c.symbol.ensures.valid c.max-count.result all
-    (subst (λ n. SentSoFar key i content n u false old now) end
-    (subst (λ f. SentSoFar key i content c.loop-place.place u f old now) c.if-failed.false
+    let count : c.symbols.result ≡ length (ids i) = c.symbols.ensures.value ∙ ap
+    (λ (p : Information). length (ids p)) c.args.sending.now.same in
+    let all : c.max-count.result ≡ max (length (ids i)) 1 = omega
+    (arith, c.max-count.ensures, count) in
+    let end : c.loop-place.place ≡ c.max-count.result = omega
+    (arith, c.loop-place-test.false, c.loop-place.auto.place-end) in sent_all key i content
+    c.symbol.ensures.valid c.max-count.result all (subst
+    (λ n. SentSoFar key i content n u false old now) end (subst
+    (λ f. SentSoFar key i content c.loop-place.place u f old now) c.if-failed.false
     (c.loop-place.invariant.4 content known whole)))

@@ -1,4 +1,6 @@
 -- join_two: the fault is that of the first stream that has one.
+use Rattle.std.proofs.Common.{arith}
+use Rattle.std.proofs.lemmas.Grind.{common_steps}
 use Rattle.std.proofs.Common.{rules, ◌≡◌, [], ◌∷◌, subst}
 use Rattle.std.specs.Prelude.{IfErr}
 use Rattle.flute_streams.specs.Chains.{taken}
@@ -14,11 +16,9 @@ returns-clause-first g c =
     let b = either_behaviour g.S.Stream.behaviour g.T.Stream.behaviour in
     let old = Left c.args.first.now ∷ Right c.args.second.now ∷ [] in
     let at : (s : g.row.S.Denot) (t : g.row.T.Denot) → c.join_streams.new.streams.first.now ≡ s →
-    c.join_streams.new.streams.others.now ≡ t
-    → IfErr c.join_streams.result (FirstFault b old (Left s ∷ Right t ∷ [])) =
-    λ s t e d.
-    subst (λ x. IfErr c.join_streams.result (FirstFault b old (Left x ∷ Right t ∷ []))) e
-    (subst (λ y. IfErr c.join_streams.result (FirstFault b old
-    (Left c.join_streams.new.streams.first.now ∷ Right y ∷ []))) d
-    c.join_streams.ensures.first) in
-    at _ _ (search rules) (search rules)
+    c.join_streams.new.streams.others.now ≡ t → IfErr c.join_streams.result
+    (FirstFault b old (Left s ∷ Right t ∷ [])) = λ s t e d. subst
+    (λ x. IfErr c.join_streams.result (FirstFault b old (Left x ∷ Right t ∷ []))) e (subst (λ y.
+    IfErr c.join_streams.result
+    (FirstFault b old (Left c.join_streams.new.streams.first.now ∷ Right y ∷ []))) d
+    c.join_streams.ensures.first) in at _ _ (search rules) (search rules)

@@ -1,5 +1,7 @@
 -- info_list_to: the walk over the store gives the facts of the list. A fault with the number 2 is
 -- of the list, never of the journal.
+use Rattle.std.proofs.Common.{arith}
+use Rattle.std.proofs.lemmas.Grind.{common_steps}
 use Rattle.std.proofs.Common.{ℕ, List, Option, Some, None, Result, Ok, Err, rules, sym, subst, ◌∙◌}
 use Rattle.std.specs.Prelude.{IfOk, IfErr, IfSome}
 use Rattle.flute_parts.proofs.Public.{Same-itself}
@@ -18,10 +20,7 @@ fails_with_list : (most : Limits) (input list : Option (List ℕ)) (told : List 
     → IfSome list (λ text. (facts : List Fact) × ListTells text facts × Same told facts)
     → ((facts : List Fact) → Same told facts → IfErr r (InfoFails most input facts))
     → IfErr r (AddListFails most input list)
-fails_with_list most input list told (Ok count) h fails = tt
-fails_with_list most input None told (Err fault) h fails = of_facts tt
-fails_with_list most input (Some text) told (Err fault) h fails =
-    of_facts (h.0, h.1, fails h.0 h.2)
+fails_with_list x0 x1 x2 x3 x4 x5 x6 = search rules
 
 pub returns-clause-added : goal.returns-clause-added
 returns-clause-added g c =
@@ -29,12 +28,11 @@ returns-clause-added g c =
     let w = g.W.Sink.written c.args.sink.now in
     let w' = g.W.Sink.written c.add_facts.new.sink in
     let adds : (facts : List Fact) → Same told facts → IfOk c.add_facts.result
-    (AddsFacts (g.R.Source.unread c.args.source.now) facts w w') = λ facts same.
-    subst (λ (x : g.row.R.Denot). IfOk c.add_facts.result
-    (AddsFacts (g.R.Source.unread x) facts w w')) c.new-journal.ensures.unread
-    (c.add_facts.ensures.added facts (λ F is. subst (λ (l : List Fact). Same l facts)
-    (sym (is ∙ c.new-facts.ensures.facts ∙ c.walk.ensures.value)) same)) in
-    search (rules, adds)
+    (AddsFacts (g.R.Source.unread c.args.source.now) facts w w') = λ facts same. subst
+    (λ (x : g.row.R.Denot). IfOk c.add_facts.result (AddsFacts (g.R.Source.unread x) facts w w'))
+    c.new-journal.ensures.unread (c.add_facts.ensures.added facts (λ F is. subst
+    (λ (l : List Fact). Same l facts) (sym (is ∙ c.new-facts.ensures.facts ∙ c.walk.ensures.value))
+    same)) in search (rules, adds)
 
 pub returns-clause-failed : goal.returns-clause-failed
 returns-clause-failed g c =
@@ -54,8 +52,7 @@ returns-clause-list_failed g c =
     let told = c.in_ok-told.told in
     let most = at_most g.row.SESSIONS g.row.OBJECTS g.row.SYMBOLS in
     let fails = of_source g.R.Source.unread most c.args.source.now _ told c.add_facts.result
-    c.new-journal.ensures.unread
-    (c.add_facts.ensures.failed told
-    (λ F is. subst (λ (l : List Fact). Same l told)
-    (sym (is ∙ c.new-facts.ensures.facts ∙ c.walk.ensures.value)) (Same-itself told))) in
-    never_second most c.add_facts.result (g.R.Source.unread c.args.source.now) told _ fails
+    c.new-journal.ensures.unread (c.add_facts.ensures.failed told (λ F is. subst
+    (λ (l : List Fact). Same l told) (sym (is ∙ c.new-facts.ensures.facts ∙ c.walk.ensures.value))
+    (Same-itself told))) in never_second most c.add_facts.result
+    (g.R.Source.unread c.args.source.now) told _ fails

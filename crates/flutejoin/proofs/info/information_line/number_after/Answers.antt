@@ -1,4 +1,5 @@
 -- number_after: the number after some words, and when there is none.
+use Rattle.std.proofs.Common.{rules}
 use Rattle.std.proofs.Common.{◌++◌, ◌∙◌, decimal, sym, subst, arith}
 use Rattle.std.specs.Str.{IsUtf8}
 use Rattle.std.proofs.lemmas.Fmt.{parse-decimal_wide}
@@ -6,12 +7,6 @@ use Rattle.flutejoin.proofs.info_lemmas.LineNumbers.{DigitsOf, digits_end, numbe
 use Rattle.flutejoin.proofs.info_lemmas.LineNumbers.{number_back}
 use Rattle.flutejoin.proofs.info_lemmas.LineNumbers.{some_digits, utf8_decimal, wide}
 use Rattle.flutejoin.proofs.info.information_line.number_after.Goals as goal
-
-pub returns-in_default : goal.returns-in_default
-returns-in_default c = record {
-  found = tt;
-  finds = λ n tail small ends whole. c.in_default.ensures.finds (decimal n ++ tail) whole;
-}
 
 pub returns-then-len-eq0 : goal.returns-then-len-eq0
 returns-then-len-eq0 c = record {
@@ -46,8 +41,8 @@ returns-in_default-from_utf8 c = record {
 pub returns-in-Ok-parse : goal.returns-in-Ok-parse
 returns-in-Ok-parse c = record {
   found = (c.in-Some.rest.now, c.in-Some.ensures.found);
-  finds = λ n tail small ends whole.
-      let is = c.in-Some.ensures.finds (decimal n ++ tail) whole in
+  finds = λ n tail small ends whole. let is = c.in-Some.ensures.finds (decimal n ++ tail) whole
+      in
       let len = c.digits_len-len.result in
       let d : DigitsOf c.in-Some.rest.now len = record {
         within = c.digits_len-len.ensures.within;
@@ -56,8 +51,7 @@ returns-in-Ok-parse c = record {
       } in
       let e = digits_end c.in-Some.rest.now tail n len small ends is d in
       let front = c.split_at.ensures.front ∙ number_front c.in-Some.rest.now tail n len is e in
-      let read =
-      parse-decimal_wide 128 n c.in-Ok.digits.now c.parse.result small (wide n small)
+      let read = parse-decimal_wide 128 n c.in-Ok.digits.now c.parse.result small (wide n small)
       (c.in-Ok.ensures.cases.0 ∙ front) c.parse.ensures.value.0 in
       (cc, c.split_at.ensures.back ∙ number_back c.in-Some.rest.now tail n len is e);
 }
@@ -65,8 +59,8 @@ returns-in-Ok-parse c = record {
 pub returns-in-Err : goal.returns-in-Err
 returns-in-Err c = record {
   found = tt;
-  finds = λ n tail small ends whole.
-      let is = c.in-Some.ensures.finds (decimal n ++ tail) whole in
+  finds = λ n tail small ends whole. let is = c.in-Some.ensures.finds (decimal n ++ tail) whole
+      in
       let len = c.digits_len-len.result in
       let d : DigitsOf c.in-Some.rest.now len = record {
         within = c.digits_len-len.ensures.within;
@@ -75,8 +69,7 @@ returns-in-Err c = record {
       } in
       let e = digits_end c.in-Some.rest.now tail n len small ends is d in
       let front = c.split_at.ensures.front ∙ number_front c.in-Some.rest.now tail n len is e in
-      let read =
-      parse-decimal_wide 128 n c.in-Ok.digits.now c.parse.result small (wide n small)
+      let read = parse-decimal_wide 128 n c.in-Ok.digits.now c.parse.result small (wide n small)
       (c.in-Ok.ensures.cases.0 ∙ front) c.parse.ensures.value.0 in
       let bad = c.in-Err.is in
       cc;

@@ -1,4 +1,5 @@
 -- read_information: the object and the numbers of a line, and when it has none.
+use Rattle.std.proofs.Common.{rules}
 use Rattle.std.proofs.Common.{◌≡◌, ◌∙◌, refl, sym, ap}
 use Rattle.std.proofs.lemmas.Bool.{true≢false}
 use Rattle.std.proofs.lemmas.Bool.Decides.{Decides-eqb}
@@ -25,9 +26,8 @@ returns-in_default-key_of-clause-finds c = λ key info named fields is.
     c.in_default-key_of.ensures.finds key named.0 named.1 a.0 a.1 d.0
 
 pub returns-then-eq-clause-finds : goal.returns-then-eq-clause-finds
-returns-then-eq-clause-finds c = λ key info named fields is.
-    let a = c.in-Some.ensures.finds key.session (from_space key info) named.0 refl
-    (is ∙ fact_chain key info) in
+returns-then-eq-clause-finds c = λ key info named fields is. let a = c.in-Some.ensures.finds
+    key.session (from_space key info) named.0 refl (is ∙ fact_chain key info) in
     let d = c.in-Some-object_in.ensures.finds key.object (from_info info) named.1 refl a.2 in
     let n = numbers_of c.in-Some-information_in.numbers in
     let numbers : n ≡ info = c.in-Some-information_in.ensures.finds info fields d.1 in
@@ -35,9 +35,8 @@ returns-then-eq-clause-finds c = λ key info named fields is.
     (same, numbers)
 
 pub returns-else-eq-clause-finds : goal.returns-else-eq-clause-finds
-returns-else-eq-clause-finds c = λ key info named fields is.
-    let a = c.in-Some.ensures.finds key.session (from_space key info) named.0 refl
-    (is ∙ fact_chain key info) in
+returns-else-eq-clause-finds c = λ key info named fields is. let a = c.in-Some.ensures.finds
+    key.session (from_space key info) named.0 refl (is ∙ fact_chain key info) in
     let d = c.in-Some-object_in.ensures.finds key.object (from_info info) named.1 refl a.2 in
     let n = numbers_of c.in-Some-information_in.numbers in
     let numbers : n ≡ info = c.in-Some-information_in.ensures.finds info fields d.1 in
@@ -49,7 +48,7 @@ returns-else-eq-clause-finds c = λ key info named fields is.
       c.push_key.ensures.text,
       c.new-text.ensures,
     ) refl in
-    let whole = text ∙ ap (λ k. fact_words (Info k n)) same
-    ∙ ap (λ i. fact_words (Info key i)) numbers ∙ sym is in
+    let whole = text ∙ ap (λ k. fact_words (Info k n)) same ∙ ap (λ i. fact_words (Info key i))
+    numbers ∙ sym is in
     let yes = (slice_eq-Decides Decides-eqb _ _ _ c.eq.ensures).1 whole in
     true≢false (sym yes ∙ c.if-eq.false)

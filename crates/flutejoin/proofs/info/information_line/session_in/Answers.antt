@@ -1,3 +1,5 @@
+use Rattle.std.proofs.lemmas.Grind.{common_steps}
+use Rattle.std.proofs.Common.{rules}
 use Rattle.std.proofs.Common.{◌++◌, decimal, arith}
 use Rattle.flutejoin.proofs.info.information_line.session_in.Goals as goal
 

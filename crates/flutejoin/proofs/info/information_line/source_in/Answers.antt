@@ -1,4 +1,5 @@
 -- source_in: the sender before a session, and what follows.
+use Rattle.std.proofs.Common.{rules}
 use Rattle.std.proofs.Common.{◌++◌, codes, arith, ap, ◌∙◌}
 use Rattle.byteorder.specs.Endian.{big_from}
 use Rattle.flutejoin.proofs.info_lemmas.LinePieces.{source_rest}
@@ -9,17 +10,16 @@ use Rattle.flutejoin.proofs.info.information_line.source_in.Goals as goal
 
 pub returns-then-rest-lt32 : goal.returns-then-rest-lt32
 returns-then-rest-lt32 c = record {
-  finds = λ n tail small is.
-      let later = codes " " ++ (codes "session " ++ tail) in
-      let r = source_rest c.args.text.now tail c.in-Some.rest.now n is c.in-Some.ensures.found in
-      omega (arith, long_enough c.in-Some.rest.now later n r);
+  finds = λ n tail small is. let later = codes " " ++ (codes "session " ++ tail) in
+      let r = source_rest c.args.text.now tail c.in-Some.rest.now n is c.in-Some.ensures.found
+      in omega (arith, long_enough c.in-Some.rest.now later n r);
 }
 
 pub returns-in-Some-after : goal.returns-in-Some-after
 returns-in-Some-after c = record {
-  finds = λ n tail small is.
-      let later = codes " " ++ (codes "session " ++ tail) in
-      let r = source_rest c.args.text.now tail c.in-Some.rest.now n is c.in-Some.ensures.found in
+  finds = λ n tail small is. let later = codes " " ++ (codes "session " ++ tail) in
+      let r = source_rest c.args.text.now tail c.in-Some.rest.now n is c.in-Some.ensures.found
+      in
       let front = c.split_at.ensures.front ∙ digits_front c.in-Some.rest.now later n r in
       let decoded = rw (front, digits_decoded n) at c.decode_to_slice.ensures.value in
       let back = c.split_at.ensures.back ∙ digits_back c.in-Some.rest.now later n r in (

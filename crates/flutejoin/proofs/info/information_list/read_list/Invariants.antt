@@ -6,9 +6,8 @@ use Rattle.flutejoin.proofs.info.information_list.read_list.Given as goal
 
 abbrev pub invariant-loop-count : goal.invariant-loop-count
 invariant-loop-count g l = record {
-  so_far : (bytes : List ℕ)
-      × Consumes (g.R.Source.unread l.fn.source) (g.R.Source.unread l.source) bytes
-      × HoldsList l.list bytes × (length bytes ≡ l.taken);
+  so_far : (bytes : List ℕ) × Consumes (g.R.Source.unread l.fn.source)
+      (g.R.Source.unread l.source) bytes × HoldsList l.list bytes × (length bytes ≡ l.taken);
   number : l.list.number ≤ l.taken + 1;
   few : l.taken ≤ 18446744073709551614;
   room : length l.piece ≡ 4096;

@@ -1,4 +1,5 @@
 -- add_run: one run more.
+use Rattle.std.proofs.Common.{rules}
 use Rattle.std.proofs.Common.{◌≡◌, ◌++◌, ◌∷◌, ◌∙◌, ℕ, List, [], Option}
 use Rattle.std.proofs.Common.{Some, cond, is_ok, length, subst, sym, arith}
 use Rattle.std.specs.Prelude.{IfSome}

@@ -1,14 +1,15 @@
+use Rattle.std.proofs.Common.{arith}
+use Rattle.std.proofs.lemmas.Grind.{common_steps}
+use Rattle.std.proofs.Common.{rules}
 use Rattle.std.proofs.Common.{append_assoc, refl}
 use Rattle.flutejoin.proofs.lines.fact_lines.push_numbers.Goals as goal
 
 pub returns-clause-text : goal.returns-clause-text
-returns-clause-text c =
-    rw (
-      c.push_number-3.ensures.text,
-      c.push-3.ensures.text,
-      c.push_number-2.ensures.text,
-      c.push-2.ensures.text,
-      c.push_number.ensures.text,
-      c.push.ensures.text,
-    )
-    (simp append_assoc refl)
+returns-clause-text c = rw (
+  c.push_number-3.ensures.text,
+  c.push-3.ensures.text,
+  c.push_number-2.ensures.text,
+  c.push-2.ensures.text,
+  c.push_number.ensures.text,
+  c.push.ensures.text,
+) (simp append_assoc refl)

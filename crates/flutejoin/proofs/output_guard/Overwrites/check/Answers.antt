@@ -22,6 +22,5 @@ pub returns-in-None-2-clause-journal : goal.returns-in-None-2-clause-journal
 returns-in-None-2-clause-journal c = λ _ begins. absurd (c.in-None-2.ensures Journal begins)
 
 pub returns-in-None-clause-spared : goal.returns-in-None-clause-spared
-returns-in-None-clause-spared c =
-    subst (λ o. IsOverwritten o c.args.first.now) (sym c.in-Journals.is)
-    (c.in-None.ensures Datagrams)
+returns-in-None-clause-spared c = subst (λ o. IsOverwritten o c.args.first.now)
+    (sym c.in-Journals.is) (c.in-None.ensures Datagrams)

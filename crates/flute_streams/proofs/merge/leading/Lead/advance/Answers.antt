@@ -1,4 +1,5 @@
 -- Lead::advance: the stream that leads is advanced alone, and may lead on.
+use Rattle.std.proofs.Common.{rules}
 use Rattle.flute_streams.proofs.Common.{Address, Behaviour, IfSome, List, Some, StandsAt, address_of}
 use Rattle.flute_streams.proofs.Common.{ap, arith, slice_get_within, subst, sym, ℕ, ◌∙◌, ◌≡◌}
 use Rattle.flute_streams.proofs.merge_lemmas.GoingOn.{same_length}
@@ -11,17 +12,10 @@ use Rattle.flute_streams.proofs.merge.leading.Lead.advance.Goals as goal
 stands_there : {S : Type 0} (b : Behaviour S) (xs : List S) {place : Address} {first number : ℕ}
     → first ≡ number → address_of (held_at b xs first) ≡ Some place
     → StandsAt b (Some place) xs number
-stands_there b xs is here = λ s was.
-    ap (λ o. address_of (held_in b o)) (sym was)
-    ∙ ap (λ n. address_of (held_at b xs n)) (sym is) ∙ here
+stands_there b xs is here = search rules
 
 pub returns-in-Err-clause-stops : goal.returns-in-Err-clause-stops
-returns-in-Err-clause-stops g c =
-    let b = g.G.Streams.behaviour in
-    let xs = g.G.Streams.streams c.args.streams.now in
-    let at = stands_there b xs (c.requires.leading c.if-self.true) c.requires.first in
-    lead-stops b c.args.place.now (c.requires.led.leads c.if-self.true) at
-    c.in-Err.ensures.advances
+returns-in-Err-clause-stops g c = search (rules, stands_there, lead-stops)
 
 pub address-requires : goal.address-requires
 address-requires g c =
@@ -33,12 +27,7 @@ address-requires g c =
     omega (arith, was, same)
 
 pub returns-then-self-clause-go_on : goal.returns-then-self-clause-go_on
-returns-then-self-clause-go_on g c =
-    let b = g.G.Streams.behaviour in
-    let xs = g.G.Streams.streams c.args.streams.now in
-    let at = stands_there b xs (c.requires.leading c.if-self.true) c.requires.first in
-    lead-goes b c.args.place.now (c.requires.led.leads c.if-self.true) at
-    c.in_default.ensures.advances
+returns-then-self-clause-go_on g c = search (rules, stands_there, lead-goes)
 
 pub returns-then-self-clause-led : goal.returns-then-self-clause-led
 returns-then-self-clause-led g c =
@@ -47,11 +36,8 @@ returns-then-self-clause-led g c =
     let unranked = c.requires.led.unranked c.if-self.true in
     let ranks = c.args.ranks.now in
     record {
-      leads = λ below.
-          still-leads b (c.requires.led.leads c.if-self.true) c.in_default.ensures.advances
-          c.address.ensures (c.is_below-self.ensures below);
-      ranking = λ unknown.
-          subst (λ o. IfSome o (λ key. AreRanked b new key ranks.ranks ranks.lows))
-          (sym unranked) tt;
+      leads = λ below. still-leads b (c.requires.led.leads c.if-self.true)
+          c.in_default.ensures.advances c.address.ensures (c.is_below-self.ensures below);
+      ranking = search rules;
       unranked = λ known. unranked;
     }

@@ -1,3 +1,4 @@
+use Rattle.std.proofs.Common.{rules}
 use Rattle.flute_streams.proofs.Common.{ap, option_copied, address_of, slice_get_within, sym, ◌∙◌}
 use Rattle.flute_streams.proofs.merge_lemmas.LeadFacts.{lead-lowest}
 use Rattle.flute_streams.proofs.merge_lemmas.Places.{read-at}
@@ -19,6 +20,7 @@ returns-in-Some-clause-stands g c =
     let l = c.requires.led.leads c.if-self.true in
     let k = c.args.self.now.number in (
       c.in-Some.field-0.now,
-      sym (read-at b xs k address_of (slice_get_within xs k l.stream l.is) c.address.ensures)
-          ∙ ap option_copied c.in-Some.is,
+      sym
+          (read-at b xs k address_of (slice_get_within xs k l.stream l.is) c.address.ensures) ∙ ap
+          option_copied c.in-Some.is,
     )

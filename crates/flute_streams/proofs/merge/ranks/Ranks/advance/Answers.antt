@@ -1,4 +1,5 @@
 -- One stream more, by whether it stands there: those before it stand elsewhere.
+use Rattle.std.proofs.Common.{rules}
 use Rattle.flute_streams.proofs.Common.{ℕ, ◌≡◌, ◌≢◌, ◌+◌, ◌-◌, ◌/◌, ◌∙◌, length}
 use Rattle.flute_streams.proofs.Common.{Some, ap, inl, subst, sym, refl, arith, address_of, ◌<◌}
 use Rattle.std.proofs.Common.{slice_index}
@@ -25,19 +26,15 @@ returns-in-Err-clause-stops g c =
     let found = c.in-Some.ensures.next in
     let rank = c.number_of-rank.result in
     let k = c.in-Some.number in
-    let at : c.args.place.now ≡ place_at_rank c.args.place.now.key rank =
-    same_place c.args.place.now c.args.place.now.key rank refl c.number_of-rank.ensures.part in
-    let apart =
-    passed_elsewhere b c.args.place.now.key rank c.loop-number.next k at found.3 i.ranked in
-    let went =
-    more_stay b (Some c.args.place.now) (k - c.loop-number.next) (omega (arith, found.0))
+    let at : c.args.place.now ≡ place_at_rank c.args.place.now.key rank = search rules in
+    let apart = passed_elsewhere b c.args.place.now.key rank c.loop-number.next k at found.3
+    i.ranked in
+    let went = more_stay b (Some c.args.place.now) (k - c.loop-number.next) (omega (arith, found.0))
     (omega (arith, found.1, i.all)) apart i.went in
     let a = c.in-Err.ensures.advances in
-    let there =
-    (i.ranked.from k a.before (inl found.0) a.was).exact
-    (omega (arith, c.if-self-number.true, c.number_of-rank.ensures.few))
-    ∙ ap (λ r. Some (place_at_rank c.args.place.now.key r)) c.if-self-number.true
-    ∙ ap Some (sym at) in
+    let there = (i.ranked.from k a.before (inl found.0) a.was).exact
+    (omega (arith, c.if-self-number.true, c.number_of-rank.ensures.few)) ∙ ap
+    (λ r. Some (place_at_rank c.args.place.now.key r)) c.if-self-number.true ∙ ap Some (sym at) in
     one_stops b (Some c.args.place.now) went a there
 
 pub loop-number-preserved : goal.loop-number-preserved
@@ -150,14 +147,8 @@ pub returns-then-not-known-clause-go_on : goal.returns-then-not-known-clause-go_
 returns-then-not-known-clause-go_on g c =
     let i = c.loop-number.invariant in
     let at = same_place c.args.place.now c.args.place.now.key c.number_of-rank.result refl
-    c.number_of-rank.ensures.part in
-    went_all g.G.Streams.behaviour c.args.place.now.key c.args.place.now at
-    (c.in_default.ensures.none refl) i.ranked i.next i.all i.went
+    c.number_of-rank.ensures.part in went_all g.G.Streams.behaviour c.args.place.now.key
+    c.args.place.now at (c.in_default.ensures.none refl) i.ranked i.next i.all i.went
 
 pub returns-else-not-known-clause-go_on : goal.returns-else-not-known-clause-go_on
-returns-else-not-known-clause-go_on g c =
-    let i = c.loop-number.invariant in
-    let at = same_place c.args.place.now c.args.place.now.key c.number_of-rank.result refl
-    c.number_of-rank.ensures.part in
-    went_all g.G.Streams.behaviour c.args.place.now.key c.args.place.now at
-    (c.in_default.ensures.none refl) i.ranked i.next i.all i.went
+returns-else-not-known-clause-go_on g c = search (rules, same_place, went_all)

@@ -1,4 +1,5 @@
 -- One stream more: those before it are passed over, and what it holds is joined.
+use Rattle.std.proofs.Common.{rules}
 use Rattle.flute_streams.proofs.Common.{IfSome, IsLowest, Key, Lowest, Some, arith, heads, length}
 use Rattle.flute_streams.proofs.Common.{refl, subst, sym, take, take_all, ◌<◌, ◌∙◌, ◌≡◌, ◌≤◌, ◌/◌}
 use Rattle.flute_streams.proofs.merge_lemmas.Places.{comes-alone, comes-joined, has_value}
@@ -18,19 +19,16 @@ loop-number-init g c =
     let found = c.in_ok-first.ensures.next in
     let rank = c.lowest_in-rank.result in
     let within : k < length streams = omega (arith, found.1, c.count-all.ensures) in
-    let on : (key : Key) → c.args.self.now.key ≡ Some key
-    → StandsOn b (place_at_rank key rank) streams (first_at k) =
-    λ key is. stands-ranked b key k within
+    let on : (key : Key) → c.args.self.now.key ≡ Some key → StandsOn b (place_at_rank key rank)
+    streams (first_at k) = λ key is. stands-ranked b key k within
     (ranked_of b streams c.args.self.now key is c.requires.ranking) found.2
     (c.lowest_in-rank.ensures (k / 8) (omega arith) (omega (arith, found.1))) (omega arith) in
     record {
-      comes = λ key is.
-          let place = place_at_rank key rank in
+      comes = λ key is. let place = place_at_rank key rank in
           let ranked = ranked_of b streams c.args.self.now key is c.requires.ranking in
-          comes-more b streams k place _ within
-          (comes-alone b streams (heads b (take k streams)) k place (on key is)
-          (comes-up-to b streams place 0 k found.0 (omega (arith, within)) refl found.3 ranked
-          (comes-none place)));
+          comes-more b streams k place _ within (comes-alone b streams (heads b (take k streams)) k
+          place (on key is) (comes-up-to b streams place 0 k found.0 (omega (arith, within)) refl
+          found.3 ranked (comes-none place)));
       stands = on;
       number = refl;
       next = omega (arith, found.1);
@@ -92,12 +90,11 @@ returns-clause-lowest g c =
     let ranked = ranked_of b streams c.args.self.now key c.in_ok-self.was c.requires.ranking in
     let all = c.count-all.result in
     let within : all ≤ length streams = omega (arith, c.count-all.ensures) in
-    let whole : take all streams ≡ streams =
-    take_all all streams (omega (arith, c.count-all.ensures)) in
+    let whole : take all streams ≡ streams = take_all all streams
+    (omega (arith, c.count-all.ensures)) in
     let v = has_value b streams l (place, i.stands key c.in_ok-self.was) in
-    subst (IsLowest (heads b streams)) (sym v.is)
-    (some-of (Lowest (heads b streams)) v.is
-    (subst (λ xs. IfSome (value_at b streams l) (Lowest (heads b xs))) whole
-    (comes-lowest place (heads b (take all streams)) (value_at b streams l)
-    (comes-up-to b streams place c.loop-number.next all i.next within refl
-    (c.in_default.ensures.none refl) ranked (i.comes key c.in_ok-self.was)))))
+    subst (IsLowest (heads b streams)) (sym v.is) (some-of (Lowest (heads b streams)) v.is (subst
+    (λ xs. IfSome (value_at b streams l) (Lowest (heads b xs))) whole (comes-lowest place
+    (heads b (take all streams)) (value_at b streams l) (comes-up-to b streams place
+    c.loop-number.next all i.next within refl (c.in_default.ensures.none refl) ranked
+    (i.comes key c.in_ok-self.was)))))

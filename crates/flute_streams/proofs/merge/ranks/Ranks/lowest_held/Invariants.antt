@@ -9,9 +9,8 @@ invariant-loop-number g l = record {
   comes : (key : Key) → l.fn.self.key ≡ Some key → ComesTo (place_at_rank key l.rank)
       (heads g.G.Streams.behaviour (take l.next (g.G.Streams.streams l.fn.streams)))
       (value_at g.G.Streams.behaviour (g.G.Streams.streams l.fn.streams) l.lowest);
-  stands : (key : Key) → l.fn.self.key ≡ Some key
-      → StandsOn g.G.Streams.behaviour (place_at_rank key l.rank)
-      (g.G.Streams.streams l.fn.streams) l.lowest;
+  stands : (key : Key) → l.fn.self.key ≡ Some key → StandsOn g.G.Streams.behaviour
+      (place_at_rank key l.rank) (g.G.Streams.streams l.fn.streams) l.lowest;
   number : l.lowest.number ≡ l.first;
   next : l.next ≤ l.all;
 }

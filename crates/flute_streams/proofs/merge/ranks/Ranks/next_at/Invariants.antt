@@ -6,8 +6,7 @@ use Rattle.flute_streams.proofs.merge.ranks.Ranks.next_at.Given as goal
 abbrev pub invariant-loop-number : goal.invariant-loop-number
 invariant-loop-number l = record {
   from : l.from ≤ l.number;
-  above : (k : ℕ) → l.from ≤ k → k < l.number → k < l.all
-      → l.rank < slice_index l.self.ranks k;
+  above : (k : ℕ) → l.from ≤ k → k < l.number → k < l.all → l.rank < slice_index l.self.ranks k;
 }
 
 abbrev pub decreases-loop-number : goal.decreases-loop-number

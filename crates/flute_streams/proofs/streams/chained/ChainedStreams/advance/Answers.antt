@@ -1,4 +1,5 @@
 -- Chained::advance: stream 0 is advanced, or the other one with the number before.
+use Rattle.std.proofs.Common.{rules}
 use Rattle.flute_streams.proofs.Common.{Second}
 use Rattle.flute_streams.proofs.streams_lemmas.Eithers.{first_advances}
 use Rattle.flute_streams.proofs.streams_lemmas.Chaining.{far, other_advances}
@@ -12,15 +13,7 @@ advance-requires-else-number-eq0 g c =
     (g.G.Streams.streams c.args.self.now.others) c.args.number c.requires c.if-number-eq0.false
 
 pub returns-then-number-eq0-clause-advances : goal.returns-then-number-eq0-clause-advances
-returns-then-number-eq0-clause-advances g c =
-    first_advances g.A.Stream.behaviour g.G.Streams.behaviour c.args.self.now.first.now
-    c.advance.new.self (map Second (taken (g.G.Streams.streams c.args.self.now.others)))
-    c.args.number c.advance.result
-    c.if-number-eq0.true c.advance.ensures.goes_on c.advance.ensures.stops
+returns-then-number-eq0-clause-advances g c = search (rules, first_advances)
 
 pub returns-else-number-eq0-clause-advances : goal.returns-else-number-eq0-clause-advances
-returns-else-number-eq0-clause-advances g c =
-    other_advances g.A.Stream.behaviour g.G.Streams.behaviour c.args.self.now.first.now
-    (g.G.Streams.streams c.args.self.now.others) c.args.number c.requires c.if-number-eq0.false
-    (g.G.Streams.streams c.advance-else-number-eq0.new.self)
-    c.advance-else-number-eq0.result c.advance-else-number-eq0.ensures.advances
+returns-else-number-eq0-clause-advances g c = search (rules, other_advances)

@@ -1,3 +1,4 @@
+use Rattle.std.proofs.Common.{rules}
 use Rattle.flute_streams.proofs.streams_lemmas.Chaining.{far, other_is}
 use Rattle.flute_streams.specs.Eithers.{held_either}
 use Rattle.flute_streams.proofs.streams.chained.ChainedStreams.head.Goals as goal
@@ -8,8 +9,7 @@ head-requires-else-number-eq0 g c =
     (g.G.Streams.streams c.args.self.now.others) c.args.number c.requires c.if-number-eq0.false
 
 pub returns-else-number-eq0 : goal.returns-else-number-eq0
-returns-else-number-eq0 g c =
-    other_is g.A.Stream.behaviour g.G.Streams.behaviour c.args.self.now.first.now
-    (g.G.Streams.streams c.args.self.now.others) c.args.number c.requires c.if-number-eq0.false
-    (held_either g.A.Stream.behaviour g.G.Streams.behaviour) _
+returns-else-number-eq0 g c = other_is g.A.Stream.behaviour g.G.Streams.behaviour
+    c.args.self.now.first.now (g.G.Streams.streams c.args.self.now.others) c.args.number c.requires
+    c.if-number-eq0.false (held_either g.A.Stream.behaviour g.G.Streams.behaviour) _
     c.head-else-number-eq0.ensures

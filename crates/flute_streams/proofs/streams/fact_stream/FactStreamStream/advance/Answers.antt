@@ -1,3 +1,4 @@
+use Rattle.std.proofs.Common.{rules}
 use Rattle.flute_streams.proofs.Common.{◌≡◌, ◌++◌, [], inl, sym, ap, ◌∙◌}
 use Rattle.flute_streams.proofs.Common.{append-nil, option_list}
 use Rattle.flute_journal.specs.HeldEntries.{fact_held}
@@ -10,12 +11,8 @@ pub returns-clause-goes_on : goal.returns-clause-goes_on
 returns-clause-goes_on c =
     let none : option_list c.take.new.self ≡ [] = ap option_list c.take.ensures.after in
     let held = option_list (fact_held [] c.match-take.held) in
-    let is : fact_held [] c.match-take.held ≡ c.take.result = elim c.match-take.branch [
-      | in-Some w ↦ ap (fact_held []) w.held-is ∙ w.of-held.ensures.fact [] ∙ sym w.in-Some.is
-      | in-None w ↦ ap (fact_held []) w.held-is ∙ sym w.in-None.is
-    ] in
+    let is : fact_held [] c.match-take.held ≡ c.take.result = search rules in
     listed_goes_on _ _ _ c.args.self.now
-    (record { next = c.take.new.self; held = c.match-take.held })
-    (sym (ap option_list (is ∙ c.take.ensures.value)) ∙ sym (append-nil held)
-    ∙ ap (λ l. held ++ l) (sym none))
-    (λ e. none) (inl (λ s h. h))
+    (record { next = c.take.new.self; held = c.match-take.held }) (sym
+    (ap option_list (is ∙ c.take.ensures.value)) ∙ sym (append-nil held) ∙ ap (λ l. held ++ l)
+    (sym none)) (λ e. none) (inl (λ s h. h))

@@ -1,3 +1,4 @@
+use Rattle.std.proofs.Common.{rules}
 use Rattle.flute_streams.proofs.Common.{◌≡◌, ap, fact_in, sym}
 use Rattle.flute_streams.proofs.streams_lemmas.ListedFacts.{walk_goes_on}
 use Rattle.flute_streams.specs.WalkStreams.{held_fact}
@@ -6,9 +7,5 @@ use Rattle.flute_streams.proofs.streams.walk_stream.WalkStreamStream.advance.Goa
 
 pub returns-clause-goes_on : goal.returns-clause-goes_on
 returns-clause-goes_on g c =
-    let held : held_fact c.match-next.self ≡ fact_in c.next.result =
-    elim c.match-next.branch [
-      | in-Some w ↦ rw w.self-is (sym (ap fact_in w.in-Some.is))
-      | in-None w ↦ rw w.self-is (sym (ap fact_in w.in-None.is))
-    ] in
+    let held : held_fact c.match-next.self ≡ fact_in c.next.result = search rules in
     walk_goes_on _ _ c.args.self.now _ c.next.result c.next.ensures.steps held

@@ -1,4 +1,7 @@
 -- ObjectWriter::end: the result, by what was found of the object (specs/ObjectWriters: Found).
+use Rattle.std.proofs.Common.{arith}
+use Rattle.std.proofs.lemmas.Grind.{common_steps}
+use Rattle.std.proofs.Common.{rules}
 use Rattle.std.proofs.Common.{[], sym, subst, append-nil}
 use Rattle.flute_parts.specs.Partition.{symbol_id}
 use Rattle.flute_parts.specs.declared.symbol_id.SymbolId.{SymbolId}
@@ -14,27 +17,21 @@ use Rattle.flutejoin.proofs.extract.object_writer.ObjectWriter.end.Goals.{in-Not
 use Rattle.flutejoin.proofs.extract.object_writer.ObjectWriter.end.Goals.{in-Whole+in-Gap}
 
 pub returns-in-Nothing-clause-extracts : goal.returns-in-Nothing-clause-extracts
-returns-in-Nothing-clause-extracts c = λ P start now r h.
-    let n = subst (HasFound P c.args.self.now.key c.args.self.now.failed start now)
-    c.in-Nothing.is h in
-    (unheard c.args.self.now.key P n.0, n.1.same)
+returns-in-Nothing-clause-extracts c = search (rules, unheard)
 
 pub returns-in-Symbols-clause-extracts : goal.returns-in-Symbols-clause-extracts
-returns-in-Symbols-clause-extracts c = λ P start now r h.
-    let n = subst (HasFound P c.args.self.now.key c.args.self.now.failed start now)
-    c.in-Symbols.is h in
+returns-in-Symbols-clause-extracts c = λ P start now r h. let n = subst
+    (HasFound P c.args.self.now.key c.args.self.now.failed start now) c.in-Symbols.is h in
     (n.0 P [] (sym (append-nil P)) r, n.1.same)
 
 pub returns-in-Conflict-clause-extracts : goal.returns-in-Conflict-clause-extracts
-returns-in-Conflict-clause-extracts c = λ P start now r h.
-    let n = subst (HasFound P c.args.self.now.key c.args.self.now.failed start now)
-    c.in-Conflict.is h in
+returns-in-Conflict-clause-extracts c = λ P start now r h. let n = subst
+    (HasFound P c.args.self.now.key c.args.self.now.failed start now) c.in-Conflict.is h in
     (n.0 P [] (sym (append-nil P)) r, n.1.same)
 
 pub returns-in_default : goal.returns-in_default
 returns-in_default c = record {
-  extracts = λ P start now r h.
-      let key = c.args.self.now.key in
+  extracts = λ P start now r h. let key = c.args.self.now.key in
       let n = subst (HasFound P key c.args.self.now.failed start now) c.in-Whole.is h in
       let t = c.next.ensures.turned n.scanned n.scans tt (none-can-come n) in
       let e = ended-turn n.scanned t.0 c.next.result c.in_default.not-Gap t.1 in
@@ -49,8 +46,7 @@ returns-in_default c = record {
 }
 
 pub returns-in_default-2-clause-extracts : goal.returns-in_default-2-clause-extracts
-returns-in_default-2-clause-extracts c = λ P start now r h.
-    let key = c.args.self.now.key in
+returns-in_default-2-clause-extracts c = λ P start now r h. let key = c.args.self.now.key in
     let failed = c.args.self.now.failed in
     let n = subst (HasFound P key failed start now) c.in-Whole.is h in
     let t = c.next.ensures.turned n.scanned n.scans tt (none-can-come n) in
@@ -59,16 +55,13 @@ returns-in_default-2-clause-extracts c = λ P start now r h.
     (ended-whole n t.0 r e.0 e.1)
 
 pub returns-clause-extracts : goal.returns-clause-extracts
-returns-clause-extracts c = λ P start now r h.
-    let key = c.args.self.now.key in
+returns-clause-extracts c = λ P start now r h. let key = c.args.self.now.key in
     let failed = c.args.self.now.failed in
     let Q : SymbolId → Type 0 = λ first. IsNotWhole P key (symbol_id first.sbn first.esi) in
     elim c.match-self.branch [
-      | in-NotWhole w ↦
-          let n = subst (HasFound P key failed start now) w.in-NotWhole.is h in
-          subst Q (sym w.first-is) (n.0 P [] (sym (append-nil P)) r)
-      | in-Whole+in-Gap w ↦
-          let n = subst (HasFound P key failed start now) w.in-Whole.is h in
+      | in-NotWhole w ↦ let n = subst (HasFound P key failed start now) w.in-NotWhole.is h in subst
+          Q (sym w.first-is) (n.0 P [] (sym (append-nil P)) r)
+      | in-Whole+in-Gap w ↦ let n = subst (HasFound P key failed start now) w.in-Whole.is h in
           let t = w.in-Gap.ensures.turned n.scanned n.scans tt (none-can-come n) in
           subst Q (sym w.first-is) (ended-gap n _ r t.1.first)
     ]

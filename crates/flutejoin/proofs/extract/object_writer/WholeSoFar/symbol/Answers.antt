@@ -1,4 +1,5 @@
 -- WholeSoFar::symbol: the object so far, after each kind of turn of its scan.
+use Rattle.std.proofs.Common.{rules}
 use Rattle.std.proofs.Common.{◌≡◌, ◌∙◌, ℕ, Bool, List, Option, Result, Ok, Err, take, refl, sym, ap, arith}
 use Rattle.std.proofs.lemmas.List.{length-take, take_min}
 use Rattle.std.proofs.KnownBytes.{Appends-nil}
@@ -14,25 +15,23 @@ use Rattle.flutejoin.proofs.extract_lemmas.ObjectWriters.{idle-next, idle-fits, 
 use Rattle.flutejoin.proofs.extract.object_writer.WholeSoFar.symbol.Goals as goal
 
 -- what a sink took is all, unless it has failed
-writes_written : {T E : Type 0} (old new : Option (List ℕ)) (bytes : List ℕ)
-    (result : Result T E) (failed : Bool) → failed ≡ is_err result
-    → Writes old new bytes result
-    → Written failed old new bytes
-writes_written old new bytes (Ok x) failed e h = rw e h
-writes_written old new bytes (Err x) failed e h = rw e h
+writes_written : {T E : Type 0} (old new : Option (List ℕ)) (bytes : List ℕ) (result : Result T E)
+    (failed : Bool) → failed ≡ is_err result → Writes old new bytes result → Written failed old new
+    bytes
+writes_written x0 x1 x2 x3 x4 x5 x6 = search rules
 
 pub returns-then-not-failed-clause-passed : goal.returns-then-not-failed-clause-passed
-returns-then-not-failed-clause-passed g c = λ P key start r h.
-    let n : SymbolId × Option (Bor (List ℕ)) = (c.args.id, c.args.value) in
+returns-then-not-failed-clause-passed g c = λ P key start r h. let n : SymbolId × Option
+    (Bor (List ℕ)) = (c.args.id, c.args.value) in
     let t = c.in-Fitting.ensures.turned h.scanned h.scans (next-rises h n r) (can-come h n r) in
     let bytes = c.in-Some.bytes.now in
-    passed-next h n r bytes (fits-next h n r t.0 bytes t.1
-    (ap (λ v. value_of (c.args.id, v)) c.in-Some.is)) t.2
+    passed-next h n r bytes
+    (fits-next h n r t.0 bytes t.1 (ap (λ v. value_of (c.args.id, v)) c.in-Some.is)) t.2
     (c.next.ensures.part t.0 t.2) refl
-    (omega (arith, c.min.ensures, length-take c.min.result bytes))
-    (rw (
+    (omega (arith, c.min.ensures, length-take c.min.result bytes)) (rw (
       c.if-not-failed.true,
-      sym (ap (λ k. take k bytes) c.min.ensures ∙ take_min c.args.self.now.left bytes),
+      sym
+          (ap (λ k. take k bytes) c.min.ensures ∙ take_min c.args.self.now.left bytes),
     )
     (writes_written _ _ _ _ _ c.is_err.ensures.value c.write_all.ensures.bytes))
 
@@ -67,8 +66,8 @@ returns-in-Gap-clause-passed g c = λ P key start r h.
     (settled-next h n r _ t.1.first, wrote-next h n r)
 
 pub returns-in-Wanted-clause-passed : goal.returns-in-Wanted-clause-passed
-returns-in-Wanted-clause-passed g c = λ P key start r h.
-    let n : SymbolId × Option (Bor (List ℕ)) = (c.args.id, c.args.value) in
+returns-in-Wanted-clause-passed g c = λ P key start r h. let n : SymbolId × Option (Bor (List ℕ)) =
+    (c.args.id, c.args.value) in
     let t = c.next.ensures.turned h.scanned h.scans (next-rises h n r) (can-come h n r) in (
       settled-next h n r _ (wanted-turn h.scanned t.0 n c.next.result c.in-Wanted.is t.1),
       wrote-next h n r,

@@ -1,4 +1,5 @@
 -- ClosedObjects::add: the lines of one object more, or with a summary its session's sums.
+use Rattle.std.proofs.Common.{rules}
 use Rattle.std.proofs.Common.{◌≡◌, ◌∷◌, ◌++◌, ◌&&◌, [], List, ℕ, Option, Some, Ok, false, refl, sym, ◌∙◌, ap, subst}
 use Rattle.std.specs.List.{flat_map}
 use Rattle.flute_parts.specs.Devices.{Writes}
@@ -21,28 +22,22 @@ use Rattle.flutejoin.proofs.gaps.closed_objects.ClosedObjects.add.Goals.{in_defa
 use Rattle.flutejoin.proofs.gaps.closed_objects.ClosedObjects.add.Goals.{in_default-sums-via-in_default-sums}
 use Rattle.flutejoin.proofs.gaps.closed_objects.ClosedObjects.add.Goals.{in-Whole, in_default}
 
-not_whole : (status : Status) → ((length : ℕ) → status ≡ Whole length → ⊥)
-    → is_whole status ≡ false
-not_whole (Whole length) other = absurd (other length refl)
-not_whole NoInformation other = refl
-not_whole ConflictingInformation other = refl
-not_whole (Partial missing conflicting misfit) other = refl
+not_whole : (status : Status) → ((length : ℕ) → status ≡ Whole length → ⊥) → is_whole status ≡ false
+not_whole x0 x1 = search rules
 
 pub returns-then-not-tells-clause-added : goal.returns-then-not-tells-clause-added
-returns-then-not-tells-clause-added g c = λ known objects bytes t e is stray h k.
-    let none : is_told c.args.style t.status ≡ false =
-    ap (is_told c.args.style) is ∙ sym c.tells.ensures ∙ c.if-not-tells.true in
-    told_nothing t none stray h k
+returns-then-not-tells-clause-added g c = λ known objects bytes t e is stray h k. let none : is_told
+    c.args.style t.status ≡ false = ap (is_told c.args.style) is ∙ sym c.tells.ensures ∙
+    c.if-not-tells.true in told_nothing t none stray h k
 
 pub returns-in-Some-clause-added : goal.returns-in-Some-clause-added
-returns-in-Some-clause-added g c = λ known objects bytes t e is stray h k.
-    let style = c.args.style in
+returns-in-Some-clause-added g c = λ known objects bytes t e is stray h k. let style = c.args.style
+    in
     let old = c.in-Some.last in
     let q = subst (λ (o : Option SessionSums). AreSummed (listed_by style objects) bytes o)
     c.in-Some.is (are_summed c.if-not-style.false h) in
-    let same : old.session ≡ t.key.session =
-    equal_sessions old.session c.args.key.now.session c.if-eq.ensures
-    ∙ sym (ap (λ (x : Key). x.session) e) in
+    let same : old.session ≡ t.key.session = equal_sessions old.session c.args.key.now.session
+    c.if-eq.ensures ∙ sym (ap (λ (x : Key). x.session) e) in
     let a = subst (λ (s : Status). AddsObject s old c.add.new.self) (sym is) c.add.ensures.added in
     told_summed known (Some c.add.new.self) (g.A.Sink.written c.args.lines.now) (Ok tt)
     c.if-not-style.false (record {
@@ -55,64 +50,58 @@ returns-in-Some-clause-added g c = λ known objects bytes t e is stray h k.
 
 pub returns-in_ok-end_session-in_default-sums-clause-added :
     goal.returns-in_ok-end_session-in_default-sums-clause-added
-returns-in_ok-end_session-in_default-sums-clause-added g c =
-    λ known objects bytes t e is stray h k.
+returns-in_ok-end_session-in_default-sums-clause-added g c = λ known objects bytes t e is stray h k.
     let style = c.args.style in
     let session = c.args.key.now.session in
     let of : t.key.session ≡ session = ap (λ (x : Key). x.session) e in
     let q = are_summed c.if-not-style.false h in
     let all_whole = c.args.self.now.all_whole && c.match-matches.matches in
-    let P : ClosedObjects → Type 0 = λ x. (AreSummed (listed_by style objects) bytes x.sums
-    × IsOfOthers t.key.session x.sums) × (x.all_whole ≡ all_whole) in
+    let P : ClosedObjects → Type 0 = λ x.
+    (AreSummed (listed_by style objects) bytes x.sums × IsOfOthers t.key.session x.sums) ×
+    (x.all_whole ≡ all_whole) in
     let here : P c.in_default-sums.self = elim c.in_default-sums.branch [
-      | in_default-sums-via-in-Some+else-eq w ↦
-          let last = w.in-Some.last in
+      | in_default-sums-via-in-Some+else-eq w ↦ let last = w.in-Some.last in
           let apart = other_sessions last.session session w.if-eq.ensures in
           let others : IsOfOthers t.key.session (Some last) = λ same. apart (same ∙ of) in
           let one = subst (λ (o : Option SessionSums). AreSummed (listed_by style objects) bytes o)
-          w.in-Some.is q in
-          subst P (sym w.self-is) ((one, others), refl)
-      | in_default-sums-via-in_default-sums w ↦
-          let none = subst (λ (o : Option SessionSums). IsOfOthers t.key.session o)
-          (sym w.in_default-sums.is) tt in
+          w.in-Some.is q in subst P (sym w.self-is) ((one, others), refl)
+      | in_default-sums-via-in_default-sums w ↦ let none = subst
+          (λ (o : Option SessionSums). IsOfOthers t.key.session o) (sym w.in_default-sums.is) tt in
           subst P (sym w.self-is) ((q, none), refl)
     ] in
     let new = Some c.add-in_default-sums.new.self in
-    let begun = subst (λ (s : Session). BeginsSession s t.status new) (sym of)
-    (subst (λ (s : Status). BeginsSession session s new) (sym is) (
-      c.add-in_default-sums.ensures.within 0 c.new-next.ensures.within,
+    let begun = subst (λ (s : Session). BeginsSession s t.status new) (sym of) (subst
+    (λ (s : Status). BeginsSession session s new) (sym is) (
+      c.add-in_default-sums.ensures.within 0
+          c.new-next.ensures.within,
       (c.new-next.result, c.new-next.ensures.none, c.add-in_default-sums.ensures.added),
     )) in
     let w = g.A.Sink.written c.end_session.new.lines in
     let gaps = flat_map (shown_gap style) t.gaps in
-    subst (λ a. ArePut known style (objects ++ t ∷ []) gaps w
-    (record { all_whole = a; sums = new })) (sym here.1)
-    (told_summed known new w (Ok tt)
-    c.if-not-style.false (record {
+    subst
+    (λ a. ArePut known style (objects ++ t ∷ []) gaps w (record { all_whole = a; sums = new }))
+    (sym here.1) (told_summed known new w (Ok tt) c.if-not-style.false (record {
       told = ap (is_told style) is ∙ sym c.tells.ensures ∙ c.if-not-tells.false;
       whole_is = elim c.match-matches.branch [
         | in-Whole w ↦ rw (is, w.in-Whole.is) w.matches-is
         | in_default w ↦ rw is (w.matches-is ∙ sym (not_whole _ w.in_default.not-Whole))
       ];
-    }) h
-    (begun_known (listed_by style objects) t c.in_default-sums.self.sums here.0 k begun
+    }) h (begun_known (listed_by style objects) t c.in_default-sums.self.sums here.0 k begun
     c.in_ok-end_session-in_default-sums.ensures.line))
 
 pub returns-then-not-style-clause-added : goal.returns-then-not-style-clause-added
-returns-then-not-style-clause-added g c = λ known objects bytes t e is stray h k.
-    let style = c.args.style in
+returns-then-not-style-clause-added g c = λ known objects bytes t e is stray h k. let style =
+    c.args.style in
     let s = g.A.Sink.written c.args.lines.now in
     let s' = g.A.Sink.written c.write_words.new.sink in
     let r = c.write_words.result in
     let line = subst (λ (x : List ℕ). Writes s s' x r) c.status_text.ensures.line
     c.write_words.ensures.line in
-    let own : status_line c.args.key.now c.args.status ≡ status_line t.key t.status =
-    λ i. status_line (sym e i) (sym is i) in
-    told_lined s' r c.if-not-style.true (record {
+    let own : status_line c.args.key.now c.args.status ≡ status_line t.key t.status = λ i.
+    status_line (sym e i) (sym is i) in told_lined s' r c.if-not-style.true (record {
       told = ap (is_told style) is ∙ sym c.tells.ensures ∙ c.if-not-tells.false;
       whole_is = elim c.match-matches.branch [
         | in-Whole w ↦ rw (is, w.in-Whole.is) w.matches-is
         | in_default w ↦ rw is (w.matches-is ∙ sym (not_whole _ w.in_default.not-Whole))
       ];
-    }) h k
-    (subst (λ (x : List ℕ). Writes s s' x r) own line)
+    }) h k (subst (λ (x : List ℕ). Writes s s' x r) own line)

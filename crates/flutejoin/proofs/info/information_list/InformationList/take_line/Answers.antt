@@ -11,10 +11,9 @@ use Rattle.flutejoin.proofs.info.information_list.InformationList.take_line.Goal
 pub returns-then-is_passed_over-clause-taken : goal.returns-then-is_passed_over-clause-taken
 returns-then-is_passed_over-clause-taken g c = λ words h. (
   [],
-  passed_over (passed_kept c.args.self.now.line words h
-      (subst IsPassedOver c.as_slice-line.ensures
-      (c.is_passed_over.ensures.0 c.if-is_passed_over.true)))
-      refl,
+  passed_over (passed_kept
+      c.args.self.now.line words h (subst IsPassedOver c.as_slice-line.ensures
+      (c.is_passed_over.ensures.0 c.if-is_passed_over.true))) refl,
   search rules,
 )
 
@@ -30,22 +29,15 @@ returns-in_default-clause-failed g c = λ words h.
     })
 
 pub returns-in-Err-clause-failed : goal.returns-in-Err-clause-failed
-returns-in-Err-clause-failed g c = λ words h.
-    let line = c.args.self.now.line in
+returns-in-Err-clause-failed g c = λ words h. let line = c.args.self.now.line in
     let key = c.in-Some.key in
     let n = numbers_of c.in-Some.numbers in
     let shows : Shows words key n = kept_shows line words key n h (search rules) (search rules)
-    (sym c.as_slice-line.ensures ∙ c.in-Some.ensures.found) in
-    not_valid c.in-Err.fault refl (record {
-      key = key;
-      info = n;
-      shows = shows;
-      invalid = c.in-Err.ensures;
-    })
+    (sym c.as_slice-line.ensures ∙ c.in-Some.ensures.found) in not_valid c.in-Err.fault refl
+    (record { key = key; info = n; shows = shows; invalid = c.in-Err.ensures })
 
 pub returns-in-Ok-add-clause-taken : goal.returns-in-Ok-add-clause-taken
-returns-in-Ok-add-clause-taken g c = λ words h.
-    let line = c.args.self.now.line in
+returns-in-Ok-add-clause-taken g c = λ words h. let line = c.args.self.now.line in
     let key = c.in-Some.key in
     let n = numbers_of c.in-Some.numbers in
     let shows : Shows words key n = kept_shows line words key n h (search rules) (search rules)
@@ -55,8 +47,7 @@ returns-in-Ok-add-clause-taken g c = λ words h.
     (fact ∷ [], tells, c.in-Ok-add.ensures.ok)
 
 pub returns-in-Err-Full-clause-failed : goal.returns-in-Err-Full-clause-failed
-returns-in-Err-Full-clause-failed g c = λ words h.
-    let line = c.args.self.now.line in
+returns-in-Err-Full-clause-failed g c = λ words h. let line = c.args.self.now.line in
     let key = c.in-Some.key in
     let n = numbers_of c.in-Some.numbers in
     let shows : Shows words key n = kept_shows line words key n h (search rules) (search rules)

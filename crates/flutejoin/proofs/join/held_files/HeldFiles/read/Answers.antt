@@ -1,4 +1,5 @@
 -- HeldFiles::read: records, one after the other.
+use Rattle.std.proofs.Common.{rules}
 use Rattle.std.proofs.Common.{refl, Some, Ok, ap, ◌∙◌, subst, ◌∷◌, [], ◌++◌, append-nil}
 use Rattle.std.proofs.Common.{append_assoc, arith, sym}
 use Rattle.std.proofs.lemmas.List.{length-append}
@@ -39,19 +40,18 @@ loop-datagram-init g c =
 pub returns-in_err-datagram-clause-failed : goal.returns-in_err-datagram-clause-failed
 returns-in_err-datagram-clause-failed g c =
     let e = err_from_is_err_and c.from_residual.result c.from_residual.ensures.1 in
-    let why =
-    read_err c.args.number c.next_with.result c.at_input.result c.in_err-datagram.field-0.0
-    c.at_input.ensures c.in_err-datagram.was in
+    let why = read_err c.args.number c.next_with.result c.at_input.result
+    c.in_err-datagram.field-0.0 c.at_input.ensures c.in_err-datagram.was in
     let all = c.loop-datagram.invariant.so_far in
     let gives = subst (Gives file_framing c.loop-datagram.reader.max_records
-    c.loop-datagram.reader.state
-    c.next_with.new.self.state (g.S.Source.unread c.loop-datagram.reader.source.now)
+    c.loop-datagram.reader.state c.next_with.new.self.state
+    (g.S.Source.unread c.loop-datagram.reader.source.now)
     (g.S.Source.unread c.next_with.new.self.source.now)) why.was c.next_with.ensures.gives in
-    let stops =
-    c.a_file_is_read_record_by_record.ensures.stops _ _ _ _ _ _ all.0 why.why all.1 gives in
-    rw (e.1, e.2, why.is) (
+    let stops = c.a_file_is_read_record_by_record.ensures.stops _ _ _ _ _ _ all.0 why.why all.1
+    gives in rw (e.1, e.2, why.is) (
       refl,
-      subst (λ n. HasFault file_framing n (g.S.Source.unread c.args.source.now) why.why)
+      subst
+          (λ n. HasFault file_framing n (g.S.Source.unread c.args.source.now) why.why)
           c.loop-datagram.invariant.limit stops,
     )
 

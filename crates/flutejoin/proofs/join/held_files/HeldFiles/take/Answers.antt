@@ -1,62 +1,67 @@
 -- HeldFiles::take: a datagram more, whether or not there was room for it.
-use Rattle.std.proofs.Common.{refl, sym, ◌∙◌, inl, ap, Err}
+use Rattle.std.proofs.Common.{refl, sym, ◌∙◌, inl, ap, Err, append-nil}
+use Rattle.flute_parts.proofs.Public.{Same-itself}
+use Rattle.flute_streams.specs.Scopes.{takes_key}
+use Rattle.flutejoin.specs.Joined.{choice_of}
 use Rattle.flutejoin.specs.Limits.{at_most}
 use Rattle.flutejoin.proofs.join_lemmas.Held.{holds_past, holds_over, holds_passed, holds_taken}
-use Rattle.flutejoin.proofs.join_lemmas.Taking.{HasOneReading, is_refused-no, is_refused-yes}
-use Rattle.flutejoin.proofs.join_lemmas.Taking.{ok_is_packet, refused_same}
-use Rattle.flutejoin.proofs.join.held_files.HeldFiles.take.Goals.{in-Ok, in-Err-Datagram}
+use Rattle.flutejoin.proofs.join_lemmas.Taking.{packet_taken, packet_passed, no_packet}
+use Rattle.flutejoin.proofs.join.held_files.HeldFiles.take.Goals.{in-Ok+in-Ok-take_packet}
+use Rattle.flutejoin.proofs.join.held_files.HeldFiles.take.Goals.{in-Ok-2, in-Err}
 use Rattle.flutejoin.proofs.join.held_files.HeldFiles.take.Goals as goal
 
 pub returns-then-not-self-clause-taken : goal.returns-then-not-self-clause-taken
 returns-then-not-self-clause-taken g c = λ ds h.
     holds_past c.args.datagram.now c.if-not-self.true h
 
-pub returns-then-is_of_others-clause-taken : goal.returns-then-is_of_others-clause-taken
-returns-then-is_of_others-clause-taken g c = λ ds h.
-    holds_passed c.if-not-self.false c.if-not-self.false refl
-    (record {
-      none = c.is_of_others.ensures.others c.if-is_of_others.true;
-      kept = c.is_of_others.ensures.packet c.if-is_of_others.true;
-      other =
-          sym (c.is_of_others.ensures.exact (at_most g.row.SESSIONS g.row.OBJECTS g.row.SYMBOLS))
-          ∙ c.if-is_of_others.true;
-    }) refl refl h
-
 pub returns-in-Err-Full-clause-taken : goal.returns-in-Err-Full-clause-taken
 returns-in-Err-Full-clause-taken g c = λ ds h.
-    holds_over c.args.datagram.now c.if-not-self.false refl
-    (c.is_of_others.ensures.taken c.if-is_of_others.false)
+    let choice =
+    choice_of (at_most g.row.SESSIONS g.row.OBJECTS g.row.SYMBOLS) c.args.sender
+    c.args.scope.now in
+    let t =
+    packet_taken choice c.args.datagram.now c.in-Ok.packet c.in-Ok.ensures.spelled
+    (ap (takes_key c.args.scope.now) (sym c.key.ensures) ∙ sym c.takes.ensures
+    ∙ c.if-takes.true) in
+    holds_over c.args.datagram.now c.if-not-self.false refl t.told
     (inl (
       refl,
-      c.take.ensures.full.0 (c.in-Err-Full.is ∙ ap Err c.in-Err-Full.field-0-is),
+      c.take_packet.ensures.full.0 (c.in-Err-Full.is ∙ ap Err c.in-Err-Full.field-0-is),
     )) refl h
 
 pub returns-clause-taken : goal.returns-clause-taken
 returns-clause-taken g c = λ ds h.
     let d = c.args.datagram.now in
-    let one : HasOneReading d = record { some = c.one_reading.ensures.some d } in
-    let told = c.is_of_others.ensures.taken c.if-is_of_others.false in
-    let own =
-    sym (c.is_of_others.ensures.exact (at_most g.row.SESSIONS g.row.OBJECTS g.row.SYMBOLS))
-    ∙ c.if-is_of_others.false in
-    elim c.match-take.branch [
-      | in-Ok w ↦
+    let takes = takes_key c.args.scope.now in
+    let store = c.args.self.now.told.store in
+    let fits = c.if-not-self.false in
+    let choice =
+    choice_of (at_most g.row.SESSIONS g.row.OBJECTS g.row.SYMBOLS) c.args.sender
+    c.args.scope.now in
+    elim c.match-read.branch [
+      | in-Ok+in-Ok-take_packet w ↦
+          let t =
+          packet_taken choice d w.in-Ok.packet w.in-Ok.ensures.spelled
+          (ap takes (sym w.key.ensures) ∙ sym w.takes.ensures ∙ w.if-takes.true) in
           rw w.self-is
-          (holds_taken c.if-not-self.false c.if-not-self.false refl told refl own (record {
-            content = w.in-Ok.ensures.ok;
+          (holds_taken fits fits refl t.told refl t.own (record {
+            content = w.in-Ok-take_packet.ensures.ok;
             datagrams = refl;
-            refused = rw (is_refused-no d (ok_is_packet d c.take.result w.in-Ok.field-0 one
-                c.take.ensures.refused w.in-Ok.is)) refl;
+            refused = rw t.kept refl;
           }) h)
-      | in-Err-Datagram w ↦
-          let refuses =
-          (c.take.ensures.refused w.in-Err-Datagram.field-0-0).0
-          (w.in-Err-Datagram.is ∙ ap Err w.in-Err-Datagram.field-0-is) in
+      | in-Ok-2 w ↦
+          let t =
+          packet_passed choice d w.in-Ok.packet w.in-Ok.ensures.spelled
+          (ap takes (sym w.key.ensures) ∙ sym w.takes.ensures ∙ w.if-takes.false) in
+          rw w.self-is (holds_passed fits fits refl t refl refl h)
+      | in-Err w ↦
+          let t =
+          no_packet choice d w.in-Err.field-0 w.in-Err.ensures.refused.applies
+          (λ p s. let ok = (w.in-Err.ensures.packet p).1 s in cc) in
           rw w.self-is
-          (holds_taken c.if-not-self.false c.if-not-self.false refl told refl own (record {
-            content = refused_same c.args.sender c.args.self.now.told.store c.take.new.self d
-                w.in-Err-Datagram.field-0-0 refuses.applies w.in-Err-Datagram.ensures.err;
+          (holds_taken fits fits refl t.none refl t.own (record {
+            content = rw (append-nil store) (Same-itself store);
             datagrams = refl;
-            refused = rw (is_refused-yes d w.in-Err-Datagram.field-0-0 one refuses.applies) refl;
+            refused = rw t.refused refl;
           }) h)
     ]

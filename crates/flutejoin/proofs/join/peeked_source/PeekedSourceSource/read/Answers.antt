@@ -1,4 +1,5 @@
 -- Bytes that were read ahead are given again.
+use Rattle.std.proofs.Common.{rules}
 use Rattle.std.proofs.Common.{◌≡◌, ℕ, ◌+◌, ◌≤◌, ◌++◌, ◌==◌, false, zero, suc, List, [], ◌∷◌, length, take, refl, Result}
 use Rattle.std.proofs.Common.{drop, min, true, Option, Some, None, sym, ◌∙◌, ap, arith, append_assoc}
 use Rattle.std.proofs.Common.{length-drop, length-append, length-take-le, take-append-drop}
@@ -24,15 +25,12 @@ given_again (Some more) front copy rest given n e within =
     rw first (ap (λ xs. xs ++ more) whole ∙ append_assoc (take n D) (drop (given + n) front) more)
 
 -- what is left of the first bytes
-left_of : (front : List ℕ) (given : ℕ) {first left : List ℕ} {n : ℕ}
-    → left ≡ drop n first
-    → n ≡ min given (length first) → first ≡ front → left ≡ drop given front
-left_of front given {first} l n f =
-    l ∙ ap (λ k. drop k first) n ∙ drop_min given first ∙ ap (drop given) f
+left_of : (front : List ℕ) (given : ℕ) {first left : List ℕ} {n : ℕ} → left ≡ drop n first → n ≡ min
+    given (length first) → first ≡ front → left ≡ drop given front
+left_of front given {first} l n f = search (rules, drop_min)
 
 nothing_before : (u : Option (List ℕ)) → prepend_known [] u ≡ u
-nothing_before None = refl
-nothing_before (Some more) = refl
+nothing_before x0 = search rules
 
 -- once they were given, the source is read
 source_read : (left : List ℕ) (u v : Option (List ℕ)) (r : Result ℕ DeviceFault)
@@ -44,44 +42,39 @@ source_read (x ∷ left) u v r buffer e h =
     absurd (true≢false (e ∙ some))
 
 some_left : (n : ℕ) → false ≡ (n == 0) → n ≡ 0 → ⊥
-some_left zero e none = absurd cc
-some_left (suc n) e none = omega (arith, none)
+some_left x0 x1 x2 = search rules
 
 pub returns-then-is_empty-clause-bytes : goal.returns-then-is_empty-clause-bytes
 returns-then-is_empty-clause-bytes g c =
     let front = take c.args.self.now.count c.args.self.now.first in
     let left = left_of front c.args.self.now.given c.split_at.ensures.back c.min.ensures
-    c.first-first.ensures.bytes in
-    source_read _ (g.R.Source.unread c.args.self.now.source) (g.R.Source.unread c.read.new.self)
-    c.read.result c.read.new.buffer (c.if-is_empty.ensures ∙ ap (λ xs. length xs == 0) left)
-    c.read.ensures.bytes
+    c.first-first.ensures.bytes in source_read _ (g.R.Source.unread c.args.self.now.source)
+    (g.R.Source.unread c.read.new.self) c.read.result c.read.new.buffer
+    (c.if-is_empty.ensures ∙ ap (λ xs. length xs == 0) left) c.read.ensures.bytes
 
 pub returns-clause-bytes : goal.returns-clause-bytes
 returns-clause-bytes g c =
     let front = take c.args.self.now.count c.args.self.now.first in
     let given = c.args.self.now.given in
-    let left : c.split_at.result.1.now ≡ drop given front =
-    left_of front given c.split_at.ensures.back
-    c.min.ensures c.first-first.ensures.bytes in
+    let left : c.split_at.result.1.now ≡ drop given front = left_of front given
+    c.split_at.ensures.back c.min.ensures c.first-first.ensures.bytes in
     let least : c.min-count.result ≡ min (length (drop given front)) (length c.args.buffer.now) =
     c.min-count.ensures ∙ ap (λ xs. min (length xs) (length c.args.buffer.now)) left in
     let copy = c.copy_from_slice.ensures.after ∙ ap (take c.min-count.result) left in (
       given_again (g.R.Source.unread c.args.self.now.source) front c.copy_from_slice.new.self _
           given c.min-count.result copy (omega (arith, least)),
-      λ none filled.
-          absurd (some_left (length (drop given front))
-          (sym c.if-is_empty.false ∙ c.is_empty.ensures ∙ ap (λ xs. length xs == 0) left)
-          (omega (
+      λ none filled. absurd (some_left
+          (length (drop given front))
+          (sym c.if-is_empty.false ∙ c.is_empty.ensures ∙ ap (λ xs. length xs == 0) left) (omega (
             arith,
             least,
             none,
             filled,
             length-append c.copy_from_slice.new.self
                 (drop c.min-count.result c.args.buffer.now),
-            length-drop c.min-count.result
-                c.args.buffer.now,
+            length-drop c.min-count.result c.args.buffer.now,
             c.copy_from_slice.ensures.len,
-            length-take-le c.min-count.result
-                c.args.buffer.now (omega (arith, least)),
+            length-take-le c.min-count.result c.args.buffer.now
+                (omega (arith, least)),
           ))),
     )

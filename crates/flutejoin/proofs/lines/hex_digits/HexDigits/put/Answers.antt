@@ -1,3 +1,5 @@
+use Rattle.std.proofs.lemmas.Grind.{common_steps}
+use Rattle.std.proofs.Common.{rules}
 use Rattle.std.proofs.Common.{ℕ, ◌<◌, ◌/◌, ◌%◌, arith, slice_index, ap, ◌∙◌}
 use Rattle.hex.specs.Hex.{lower_digits}
 use Rattle.hex.proofs.Pairs.{encode_step, encode_done}
@@ -15,6 +17,5 @@ loop-i-preserved c =
     c.loop-i.invariant
 
 pub returns : goal.returns
-returns c =
-    encode_done lower_digits c.args.bytes.now c.loop-i.room c.loop-i.i (omega arith)
+returns c = encode_done lower_digits c.args.bytes.now c.loop-i.room c.loop-i.i (omega arith)
     (omega (arith, c.requires, c.loop-i.auto.room)) c.loop-i.invariant

@@ -4,5 +4,4 @@ use Rattle.hex.specs.Hex.{encode_lower}
 use Rattle.flutejoin.proofs.lines.hex_digits.HexDigits.put.Given as goal
 
 abbrev pub invariant-loop-i : goal.invariant-loop-i
-invariant-loop-i l =
-    take (2 * l.i) l.room ++ encode_lower (drop l.i l.bytes) ≡ encode_lower l.bytes
+invariant-loop-i l = take (2 * l.i) l.room ++ encode_lower (drop l.i l.bytes) ≡ encode_lower l.bytes

@@ -6,10 +6,9 @@ use Rattle.hex.specs.Hex.{encode_lower}
 use Rattle.flutejoin.proofs.lines.hex_digits.HexDigits.write_line.Given as goal
 
 abbrev pub invariant-loop-rest : goal.invariant-loop-rest
-invariant-loop-rest g l = (length l.digits ≡ 1024)
-    × ((front : List ℕ) × (l.bytes ≡ front ++ l.rest)
-    × Appends (g.W.Sink.written l.initial.sink) (g.W.Sink.written l.sink) (encode_lower front))
-    × (g.W.Sink.failures l.sink ≡ g.W.Sink.failures l.initial.sink)
+invariant-loop-rest g l = (length l.digits ≡ 1024) × ((front : List ℕ) × (l.bytes ≡ front ++ l.rest)
+    × Appends (g.W.Sink.written l.initial.sink) (g.W.Sink.written l.sink) (encode_lower front)) ×
+    (g.W.Sink.failures l.sink ≡ g.W.Sink.failures l.initial.sink)
 
 abbrev pub decreases-loop-rest : goal.decreases-loop-rest
 decreases-loop-rest g l = length l.rest

@@ -1,3 +1,4 @@
+use Rattle.std.proofs.Common.{rules}
 use Rattle.std.proofs.Common.{◌≡◌, List, ℕ, ◌++◌, codes, decimal, refl, append_assoc}
 use Rattle.flutejoin.specs.Lines.{count_line}
 use Rattle.flutejoin.proofs.lines.text.Text.push_count.Goals as goal
@@ -7,11 +8,4 @@ regroup a w s n l = simp append_assoc refl
 
 pub returns-clause-text : goal.returns-clause-text
 unfolding count_line
-returns-clause-text c =
-    rw (
-      c.push-3.ensures.text,
-      c.push_number.ensures.text,
-      c.push-2.ensures.text,
-      c.push.ensures.text,
-    )
-    (regroup c.args.self.now c.args.word.now (codes " ") (decimal c.args.count) (codes "\n"))
+returns-clause-text c = search (rules, regroup)

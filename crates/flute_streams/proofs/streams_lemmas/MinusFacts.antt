@@ -1,0 +1,381 @@
+-- Minus: how its streams go on (specs/MinusStreams).
+use Rattle.std.proofs.Common.{◌≡◌, true, false, cond, Bool, not, List, [], ◌∷◌, ◌++◌, filter}
+use Rattle.std.proofs.Common.{refl, sym, ap, ◌∙◌, subst, inl, inr, ◌⊎◌}
+use Rattle.std.proofs.Common.{Result, Err, IfErr, Option, Some, None, append-nil, length, arith}
+use Rattle.std.proofs.Common.{◌+◌, ◌≤◌, is_eq}
+use Rattle.std.proofs.lemmas.Bool.{cases_Bool, false≢true}
+use Rattle.std.proofs.lemmas.Option.{none-some}
+use Rattle.std.proofs.lemmas.List.Elements.{filter-append}
+use Rattle.std.specs.declared.cmp.Ordering.{Ordering}
+use Rattle.std.specs.declared.cmp.Ordering.TheVariants.{Less, Equal, Greater}
+use Rattle.std.specs.Ordering.{ordering_reverse}
+use Rattle.flute_parts.specs.Addresses.{address}
+use Rattle.flute_parts.specs.Equality.{address_same}
+use Rattle.flute_parts.specs.Facts.{IsRising, StandAfter, fact_at}
+use Rattle.flute_parts.specs.Order.{address_cmp, same_address}
+use Rattle.flute_parts.specs.Totality.{address_total}
+use Rattle.flute_parts.specs.declared.address.Address.{Address}
+use Rattle.flute_parts.specs.declared.fact.Fact.{Fact}
+use Rattle.flute_parts.proofs.Public.{alone, alone-at, alone-elsewhere, fact_at-append, fact_at-nil}
+use Rattle.flute_parts.proofs.Public.{fact_at-elsewhere, fact_at-after, joined, joined-none}
+use Rattle.flute_parts.proofs.Public.{StandAfter-before}
+use Rattle.flute_journal.specs.declared.fault.LoadFault.{LoadFault}
+use Rattle.flute_streams.specs.Streams.{Behaviour, Continues, Gave, GoesOn, Stopped, StopsAt}
+use Rattle.flute_streams.specs.Streams.{option_list, address_of}
+use Rattle.flute_streams.specs.declared.streams.minus.Minus.{Minus}
+use Rattle.flute_streams.specs.declared.streams.minus.Turn.TheVariants.{Stay, First, Second}
+use Rattle.flute_streams.specs.Behind.{Behind, UpTo}
+use Rattle.flute_streams.proofs.streams_lemmas.Before.{back, before_later, before_more}
+use Rattle.flute_streams.proofs.streams_lemmas.Before.{before_value, behind_new, rising_after}
+use Rattle.flute_streams.proofs.streams_lemmas.Before.{turned}
+use Rattle.flute_streams.proofs.streams_lemmas.ChosenFacts.{rising_filter}
+use Rattle.flute_streams.specs.Minus.{has, changes, minus}
+use Rattle.flute_streams.specs.MinusStreams.{turn_at, turn_of, StillNew, Between, Passed}
+use Rattle.flute_streams.specs.MinusStreams.{FailsIn, minus_behaviour, Walks, Moves}
+use Rattle.flute_streams.proofs.streams_lemmas.MinusTurns.{behind_goes, behind_second, first_holds}
+use Rattle.flute_streams.proofs.streams_lemmas.MinusTurns.{left_second, second_holds, some_length}
+use Rattle.flute_streams.proofs.streams_lemmas.MinusTurns.{stay_ended, untouched, up_to_first}
+use Rattle.flute_streams.proofs.streams_lemmas.MinusTurns.{up_to_goes, up_to_none, up_to_stay}
+use Rattle.flute_streams.proofs.streams_lemmas.MinusTurns.{with_held, without_held}
+
+module _ {S T : Type 0} (a : Behaviour S) (b : Behaviour T) where
+  abbrev w : Behaviour (Minus S T)
+  w = minus_behaviour a b
+
+  as_new : {A : Type 0} (c : Behaviour A) (start x y : A) → StillNew c start x → GoesOn c x y
+      → Gave c start y []
+  as_new c start x y n g =
+      subst (λ h. Gave c start y ([] ++ option_list h)) n.held (g.gave start [] n.passes)
+
+  no_stop : {A : Type 0} (c : Behaviour A) (start x y : A) (fault : LoadFault) → StillNew c start x
+      → StopsAt c x y fault → Stopped c start y [] fault
+  no_stop c start x y fault n g =
+      subst (λ h. Stopped c start y ([] ++ option_list h) fault) n.held (g start [] n.passes)
+
+  nothing : (h : Option Fact) (facts : List Fact) → h ≡ None → facts ≡ []
+      → facts ++ option_list h ≡ []
+  nothing h facts n e = ap (λ l. l ++ option_list h) e ∙ ap (λ z. option_list z) n
+
+  -- what both streams are known to have goes on as what is left of it
+  module _ (held other : Option Fact) (all others : List Fact) where
+    known : (K L F : List Fact) → F ≡ minus (all ++ option_list held) (others ++ option_list other)
+        → UpTo other (all ++ option_list held) → turn_of held other ≡ Stay
+        → Continues K (all ++ option_list held) held
+        → Continues L (others ++ option_list other) other → Continues (minus K L) F held
+    known K L F e u t k l =
+        let A = all ++ option_list held in
+        let C = others ++ option_list other in
+        record {
+          rest = minus k.rest L;
+          is = ap (λ z. minus z L) k.is ∙ filter-append (changes L) A k.rest
+              ∙ ap (λ z. z ++ minus k.rest L)
+              (ap (λ z. minus A z) l.is ∙ same_left other others A l.rest u
+              (subst IsRising l.is l.rising) l.ended ∙ sym e);
+          rising = rising_filter (changes L) K k.rising;
+          ended = λ n. ap (λ z. minus z L) (k.ended n);
+        }
+      where
+        same_left : (other : Option Fact) (others A R : List Fact) → UpTo other A
+            → IsRising ((others ++ option_list other) ++ R) → (other ≡ None → R ≡ [])
+            → minus A ((others ++ option_list other) ++ R) ≡ minus A (others ++ option_list other)
+        same_left None others A R u r n =
+            ap (λ z. minus A ((others ++ []) ++ z)) (n refl)
+            ∙ ap (λ z. minus A z) (append-nil (others ++ []))
+        same_left (Some g) others A R u r n =
+            untouched g A (others ++ g ∷ []) R u (rising_after others g R r)
+
+  pub first_never : (x t : Minus S T) {fault : LoadFault} → x.begun ≡ false → StopsAt a x.first t.first fault
+      → t.second ≡ x.second → t.in_second ≡ false → StopsAt w x t fault
+  first_never x t {fault = fault} e g same sound = λ start facts p.
+      let q = subst (λ z. Passed a b z start x facts) e p in
+      let r = no_stop a start.first x.first t.first fault q.0 g in
+      record {
+        reads = record {
+          all = [];
+          others = [];
+          first = r.reads;
+          second = subst (λ s. b.reads start.second s []) (sym same) q.1.reads;
+          left = nothing (a.held x.first) facts q.0.held q.2;
+        };
+        fails = subst (λ z. FailsIn a b z start t fault) (sym sound)
+            (r.stops, r.fails, subst (λ s. b.fails start.second s None) (sym same) q.1.fails);
+        stops = inl r.stops;
+      }
+
+  pub second_never : (x t : Minus S T) {fault : LoadFault} → x.begun ≡ false → GoesOn a x.first t.first
+      → StopsAt b x.second t.second fault → t.in_second ≡ true → StopsAt w x t fault
+  second_never x t {fault = fault} e g h sound = λ start facts p.
+      let q = subst (λ z. Passed a b z start x facts) e p in
+      let v = as_new a start.first x.first t.first q.0 g in
+      let r = no_stop b start.second x.second t.second fault q.1 h in
+      record {
+        reads = record {
+          all = [];
+          others = [];
+          first = v.reads;
+          second = r.reads;
+          left = nothing (a.held x.first) facts q.0.held q.2;
+        };
+        fails = subst (λ z. FailsIn a b z start t fault) (sym sound) (r.stops, r.fails, v.fails);
+        stops = inr r.stops;
+      }
+
+  module _ {x t : Minus S T} where
+    -- new ones take their first facts
+    pub begins : x.begun ≡ false → GoesOn a x.first t.first → GoesOn b x.second t.second
+        → t.begun ≡ true → t.in_second ≡ false → Walks a b x t
+    begins e g h begun sound = record {
+      between = λ start facts p.
+          let q = subst (λ z. Passed a b z start x facts) e p in
+          subst (λ l. Between a b start t l)
+          (sym (ap (λ l. l ++ option_list (a.held x.first)) q.2
+          ∙ ap (λ h. option_list h) q.0.held))
+          (record {
+            all = [];
+            others = [];
+            first = as_new a start.first x.first t.first q.0 g;
+            second = as_new b start.second x.second t.second q.1 h;
+            left = refl;
+            up_to = up_to_none (b.held t.second);
+            behind = behind_new (a.held t.first);
+            begun = begun;
+            sound = sound;
+          });
+      begun = begun;
+      fewer = g.fewer;
+    }
+
+    -- the first goes on
+    module _ (start : Minus S T) (F G : List Fact) (B : Between a b start x F) where
+      first_goes : (a.held x.first ≡ None → ⊥) → GoesOn a x.first t.first
+          → G ≡ minus (B.all ++ option_list (a.held x.first)) (B.others ++ option_list (b.held x.second))
+          → UpTo (b.held x.second) (B.all ++ option_list (a.held x.first)) → t.second ≡ x.second
+          → t.begun ≡ true → t.in_second ≡ false → Between a b start t G
+      first_goes n g left up same begun sound =
+          let v = g.gave start.first B.all B.first.passes in
+          record {
+            all = B.all ++ option_list (a.held x.first);
+            others = B.others;
+            first = v;
+            second = subst (λ s. Gave b start.second s B.others) (sym same) B.second;
+            left = subst (λ s. G ≡ minus (B.all ++ option_list (a.held x.first))
+                (B.others ++ option_list (b.held s))) (sym same) left;
+            up_to = subst (λ s. UpTo (b.held s) (B.all ++ option_list (a.held x.first))) (sym same) up;
+            behind = behind_goes (a.held x.first) (a.held t.first) B.all B.others n v.rising B.behind;
+            begun = begun;
+            sound = sound;
+          }
+
+    first_stops : (start : Minus S T) (F G : List Fact) {fault : LoadFault}
+        (B : Between a b start x F) → StopsAt a x.first t.first fault
+        → G ≡ minus (B.all ++ option_list (a.held x.first))
+        (B.others ++ option_list (b.held x.second))
+        → t.second ≡ x.second → t.in_second ≡ false → Stopped w start t G fault
+    first_stops start F G {fault = fault} B g left same sound =
+        let r = g start.first B.all B.first.passes in
+        let C = B.others ++ option_list (b.held x.second) in
+        record {
+          reads = record {
+            all = B.all ++ option_list (a.held x.first);
+            others = C;
+            first = r.reads;
+            second = subst (λ s. b.reads start.second s C) (sym same) B.second.reads_held;
+            left = left;
+          };
+          fails = subst (λ z. FailsIn a b z start t fault) (sym sound)
+              (r.stops, r.fails, subst (λ s. b.fails start.second s None) (sym same) B.second.fails);
+          stops = inl r.stops;
+        }
+
+    pub lets_go : x.begun ≡ true → (a.held x.first ≡ None → ⊥) → GoesOn a x.first t.first
+        → t.second ≡ x.second → t.begun ≡ true → t.in_second ≡ x.in_second → Walks a b x t
+    lets_go e n g same begun sound = record {
+      between = λ start facts p.
+          let q = subst (λ z. Passed a b z start x facts) e p in
+          let B = q.0 in
+          first_goes start facts (facts ++ option_list (a.held x.first)) B n g
+          (with_held (a.held x.first) (b.held x.second) facts B.all B.others B.left B.behind q.1)
+          (up_to_stay (a.held x.first) (b.held x.second) B.all q.1 B.up_to) same begun
+          (sound ∙ B.sound);
+      begun = begun;
+      fewer = g.fewer;
+    }
+
+    pub lets_go_not : {fault : LoadFault} → x.begun ≡ true → StopsAt a x.first t.first fault
+        → t.second ≡ x.second → t.in_second ≡ x.in_second → StopsAt w x t fault
+    lets_go_not e g same sound = λ start facts p.
+        let q = subst (λ z. Passed a b z start x facts) e p in
+        let B = q.0 in
+        first_stops start facts (facts ++ option_list (a.held x.first)) B g
+        (with_held (a.held x.first) (b.held x.second) facts B.all B.others B.left B.behind q.1) same
+        (sound ∙ B.sound)
+
+    pub passes_first : turn_of (a.held x.first) (b.held x.second) ≡ First
+        → GoesOn a x.first t.first → t.second ≡ x.second → t.begun ≡ x.begun
+        → t.in_second ≡ x.in_second → Moves a b x t true
+    passes_first turn g same begun sound =
+        let n = first_holds (a.held x.first) (b.held x.second) turn in
+        record {
+          walks = λ y v. record {
+            between = λ start facts p.
+                let B = v.between start facts p in
+                let F = facts ++ option_list (a.held y.first) in
+                first_goes start F F B n g
+                (without_held (a.held x.first) (b.held x.second) F B.all B.others B.left B.behind turn)
+                (up_to_first (a.held x.first) (b.held x.second) B.all turn B.up_to) same
+                (begun ∙ v.begun) (sound ∙ B.sound);
+            begun = begun ∙ v.begun;
+            fewer = omega (arith, v.fewer, g.fewer);
+          };
+          stays = λ e. absurd (false≢true (sym e));
+          less = λ e.
+              let one = some_length (a.held x.first) n in
+              let m = ap (λ s. b.most s) same in
+              omega (arith, g.fewer, one, m);
+        }
+
+    pub passes_first_not : {fault : LoadFault} → turn_of (a.held x.first) (b.held x.second) ≡ First
+        → StopsAt a x.first t.first fault → t.second ≡ x.second → t.in_second ≡ x.in_second
+        → (y : Minus S T) → Walks a b y x → StopsAt w y t fault
+    passes_first_not turn g same sound y v = λ start facts p.
+        let B = v.between start facts p in
+        let F = facts ++ option_list (a.held y.first) in
+        first_stops start F F B g
+        (without_held (a.held x.first) (b.held x.second) F B.all B.others B.left B.behind turn) same
+        (sound ∙ B.sound)
+
+    -- the second goes on
+    pub passes_second : turn_of (a.held x.first) (b.held x.second) ≡ Second
+        → GoesOn b x.second t.second → t.first ≡ x.first → t.begun ≡ x.begun
+        → t.in_second ≡ false → Moves a b x t true
+    passes_second turn g same begun sound =
+        let n = second_holds (a.held x.first) (b.held x.second) turn in
+        record {
+          walks = λ y v. record {
+            between = λ start facts p.
+                let B = v.between start facts p in
+                let F = facts ++ option_list (a.held y.first) in
+                let r = g.gave start.second B.others B.second.passes in
+                record {
+                  all = B.all;
+                  others = B.others ++ option_list (b.held x.second);
+                  first = subst (λ s. Gave a start.first s B.all) (sym same) B.first;
+                  second = r;
+                  left = left_second (b.held t.second) F B.all B.others (b.held x.second) n r.rising
+                      B.up_to B.left;
+                  up_to = up_to_goes (b.held x.second) (b.held t.second) B.all B.others n r.rising
+                      B.up_to;
+                  behind = subst (λ s. Behind (a.held s) (B.others ++ option_list (b.held x.second)))
+                      (sym same)
+                      (behind_second (a.held x.first) (b.held x.second) B.others turn B.behind);
+                  begun = begun ∙ v.begun;
+                  sound = sound;
+                };
+            begun = begun ∙ v.begun;
+            fewer = subst (λ s. a.most s + length (option_list (a.held y.first)) ≤ a.most y.first)
+                (sym same) v.fewer;
+          };
+          stays = λ e. absurd (false≢true (sym e));
+          less = λ e.
+              let one = some_length (b.held x.second) n in
+              let m = ap (λ s. a.most s) same in
+              omega (arith, g.fewer, one, m);
+        }
+
+    pub passes_second_not : {fault : LoadFault}
+        → StopsAt b x.second t.second fault → t.first ≡ x.first → t.in_second ≡ true
+        → (y : Minus S T) → Walks a b y x → StopsAt w y t fault
+    passes_second_not {fault = fault} g same sound y v = λ start facts p.
+        let B = v.between start facts p in
+        let r = g start.second B.others B.second.passes in
+        record {
+          reads = record {
+            all = B.all;
+            others = B.others ++ option_list (b.held x.second);
+            first = subst (λ s. a.reads start.first s B.all) (sym same) B.first.reads;
+            second = r.reads;
+            left = B.left;
+          };
+          fails = subst (λ z. FailsIn a b z start t fault) (sym sound)
+              (r.stops, r.fails, subst (λ s. a.fails start.first s None) (sym same) B.first.fails);
+          stops = inr r.stops;
+        }
+
+    -- no more is passed over
+    pub settled : Walks a b x t → turn_of (a.held t.first) (b.held t.second) ≡ Stay → GoesOn w x t
+    settled v stay = record {
+      gave = λ start facts p.
+          let F = facts ++ option_list (a.held x.first) in
+          let B = v.between start facts p in
+          let held = a.held t.first in
+          let other = b.held t.second in
+          let e = with_held held other F B.all B.others B.left B.behind stay in
+          let all_left : other ≡ None → F ≡ minus B.all B.others =
+          λ n. B.left ∙ ap (λ z. minus B.all z)
+          (ap (λ h. B.others ++ option_list h) n ∙ append-nil B.others) in
+          record {
+            passes = subst (λ z. Passed a b z start t F) (sym B.begun) (B, stay);
+            reads = record {
+              all = B.all;
+              others = B.others ++ option_list other;
+              first = B.first.reads;
+              second = B.second.reads_held;
+              left = B.left;
+            };
+            reads_held = record {
+              all = B.all ++ option_list held;
+              others = B.others ++ option_list other;
+              first = B.first.reads_held;
+              second = B.second.reads_held;
+              left = e;
+            };
+            fails = (B.first.fails, B.second.fails);
+            rising = subst IsRising (sym e)
+                (rising_filter (changes (B.others ++ option_list other)) (B.all ++ option_list held)
+                B.first.rising);
+            sized = B.first.sized;
+            spelled = B.first.spelled;
+            ended = λ n.
+                let m = stay_ended held other stay n in record {
+                  all = B.all;
+                  others = B.others;
+                  first = B.first.ended n;
+                  second = B.second.ended m;
+                  left = all_left m;
+                };
+            ends = λ n.
+                let m = stay_ended held other stay n in record {
+                  all = B.all;
+                  others = B.others;
+                  first = B.first.ends n;
+                  second = B.second.ends m;
+                  left = all_left m;
+                };
+            known = λ K k.
+                subst (λ z. Continues z (F ++ option_list held) held) (sym k.left)
+                (known held other B.all B.others k.all k.others (F ++ option_list held) e
+                (up_to_stay held other B.all stay B.up_to) stay
+                (B.first.known k.all k.first) (B.second.known k.others k.second));
+          };
+      fewer = v.fewer;
+    }
+
+  -- nothing is left to let go of
+  pub stays_ended : {x : Minus S T} → x.begun ≡ true → a.held x.first ≡ None → Walks a b x x
+  stays_ended {x = x} e n = record {
+    between = λ start facts p.
+        let q = subst (λ z. Passed a b z start x facts) e p in
+        subst (λ l. Between a b start x l)
+        (sym (ap (λ h. facts ++ option_list h) n ∙ append-nil facts)) q.0;
+    begun = e;
+    fewer = let z = ap (λ h. length (option_list h)) n in omega (arith, z);
+  }
+
+-- something is held if its address is lent
+pub is_held : {place : Address} {held : Option Fact} → Some place ≡ address_of held → held ≡ None → ⊥
+is_held {place = place} e n = none-some place (sym (e ∙ ap address_of n))
+
+-- what holds of the fault that is told
+pub told : {A E : Type 0} (P : E → Type 0) (r : Result A E) {y : E}
+    → (x : E) × (r ≡ Err x) × (x ≡ y) → P y → IfErr r P
+told P r e p = subst (λ q. IfErr q P) (sym (e.1 ∙ ap Err e.2)) p

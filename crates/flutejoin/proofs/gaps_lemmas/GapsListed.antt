@@ -1,0 +1,114 @@
+-- GapLines: the lines that were put aside as a walk told of objects (specs/GapLines).
+use Rattle.std.proofs.Common.{◌≡◌, ℕ, ◌+◌, Bool, true, List, [], ◌∷◌, ◌++◌, Option, Some, None, Result}
+use Rattle.std.proofs.Common.{Ok, Err, length, length-append, subst, sym, refl, arith}
+use Rattle.std.proofs.Common.{◌⊎◌, inl, inr}
+use Rattle.std.specs.Prelude.{OnOk}
+use Rattle.std.specs.Io.KnownBytes.{Appends}
+use Rattle.std.specs.List.{flat_map}
+use Rattle.flute_parts.specs.declared.device.DeviceFault.{DeviceFault}
+use Rattle.flute_store.specs.declared.gap.Gap.{Gap}
+use Rattle.flute_streams.specs.Selections.{selects}
+use Rattle.flute_streams.specs.declared.choice.selection.Selection.{Selection}
+use Rattle.flutejoin.specs.GapLines.{HasLines}
+use Rattle.flutejoin.specs.Gaps.{ListsJournal}
+use Rattle.flutejoin.specs.Limits.{Limits}
+use Rattle.flutejoin.specs.Listing.{AreFew, ArePut, Knows, last_line}
+use Rattle.flutejoin.specs.Styles.{HasNoStray, are_whole, printed, shown_gap}
+use Rattle.flutejoin.specs.Told.{Told}
+use Rattle.flutejoin.specs.Progress.{IsTold}
+use Rattle.flutejoin.specs.Walk.{TellsJournal}
+use Rattle.flutejoin.specs.declared.gaps.gap_lines.GapLines.{GapLines}
+use Rattle.flutejoin.specs.declared.lines.style.Style.{Style}
+use Rattle.flutejoin.proofs.gaps_lemmas.Closing.{all_printed, no_stray, none_closed}
+use Rattle.flutejoin.proofs.gaps_lemmas.MovedAside.{knows_more}
+use Rattle.flutejoin.proofs.gaps_lemmas.Sessions.{few_more}
+
+pub told_no_stray : (style : Style) (t : Told) → IsTold t → HasNoStray style t
+told_no_stray style t is = subst (HasNoStray style) (sym is.1) (no_stray style is.0 t.key)
+
+-- the lines of an object and those of its gaps were moved together
+pub object_lined : {A : Type 0} {written : A → Option (List ℕ)} {known : Bool}
+    {objects : List Told} (t : Told) {given : List Gap} {old : GapLines A} (new : GapLines A)
+    {put : Option (List ℕ)} (r : Result (Unit {0}) DeviceFault)
+    → HasLines written known objects given old → t.gaps ≡ given → new.style ≡ old.style
+    → ArePut known new.style (objects ++ t ∷ []) (flat_map (shown_gap new.style) t.gaps) put
+    new.closed × AreFew (length objects + 1) new.closed.sums
+    → ((bytes : List ℕ) → written old.gap_lines.now ≡ Some bytes
+    → OnOk r (Appends put (written new.lines.now) bytes × (written new.gap_lines.now ≡ Some [])))
+    → OnOk r (HasLines written known (objects ++ t ∷ []) [] new)
+object_lined t new (Err x) h e same put moved = tt
+object_lined {written = written} {known = known} {objects = objects} t {old = old} new (Ok x) h e
+    same put moved =
+    let gaps = flat_map (shown_gap new.style) t.gaps in
+    let gaps_known = subst (λ (s : Style). Knows known (written old.gap_lines.now)
+    (flat_map (shown_gap s) t.gaps)) (sym same)
+    (subst (λ (l : List Gap). Knows known (written old.gap_lines.now)
+    (flat_map (shown_gap old.style) l)) (sym e) h.gap_lines_known) in
+    record {
+      lines = put.0.lines ++ gaps;
+      closed_are = put.0.are_closed;
+      few = few_more (length objects + 1) (length (objects ++ t ∷ [])) new.closed.sums
+          (omega (arith, length-append objects (t ∷ []))) put.1;
+      lines_known = λ is. knows_more gaps put.0.lines_known (moved gaps (gaps_known is)).0 is;
+      gap_lines_known = λ is. (moved gaps (gaps_known is)).1;
+    }
+
+-- no object yet
+pub none_lined : {A : Type 0} (written : A → Option (List ℕ)) (known : Bool) (v : GapLines A)
+    → v.closed.all_whole ≡ true → v.closed.sums ≡ None → Knows known (written v.lines.now) []
+    → Knows known (written v.gap_lines.now) [] → HasLines written known [] [] v
+none_lined written known v whole sums l g = record {
+  lines = [];
+  closed_are = none_closed v.style v.closed [] whole sums refl;
+  few = subst (AreFew 0) (sym sums) tt;
+  lines_known = l;
+  gap_lines_known = g;
+}
+
+-- the lines of all objects, with the last of the sessions
+pub record AllLined (style : Style) (objects : List Told) (aside : Option (List ℕ))
+    (all_whole : Bool) : Type 0 where
+  pub written : aside ≡ Some (printed style objects)
+  pub whole : all_whole ≡ are_whole style objects
+
+pub all_lined : {A : Type 0} (written : A → Option (List ℕ)) (style : Style) {objects : List Told}
+    {v : GapLines A} (s : Option (List ℕ)) → HasLines written true objects [] v → v.style ≡ style
+    → Appends (written v.lines.now) s (last_line v.closed.sums)
+    → AllLined style objects s v.closed.all_whole
+all_lined written style {objects = objects} {v = v} s h is line =
+    subst (λ (t : Style). AllLined t objects s v.closed.all_whole) is (record {
+      written = subst (λ (l : List ℕ). s ≡ Some l)
+          (all_printed v.style objects h.lines v.closed h.closed_are)
+          (knows_more (last_line v.closed.sums) h.lines_known line refl);
+      whole = h.closed_are.all_whole;
+    })
+
+-- what follows of the objects
+pub lists : {most : Limits} (s : Selection) (u : Option (List ℕ)) (P Q : List Told → Type 0)
+    → ((objects : List Told) → P objects → Q objects) → TellsJournal most (selects s) u P
+    → ListsJournal most s u Q
+lists s u P Q f h = record {
+  entries = h.entries;
+  journal = h.journal;
+  within = h.within;
+  objects = h.objects;
+  told = h.told;
+  so = f h.objects h.so;
+}
+
+-- what follows of the objects, unless A holds
+pub unless : {most : Limits} {A : Type 0} (s : Selection) (u : Option (List ℕ))
+    (P Q : List Told → Type 0) → ((objects : List Told) → P objects → A ⊎ Q objects)
+    → TellsJournal most (selects s) u P → A ⊎ ListsJournal most s u Q
+unless {most = most} {A = A} s u P Q f h = go (f h.objects h.so)
+  where
+    go : A ⊎ Q h.objects → A ⊎ ListsJournal most s u Q
+    go (inl a) = inl a
+    go (inr q) = inr (record {
+      entries = h.entries;
+      journal = h.journal;
+      within = h.within;
+      objects = h.objects;
+      told = h.told;
+      so = q;
+    })

@@ -1,0 +1,123 @@
+-- ObjectWalk::add_symbol: a symbol of the progress object, or of a new one without information.
+use Rattle.std.proofs.Common.{◌∙◌, ℕ, List, Bor, Option, Some, sym, subst}
+use Rattle.flute_parts.specs.declared.symbol_id.SymbolId.{SymbolId}
+use Rattle.flute_store.specs.Scan.{next_fact}
+use Rattle.flutejoin.specs.Listing.{IsFirstOf}
+use Rattle.flutejoin.specs.Progress.{Progress, progress_of}
+use Rattle.flutejoin.specs.Walk.{IsAt, Stands, StateIs, Walks}
+use Rattle.flutejoin.specs.declared.walk.object_walk.ObjectState.{ObjectState}
+use Rattle.flutejoin.specs.declared.walk.object_walk.ObjectState.TheVariants.{OneInformation}
+use Rattle.flutejoin.specs.declared.walk.object_walk.ObjectWalk.{ObjectWalk}
+use Rattle.flutejoin.specs.declared.walk.object_walk.OpenObject.{OpenObject}
+use Rattle.flutejoin.proofs.gaps_lemmas.Keys.{equal_keys, other_keys}
+use Rattle.flutejoin.proofs.walk_lemmas.Objects.{begins_symbol, first_of_others, mine_rising}
+use Rattle.flutejoin.proofs.walk_lemmas.Objects.{none_first, on_ok, one_more_open, passes_over}
+use Rattle.flutejoin.proofs.walk_lemmas.Objects.{passes_scan, scan_rising, told_key}
+use Rattle.flutejoin.proofs.walk.object_walk.ObjectWalk.add_symbol.Goals as goal
+use Rattle.flutejoin.proofs.walk.object_walk.ObjectWalk.add_symbol.Goals.{in_default-via-in-Some+else-eq}
+use Rattle.flutejoin.proofs.walk.object_walk.ObjectWalk.add_symbol.Goals.{in_default-via-in_default}
+
+pub pass-requires : goal.pass-requires
+pass-requires g c =
+    let w = c.requires.at in
+    let n : SymbolId × Option (Bor (List ℕ)) = (c.args.id, c.args.value) in
+    let object = c.in-Some.object in
+    let key = c.args.key.now in
+    let h = subst (λ (o : Option OpenObject). Walks w.facts w.objects w.progress o) c.in-Some.is
+    w.walks in
+    let q = subst (λ (x : ObjectState). StateIs object.key h.mine w.progress x)
+    c.in-OneInformation.is h.state_is in (
+      q.scanned,
+      q.scans,
+      scan_rising q key (equal_keys object.key key c.if-eq.ensures) n
+          (mine_rising (next_fact key n) h c.requires.onward),
+      q.free,
+      q.broken,
+    )
+
+pub returns-in-OneInformation-clause-added : goal.returns-in-OneInformation-clause-added
+returns-in-OneInformation-clause-added g c = λ at F r l.
+    let key = c.args.key.now in
+    let n : SymbolId × Option (Bor (List ℕ)) = (c.args.id, c.args.value) in
+    let object = c.in-Some.object in
+    let same = equal_keys object.key key c.if-eq.ensures in
+    let h = subst (λ (o : Option OpenObject). Walks F l.objects l.progress o) c.in-Some.is l.walks in
+    let q = subst (λ (x : ObjectState). StateIs object.key h.mine l.progress x)
+    c.in-OneInformation.is h.state_is in
+    on_ok c.pass.result
+    (λ p. record {
+      objects = l.objects;
+      progress = Some (progress_of p.0);
+      walks = one_more_open (next_fact key n) (Some (progress_of p.0))
+          (OneInformation c.pass.new.scan) h (told_key key n ∙ sym same)
+          (passes_scan q key same n p.1 p.2);
+      has = p.3;
+    })
+    (c.pass.ensures.passed at q.scanned l.objects q.scans
+    (scan_rising q key same n (mine_rising (next_fact key n) h r)) q.free q.broken
+    (subst (λ (x : Option Progress). g.V.Visitor.Has at l.objects x c.args.visitor.now) q.so_far
+    l.has))
+
+pub returns-in-NoInformation-clause-added : goal.returns-in-NoInformation-clause-added
+returns-in-NoInformation-clause-added g c = λ at F r l.
+    let key = c.args.key.now in
+    let n : SymbolId × Option (Bor (List ℕ)) = (c.args.id, c.args.value) in
+    let object = c.in-Some.object in
+    let h = subst (λ (o : Option OpenObject). Walks F l.objects l.progress o) c.in-Some.is l.walks in
+    record {
+      objects = l.objects;
+      progress = l.progress;
+      walks = one_more_open (next_fact key n) l.progress object.state h
+          (told_key key n ∙ sym (equal_keys object.key key c.if-eq.ensures))
+          (passes_over h key n c.in-NoInformation.is);
+      has = l.has;
+    }
+
+pub returns-in-NoInformation-2-clause-added : goal.returns-in-NoInformation-2-clause-added
+returns-in-NoInformation-2-clause-added g c = λ at F r l.
+    let key = c.args.key.now in
+    let n : SymbolId × Option (Bor (List ℕ)) = (c.args.id, c.args.value) in
+    let object = c.in-Some.object in
+    let h = subst (λ (o : Option OpenObject). Walks F l.objects l.progress o) c.in-Some.is l.walks in
+    record {
+      objects = l.objects;
+      progress = l.progress;
+      walks = one_more_open (next_fact key n) l.progress object.state h
+          (told_key key n ∙ sym (equal_keys object.key key c.if-eq.ensures))
+          (passes_over h key n c.in-NoInformation.is);
+      has = l.has;
+    }
+
+pub begin-requires : goal.begin-requires
+begin-requires g c =
+    let was : IsAt g.V.Visitor.Has c.args.self.now.open c.args.visitor.now = c.requires.at in
+    elim c.in_default.branch [
+      | in_default-via-in-Some+else-eq w ↦ subst (λ (x : ObjectWalk).
+          IsAt g.V.Visitor.Has x.open c.args.visitor.now) (sym w.self-is)
+          (subst (λ (o : Option OpenObject). IsAt g.V.Visitor.Has o c.args.visitor.now)
+          w.in-Some.is was)
+      | in_default-via-in_default w ↦ subst (λ (x : ObjectWalk).
+          IsAt g.V.Visitor.Has x.open c.args.visitor.now) (sym w.self-is) was
+    ]
+
+pub returns-in_default-clause-added : goal.returns-in_default-clause-added
+returns-in_default-clause-added g c = λ at F r l.
+    let key = c.args.key.now in
+    let n : SymbolId × Option (Bor (List ℕ)) = (c.args.id, c.args.value) in
+    let stands : Option OpenObject → Type 0 =
+    λ o. Stands g.V.Visitor.Has at F o c.args.visitor.now in
+    let first : IsFirstOf F key × stands c.in_default.self.open = elim c.in_default.branch [
+      | in_default-via-in-Some+else-eq w ↦
+          let q = subst (λ (o : Option OpenObject). Walks F l.objects l.progress o) w.in-Some.is
+          l.walks in (
+            first_of_others key (next_fact key n) q r (told_key key n)
+                (other_keys w.in-Some.object.key key w.if-eq.ensures),
+            subst (λ (x : ObjectWalk). stands x.open) (sym w.self-is) (subst stands w.in-Some.is l),
+          )
+      | in_default-via-in_default w ↦
+          let q = subst (λ (o : Option OpenObject). Walks F l.objects l.progress o) w.in_default.is
+          l.walks in
+          (none_first F key q.0, subst (λ (x : ObjectWalk). stands x.open) (sym w.self-is) l)
+    ] in
+    c.begin.ensures.begun at F (next_fact key n) r first.1 first.0 (told_key key n)
+    (begins_symbol key n)

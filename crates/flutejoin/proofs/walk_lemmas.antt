@@ -1,0 +1,4 @@
+pub mod Entries
+pub mod Turns
+pub mod Objects
+pub mod Journals

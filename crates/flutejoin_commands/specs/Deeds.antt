@@ -1,0 +1,135 @@
+-- What each command does, by its line.
+use Rattle.std.specs.Prelude.{ℕ, List, Option}
+use Rattle.flute_output.specs.NewFolders.{Places}
+use Rattle.flutejoin.specs.Lines.{entries_line}
+use Rattle.flutejoin.specs.declared.command_fault.CommandFault.{CommandFault}
+use Rattle.flutejoin.specs.declared.forget.ForgetCounts.{ForgetCounts}
+use Rattle.flutejoin.specs.declared.join.join_counts.JoinCounts.{JoinCounts}
+use Rattle.flutejoin_commands.specs.Files.{Files}
+use Rattle.flutejoin_commands.specs.Named.{AddListOfNamesFails, AddToNameFails}
+use Rattle.flutejoin_commands.specs.Named.{AddsListOfNames, AddsToName, ExtractOfNameFails}
+use Rattle.flutejoin_commands.specs.Named.{ForgetsInName, ForgetInNameFails}
+use Rattle.flutejoin_commands.specs.Named.{HoldsOfName, JoinsNames, JoinNamesFails}
+use Rattle.flutejoin_commands.specs.Named.{MergesNames, MergeNamesFails, SendsName}
+use Rattle.flutejoin_commands.specs.Named.{SendNameFails, WritesOfName}
+use Rattle.flutejoin_commands.specs.Printed.{FolderOfNameFails, LeavesFolderOfName, ListNameFails}
+use Rattle.flutejoin_commands.specs.Printed.{ListsName, PacketFails, PrintsPacket, ShowNameFails}
+use Rattle.flutejoin_commands.specs.Printed.{ShowsName}
+use Rattle.flutejoin_commands.specs.Works.{bytes_line, datagrams_line, forget_lines, join_lines}
+use Rattle.flutejoin_commands.specs.Works.{most_of}
+use Rattle.flutejoin_commands.specs.Worlds.{FailsToLeave, Leaves, Outside}
+use Rattle.flutejoin_line.specs.declared.carousel_line.CarouselLine.{CarouselLine}
+use Rattle.flutejoin_line.specs.declared.extract_line.ExtractAllLine.{ExtractAllLine}
+use Rattle.flutejoin_line.specs.declared.extract_line.ExtractLine.{ExtractLine}
+use Rattle.flutejoin_line.specs.declared.forget_line.ForgetLine.{ForgetLine}
+use Rattle.flutejoin_line.specs.declared.gaps_line.GapsLine.{GapsLine}
+use Rattle.flutejoin_line.specs.declared.info_line.InfoLine.{InfoLine}
+use Rattle.flutejoin_line.specs.declared.info_line.InfoListLine.{InfoListLine}
+use Rattle.flutejoin_line.specs.declared.join_line.JoinLine.{JoinLine}
+use Rattle.flutejoin_line.specs.declared.merge_line.MergeLine.{MergeLine}
+use Rattle.flutejoin_line.specs.declared.show_line.ShowLine.{ShowLine}
+use Rattle.flutejoin_line.specs.declared.target.Target.{Target}
+
+-- ---- what is left at a name
+
+-- What a command writes for an answer, from what its output had taken to what it has, where the
+-- names lead to these files; the same where the output takes its bytes itself; why it fails; and
+-- the lines that it prints.
+pub record Deed : Type 1 where
+  pub Answer : Type 0
+  pub writes : Option Files → Answer → Option (List ℕ) → Option (List ℕ) → Type 0
+  pub puts : Option Files → Answer → Option (List ℕ) → Option (List ℕ) → Type 0
+  pub fails : Option Files → CommandFault → Type 0
+  pub lines : Answer → List ℕ
+
+-- one that writes the same wherever it goes
+abbrev pub plain : {A : Type 0}
+    → (Option Files → A → Option (List ℕ) → Option (List ℕ) → Type 0)
+    → (Option Files → CommandFault → Type 0) → (A → List ℕ) → Deed
+plain {A} writes fails lines = record {
+  Answer = A;
+  writes = writes;
+  puts = writes;
+  fails = fails;
+  lines = lines;
+}
+
+-- it is left there
+abbrev pub IsDone : Deed → Target → Outside → Outside → Type 0
+IsDone deed target old new =
+    Leaves (deed.writes old.files) (deed.puts old.files) deed.lines target.out.now old new
+
+-- why not
+abbrev pub IsNotDone : Deed → Target → Outside → Outside → CommandFault → Type 0
+IsNotDone deed target old new fault =
+    FailsToLeave (deed.writes old.files) (deed.fails old.files) target.out.now old new fault
+
+abbrev pub joins : JoinLine → Deed
+joins line = plain {A = JoinCounts} (λ files. JoinsNames files line)
+    (λ files. JoinNamesFails files line) (join_lines line.scope)
+
+abbrev pub merges : MergeLine → Deed
+merges line = plain {A = ℕ} (λ files. MergesNames files line.a.now line.b.now)
+    (λ files. MergeNamesFails files line.a.now line.b.now) entries_line
+
+abbrev pub adds : InfoLine → Deed
+adds line = plain {A = ℕ} (λ files. AddsToName files line.j.now line.key line.info)
+    (λ files. AddToNameFails files (most_of line.limit) line.j.now line.key line.info) entries_line
+
+abbrev pub adds_list : InfoListLine → Deed
+adds_list line = plain {A = ℕ} (λ files. AddsListOfNames files line.j.now line.list.now)
+    (λ files. AddListOfNamesFails files (most_of line.limit) line.j.now line.list.now) entries_line
+
+abbrev pub forgets : ForgetLine → Deed
+forgets line = plain {A = ForgetCounts} (λ files. ForgetsInName files line.j.now line.selection)
+    (λ files. ForgetInNameFails files line.j.now) forget_lines
+
+abbrev pub extracts : ExtractLine → Deed
+extracts line = record {
+  Answer = ℕ;
+  writes = λ files. WritesOfName files (most_of line.limit) line.j.now line.key;
+  puts = λ files. HoldsOfName files (most_of line.limit) line.j.now line.key;
+  fails = λ files. ExtractOfNameFails files (most_of line.limit) line.j.now line.key;
+  lines = bytes_line;
+}
+
+abbrev pub sends : CarouselLine → Deed
+sends line = plain {A = ℕ} (λ files. SendsName files line.file.now line.key line.symbol line.block)
+    (λ files. SendNameFails files line.file.now line.key line.symbol line.block) datagrams_line
+
+-- ---- what is printed alone
+
+-- What a command prints, from what standard output had taken to what it has, where the names lead
+-- to these new folders and files; and why it fails.
+pub record Printing : Type 1 where
+  pub done : (List ℕ → Option Places) → Option Files → Option (List ℕ) → Option (List ℕ) → Type 0
+  pub fails : (List ℕ → Option Places) → Option Files → Option (List ℕ) → Option (List ℕ)
+      → CommandFault → Type 0
+
+abbrev pub prints_packet : List ℕ → Printing
+prints_packet hex = record {
+  done = λ folders files. PrintsPacket hex;
+  fails = λ folders files. PacketFails hex;
+}
+
+abbrev pub shows : ShowLine → Printing
+shows line = record {
+  done = λ folders files. ShowsName files line.j.now line.selection;
+  fails = λ folders files. ShowNameFails files line.j.now line.selection;
+}
+
+abbrev pub lists : GapsLine → Printing
+lists line = record {
+  done = λ folders files. ListsName files line.j.now (most_of line.limit) line.selection line.style;
+  fails = λ folders files. ListNameFails files line.j.now (most_of line.limit) line.selection
+      line.style;
+}
+
+-- and leaves a new folder
+abbrev pub extracts_all : ExtractAllLine → Printing
+extracts_all line = record {
+  done = λ folders files. LeavesFolderOfName files line.j.now (most_of line.limit) line.picked
+      (folders line.out.now);
+  fails = λ folders files old new. FolderOfNameFails files line.j.now (most_of line.limit)
+      line.picked (folders line.out.now);
+}

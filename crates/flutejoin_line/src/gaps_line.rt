@@ -1,0 +1,91 @@
+//! The line of `gaps`.
+ghost use Rattle.std.specs.Prelude.{IfOk, MatchResult, codes};
+ghost use Rattle.flutejoin_line.specs.CommandLine.{IsLine, gaps_rules};
+ghost use Rattle.flutejoin_line.specs.Options.{found_rows};
+ghost use Rattle.flutejoin_line.specs.Parser.{IsCommand};
+ghost use Rattle.flutejoin_line.specs.Selecting.{IsSelectionFault};
+
+use crate::arguments::{
+    ANY_SIZE, INSTANCE, JOURNAL, OBJECT, SOURCE, input, long_flag, option, session_list,
+};
+use crate::help_texts::GAPS_HELP;
+use crate::limit::{Limit, limit_of};
+use crate::line::Line;
+use crate::parser::command_with;
+use crate::selection_options::selection;
+use crate::words::{flag, text};
+use clap::{ArgMatches, Command};
+use flute_streams::Selection;
+use flutejoin::{CommandFault, Style};
+use std::alloc::{AllocError, Global};
+
+/// Print how much of each selected object the journal `j` has, and what is missing, in this style.
+#[derive(Clone, Copy)]
+pub struct GapsLine<'a> {
+    pub limit: Limit,
+    pub selection: Selection,
+    pub style: Style,
+    pub j: &'a str,
+}
+
+/// The command, as the parser takes it.
+pub fn gaps_command<'a>(alloc: Global) -> Result<Command<'a>, AllocError>
+    ensures { IfOk result (IsCommand (codes "gaps") gaps_rules) }
+{
+    let arguments = vec![in alloc;
+        long_flag(alloc, "any-size", ANY_SIZE),
+        long_flag(
+            alloc,
+            "check",
+            "End with status 1 if an object that is listed is not whole",
+        ),
+        long_flag(
+            alloc,
+            "summary",
+            "A line for each session: how many of its objects are whole, and what the others lack",
+        ),
+        long_flag(
+            alloc,
+            "conflicts",
+            "Only objects with conflicting information or symbols, and no other gaps",
+        ),
+        option(alloc, "source", "ADDRESS", SOURCE),
+        session_list(alloc),
+        option(alloc, "toi", "N", OBJECT),
+        option(alloc, "fdt", "N", INSTANCE),
+        input(alloc, "J", JOURNAL),
+    ]?;
+    command_with(
+        alloc,
+        "gaps",
+        "Prints how much of each object a journal has, and which symbols are missing",
+        GAPS_HELP,
+        arguments,
+    )
+}
+
+/// The line of `gaps`.
+///
+/// # Errors
+///
+/// Those of `selection`.
+pub fn gaps_of<'a>(matches: &ArgMatches<'a>) -> Result<Line<'a>, CommandFault>
+    ensures { let rows = found_rows matches.now in
+        MatchResult result (IsLine (codes "gaps") rows) (IsSelectionFault rows) }
+{
+    let mut selection = selection(matches)?;
+    let style = Style {
+        check: flag(matches, "check"),
+        summary: flag(matches, "summary"),
+        conflicts: selection.conflicts,
+    };
+    // An object is listed by all its entries, and not by those in conflict alone.
+    selection.conflicts = false;
+    let j = text(matches, "J");
+    Ok(Line::Gaps(GapsLine {
+        limit: limit_of(matches),
+        selection,
+        style,
+        j,
+    }))
+}

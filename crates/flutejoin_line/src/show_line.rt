@@ -1,0 +1,62 @@
+//! The line of `show`.
+ghost use Rattle.std.specs.Prelude.{IfOk, MatchResult, codes};
+ghost use Rattle.flutejoin_line.specs.CommandLine.{IsLine, show_rules};
+ghost use Rattle.flutejoin_line.specs.Options.{found_rows};
+ghost use Rattle.flutejoin_line.specs.Parser.{IsCommand};
+ghost use Rattle.flutejoin_line.specs.Selecting.{IsSelectionFault};
+
+use crate::arguments::{
+    CONFLICTS, INSTANCE, JOURNAL, OBJECT, SOURCE, input, long_flag, option, session_list,
+};
+use crate::help_texts::SHOW_HELP;
+use crate::line::Line;
+use crate::parser::command_with;
+use crate::selection_options::selection;
+use crate::words::text;
+use clap::{ArgMatches, Command};
+use flute_streams::Selection;
+use flutejoin::CommandFault;
+use std::alloc::{AllocError, Global};
+
+/// Print the selected entries of the journal `j`.
+#[derive(Clone, Copy)]
+pub struct ShowLine<'a> {
+    pub selection: Selection,
+    pub j: &'a str,
+}
+
+/// The command, as the parser takes it.
+pub fn show_command<'a>(alloc: Global) -> Result<Command<'a>, AllocError>
+    ensures { IfOk result (IsCommand (codes "show") show_rules) }
+{
+    let arguments = vec![in alloc;
+        long_flag(alloc, "conflicts", CONFLICTS),
+        option(alloc, "source", "ADDRESS", SOURCE),
+        session_list(alloc),
+        option(alloc, "toi", "N", OBJECT),
+        option(alloc, "fdt", "N", INSTANCE),
+        input(alloc, "J", JOURNAL),
+    ]?;
+    command_with(
+        alloc,
+        "show",
+        "Prints the entries of a journal, a line each",
+        SHOW_HELP,
+        arguments,
+    )
+}
+
+/// The line of `show`.
+///
+/// # Errors
+///
+/// Those of `selection`.
+pub fn show_of<'a>(matches: &ArgMatches<'a>) -> Result<Line<'a>, CommandFault>
+    ensures { let rows = found_rows matches.now in
+        MatchResult result (IsLine (codes "show") rows) (IsSelectionFault rows) }
+{
+    Ok(Line::Show(ShowLine {
+        selection: selection(matches)?,
+        j: text(matches, "J"),
+    }))
+}
