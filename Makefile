@@ -80,6 +80,7 @@ test-tools:
 	tests/test_lemmas.py
 	tests/test_capture.py
 	tests/capture_cases.py
+	tests/test_adapting.py
 	tests/test_values.py
 	tests/files.py "$(FLUTEJOIN)"
 	tests/test_map.py
@@ -91,6 +92,7 @@ test-stations:
 	tests/test_receive.py
 	tests/receiving.py "$(FLUTEJOIN)"
 	tests/station.py "$(FLUTEJOIN)"
+	tests/test_stations.py
 	tests/test_examples.py
 	tests/test_tree.py
 

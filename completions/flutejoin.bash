@@ -39,17 +39,21 @@ _flutejoin_options() {
             ;;
         carousel) echo '-o --force --tsi --toi --fdt --symbol --block --help' ;;
         flutejoin) echo '--help --version' ;;
-        flutejoin-capture) echo '--port --group -o --split --any-checksum --help' ;;
+        flutejoin-capture)
+            echo '--port --group --from -o --split --any-checksum --as-received --help'
+            ;;
         flutejoin-files)
-            echo '--list -o --source --tsi --fdt --most --resolve --from --flutejoin --help'
+            echo '--list -o --source --tsi --fdt --most --any-size --json --resolve --from' \
+                '--flutejoin --help'
             ;;
         flutejoin-receive)
             echo '--group --port --from --interface -o --senders --split --most --buffer' \
-                '--status --count --seconds --config --help'
+                '--as-received --status --count --seconds --config --help'
             ;;
         flutejoin-station)
-            echo '-o --config --group --port --from --interface --senders --buffer --tsi --every' \
-                '--window --keep-raw --nightly --outbox --status --seconds --flutejoin --help'
+            echo '-o --config --group --port --from --interface --senders --buffer' \
+                '--as-received --tsi --every --window --keep-raw --most --nightly --outbox' \
+                '--status --seconds --flutejoin --help'
             ;;
         flutejoin-map) echo '-o --text --source --tsi --toi --fdt --flutejoin --help' ;;
         flutejoin-mend) echo '-o --help' ;;

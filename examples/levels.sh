@@ -14,6 +14,7 @@ set -eu
 program=${FLUTEJOIN:-flutejoin}
 store=$1 input=$2
 shift 2
+case $input in -?*) input=./$input ;; esac # it is a name, and no option
 level=0
 mkdir -p "$store/0"
 exec 9< "$store"

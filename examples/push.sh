@@ -11,7 +11,12 @@
 # leaves is sent again by the next run, and what arrives twice counts once.
 set -eu
 unset CDPATH # with it cd prints where it goes
+LC_ALL=C # so that [a-z] has no other letters
 outbox=$1/outbox target=$2
+[ -x "$1" ] || [ ! -e "$1" ] || {
+    echo "push.sh: $1 is not open to this user" >&2
+    exit 3
+}
 shift 2
 case $target in *[!A-Za-z0-9._/-]* | '' | -*)
     echo 'push.sh: TARGET has letters, digits and . _ / - alone' >&2
@@ -29,19 +34,30 @@ flock -n 9 || {
     exit 1
 }
 
-# senders: those whose journals wait. A name has no spaces, and is followed by a time and .journal
+# is_name NAME: whether it is an address, a time and .journal. It becomes part of a command there,
+# so one that somebody else put into the outbox may say nothing else.
+is_name() {
+    case $1 in
+    *[!a-z0-9.-]*) false ;;
+    *[0-9a-f].[0-9]*.journal | *--.[0-9]*.journal) true ;;
+    *) false ;;
+    esac
+}
+
+# senders: those whose journals wait
 senders() {
     for path in "$outbox"/*.journal; do
         name=${path##*/}
         name=${name%.journal}
-        [ ! -e "$path" ] || echo "${name%.*}"
+        ! is_name "$name.journal" || echo "${name%.*}"
     done | sort -u
 }
 
 # push SENDER JOURNAL COMMAND..: a join that fails here sends no whole journal, so that there fails
 # too. A journal there that is full stays under another name, and the next run begins another.
 push() {
-    name=$1.journal full="$1.\$(date +%Y%m%d%H%M%S).journal" new=$2
+    # The name of an IPv6 address may begin with a hyphen.
+    name=./$1.journal full="./$1.\$(date +%Y%m%d%H%M%S).journal" new=./$2
     shift 2
     (cd "$outbox" && flutejoin join --any-size -o - "$new" 2> /dev/null) |
         "$@" "mkdir -p $target && cd $target && old= && { [ ! -e $name ] || old=$name; } &&
@@ -56,6 +72,13 @@ push() {
 }
 
 status=0
+for path in "$outbox"/*.journal; do
+    [ ! -e "$path" ] || is_name "${path##*/}" || {
+        echo "push.sh: a name in $outbox is no sender's with a time, and stays there" >&2
+        status=1
+        break
+    }
+done
 for sender in $(senders); do
     for path in "$outbox/$sender".[0-9]*.journal; do
         # The station may have joined it with others meanwhile.

@@ -15,6 +15,7 @@ import sys
 import tempfile
 import time
 import unittest
+import unittest.mock
 from typing import Any, Callable
 
 sys.dont_write_bytecode = True
@@ -26,6 +27,7 @@ import datagram_files
 import flutejoin_datagrams
 import flutejoin_epochs
 import flutejoin_files
+import flutejoin_parts
 
 LONGEST = 600  # seconds; only what hangs takes so long
 SENDER, GROUP = b"\x0a\0\0\1", b"\xef\1\1\1"
@@ -305,6 +307,101 @@ def instance(content: bytes, number: int = 1, tsi: int = 7, length: int = 40) ->
     head += struct.pack(">BBH", 192, 0x20, number)
     head += struct.pack(">BBHIHHI", 64, 4, 0, length, 0, 10, 16)
     return head + b"\0\0\0\1" + content
+
+
+def from_address(number: int, payload: bytes) -> bytes:
+    """The frame of a datagram of the sender 11.0.0.0, or one of so much more."""
+    sender = struct.pack(">I", 0x0B000000 + number)
+    data = captures.ip4(sender, GROUP, 17, captures.udp(sender, GROUP, payload))
+    return ETHERNET + IP + data
+
+
+class Senders(Cases):
+    """More senders than files can be open at once."""
+
+    real = [packet(b"real%d" % number * 200) for number in range(8)]
+
+    def crowd(self, count: int) -> list[bytes]:
+        return [from_address(number, packet(b"made up")) for number in range(count)]
+
+    def run_on(self, frames: list[bytes], *options: str, name: str = "capture", **how: Any) -> Any:
+        made = self.made(pcap(frames), name)
+        words = "--port", "4001", *options, "-o", self.path("out"), "-" if how else made
+        command = [sys.executable, os.path.join(TOOLS, "flutejoin-capture"), *words]
+        return subprocess.run(command, capture_output=True, timeout=LONGEST, check=False, **how)
+
+    def kept(self, name: str = "10.0.0.1") -> list[bytes]:
+        return list(datagram_files.read(self.path(f"out/{name}.fldg")))
+
+    def test_those_that_sent_most_are_taken(self) -> None:
+        frames = self.crowd(200) + [frame(of) for of in self.real]
+        ran = self.run_on(frames)
+        self.assertEqual((ran.returncode, ran.stderr), (0, b""), ran)
+        self.assertEqual(self.kept(), self.real)
+        self.assertEqual(len(os.listdir(self.path("out"))), 201)
+        self.assertNotIn(b"left out", ran.stdout)
+        self.assertEqual(ran.stdout.count(b"flutejoin join"), 201)
+
+    def test_who_is_left_out_is_told(self) -> None:
+        frames = self.crowd(450) + [frame(of) for of in self.real]
+        ran = self.run_on(frames)
+        self.assertEqual(ran.returncode, 1)
+        size = len(packet(b"made up")) + 2
+        most = rf"senders are left out, of whom 11\.0\.[0-9.]+ sent most, {size} bytes"
+        told = rf"^flutejoin-capture: {most}; --from takes the ones that it names\n$"
+        self.assertRegex(ran.stderr.decode(), told)
+        self.assertEqual(self.kept(), self.real)
+        self.assertIn(b"left out 51: more than 200 senders\n", ran.stdout)
+
+    def test_a_pipe_is_read_once(self) -> None:
+        frames = self.crowd(200) + [frame(of) for of in self.real]
+        ran = self.run_on(frames, input=pcap(frames))
+        self.assertEqual(ran.returncode, 1)
+        self.assertIn(b"of whom 10.0.0.1 sent most", ran.stderr)
+        self.assertIn(b"left out 8: more than 200 senders\n", ran.stdout)
+        self.assertFalse(os.path.exists(self.path("out/10.0.0.1.fldg")))
+        ran = self.run_on(frames, "--from", "10.0.0.1", input=pcap(frames))
+        self.assertEqual((ran.returncode, ran.stderr), (0, b""))
+        self.assertEqual(self.kept(), self.real)
+
+    def test_from(self) -> None:
+        frames = self.crowd(300) + [frame(of) for of in self.real]
+        ran = self.run_on(frames, "--from", "11.0.0.7", "--from", "10.0.0.1")
+        self.assertEqual((ran.returncode, ran.stderr), (0, b""))
+        self.assertEqual(sorted(os.listdir(self.path("out"))), ["10.0.0.1.fldg", "11.0.0.7.fldg"])
+        self.assertEqual(self.kept(), self.real)
+        listed = self.listed(pcap(frames), "--from", "11.0.0.7")
+        flow = "from 11.0.0.7 to --group 239.1.1.1 --port 4001: 1 datagrams, 1 like FLUTE"
+        self.assertEqual(listed, [flow])
+        ran = self.run_tool("--from", "10.0.0", self.path("capture"))
+        self.assertEqual(ran.returncode, 2)
+
+    def test_among_very_many(self) -> None:
+        """Senders that are counted have a bound, within which the largest stays."""
+        out = flutejoin_parts.Files(self.path("out"), 1 << 30, flutejoin_files.Report("test"))
+        for number in range(3 * flutejoin_parts.MOST_COUNTED):
+            out.count_beyond(number.to_bytes(4, "big"), 50)
+            if number % 1000 == 0:
+                out.count_beyond(SENDER, 1000)
+            self.assertLessEqual(len(out.beyond), flutejoin_parts.MOST_COUNTED)
+        self.assertEqual(out.largest_beyond()[0], SENDER)
+
+    def test_names_are_on_the_disk(self) -> None:
+        """After a file has its name its folder is synced, and where that is new, the one above."""
+        synced: list[tuple[int, bool]] = []
+        path = self.path("out/10.0.0.1.fldg")
+
+        def sync(descriptor: int) -> None:
+            synced.append((os.fstat(descriptor).st_ino, os.path.exists(path)))
+
+        report = unittest.mock.create_autospec(flutejoin_files.Report)
+        out = flutejoin_parts.Files(self.path("out"), 1 << 30, report)
+        with unittest.mock.patch.object(os, "fsync", sync):
+            out.make_folder()
+            out.add(SENDER, b"datagram")
+            out.finish()
+        numbers = [os.stat(at).st_ino for at in (self.folder, path, self.path("out"))]
+        self.assertEqual(synced, list(zip(numbers, (False, False, True))))
 
 
 class Forms(Cases):

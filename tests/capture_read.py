@@ -111,7 +111,8 @@ class Printed(Case):
             f"{JOIN99} -o ports/10.0.0.99.journal ports/10.0.0.99.fldg\n"
         )
         of = "--port 5353 --port 4001 --group ff3e::4321 --group 239.1.1.2"
-        self.capture_row("two of both", f"{of} -o ports made/ipv6", 0, wanted)
+        text = "10.0.0.99 sends nothing that flutejoin join accepts; it refuses 10 LctVersion"
+        self.capture_row("two of both", f"{of} -o ports made/ipv6", 0, wanted, said(text))
 
     def test_tunnels(self) -> None:
         done = self.capture("--port 4001 --group 239.1.1.1 -o tunnels made/vxlan")
@@ -176,7 +177,8 @@ class Epochs(Case):
     def test_epochs(self) -> None:
         runs = []
         for number in 1, 2:
-            self.write(f"fdt{number}", f'<FDT-Instance Expires="{str(number) * 3}"/>')
+            file = f'<File TOI="1" Content-MD5="{number}"/>'
+            self.write(f"fdt{number}", f'<FDT-Instance Expires="{number}">{file}</FDT-Instance>')
             of = "--tsi 7 --toi 0 --fdt 1 --symbol 99 --block 16"
             self.made(f"carousel -o fdt_sent{number} {of} fdt{number}")
             runs.append(self.read(f"fdt_sent{number}") + self.read(f"sent{number}")[6:])

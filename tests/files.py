@@ -15,10 +15,12 @@ import unittest
 
 sys.dont_write_bytecode = True
 from files_case import HERE, Case, text
+from files_bounds import Bounds, Journals, Owned, Printed
 from files_hostile import Content, Hostile, Names
 from files_instances import Instances
 from files_resolved import Resolved
 from files_runs import Runs
+from files_strangers import Descriptions, Lengths
 from flute_sender import EXPIRES, Sent, fdt, instance, packets
 
 
@@ -83,7 +85,7 @@ class Sessions(Case):
             lines,
         )
         self.assertEqual(lines[-1], "   30       -       -  in no FDT Instance: 31 symbols")
-        self.assertEqual(len(self.runs.read_text().split()), 4)
+        self.assertEqual(self.runs.read_text().split(), ["join", "gaps"])
 
     def test_files_of_stations(self) -> None:
         sent = self.news()
@@ -92,7 +94,7 @@ class Sessions(Case):
         self.assertEqual(answer.out, "written 21, verified 21; partial 0; wrong MD5 0\n")
         self.assertEqual(answer.err, "")
         self.assertEqual(self.tree(), self.wanted(sent))
-        self.assertEqual(self.runs.read_text().split(), ["join", "extract", "info", "extract"])
+        self.assertEqual(self.runs.read_text().split(), ["join", "extract"])
         before = {path: path.stat().st_ino for path in (self.folder / "files").rglob("*")}
         answer = self.files("-o", "files", *stations)
         self.assertEqual(
@@ -157,14 +159,14 @@ class Sessions(Case):
         self.session("one", [one])
         self.journal("two", instance(7, 1, fdt([two])), two.packets(7), sender="2001:db8::1")
         self.journal("three", instance(8, 1, fdt([three])), three.packets(8))
-        answer = self.files("--list", "one", "two", "three")
+        answer = self.files("--list", "one", "two", "three", status=1)
         self.assertIn("sender 10.9.0.1 session 7: FDT Instance 1, expires", answer.out)
         self.assertIn("sender 2001:db8::1 session 7: FDT Instance 1, expires", answer.out)
-        answer = self.files("-o", "files", "one", "two", "three")
-        self.assertEqual(
-            self.tree(), {"h/a": one.content, "h/a~7-1": two.content, "h/c": three.content}
-        )
-        self.assertIn("another file has the name h/a; it is h/a~7-1", answer.err)
+        answer = self.files("-o", "files", "one", "two", "three", status=1)
+        wanted = {"h/a": one.content, "h/a.from-2001-db8--1": two.content, "h/c": three.content}
+        self.assertEqual(self.tree(), wanted)
+        told = "sender 10.9.0.1 has the name h/a; it is h/a.from-2001-db8--1 (--source 2001:db8::1"
+        self.assertIn(told, answer.err)
         for words, wanted in (
             (("--tsi", 8), {"h/c": three.content}),
             (("--source", "2001:db8::1"), {"h/a": two.content}),
@@ -204,6 +206,7 @@ class Sessions(Case):
 
 
 CASES = Sessions, Instances, Hostile, Names, Content, Resolved, Runs
+CASES += Descriptions, Lengths, Journals, Owned, Printed, Bounds
 
 
 if __name__ == "__main__":

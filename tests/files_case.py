@@ -45,6 +45,7 @@ class Answer:
 
 class Case(unittest.TestCase):
     environment: dict[str, str] = {}  # beside that of the test
+    memory = MEMORY
 
     def setUp(self) -> None:
         self.folder = pathlib.Path(tempfile.mkdtemp())
@@ -64,7 +65,7 @@ class Case(unittest.TestCase):
             env=environment,
             stdout=subprocess.PIPE,
             stderr=subprocess.PIPE,
-            preexec_fn=lambda: resource.setrlimit(resource.RLIMIT_DATA, (MEMORY, -1)),
+            preexec_fn=lambda: resource.setrlimit(resource.RLIMIT_DATA, (self.memory, -1)),
             **more,
         )
 

@@ -73,7 +73,7 @@ class Hostile(Case):
             (self.folder / f"fdt{number}").write_bytes(fdt(many))
         words = [word for number in range(3) for word in ("--fdt", f"fdt{number}")]
         answer = self.files("-o", "files", *words, "all", status=1)
-        self.assertIn("FDT Instance fdt2: more than 16384 files in all", answer.err)
+        self.assertIn("2 FDT Instances were left, the older ones: the others take", answer.err)
         self.assertEqual(self.tree()["h/a"], file.content)
         # Many Instances that describe the same files count once.
         files = [Sent(toi, b"", f"http://h/{toi}") for toi in range(1, 1000)]
@@ -94,7 +94,8 @@ class Hostile(Case):
         answer = self.files("--list", "all")
         self.assertLess(told.stat().st_size, 100_000)
         self.assertIn("    1   5,000  100.0%  whole  text/plain  http://h/a\n", answer.out)
-        self.assertIn("  399  65,536       -  in no FDT Instance: 1 symbol\n", answer.out)
+        self.assertIn("   21  65,536       -  in no FDT Instance: 1 symbol\n", answer.out)
+        self.assertEqual(answer.out.splitlines()[-1], "  378 more objects in no FDT Instance")
 
     def test_many_empty_files(self) -> None:
         """Only an FDT Instance describes these empty files, which are more than a store holds."""
@@ -117,12 +118,15 @@ class Hostile(Case):
         """An FDT Instance may be compressed; the same bounds apply to its decompressed bytes."""
         file = Sent(1, text(1), "http://h/a")
         xml = fdt([file])
-        for number, whole in enumerate((gzip.compress(xml), zlib.compress(xml)), 1):
+        encoded = gzip.compress(xml), zlib.compress(xml), raw_deflate(xml)
+        for number, whole in enumerate(encoded, 1):
             self.journal("all", instance(7, number, whole), file.packets(7))
             self.files("-o", f"files{number}", "all")
             self.assertEqual(self.tree(f"files{number}"), {"h/a": file.content})
             self.refused(whole[:-1], "cannot be decoded: it ends too early")
-            self.refused(whole[:20] + b"\0\xff" * 9 + whole[20:], "cannot be decoded: Error .*")
+            wrong = whole[:20] + b"\0\xff" * 9 + whole[20:]
+            # What begins with wrong codes is not known as DEFLATE.
+            self.refused(wrong, "is no XML.*" if number == 3 else "cannot be decoded: Error .*")
         large = b'<FDT-Instance Expires="1">' + b" " * (16 << 20)
         self.refused(gzip.compress(large), "more than 16 MB of XML")
         self.refused(gzip.compress(large[:26] + b"<!--" + large), "a tag or a comment of more .*")
@@ -141,7 +145,7 @@ class Hostile(Case):
             groups.append(instance(7, number, bytes(xml[:end])))
         self.journal("all", *groups)
         answer = self.files("--list", "-o", "files", "all", status=None)
-        self.assertGreater(answer.err.count("is no XML"), 100)
+        self.assertGreater(answer.err.count("is no XML"), 10)
         self.assertEqual(self.tree()["h/a"], file.content)
 
     def test_damaged_alone(self) -> None:
@@ -345,26 +349,23 @@ class Content(Case):
             Sent(8, content, "http://h/8", b"no gzip", more={**wrong, "Content-MD5": md5(b"")}),
         ]
         self.session("all", sent)
-        answer = self.files("-o", "files", "--most", "1M", "all", status=1)
+        answer = self.files("-o", "files", "all", status=1)
         lines = answer.out.splitlines()
         self.assertEqual(lines[0], "wrong: h/1.unverified (gzip: more than 1,000 bytes come out)")
-        self.assertEqual(
-            lines[1], "wrong: h/2.unverified (gzip: more than 1,048,576 bytes come out)"
-        )
+        self.assertEqual(lines[1], "not verified: h/2 (no MD5)")
         self.assertEqual(
             lines[2], "wrong: h/4.unverified (10,000,000 bytes, and Content-Length 10,000,001)"
         )
         self.assertEqual(lines[3], "wrong: h/5.unverified (gzip: it ends too early)")
         self.assertTrue(lines[5].startswith("wrong: h/7.unverified (gzip: "), lines)
         self.assertTrue(lines[6].startswith("wrong MD5: h/8.unverified (gzip: "), lines)
-        self.assertEqual(lines[-1], "written 8, verified 1; partial 0; wrong MD5 1; wrong 6")
+        self.assertEqual(
+            lines[-1], "written 8, verified 1, not verified 1; partial 0; wrong MD5 1; wrong 5"
+        )
         tree = self.tree()
         self.assertEqual(tree["h/3"], content)
         self.assertEqual(tree["h/1.unverified"], encoded)
-        answer = self.files("-o", "files", "all", status=1)
-        self.assertIn("not verified: h/2 (no MD5)", answer.out)
-        self.assertEqual(self.tree()["h/2"], content)
-        self.assertNotIn("h/2.unverified", self.tree())
+        self.assertEqual(tree["h/2"], content)
 
     def test_lengths(self) -> None:
         sent = [

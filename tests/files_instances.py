@@ -203,7 +203,8 @@ class Instances(Case):
         self.assertEqual(self.tree(), {"h/1": sent[0].content, "h/2": sent[1].content})
 
     def test_conflicting_information(self) -> None:
-        file = Sent(1, text(1), "http://h/a")
+        """Without an MD5 nothing shows which is right."""
+        file = Sent(1, text(1), "http://h/a", more={"Content-MD5": None})
         other = Sent(1, text(1, 4000), "http://h/a")
         self.journal("all", instance(7, 1, fdt([file])), file.packets(7), other.packets(7)[:1])
         answer = self.files("--list", "-o", "files", "all", status=1)

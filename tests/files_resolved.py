@@ -43,9 +43,7 @@ class Resolved(Case):
             "written 2, verified 2; partial 0; wrong MD5 0\n",
         )
         self.assertEqual(self.tree(), {f"h/{it.location[-1]}": it.content for it in sent})
-        self.assertEqual(
-            self.runs.read_text().split(), ["extract", "info", "extract", "extract"]
-        )
+        self.assertEqual(self.runs.read_text().split(), ["gaps", "extract", "extract"])
         (self.folder / "cut").write_bytes((self.folder / "all.fldg").read_bytes()[:-1])
         (self.folder / "text").write_bytes(b"some text")
         os.mkfifo(self.folder / "pipe")
@@ -107,4 +105,4 @@ class Resolved(Case):
         answer = self.files("--list", "-o", "third", *words, status=1)
         self.assertIn("partial 11", answer.out)
         self.assertIn("http://h/a (11 in conflict)", answer.out)
-        self.assertIn("(gzip, 90,000, 1 in conflict, by its MD5, MD5 of the enc", answer.out)
+        self.assertIn("(gzip, 90,000, 1 conflicting symbol, by its MD5, MD5 of the enc", answer.out)

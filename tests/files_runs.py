@@ -125,7 +125,7 @@ class Runs(Case):
         left = self.folder / "files.partial"
         (left / "objects").mkdir(parents=True)
         (left / "objects/1").write_bytes(b"left")
-        (left / "known.partial").write_bytes(b"left")
+        (left / "objects.partial").write_bytes(b"left")
         self.files("-o", "files", "all")
         self.assertEqual(self.tree(), {"h/a": self.file.content})
         left.mkdir()
@@ -257,7 +257,7 @@ class Runs(Case):
             self.assertLess(used, 30)
             self.assertIn(f"written {count}, verified {count};", answer.out)
             self.assertEqual(self.tree(f"files{count}"), {f"h/{it.toi}": it.content for it in sent})
-            self.assertEqual(self.runs.read_text().split(), ["extract", "info", "extract"])
+            self.assertEqual(self.runs.read_text().split(), ["gaps", "extract"])
             start = time.monotonic()
             self.files("--list", "many")
             print(f"files: the list of {count}: {time.monotonic() - start:.2f} s")

@@ -1,6 +1,7 @@
 """A sender of FLUTE sessions for tests: FDT Instances in XML, and packets in datagram files.
 
-It follows RFC 6726, RFC 5651 and RFC 5445, and uses nothing of the tools.
+It follows RFC 6726, RFC 5651 and RFC 5445, and uses nothing of the tools. A `Shape` is of other
+senders: of RFC 3926 and RFC 3451, or of another FEC Encoding ID.
 
 usage: tests/flute_sender.py OUT, which makes the datagram file of a small session
 """
@@ -29,6 +30,22 @@ ENCODED = bytes.fromhex(
     "564fef369c73ce39e79c73ce39e79c73ce39e79c73ce39e79c73ce39e79c73ce39e79c73ce39"
     "e79c73ce39e79c73ce39e79c73cefd7e1fdb49ded4204e0000"
 )
+
+
+@dataclasses.dataclass(frozen=True)
+class Shape:
+    """In what the packets of a sender differ from those of FLUTE 2 with one symbol in each."""
+
+    version: int = 2  # of FLUTE, in EXT_FDT
+    encoding: int | None = None  # of EXT_CENC
+    together: int = 1  # symbols in a packet
+    times: int = 0  # the fields SCT (2) and ERT (1)
+    fec: int = 0  # the FEC Encoding ID
+    lct: int = 1  # the version of LCT
+    more: bytes = b""  # other extensions
+
+
+PLAIN = Shape()
 
 
 @dataclasses.dataclass
@@ -63,8 +80,9 @@ class Sent:
         }
         return {name: value for name, value in found.items() if value is not None}
 
-    def packets(self, tsi: int) -> list[bytes]:
-        return packets(tsi, self.toi, self.data(), self.symbol, self.block, self.is_in_packets)
+    def packets(self, tsi: int, shape: Shape = PLAIN) -> list[bytes]:
+        of = self.data(), self.symbol, self.block, self.is_in_packets
+        return packets(tsi, self.toi, *of, shape=shape)
 
 
 def written(attributes: dict) -> str:
@@ -97,9 +115,21 @@ def partition(length: int, symbol: int, block: int) -> list[tuple[int, int]]:
     return [(sbn, esi) for sbn, size in enumerate(sizes) for esi in range(size)]
 
 
-def header(tsi: int, toi: int, extensions: bytes) -> bytes:
-    words = 4 + len(extensions) // 4
-    return struct.pack(">BBBBIII", 0x10, 0xA0, words, 0, 0, tsi, toi) + extensions
+def header(tsi: int, toi: int, extensions: bytes, shape: Shape = PLAIN, now: int = 0) -> bytes:
+    """An LCT header; `now` is in milliseconds of the session (RFC 3451, section 5.1)."""
+    fields = b""
+    if shape.times & 2:
+        fields += struct.pack(">I", now)
+    if shape.times & 1:
+        fields += struct.pack(">I", 3_600_000 - now)
+    fields += shape.more + extensions
+    first, flags, words = shape.lct << 4, 0xA0 | shape.times << 2, 4 + len(fields) // 4
+    return struct.pack(">BBBBIII", first, flags, words, shape.fec, 0, tsi, toi) + fields
+
+
+def close(tsi: int) -> bytes:
+    """The packet that ends a session: flag A, and no TOI."""
+    return struct.pack(">BBBBII", 0x10, 0x82, 3, 0, 0, tsi)
 
 
 def packets(
@@ -110,27 +140,33 @@ def packets(
     block: int,
     is_in_packets: bool = True,
     instance: int | None = None,
+    shape: Shape = PLAIN,
 ) -> list[bytes]:
     """The packets of an object, one for each symbol; one without a symbol if it is empty."""
     extensions = b""
     if instance is not None:
-        extensions += struct.pack(">I", 192 << 24 | 2 << 20 | instance)
+        extensions += struct.pack(">I", 192 << 24 | shape.version << 20 | instance)
+    if shape.encoding is not None:
+        extensions += struct.pack(">BBH", 193, shape.encoding, 0)
     if is_in_packets:
         length = len(data).to_bytes(6, "big")
         extensions += struct.pack(">BB6sHHI", 64, 4, length, 0, symbol, block)
-    front = header(tsi, toi, extensions)
     if not data:
-        return [front] if is_in_packets else []
-    ids = partition(len(data), symbol, block)
-    return [
-        front + struct.pack(">HH", *place) + data[at * symbol : (at + 1) * symbol]
-        for at, place in enumerate(ids)
-    ]
+        return [header(tsi, toi, extensions, shape)] if is_in_packets else []
+    made, place = [], 0
+    for sbn, size in enumerate(block_sizes(len(data), symbol, block)):
+        for esi in range(0, size, shape.together):
+            count = min(shape.together, size - esi)
+            front = header(tsi, toi, extensions, shape, 65_000 + 17 * place)
+            symbols = data[place * symbol : (place + count) * symbol]
+            made.append(front + struct.pack(">HH", sbn, esi) + symbols)
+            place += count
+    return made
 
 
-def instance(tsi: int, number: int, xml: bytes) -> list[bytes]:
+def instance(tsi: int, number: int, xml: bytes, shape: Shape = PLAIN) -> list[bytes]:
     """The packets of an FDT Instance."""
-    return packets(tsi, 0, xml, FDT_SYMBOL, FDT_BLOCK, instance=number)
+    return packets(tsi, 0, xml, FDT_SYMBOL, FDT_BLOCK, instance=number, shape=shape)
 
 
 def small_session() -> list[bytes]:

@@ -145,8 +145,8 @@ class Pictures(unittest.TestCase):
         class Program:
             """Reports an object of 65,536 blocks of 16 symbols, every second one missing."""
 
-            def states(self, _journals: object, _wanted: object) -> dict[str, flutejoin_gaps.State]:
-                return {"object": flutejoin_gaps.State("partial")}
+            def states(self, _journals: object) -> Iterator[tuple[str, flutejoin_gaps.State]]:
+                yield "object", flutejoin_gaps.State("partial")
 
             def information(self, _journal: object, _keys: object) -> dict[str, tuple]:
                 return {"object": (1 << 20, 1, 16)}
@@ -165,6 +165,25 @@ class Pictures(unittest.TestCase):
         self.assertEqual(survey.panels["object"][0].grid.counts[1], 131072)
         self.assertLess(tracemalloc.get_traced_memory()[1], 300000)
 
+    def test_states_are_not_kept(self) -> None:
+        """Objects beyond those that are drawn take no memory."""
+
+        class Program:
+            def states(self, _journals: object) -> Iterator[tuple[str, flutejoin_gaps.State]]:
+                for number in range(50_000):
+                    words = "no information" if number % 2 else "whole"
+                    yield f"session 7 object {number}", flutejoin_gaps.State(words)
+
+        tracemalloc.start()
+        self.addCleanup(tracemalloc.stop)
+        survey = flutejoin_survey.Survey(Program(), ["journal"], None, True)
+        overview = next(survey.drawings()).panels[0].grid
+        self.assertEqual(overview.counts, [25_000, 0, 0, 25_000])
+        first = overview.range_words(0, 0, 1)
+        self.assertEqual(first, f"session 7 object 0 to session 7 object {overview.run - 1}")
+        self.assertEqual(survey.left, (50_000 - len(survey.keys), 25_000))
+        self.assertLess(tracemalloc.get_traced_memory()[1], 3_000_000)
+
     def test_the_gaps_of_a_page_have_a_bound(self) -> None:
         bound = flutejoin_survey.MOST_GAPS
         self.addCleanup(setattr, flutejoin_survey, "MOST_GAPS", bound)
@@ -172,8 +191,8 @@ class Pictures(unittest.TestCase):
         states = {f"object {n}": flutejoin_gaps.State("partial", 0, n) for n in (9, 4, 1, 2)}
 
         class Program:
-            def states(self, _journals: object, _wanted: object) -> dict[str, flutejoin_gaps.State]:
-                return states
+            def states(self, _journals: object) -> Iterator[tuple[str, flutejoin_gaps.State]]:
+                yield from states.items()
 
             def information(self, _journal: object, _keys: object) -> dict[str, tuple]:
                 return dict.fromkeys(states, (400, 10, 8))

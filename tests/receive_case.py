@@ -29,9 +29,11 @@ import datagram_files, itertools, socket, sys
 file, source, target, port, first, count = *sys.argv[1:4], *map(int, sys.argv[4:])
 family = socket.AF_INET6 if ":" in target else socket.AF_INET
 udp = socket.socket(family, socket.SOCK_DGRAM)
-udp.bind((source, 0))
+def place(address, port):
+    return socket.getaddrinfo(address, port, family, socket.SOCK_DGRAM)[0][4]
+udp.bind(place(source, 0))
 for datagram in itertools.islice(datagram_files.read(file), first, first + count):
-    udp.sendto(datagram, (target, port))
+    udp.sendto(datagram, place(target, port))
 """
 
 

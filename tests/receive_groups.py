@@ -126,3 +126,26 @@ class Groups(Case):
         wanted = count_line(2, "alone6/2001-db8--1.fldg", "2001:db8::1")
         wanted += join_line(source, "alone6", address="2001-db8--1")
         self.check("each address, of IPv6", receiver.ended(), 0, wanted)
+
+    def test_one_address_on_two_links(self) -> None:
+        """Senders of an IPv6 address that is of one link alone have the link in their names."""
+        links = "ip link add d.0 type veth peer name d1 && ip link set d.0 up && ip link set d1 up"
+        adds = [f"ip -6 addr add fe80::7/64 dev {link} nodad" for link in ("d.0", "d1")]
+        if self.command([*self.prefix, "sh", "-c", " && ".join([links, *adds])]).status != 0:
+            self.skipTest("no interface can be made here")
+        receiver = self.receive("--count 4 -o links")
+        for link in "d.0", "d1":
+            self.send("sent2", f"fe80::7%{link}", f"fe80::7%{link}")
+        done = receiver.ended()
+        self.check("two links", done, 0, None)
+        for link in "d_0", "d1":
+            self.same(f"what came on {link}", f"links/fe80--7%{link}.fldg", "sent2")
+        self.run_lines("two links", done)
+        of = self.direct("fe800000000000000000000000000007", "sent2")
+        self.same("the journal of one", "links/fe80--7%d1.journal", of)
+        receiver = self.receive("--interface d1 --from fe80::7 --count 2 -o link")
+        for link in "d.0", "d1":
+            self.send("sent2", f"fe80::7%{link}", f"fe80::7%{link}")
+        self.check("one link", receiver.ended(), 0, None)
+        self.same("what came on it", "link/fe80--7%d1.fldg", "sent2")
+        self.absent("nothing of the other", "link/fe80--7%d_0.fldg")

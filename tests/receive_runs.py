@@ -55,12 +55,12 @@ class Senders(Case):
         self.same("the journal of both runs", "two/127.0.0.1.journal", journal)
 
     def test_too_many(self) -> None:
-        receiver = self.receive("--count 40 --senders 1 -o few")
+        receiver = self.receive("--count 42 --senders 1 -o few")
+        self.send("sent")
+        self.send("sent2", "127.0.0.2")
         self.send("sent2")
-        self.send("sent", "127.0.0.2")
-        self.send("sent", first=2)
         cause = "more than 1 senders (--senders takes more, and --from names the one)"
-        wanted = count_line(40, f"few/{ONE}") + f"left out 40: {cause}\n" + join_line(FIRST, "few")
+        wanted = count_line(42, f"few/{ONE}") + f"left out 2: {cause}\n" + join_line(FIRST, "few")
         told = said_left_out(cause)
         self.check("more senders than are kept", receiver.ended(), 0, wanted, told)
         receiver = self.receive("--senders 1 --count 2 -o few")
@@ -112,21 +112,35 @@ class Files(Case):
             self.same(f"{length} bytes, mended", f"{folder}/{ONE}", wanted)
 
     def test_others(self) -> None:
-        """A file that is no datagram file is refused, and not changed."""
+        """A file that is no datagram file is not changed, and keeps no sender out."""
         self.path("other").mkdir()
         nine = "other/127.0.0.9.fldg"
+        begun = "another file is begun for its sender"
+
+        def is_left(name: str, told: str) -> None:
+            receiver = self.receive("--count 4 -o other")
+            self.send("sent2")
+            self.send("sent2", "127.0.0.9")
+            self.check(name, receiver.ended(), 0, None, said(f"{told}; {begun}"))
+            for address in "127.0.0.1", "127.0.0.9.2":
+                self.same(f"{name}: of {address}", f"other/{address}.fldg", "sent2")
+                self.remove(f"other/{address}.fldg")
+
         for begin in b"FLDG\0\2", b"FLJN\0\2", b"hello, world", b"x":
             self.write(nine, begin)
-            self.tried(f"{begin}", "-o other", 1, "", said(f"{nine}: {NONE}"))
+            is_left(f"{begin}", f"{nine}: {NONE}")
             self.same(f"{begin} stays", nine, begin)
         self.remove(nine)
         os.mkfifo(self.path(nine))
-        text = said(f"{nine}: is no regular file, and is left as it is")
-        self.tried("a pipe", "-o other", 1, "", text)
+        is_left("a pipe", f"{nine}: is no regular file, and is left as it is")
+        self.remove(nine)
+        self.write("empty", "")
+        self.path(nine).symlink_to("../empty")
+        is_left("a link", f"{nine}: is a link, and is left as it is")
+        self.same("where it leads", "empty", b"")
         self.remove(nine)
         self.path(nine).mkdir()
-        text = said(f"cannot open {nine}: Is a directory")
-        self.tried("a folder in place of a file", "-o other", 3, "", text)
+        is_left("a folder in place of a file", f"cannot open {nine}: Is a directory")
         self.path(nine).rmdir()
         for name in "notes", "127.0.0.9.1", "127.0.0.09", "127.0.0.9.fldg.partial":
             self.write(f"other/{name if '.partial' in name else f'{name}.fldg'}", "x\n")

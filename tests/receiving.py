@@ -307,6 +307,7 @@ class Sessions(Case):
             ("session = 2\n", "session is no [[session]]"),
             (session + 'group = "10.0.0.1"\n', "10.0.0.1 is no multicast group"),
             ("= 2\n", "Invalid statement"),
+            ('as-received = "yes"\n' + session, "as-received is true or false"),
         ):
             with self.subTest(text):
                 self.assertIn(told, self.refused(text))
@@ -335,7 +336,8 @@ class Telling(Case):
         self.assertEqual(list(last), keys.split())
         keys = "group port interface from folder datagrams bytes dropped left_out last_seen"
         self.assertEqual(list(session), keys.split())
-        keys = "sender folder datagrams bytes left_out last_seen epoch file bytes_on_disk"
+        keys = "sender folder datagrams bytes left_out adapted refused last_seen epoch file"
+        keys += " bytes_on_disk"
         self.assertEqual(list(sender), keys.split())
         self.assertEqual(sender["sender"], "127.0.0.1")
         self.assertEqual((sender["datagrams"], sender["bytes"], sender["epoch"]), (3, 360, 1))
@@ -856,34 +858,28 @@ class Strangers(Case):
         self.assertEqual(receiver.ended()[0], 0)
         self.assertEqual(records(self.path("kept/127.0.0.1.fldg")), [b"no packet", b""])
 
-    def test_made_up_senders_keep_nobody_out_for_good(self) -> None:
+    def test_made_up_senders_keep_nobody_out(self) -> None:
         receiver = Receiver(self, "-o", "kept", "--status", "status.json")
         receiver.until(lambda: os.path.exists(self.path("status.json")), "a status")
         for number in range(1, 65):
             receiver.send(self.symbols(1), f"127.0.2.{number}")
         receiver.until(lambda: len(self.names()) == 64, "64 files")
-        began, sent = time.monotonic(), 0
-        full = "more than 64 senders (--senders takes more, and --from names the one)"
-        # More than the silence that makes room at first, and less than that of a minute
-        for _ in receiver.seconds(50):
-            if os.path.exists(self.path("kept/127.0.0.1.fldg")):
-                break
-            receiver.send(self.symbols(1))
-            sent += 1
-        else:
-            self.fail("no room within 50 seconds")
-        self.assertIn(f": {full}", receiver.stderr())
-        # By now the status was replaced.
-        receiver.until(lambda: self.status()["sessions"][0]["datagrams"] >= 64, "another status")
+        # One that sends more than they do gets a place, and loses nothing until then.
+        sent = self.symbols(20)
+        receiver.send(sent)
+        receiver.until_kept(20, "kept/127.0.0.1.fldg")
+        receiver.until(lambda: self.status()["sessions"][0]["datagrams"] >= 84, "another status")
         self.assertGreaterEqual(len(self.status()["senders"]), 64)
-        # A silent sender has given up its place; its files stay.
-        self.assertGreater(time.monotonic() - began, 5)
-        receiver.send(self.symbols(2), "127.0.2.64")
-        receiver.until_kept(3, "kept/127.0.2.64.fldg")
+        # So does one that lost its place, which has a file.
+        receiver.send(self.symbols(20), "127.0.2.1")
+        receiver.until_kept(21, "kept/127.0.2.1.fldg")
+        # What waits of another is written at the end of a run: if there is a place.
+        receiver.send(self.symbols(2), "127.0.0.3")
+        receiver.until_received()
         status, lines = receiver.end()
-        self.assertEqual((status, sum("datagrams from" in line for line in lines)), (0, 65))
-        left_out = int(re.search(r"left out (\d+): more than 64", "\n".join(lines))[1])
-        self.assertEqual(len(records(self.path("kept/127.0.0.1.fldg"))), sent - left_out)
+        self.assertEqual((status, sum("datagrams from" in line for line in lines)), (0, 66))
+        self.assertEqual(len(records(self.path("kept/127.0.0.3.fldg"))), 2)
+        self.assertFalse(any("left out" in line for line in lines), lines)
         # Nor do these files exclude other senders after a restart.
         os.unlink(self.path("kept/127.0.0.1.fldg"))
         receiver = Receiver(self, "-o", "kept", "--count", "3")
@@ -892,12 +888,25 @@ class Strangers(Case):
         self.assertEqual(receiver.ended()[0], 0)
         self.assertEqual(records(self.path("kept/127.0.0.1.fldg")), again)
 
+    def test_who_is_left_out_and_sent_more_than_another(self) -> None:
+        receiver = Receiver(self, "-o", "kept", "--senders", "2")
+        receiver.send(self.symbols(900, 1000))
+        receiver.until_kept(900, "kept/127.0.0.1.fldg")
+        receiver.send(self.symbols(100, 1000), "127.0.0.2")
+        receiver.send(self.symbols(110, 1000), "127.0.0.3")
+        status, lines = receiver.end()
+        self.assertEqual((status, self.names()), (1, ["127.0.0.1.fldg", "127.0.0.2.fldg"]))
+        cause = "more than 2 senders (--senders takes more, and --from names the one)"
+        self.assertIn(f"left out 110: {cause}", lines)
+        told = "1 senders of more bytes than one that was kept were left out\n"
+        self.assertIn(told, receiver.stderr())
+
     def status(self) -> dict:
         with open(self.path("status.json")) as file:
             return json.load(file)
 
     def test_a_flood_of_made_up_senders(self) -> None:
-        """Ten thousand addresses: no more files than senders, and the real one is kept."""
+        """Ten thousand addresses: few files, and the real one is kept."""
         self.needs_namespace()
         receiver = Receiver(self, "-o", "kept", "--senders", "4")
         sent = self.symbols(3)
@@ -918,8 +927,10 @@ class Strangers(Case):
             (memory,) = re.findall(r"VmRSS:\s+(\d+) kB", file.read())
         self.assertLess(int(memory), 60000)
         self.assertLess(len(os.listdir(f"/proc/{receiver.process.pid}/fd")), 20)
+        self.assertEqual(len(self.names()), 4)
         status, lines = receiver.end()
-        self.assertEqual((status, len(self.names())), (0, 4))
+        # At the end others get those places: of whom the last came.
+        self.assertEqual((status, len(self.names()) <= 7), (0, True))
         self.assertEqual(records(self.path("kept/127.0.0.1.fldg")), sent)
         self.assertTrue(any("more than 4 senders" in line for line in lines), lines)
 
@@ -1098,44 +1109,22 @@ class Patched(Case):
 
 class Modules(unittest.TestCase):
     def test_names_of_files(self) -> None:
-        from flutejoin_files import file_name
-        from flutejoin_found import address_of, name_of
+        import ipaddress
 
-        for address in ("10.0.0.1", "2001:db8::1", "::"):
+        from flutejoin_files import file_name, name_of
+
+        for address in ("10.0.0.1", "2001:db8::1", "::", "fe80::1", "fe80::1%eth0_1"):
             for epoch in 1, 2, 31:
                 for part in 1, 2, 12:
                     name = file_name(address, part, epoch)
-                    self.assertEqual(name_of(name), (address_of(address), epoch, part))
-        for name in ("10.0.0.1.e1.fldg", "10.0.0.1.e02.fldg", "10.0.0.1.2.e2.fldg", "e2.fldg"):
-            self.assertIsNone(name_of(name))
-
-    def test_who_asks_most_often_gets_a_free_place(self) -> None:
-        import ipaddress
-
-        from flutejoin_senders import MOST_ASKING, Senders
-        from flutejoin_writer import Folder, Writer
-
-        with tempfile.TemporaryDirectory() as path:
-            folder = Folder(path)
-            senders = Senders(folder, Writer([folder], None, 0), 2, 1000)
-            for number in 1, 2:
-                self.assertTrue(senders.has_room(bytes([number]), 0))
-                senders.admit(ipaddress.ip_address(number), 0)
-            real, number = b"real", 0
-            for now in range(5, 11):
-                for number in range(number, number + 3 * MOST_ASKING):
-                    self.assertFalse(senders.has_room(number.to_bytes(8, "big"), now))
-                    if number % 1000 == 0:
-                        self.assertFalse(senders.has_room(real, now))
-                    self.assertLessEqual(len(senders.asking), MOST_ASKING)
-                senders.each_second(now)
-            # The two have been silent for 10 seconds by now.
-            self.assertIn(real, senders.invited)
-            self.assertLessEqual(len(senders.invited), 2)
-            self.assertTrue(senders.has_room(real, 11))
-            senders.admit(ipaddress.ip_address(3), 11)
-            self.assertEqual(len(senders.admitted), 2)
-            os.close(folder.lock)
+                    wanted = ipaddress.ip_address(address), epoch, part
+                    self.assertEqual(name_of(name), wanted)
+        for name in (
+            *("10.0.0.1.e1.fldg", "10.0.0.1.e02.fldg", "10.0.0.1.2.e2.fldg", "e2.fldg"),
+            *("10.0.0.01.fldg", "10.0.0.1", "FE80--1.fldg", "fe80--1%.fldg", "fe80--1%a-b.fldg"),
+            *(f"10.0.0.1.{10**9}.fldg", f"10.0.0.1.e{10**9}.fldg", "10.0.0.1.fldg\n"),
+        ):
+            self.assertIsNone(name_of(name), name)
 
     def test_an_epoch_remembers_the_newest(self) -> None:
         import flutejoin_epochs

@@ -44,6 +44,7 @@ import flutejoin_keeping
 from datagram_files import HEADER, record
 from flutejoin_joining import Program
 from flutejoin_keeping import Keeper, Settings
+from flutejoin_voice import Log
 from ports import free_port
 
 PROGRAM = os.path.abspath(sys.argv[1])
@@ -238,8 +239,7 @@ def is_stopped(process: int) -> bool:
 
 def keeper(folder: pathlib.Path, has_outbox: bool, program: str = PROGRAM) -> Keeper:
     settings = Settings(0, 0, has_outbox)
-    report = flutejoin_files.Report("station")
-    return Keeper(str(folder), Program(program, lambda: None), settings, report)
+    return Keeper(str(folder), Program(program, lambda: None), settings, Log("station"))
 
 
 def keep(folder: pathlib.Path, has_outbox: bool = False) -> None:
@@ -438,10 +438,7 @@ def damaged_journals(work: pathlib.Path, sent: list[bytes], wanted: bytes) -> No
     journal = folder / f"journals/{NAME}.journal"
     damaged = journal.read_bytes()[:-30]
     recent = folder / "recent" / journal.name
-    before = journal.stat().st_mtime_ns
     run = Run(folder, Port().number, "--every", 0.1)
-    # The small journal is removed once its facts are in the large one.
-    until(lambda: journal.stat().st_mtime_ns != before and not recent.exists(), run)
     recent.write_bytes(damaged)
     datagram_file(folder / f"in/{NAME}.5.fldg", sent[:1])
     until(lambda: list((folder / "aside").glob("*.journal")), run)
@@ -832,6 +829,7 @@ def a_clock_that_is_set_back(work: pathlib.Path) -> None:
     datagram_file(folder / f"in/{NAME}.5.fldg", sent[60:])
     datagram_file(folder / f"in/{NAME}.6.fldg", sent[:4])
     of_once(folder)
+    datagram_file(folder / f"in/{NAME}.7.fldg", sent[:4])
     ahead.write_text("3e7")
     code = SET_CLOCK.format(path=str(ahead), tools=str(TOOLS))
     recent = folder / f"recent/{NAME}.journal"

@@ -98,7 +98,8 @@ class Completion(run.Case):
         stations = "station1,station2"
         self.rows(
             *((FILES, "flutejoin-capture "), ("folder", "flutejoin-capture --port 4001 -o ")),
-            *(("", "flutejoin-capture --port "), ("lo", "flutejoin-receive --interface lo")),
+            *(("", "flutejoin-capture --port "), ("", "flutejoin-capture --from ")),
+            *(("", "flutejoin-capture --group "), ("lo", "flutejoin-receive --interface lo")),
             *(("folder", "flutejoin-receive --port 4001 -o f"), ("", "flutejoin-receive --group ")),
             *(("", "flutejoin-receive --most "), (FILES, "flutejoin-receive --config ")),
             *(("folder", "flutejoin-station -o f"), (FILES, "flutejoin-station --config ")),

@@ -9,10 +9,17 @@ import sys
 sys.dont_write_bytecode = True
 import run
 from receive_faults import Folders, Outputs, Words
+from receive_forms import Forms
 from receive_groups import Groups
+from receive_hostile import Files as HostileFiles
+from receive_hostile import Start, Threads
+from receive_places import Places, Waiting
 from receive_runs import Ends, Files, Senders
 
-__all__ = ["Senders", "Files", "Ends", "Folders", "Outputs", "Words", "Groups"]
+__all__ = [
+    "Senders", "Files", "Ends", "Folders", "Outputs", "Words", "Groups", "Places", "Waiting",
+    "Threads", "HostileFiles", "Start", "Forms",
+]
 
 if __name__ == "__main__":
     run.main("receive")

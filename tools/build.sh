@@ -15,7 +15,7 @@ echo "flutejoin: proving and building the program;" \
 # The crates of the program, the lowest first: in this order each is read once, and no pass over all
 # sources comes before.
 libraries='flute_join flute_parts flute_wire flute_store flute_journal flute_streams flute_output'
-libraries="$libraries flutejoin flutejoin_commands flutejoin_line"
+libraries="$libraries flutejoin flutejoin_line flutejoin_commands"
 
 # Two jobs for each processor, since one job often waits for a proof of another. rattle itself takes
 # fewer where memory is short.
@@ -63,7 +63,6 @@ for library in $libraries; do
     case $library in
     # Nothing needs it before flutejoin_commands: it has the time that others leave.
     flute_parts) build_beside flute_output nice -n 19 ;;
-    flutejoin) build_beside flutejoin_line ;;
     esac
 done
 # Its two functions are proved one after the other: a second job would only load all anew.

@@ -26,8 +26,11 @@ ROOM = 1 << 16  # bytes of a datagram, one more than a record can hold
 STRIDE = 2 + ROOM + 1470
 DONT_WAIT = 0x40  # MSG_DONTWAIT of Linux
 
-# The sender's address, the datagram's length, its first bytes, and where its record begins. If the
-# datagram is short, its first bytes are followed by bytes of an earlier one.
+SCOPE = struct.Struct("@I")
+
+# The sender's address (of IPv6 with the number of its link, which is 0 unless the address is of one
+# link alone), the datagram's length, its first bytes, and where its record begins. If the datagram
+# is short, its first bytes are followed by bytes of an earlier one.
 Datagram = Tuple[bytes, int, Tuple[bytes, ...], int]
 
 
@@ -60,7 +63,8 @@ class Batch:
             except BlockingIOError:
                 break
             lengths.append(length)
-            senders.append(socket.inet_pton(self.udp.family, address[0].partition("%")[0]))
+            sender = socket.inet_pton(self.udp.family, address[0].partition("%")[0])
+            senders.append(sender + b"".join(map(SCOPE.pack, address[3:])))
         return self.together(senders, lengths)
 
 
@@ -108,8 +112,8 @@ def many_at_once(batch: Batch) -> Optional[Callable[[int], Iterable[Datagram]]]:
     words = memoryview(received).cast("B").cast("I")
     lengths = words[Received.length.offset // 4 :: ctypes.sizeof(Received) // 4]
     name_view = memoryview(names)
-    # The address in struct sockaddr_in and sockaddr_in6
-    place, size = (4, 4) if batch.udp.family == socket.AF_INET else (8, 16)
+    # The address in struct sockaddr_in; in sockaddr_in6 with the number of its link
+    place, size = (4, 4) if batch.udp.family == socket.AF_INET else (8, 20)
     address = struct.Struct(f"{place}x{size}s{name_room - place - size}x").iter_unpack
     # The buffers that the system writes into are kept alive until the call ends.
     kept = data, name_data, pieces, received

@@ -66,9 +66,16 @@ class Datagrams:
     """
 
     def __init__(
-        self, ports: Container[int], groups: Container[bytes], any_checksum: bool, hand_on: HandOn
+        self,
+        ports: Container[int],
+        groups: Container[bytes],
+        any_checksum: bool,
+        hand_on: HandOn,
+        senders: Container[bytes] = (),
     ) -> None:
-        self.ports, self.groups = ports, groups
+        """Those that are wanted are to one of these ports and groups, and of one of these senders:
+        of all where there are none."""
+        self.ports, self.groups, self.senders = ports, groups, senders
         self.any_checksum, self.hand_on = any_checksum, hand_on
         self.count = 0
         self.left_out: collections.Counter[str] = collections.Counter()
@@ -77,6 +84,10 @@ class Datagrams:
         # Of the frame that is being read
         self.when: Optional[int] = None
         self.vlans: tuple[int, ...] = ()
+
+    def is_of_others(self, source: bytes, target: bytes) -> bool:
+        is_to_others = self.groups and target not in self.groups
+        return bool(is_to_others or self.senders and source not in self.senders)
 
     def leave_out(self, cause: str) -> None:
         self.left_out[cause] += 1
@@ -144,7 +155,7 @@ class Datagrams:
         data, is_whole = ip[head:length], length <= len(ip)
         if protocol != UDP:
             self.take_other(protocol, data)
-        elif self.groups and target not in self.groups:
+        elif self.is_of_others(source, target):
             self.leave_udp_tunnel(data)
         elif not 20 <= head <= length:
             self.leave_out(LENGTHS)
@@ -164,7 +175,7 @@ class Datagrams:
         length, kind, source, target = IP6_HEAD.unpack_from(ip)
         is_whole, is_joined = length <= len(ip) - 40, False
         kind, data = behind_headers(kind, ip[40 : 40 + length])
-        if self.groups and target not in self.groups and kind in (UDP, FRAGMENT, *HEADERS):
+        if self.is_of_others(source, target) and kind in (UDP, FRAGMENT, *HEADERS):
             self.leave_udp_tunnel(data if kind == UDP else b"")
             return
         if kind == FRAGMENT and len(data) >= 8:
@@ -251,12 +262,13 @@ class Datagrams:
         elif protocol in ICMP_ERRORS and data and data[0] in ICMP_ERRORS[protocol]:
             quoted = data[8:]
             if protocol == ICMP and len(quoted) >= 20 and quoted[9] == UDP:
-                target, udp = quoted[16:20], quoted[(quoted[0] & 15) * 4 :]
+                source, target = quoted[12:16], quoted[16:20]
+                udp = quoted[(quoted[0] & 15) * 4 :]
             elif protocol == ICMP6 and len(quoted) >= 40 and quoted[6] == UDP:
-                target, udp = quoted[24:40], quoted[40:]
+                source, target, udp = quoted[8:24], quoted[24:40], quoted[40:]
             else:
                 return
-            if self.may_want(udp) and (not self.groups or target in self.groups):
+            if self.may_want(udp) and not self.is_of_others(source, target):
                 self.leave_out(QUOTE)
 
     def may_want(self, udp: bytes) -> bool:

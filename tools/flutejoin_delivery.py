@@ -1,24 +1,31 @@
 """Makes named files of journals by a few runs of flutejoin, whatever the number of files."""
 from __future__ import annotations
 
+import contextlib
+import itertools
 import os
 from typing import Iterable, Iterator, NamedTuple, Optional, Sequence
 
 import flutejoin_files as files
 import flutejoin_gaps as gaps
 import flutejoin_holdings as holdings
-from flutejoin_catalogue import Catalogue, State, Told, key_of
-from flutejoin_content import md5_of
-from flutejoin_entries import FILE
+from flutejoin_catalogue import Catalogue
+from flutejoin_content import Sums
+from flutejoin_documents import Documents
+from flutejoin_entries import FILE, SYMBOL
 from flutejoin_gaps import GAPS, Fault, argument, shown
-from flutejoin_holdings import Held, Key
+from flutejoin_holdings import Key
+from flutejoin_merged import merged
 from flutejoin_places import Work
-from flutejoin_resolving import Resolving
 from flutejoin_records import Cut
 from flutejoin_records import Fault as RecordFault
+from flutejoin_resolving import Budget, Resolving, Wanted as Differing, Way
+from flutejoin_session import Session, State, key_of
 
 JOINED = "the journals joined"
 MOST_GAPS = 1 << 20  # of objects that nothing describes, if only a list is wanted
+MOST_HASHED = 1 << 31  # bytes of all ways to put objects together, or some times those of journals
+MOST_DECODED = 1 << 26  # bytes of an object that is decoded in several ways
 
 
 class Wanted(NamedTuple):
@@ -48,29 +55,37 @@ class Delivery:
         journals: list[str],
         wanted: Wanted,
         work: Work,
-        report: files.Report,
+        catalogue: Catalogue,
     ) -> None:
         self.program, self.journals, self.wanted = program, journals, wanted
-        self.work, self.report, self.catalogue = work, report, Catalogue(report)
-        self.has_lines = False
-        self.read_before: set[tuple[Key, bytes]] = set()
+        self.work, self.catalogue = work, catalogue
 
-    def read(self, handed_in: Iterable[str]) -> None:
-        """Reads what the journals hold, and the FDT Instances."""
+    def read(self, handed_in: Iterable[str], others: Sequence[str]) -> None:
+        """Reads what the journals hold, and the FDT Instances.
+
+        These datagram files and journals may contain values of symbols in conflict.
+        """
         self.join()
-        self.catalogue.hold(self.scan(self.journal, self.wanted.has))
-        self.read_instances()
-        self.read_handed_in(handed_in)
-        self.catalogue.notes.finish("such notes")
-        self.catalogue.differences.finish("such differences")
-        self.tell_disagreements()
-        self.write_lines()
+        with self.named_faults():
+            self.read_instances(others)
+            self.read_handed_in(handed_in)
+            self.catalogue.finish_reading()
+            with open(self.journal, "rb", buffering=0) as file:
+                choice = self.catalogue.is_shown
+                self.catalogue.hold(
+                    holdings.holdings(file, lambda key: self.wanted.has(key) and choice(key))
+                )
+            self.catalogue.tell(Session.disagreements, "such files")
 
     def join(self) -> None:
-        """Joins the journals, if there are several or only some sessions are wanted."""
+        """Joins the journals, if there are several or only some sessions are wanted.
+
+        Else flutejoin reads the journal once, to report its faults.
+        """
         if len(self.journals) == 1 and not self.wanted.tsis:
             (self.journal,) = self.journals
             self.name = shown(self.journal)
+            self.run([*GAPS, "--summary", argument(self.journal)], [self.name])
             return
         self.journal, self.name = self.work.at("journal"), JOINED
         words = ["join", "--any-size", *self.wanted.sessions(), "-o", self.journal]
@@ -80,102 +95,57 @@ class Delivery:
         for _ in self.program.lines([(words, names)]):
             pass
 
-    def scan(self, path: str, choice: holdings.Choice) -> dict[Key, Held]:
-        """What a journal holds of each object.
-
-        Its FDT Instances are copied to a journal of their own.
-        """
-        name = self.name if path == self.journal else shown(path)
+    @contextlib.contextmanager
+    def named_faults(self) -> Iterator[None]:
+        """A context in which faults of journals are those of the journal of all."""
         try:
-            with open(self.work.at("fdt.journal"), "wb") as out:
-                with open(path, "rb", buffering=0, opener=files.open_at_once) as file:
-                    return holdings.holdings(file, choice, holdings.Copy(out))
+            yield
         except RecordFault as fault:
-            raise Fault(1, f"{name}: {fault}") from None
+            raise Fault(1, f"{self.name}: {fault}") from None
         except Cut:
-            raise Fault(1, f"{name}: Cut") from None
+            raise Fault(1, f"{self.name}: Cut") from None
 
-    def read_instances(self) -> None:
-        """Reads the FDT Instances that are whole."""
-        disputed = set()
-        for key, state in self.instances(self.name):
-            session = self.catalogue.session(key.source, key.tsi)
-            if state.is_whole():
-                self.read_instance(key, str(key.number))
-                continue
-            session.unread[key.number] = state
-            if state.is_disputed:
-                disputed.add(key)
-        if disputed and len(self.journals) > 1:
-            for journal in self.journals:
-                self.read_alone(journal, disputed)
-
-    def read_alone(self, journal: str, disputed: set[Key]) -> None:
-        """Reads FDT Instances in conflict between the journals that are whole in this one.
-
-        One that an earlier journal has with the same bytes is read once.
-        """
-        self.scan(journal, disputed.__contains__)
-        for key, state in self.instances(shown(journal)):
-            if state.is_whole():
-                self.catalogue.session(key.source, key.tsi).unread.pop(key.number, None)
-                content = key, md5_of(os.path.join(self.work.at("fdt"), key.file_name()))
-                if content not in self.read_before:
-                    self.read_before.add(content)
-                    self.read_instance(key, f"{key.number} of {shown(journal)}")
-
-    def instances(self, name: str) -> Iterator[tuple[Key, State]]:
-        """Extracts the FDT Instances that `scan` copied, and yields the state of each.
-
-        The files are removed afterwards.
-        """
-        yield from list(self.extract(self.work.at("fdt.journal"), "fdt", [], name))
-        self.work.remove("fdt.journal")
+    def read_instances(self, others: Sequence[str]) -> None:
+        """Reads the FDT Instances that are whole, the newest first."""
+        documents = Documents(self.work.at("fdt"), self.journals, self.wanted.has)
+        with contextlib.closing(documents):
+            documents.read(self.journal)
+            documents.resolve(others, shown)
+            self.catalogue.left += documents.left
+            for document, file in documents.newest_first():
+                key = document.key
+                session = self.catalogue.of(key)
+                self.catalogue.read(session, file, key.number, document.name)
+        for key, state in documents.unread.items():
+            self.catalogue.of(key).unread[key.number] = state
         self.work.remove("fdt")
-
-    def extract(
-        self, journal: str, folder: str, words: list[str], name: str
-    ) -> Iterator[tuple[Key, State]]:
-        """Extracts all whole objects, and yields the state that flutejoin prints of each object."""
-        command = ["extract", "--all", "--any-size", "-o", self.work.at(folder)]
-        command += [*words, argument(journal)]
-        for line in self.program.lines([(command, [name])]):
-            if not line.startswith(b"written "):
-                yield self.told(line)
-
-    def read_instance(self, key: Key, name: str) -> None:
-        path = os.path.join(self.work.at("fdt"), key.file_name())
-        self.catalogue.read(self.catalogue.session(key.source, key.tsi), path, key.number, name)
 
     def read_handed_in(self, paths: Iterable[str]) -> None:
         """Reads the FDT Instances that the user gave as files."""
         for path in paths:
-            sessions = list(self.catalogue)
+            sessions = self.sessions()
             if len(sessions) != 1:
                 raise Fault(2, f"--fdt is of one session, and there are {len(sessions)}: name it")
-            self.catalogue.read(sessions[0], path, None, shown(path))
+            with open(path, "rb") as file:
+                self.catalogue.read(self.catalogue.session(*sessions[0]), file, None, shown(path))
 
-    def tell_disagreements(self) -> None:
-        told = Told(self.report)
-        for session in self.catalogue:
-            for line in session.disagreements():
-                told.tell(line)
-        told.finish("such files")
+    def sessions(self) -> list[tuple[bytes, int]]:
+        """The sessions of which the journal has anything; of many only some."""
+        with open(self.journal, "rb", buffering=0) as file:
+            keys = (holdings.key_of(raw) for _, raw, _ in holdings.entries(file))
+            every = ((key.source, key.tsi) for key in keys if self.wanted.has(key))
+            different = (session for session, _ in itertools.groupby(every))
+            return list(itertools.islice(different, files.MOST_INPUTS))
 
-    def write_lines(self) -> None:
-        """Writes the list of transmission information that only FDT Instances have."""
-        with open(self.work.at("lines"), "w", encoding="ascii") as lines:
-            for session in self.catalogue:
-                for key, (length, symbol, block) in session.wanted_lines():
-                    numbers = f"length {length} symbol {symbol} block {block}"
-                    lines.write(f"{key.text()} info {numbers}\n")
-            self.has_lines = lines.tell() > 0
-
-    def add_lines(self, journal: str, out: str) -> tuple[list[str], list[str]]:
-        """The command that adds this list to the journal."""
-        words = ["info", "--any-size", "-o", out, "--list", self.work.at("lines")]
-        words.append(argument(journal))
-        return words, [self.name]
+    def describe(self, is_shown: holdings.Choice) -> str:
+        """Copies described objects to a journal, with information that only the FDT has."""
+        path = self.work.at("described")
+        every = (each for session in self.catalogue for each in sorted(session.added()))
+        added = (each for each in every if is_shown(each[0]))
+        with self.named_faults(), open(path, "wb") as out:
+            with open(self.journal, "rb", buffering=0) as file:
+                holdings.copy(file, is_shown, out, added)
+        return path
 
     def look(self) -> None:
         """Reads from flutejoin whether each object is whole, and writes no object.
@@ -183,60 +153,107 @@ class Delivery:
         A few datagrams of objects that nothing describes can make millions of gaps. Then only
         described objects are looked at.
         """
-        journal = self.journal
-        if sum(session.gaps_of_strays() for session in self.catalogue) > MOST_GAPS:
-            journal = self.work.at("described")
-            with open(self.journal, "rb", buffering=0) as file, open(journal, "wb") as out:
-                holdings.copy(file, self.catalogue.describes, out)
-        commands = [([*GAPS, argument(journal)], [self.name])]
-        if self.has_lines:
-            commands = [self.add_lines(journal, "-"), ([*GAPS, "-"], [self.name])]
-        for line in self.program.lines(commands):
+        shown_keys = self.catalogue.describes
+        if sum(session.gaps_of_strays() for session in self.catalogue) <= MOST_GAPS:
+            shown_keys = self.catalogue.has
+        for line in self.program.lines([([*GAPS, self.describe(shown_keys)], [self.name])]):
             if not line.startswith(b"gap "):
                 self.take(*self.told(line))
 
-    def extract_all(self, with_values: Sequence[str]) -> None:
-        """Has flutejoin write all whole objects, and reads the state of the others.
+    def extract_all(self) -> None:
+        """Has flutejoin write the whole objects that are described, and reads the others' state.
 
-        These datagram files and journals may contain values of symbols in conflict.
+        Those whose file is there already are left out.
         """
-        journal = self.journal
-        if self.has_lines:
-            journal = self.work.at("known")
-            self.run(*self.add_lines(self.journal, journal))
-        for key, state in self.extract(journal, "objects", self.wanted.words(), self.name):
-            self.take(key, state)
-        if with_values:
-            self.resolve(journal, with_values)
-        self.work.remove("known")
-        self.work.remove("journal")
 
-    def resolve(self, journal: str, with_values: Sequence[str]) -> None:
-        resolving = Resolving(journal, self.catalogue)
-        if not resolving.wanted:
-            return
-        resolving.find_conflicts()
-        for path in with_values:
-            resolving.look(path)
-        choices = resolving.choices()
-        if not choices:
-            return
-        resolving.write(self.work.at("resolved.journal"), choices)
+        def is_wanted(key: Key) -> bool:
+            is_new = self.catalogue.describes(key)
+            return is_new and key.number not in self.catalogue.of(key).outcomes
+
+        for key, state in self.extract(self.describe(is_wanted), "objects"):
+            self.take(key, state)
+        self.work.remove("described")
+
+    def extract(self, journal: str, folder: str) -> Iterator[tuple[Key, State]]:
+        """Extracts all whole objects, and yields the state that flutejoin prints of each object."""
+        words = ["extract", "--all", "--any-size", "-o", self.work.at(folder), argument(journal)]
+        for line in self.program.lines([(words, [self.name])]):
+            if not line.startswith(b"written "):
+                yield self.told(line)
+
+    def resolve(self, others: Sequence[str]) -> set[Key]:
+        """Completes objects about which journals differ, where the MD5 shows what was sent.
+
+        These datagram files and journals may contain values of symbols in conflict. Returns which
+        objects were completed.
+        """
+        doubtful = [
+            (session, toi)
+            for session in self.catalogue
+            for toi in session.files
+            if session.is_in_doubt(toi)
+        ]
+        if not doubtful:
+            return set()
+        budget = Budget(max(MOST_HASHED, 4 * sum(map(os.path.getsize, self.journals))))
+        wanted = {
+            session.key(toi): self.differing(session, toi, budget) for session, toi in doubtful
+        }
+        resolving = Resolving(self.journals, wanted, budget)
+        with self.named_faults():
+            resolving.compare(others)
+            found: dict[Key, Way] = {}
+            for ways in [resolving.by_journal] + [resolving.by_combination] * bool(others):
+                for key, ends in ways():
+                    right = [(sums.age(), way) for way, sums in ends if sums.is_right()]
+                    if right:
+                        found[key] = min(right, key=lambda each: each[0])[1]
+                        resolving.done.add(key)
+            for session, toi in doubtful:
+                of = wanted[session.key(toi)]
+                if others and of.differs() and session.key(toi) not in found:
+                    session.unresolved[toi] = of.why_not()
+            return self.complete(found, wanted)
+
+    @staticmethod
+    def differing(session: Session, toi: int, budget: Budget) -> Differing:
+        md5s, described = session.md5s(toi), session.usable(toi)
+        encodings = sorted({each.file.encoding for each in described if each.file.encoding})
+        return Differing(
+            lambda: Sums(md5s, encodings, MOST_DECODED, budget), session.lengths(toi)
+        )
+
+    def complete(self, found: dict[Key, Way], wanted: dict[Key, Differing]) -> set[Key]:
+        """Has flutejoin write the objects that are put together in these ways."""
+        if not found:
+            return set()
         made = self.work.at("resolved.journal")
-        for key, state in list(self.extract(made, "resolved", [], self.name)):
+        with open(made, "wb") as out:
+            copied = holdings.Copy(out)
+            for key, raw, entries in merged(self.journals, found.__contains__):
+                copied.inform(key, found[key].partition.numbers)
+                for each in entries:
+                    value = found[key].value(each) if each.symbol else b""
+                    if value:
+                        size = len(value).to_bytes(2, "big")
+                        copied.add(SYMBOL, raw, each.symbol + size + value)
+            copied.finish()
+        for key, state in list(self.extract(made, "resolved")):
             if state.is_whole():
                 self.take(key, state)
-                session = self.catalogue.session(key.source, key.tsi)
-                session.resolved[key.number] = len(choices[key])
+                session = self.catalogue.of(key)
+                session.proved[key.number] = found[key].partition.numbers
+                session.resolved[key.number] = wanted[key].words()
                 source, place = (
                     os.path.join(self.work.at(name), key.file_name())
                     for name in ("resolved", "objects")
                 )
                 os.rename(source, place)
+        return set(found)
 
     def take(self, key: Key, state: State) -> None:
         if key.tag == FILE and self.wanted.has(key):
-            self.catalogue.session(key.source, key.tsi).states[key.number] = state
+            self.catalogue.of(key).states[key.number] = state
 
     @staticmethod
     def told(line: bytes) -> tuple[Key, State]:

@@ -7,7 +7,10 @@ from __future__ import annotations
 
 import base64
 import collections
+import contextlib
 import datetime
+import math
+import re
 import zlib
 from typing import BinaryIO, Iterator, NamedTuple
 from xml.parsers import expat
@@ -23,8 +26,12 @@ MOST_DEPTH = 16
 MOST_LOCATION, MOST_TYPE = 2048, 100  # characters that are kept of a name and of a type
 PIECE = 1 << 16
 COMPRESSED = b"\x1f", b"x"  # how gzip (RFC 1952) and zlib (RFC 1950) formats begin
-EITHER = 47  # zlib's name for either format
+EITHER, RAW = 47, -15  # zlib's names for either format, and for DEFLATE (RFC 1951)
+BEFORE = b"\xef\xbb\xbf\xfe\xff\0 \t\r\n"  # bytes that XML may have before its first `<`
+FIRST = b"<", b"\xef", b"\xfe", b"\xff"  # bytes that XML begins with
+MOST_TREES = 512  # bytes of DEFLATE that come before its first byte, at most
 DIGITS = 39
+EXPIRES = re.compile(rb"Expires\s*=\s*[\"']\s*(\d{1,10})")
 NTP_TO_UNIX = 2208988800  # seconds from 1900 to 1970
 ERA = 1 << 32  # seconds of an era of NTP; the second begins in 2036 (RFC 4330, section 3)
 NO_CODE = 0  # the FEC Encoding ID of Compact No-Code FEC
@@ -32,6 +39,24 @@ NO_CODE = 0  # the FEC Encoding ID of Compact No-Code FEC
 
 class Refused(Exception):
     """Why an FDT Instance is refused."""
+
+
+class Spent(Exception):
+    """No more XML is read in this run."""
+
+
+class Budget:
+    """How much XML a run reads: in bytes, of which an Instance and an element take some too."""
+
+    INSTANCE, ELEMENT, FILE = 1 << 13, 1 << 7, 1 << 9
+
+    def __init__(self, left: float = 1 << 29) -> None:
+        self.left = left
+
+    def spend(self, count: int) -> None:
+        self.left -= count
+        if self.left < 0:
+            raise Spent
 
 
 class File(NamedTuple):
@@ -145,18 +170,30 @@ def digest(text: str) -> bytes | None:
     return data if len(data) == 16 else None
 
 
+def is_deflated(data: bytes) -> bool:
+    """Whether bytes that are no XML are DEFLATE of something that may be XML, by its first byte."""
+    if data.lstrip(BEFORE)[:1] in (b"<", b""):
+        return False
+    stream, first = zlib.decompressobj(RAW), b""
+    with contextlib.suppress(zlib.error):
+        for at in range(min(len(data), MOST_TREES)):
+            first = first or stream.decompress(data[at : at + 1], 1)
+    return first in FIRST
+
+
 def pieces(file: BinaryIO) -> Iterator[bytes]:
     """Yields the bytes of an FDT Instance, decoded if it is compressed (RFC 6726, section 3.4.3).
 
-    A journal does not record the encoding, but no XML begins as the gzip and zlib formats do.
+    A journal does not record the encoding, but no XML begins as the gzip and zlib formats do, and
+    what is DEFLATE is seen by the XML that it begins with.
     """
     data = file.read(PIECE)
-    if data[:1] not in COMPRESSED:
+    if data[:1] not in COMPRESSED and not is_deflated(data):
         while data:
             yield data
             data = file.read(PIECE)
         return
-    stream, piece = zlib.decompressobj(EITHER), b""
+    stream, piece = zlib.decompressobj(EITHER if data[:1] in COMPRESSED else RAW), b""
     try:
         while not stream.eof and (data or len(piece) == PIECE):
             piece = stream.decompress(data, PIECE)
@@ -171,12 +208,13 @@ def pieces(file: BinaryIO) -> Iterator[bytes]:
 class Reader:
     """Reads the XML of an FDT Instance."""
 
-    def __init__(self) -> None:
+    def __init__(self, budget: Budget) -> None:
+        self.budget = budget
         self.parser = expat.ParserCreate()
         self.parser.StartElementHandler = self.start
         self.parser.EndElementHandler = self.end
         self.parser.StartDoctypeDeclHandler = self.doctype
-        self.depth = self.kept = 0
+        self.depth = self.kept = self.elements = 0
         self.common: dict[str, str] = {}
         self.expires: int | None = None
         self.files: dict[int, File] = {}
@@ -185,11 +223,14 @@ class Reader:
     def read(self, file: BinaryIO) -> None:
         fed = 0
         try:
+            self.budget.spend(Budget.INSTANCE)
             for piece in pieces(file):
                 fed += len(piece)
+                self.budget.spend(len(piece))
                 if fed > MOST_BYTES:
                     raise Refused("more than 16 MB of XML")
                 self.parser.Parse(piece, False)
+                self.count()
                 if fed - self.parser.CurrentByteIndex > MOST_MARKUP:
                     raise Refused("a tag or a comment of more than 64 KB")
             self.parser.Parse(b"", True)
@@ -205,17 +246,22 @@ class Reader:
 
     def start(self, name: str, attributes: dict[str, str]) -> None:
         self.depth += 1
-        if self.depth > MOST_DEPTH:
-            raise Refused(f"has elements in one another, more than {MOST_DEPTH}")
-        if len(self.parser.intern) > MOST_NAMES:
-            raise Refused(f"has more than {MOST_NAMES} names of elements and attributes")
-        local = name.rpartition(":")[2]
-        if self.depth == 1:
-            if local != "FDT-Instance":
+        self.elements += 1
+        if self.depth == 2 and name.endswith("File") and name.rpartition(":")[2] == "File":
+            self.add(local_names(attributes))
+        elif self.depth == 1:
+            if name.rpartition(":")[2] != "FDT-Instance":
                 raise Refused("is no FDT Instance")
             self.begin(local_names(attributes))
-        elif self.depth == 2 and local == "File":
-            self.add(local_names(attributes))
+        elif self.depth > MOST_DEPTH:
+            raise Refused(f"has elements in one another, more than {MOST_DEPTH}")
+
+    def count(self) -> None:
+        """Counts what the last piece had."""
+        self.budget.spend(Budget.ELEMENT * self.elements)
+        self.elements = 0
+        if len(self.parser.intern) > MOST_NAMES:
+            raise Refused(f"has more than {MOST_NAMES} names of elements and attributes")
 
     def end(self, _name: str) -> None:
         self.depth -= 1
@@ -228,6 +274,7 @@ class Reader:
 
     def add(self, attributes: dict[str, str]) -> None:
         """Adds the file that a File element describes."""
+        self.budget.spend(Budget.FILE)
         file = self.file({**self.common, **attributes})
         if not file.toi:
             self.notes["a File has no TOI"] += 1
@@ -281,7 +328,24 @@ def local_names(attributes: dict[str, str]) -> dict[str, str]:
 
 def read(path: str, number: int | None, name: str) -> Instance:
     """Reads the FDT Instance in a file. Raises Refused if it is not valid, and OSError."""
-    reader = Reader()
     with open(path, "rb") as file:
-        reader.read(file)
+        return read_from(file, number, name, Budget(math.inf))
+
+
+def read_from(file: BinaryIO, number: int | None, name: str, budget: Budget) -> Instance:
+    """Reads the FDT Instance in an open file. Raises Refused if it is not valid, and Spent."""
+    reader = Reader(budget)
+    reader.read(file)
     return Instance(number, name, reader.expires, reader.files, reader.notes)
+
+
+def likely_rank(begin: bytes, number: int) -> tuple[int, int]:
+    """The rank that an FDT Instance seems to have by its first bytes, before it is read."""
+    if begin[:1] in COMPRESSED:
+        try:
+            begin = zlib.decompressobj(EITHER).decompress(begin, PIECE)
+        except zlib.error:
+            begin = b""
+    found = EXPIRES.search(begin)
+    when = expires(found[1].decode()) if found else None
+    return (-ERA if when is None else when), number

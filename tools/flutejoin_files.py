@@ -27,6 +27,10 @@ AGAIN = 1  # seconds in which a signal may be a copy of the one that ended the w
 ENDS: list[Callable[[], None]] = []  # what is still to be removed if a signal ends the run
 
 IPAddress = Union[ipaddress.IPv4Address, ipaddress.IPv6Address]
+# The name of a sender's file: its address, in which a link may be named, its epoch and its number
+NAME = re.compile(
+    r"(\d+(?:\.\d+){3}|[\da-f-]+(?:%\w+)?)(?:\.e(\d{1,9}))?(?:\.(\d{1,9}))?\.fldg", re.ASCII
+)
 
 
 class Report:
@@ -294,23 +298,16 @@ class Name(NamedTuple):
 
 def name_of(name: str) -> Optional[Name]:
     """The parts of a file's name, or None if it is not the name of a sender's file."""
-    if not name.endswith(".fldg"):
+    found = NAME.fullmatch(name)
+    if not found:
         return None
-    fields = name.split(".")[:-1]
-    candidates = [(fields, 1)]
-    if fields[-1].isdecimal():
-        candidates.append((fields[:-1], int(fields[-1])))
-    for front, part in candidates:
-        epoch = 1
-        if front and front[-1][:1] == "e" and front[-1][1:].isdecimal():
-            front, epoch = front[:-1], int(front[-1][1:])
-        try:
-            address = ipaddress.ip_address(".".join(front).replace("-", ":"))
-        except ValueError:
-            continue
-        if file_name(str(address), part, epoch) == name:
-            return Name(address, epoch, part)
-    return None
+    epoch, part = int(found[2] or 1), int(found[3] or 1)
+    try:
+        address = ipaddress.ip_address(found[1].replace("-", ":"))
+    except ValueError:
+        return None
+    is_usual = file_name(str(address), part, epoch) == name
+    return Name(address, epoch, part) if is_usual else None
 
 
 def join_lines(sender: bytes, journal: str, inputs: list[str]) -> Iterator[str]:
@@ -331,53 +328,6 @@ def join_lines(sender: bytes, journal: str, inputs: list[str]) -> Iterator[str]:
 
 def address(sender: bytes) -> str:
     return socket.inet_ntop(socket.AF_INET if len(sender) == 4 else socket.AF_INET6, sender)
-
-
-def write_new(name: str, ending: str, fill: Callable[[BinaryIO], None]) -> None:
-    """Makes a file that is not there yet: whole, or not at all.
-
-    Until it is whole its name has this ending. `-` is standard output, which keeps what was written
-    before a fault. Raises OSError.
-    """
-    if name == STANDARD_OUTPUT:
-        write_out(fill)
-        return
-    partial = name + ending
-    if os.path.lexists(name):
-        raise FileExistsError(errno.EEXIST, "is there already, and is left as it is", name)
-    out: Optional[BinaryIO] = None
-    try:
-        with later():
-            out = new_file(partial)
-        with out:
-            fill(out)
-            out.flush()
-            os.fsync(out.fileno())
-        give_name(partial, name)
-    except BaseException:
-        if out:
-            with contextlib.suppress(FileNotFoundError):
-                os.remove(partial)
-        raise
-
-
-def new_file(partial: str) -> BinaryIO:
-    try:
-        return open(partial, "xb")
-    except FileExistsError:
-        told = "is there already: left by a run that was killed, or being written"
-        raise FileExistsError(errno.EEXIST, told, partial) from None
-
-
-def write_out(fill: Callable[[BinaryIO], None]) -> None:
-    """Writes to standard output. Raises OSError if that is closed or cannot be written."""
-    if sys.stdout is None:
-        raise OSError(errno.EBADF, os.strerror(errno.EBADF), "standard output")
-    try:
-        with open(sys.stdout.fileno(), "wb", closefd=False) as out:
-            fill(out)
-    except OSError as fault:
-        raise OSError(fault.errno, fault.strerror, fault.filename or "standard output") from None
 
 
 def give_name(partial: str, path: str) -> None:

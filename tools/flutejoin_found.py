@@ -6,33 +6,49 @@ import contextlib
 import io
 import ipaddress
 import os
+import re
+import socket
 import stat
+import sys
 from typing import Iterable, NamedTuple, Optional, Tuple, Union
 
 from flutejoin_epochs import Epoch, may_tell_of_instance
-from flutejoin_files import IPAddress, Name, file_name, name_of
+from flutejoin_files import IPAddress, Name, file_name
 from flutejoin_notes import Fault, note
 from flutejoin_records import HEADER, LENGTH, PIECE, Looked, ends, last_whole
 
 MOST_LOOKED = 64  # pieces at a file's end that are searched for FDT Instances
 MOST_RECORDS = 1 << 17  # records that are searched for them
+# A pipe must not be waited for, and no link is followed: another user may have put it there.
+FLAGS = os.O_NONBLOCK | os.O_NOFOLLOW | os.O_CLOEXEC
 
 
-def address_of(text: Union[str, bytes]) -> IPAddress:
-    """The address of a socket's peer, given as text or as bytes.
+def address_of(peer: Union[str, bytes]) -> IPAddress:
+    """The address of a socket's peer, given as text or as the bytes of `Batch`.
 
-    An IPv4 address may come in IPv6 form. The name of a link after an address is left out.
+    An IPv4 address may come in IPv6 form. The same IPv6 address of one link alone is that of
+    another sender on another link, so those bytes' link is named in it.
     """
-    address = ipaddress.ip_address(text.partition("%")[0] if isinstance(text, str) else text)
-    return getattr(address, "ipv4_mapped", None) or address
+    if isinstance(peer, str):
+        address, link = ipaddress.ip_address(peer.partition("%")[0]), 0
+    else:
+        address = ipaddress.ip_address(peer[:16])
+        link = int.from_bytes(peer[16:], sys.byteorder)
+    address = getattr(address, "ipv4_mapped", None) or address
+    return on_link(address, link) if link and address.is_link_local else address
 
 
-def newest(names: Iterable[str]) -> dict:
-    """The newest file of each sender, by address: the last number of the last epoch."""
-    last: dict = {}
-    for found in filter(None, map(name_of, names)):
-        last[found.address] = max(last.get(found.address, found), found)
-    return last
+def on_link(address: IPAddress, number: int) -> IPAddress:
+    """The address with the name of a link, in characters that a file's name may have."""
+    try:
+        name = socket.if_indextoname(number)
+    except OSError:  # it is gone by now
+        name = str(number)
+    zone = re.sub(r"\W", "_", name, flags=re.ASCII)
+    try:
+        return ipaddress.ip_address(f"{address}%{zone}")
+    except ValueError:  # before Python 3.9
+        return address
 
 
 class Found(NamedTuple):
@@ -45,24 +61,29 @@ class Found(NamedTuple):
     epoch: Epoch
 
 
-def look_at(folder: str, name: Name) -> Found:
+def look_at(folder: str, name: Name, most: Optional[int] = None) -> Found:
     """Reads a file, and removes a record that is cut at its end.
 
-    Raises Fault if the file can't be read or is no datagram file.
+    One of more than `most` bytes, and those before it, are not read, and another is begun. Raises
+    Fault if the file can't be read or is no datagram file.
     """
     path = os.path.join(folder, file_name(str(name.address), name.part, name.epoch))
     looked: Looked = collections.deque(maxlen=MOST_LOOKED)
     try:
-        # A pipe of that name must not be waited for.
-        with open(os.open(path, os.O_RDWR | os.O_NONBLOCK | os.O_CLOEXEC), "r+b", 0) as file:
+        with open(os.open(path, os.O_RDWR | FLAGS), "r+b", 0) as file:
             found = os.fstat(file.fileno())
+            identity = found.st_dev, found.st_ino
+            if most is not None and found.st_size > most:
+                return Found(name, identity, None, 0, Epoch())
             size, records = last_of(file, path, found, looked)
             epoch = epoch_of(file, size, looked)
             if not epoch.hashes and name.part > 1:
-                epoch = epoch_in(folder, name._replace(part=name.part - 1))
+                epoch = epoch_in(folder, name._replace(part=name.part - 1), most)
             kept = size if mended(file, path, size, found.st_size) else None
-            return Found(name, (found.st_dev, found.st_ino), kept, records, epoch)
+            return Found(name, identity, kept, records, epoch)
     except OSError as error:
+        if os.path.islink(path):
+            raise Fault(1, f"{path}: is a link, and is left as it is") from None
         raise Fault(3, f"cannot open {path}: {error.strerror}") from None
 
 
@@ -118,13 +139,18 @@ def keep_beside(path: str, cut: bytes) -> str:
             raise
 
 
-def epoch_in(folder: str, name: Name) -> Epoch:
-    """What an earlier file contains of FDT Instances; nothing if it is no longer there."""
+def epoch_in(folder: str, name: Name, most: Optional[int] = None) -> Epoch:
+    """What an earlier file contains of FDT Instances.
+
+    Nothing if it is no longer there, or has more than `most` bytes.
+    """
     looked: Looked = collections.deque(maxlen=MOST_LOOKED)
     try:
         path = os.path.join(folder, file_name(str(name.address), name.part, name.epoch))
-        with open(os.open(path, os.O_RDONLY | os.O_NONBLOCK | os.O_CLOEXEC), "rb", 0) as file:
+        with open(os.open(path, os.O_RDONLY | FLAGS), "rb", 0) as file:
             found = os.fstat(file.fileno())
+            if most is not None and found.st_size > most:
+                return Epoch()
             return epoch_of(file, last_of(file, path, found, looked)[0], looked)
     except (OSError, Fault):
         return Epoch()

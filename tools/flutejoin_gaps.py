@@ -14,9 +14,9 @@ import sys
 from typing import (
     IO,
     Callable,
-    Container,
     Generator,
     Iterable,
+    Iterator,
     List,
     NamedTuple,
     Optional,
@@ -107,26 +107,22 @@ class Program:
         self.path = path
         self.kept: tuple[int, ...] = ()  # open files that the program inherits
 
-    def states(self, journals: list[str], wanted: Container[str] | None) -> dict[str, State]:
-        """The state of each object, or of those that are wanted, in these journals together.
+    def states(self, journals: list[str]) -> Iterator[tuple[str, State]]:
+        """Yields each object in these journals together, and its state.
 
         Objects are named as flutejoin gaps prints them.
         """
-        states: dict[str, State] = {}
         key, state, gaps = None, State(""), 0
         for line in self.lines(self.commands(journals)):
             if line.startswith(b"gap "):
                 gaps += 1
                 continue
             if key is not None:
-                states[key] = state._replace(gaps=gaps)
+                yield key, state._replace(gaps=gaps)
             told, gaps = state_of(line), 0
             key, state = told[1].decode(), State.of(told)
-            if wanted is not None and key not in wanted:
-                key = None
         if key is not None:
-            states[key] = state._replace(gaps=gaps)
-        return states
+            yield key, state._replace(gaps=gaps)
 
     def gaps(self, journals: list[str], begin: Begin) -> None:
         """Passes the gaps of these journals together to what `begin` returns for each object."""

@@ -152,14 +152,24 @@ class Overview(Grid):
     ROW = 64  # objects in a row, at most
 
     def __init__(
-        self, states: dict[str, State], most_rows: int, columns_of: Callable[[int], int]
+        self, objects: int, most_rows: int, columns_of: Callable[[int], int]
     ) -> None:
-        super().__init__(Partition(len(states), 1, self.ROW), most_rows, columns_of)
-        self.keys = list(states)
-        for place, state in enumerate(states.values()):
-            if kind := self.kind(state):
-                block, number = self.partition.id_at(place)
-                self.add(block, number, number, kind)
+        super().__init__(Partition(objects, 1, self.ROW), most_rows, columns_of)
+        self.place = 0  # of the next object
+        self.ends: dict[int, list[str]] = {}  # the first and the last object of each cell
+
+    def take(self, key: str, state: State) -> bool:
+        """Adds the next object. Returns False if it is one too many."""
+        if self.place == self.partition.symbols:
+            return False
+        block, number = self.partition.id_at(self.place)
+        if kind := self.kind(state):
+            self.add(block, number, number, kind)
+        row = block // self.group
+        cell = row * self.columns + (self.place - self.begin(row)) // self.run
+        self.ends.setdefault(cell, [key, key])[1] = key
+        self.place += 1
+        return True
 
     @staticmethod
     def kind(state: State) -> int:
@@ -168,7 +178,9 @@ class Overview(Grid):
         return MISSING if state.words == PARTIAL and not state.disputed else CONFLICTING
 
     def range_words(self, row: int, begin: int, end: int) -> str:
-        first, last = (self.keys[place] for place in self.places(row, begin, end))
+        cells = range(row * self.columns + begin, row * self.columns + end)
+        known = [self.ends[cell] for cell in cells if cell in self.ends]
+        first, last = (known[0][0], known[-1][1]) if known else ("", "")
         return first if first == last else f"{first} to {last}"
 
     def label(self, row: int) -> int:

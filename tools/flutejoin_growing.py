@@ -8,20 +8,24 @@ from __future__ import annotations
 import collections
 import contextlib
 import enum
+import errno
 import fcntl
 import os
-from typing import TYPE_CHECKING, NamedTuple, Optional, Tuple, Union
+from typing import TYPE_CHECKING, Iterable, Iterator, NamedTuple, Optional, Tuple, Union
 
+from flutejoin_epochs import may_tell_of_instance
 from flutejoin_files import IPAddress, file_name
 from flutejoin_notes import note
-from flutejoin_records import HEADER, PIECE, Buffer, last_whole, whole_records
+from flutejoin_records import HEADER, LENGTH, PIECE, Buffer, Cut, Fault, Records
+from flutejoin_records import last_whole, whole_records
 
 if TYPE_CHECKING:
     from flutejoin_writer import Opened
 
 COPY_STEP = 8  # pieces that are copied before other orders are looked at
-LOOK_FLAGS = os.O_RDWR | os.O_APPEND | os.O_NONBLOCK | os.O_CLOEXEC
-MAKE_FLAGS = os.O_RDWR | os.O_APPEND | os.O_CREAT | os.O_EXCL | os.O_CLOEXEC
+# No link is followed: another user may have put it there.
+LOOK_FLAGS = os.O_RDWR | os.O_APPEND | os.O_NONBLOCK | os.O_NOFOLLOW | os.O_CLOEXEC
+MAKE_FLAGS = os.O_RDWR | os.O_APPEND | os.O_CREAT | os.O_EXCL | os.O_NOFOLLOW | os.O_CLOEXEC
 
 
 class Block(NamedTuple):
@@ -35,7 +39,33 @@ class Begin(enum.Enum):
     """What begins with the next records."""
 
     PART = 1
-    EPOCH = 2
+
+
+class Turn(NamedTuple):
+    """The next records are of another epoch, which begins or goes on.
+
+    If the last file may have records of that one too, all but those of FDT Instances are copied.
+    """
+
+    epoch: int
+    is_back: bool
+
+
+Order = Union[Block, Begin, Turn]
+
+
+def blocks_of_files(datagrams: Iterable[bytes]) -> Iterator[Block]:
+    """Yields blocks of those datagrams that are of no FDT Instance."""
+    data, records = bytearray(), 0
+    for datagram in datagrams:
+        if not may_tell_of_instance(datagram):
+            data += LENGTH.pack(len(datagram)) + datagram
+            records += 1
+        if len(data) > PIECE:
+            yield Block(data, records)
+            data, records = bytearray(), 0
+    if records:
+        yield Block(data, records)
 
 
 class Grown(NamedTuple):
@@ -55,7 +85,8 @@ class Growing:
     ) -> None:
         self.folder, self.address, self.opened = folder, address, opened
         self.epoch, self.part = epoch, part
-        self.orders: collections.deque[Union[Block, Begin]] = collections.deque()
+        self.parts: dict[int, int] = {}  # of other epochs the number of the last file
+        self.orders: collections.deque[Order] = collections.deque()
         self.descriptor: Optional[int] = None
         self.identity: Optional[Tuple[int, int]] = None  # of a file that is made: device and number
         self.size = self.records = self.before = 0
@@ -81,10 +112,10 @@ class Growing:
         try:
             while self.orders:
                 order = self.orders[0]
-                if isinstance(order, Begin):
-                    self.begin(order)
-                else:
+                if isinstance(order, Block):
                     self.write(order)
+                else:
+                    self.begin(order)
                 self.orders.popleft()
             for copy in self.copies:
                 copy.step()
@@ -101,13 +132,34 @@ class Growing:
     def has_work(self) -> bool:
         return bool(self.orders or self.copies)
 
-    def begin(self, what: Begin) -> None:
+    def begin(self, what: Union[Begin, Turn]) -> None:
+        before = self.path() if self.records > self.before else None
         self.close()
         self.end_file()
-        if what is Begin.EPOCH:
-            self.epoch, self.part = self.epoch + 1, 1
-        else:
+        if isinstance(what, Begin):
             self.part += 1
+            return
+        self.parts[self.epoch] = self.part
+        self.epoch, self.part = what.epoch, self.parts.get(what.epoch, 0) + 1
+        if what.is_back and before:
+            self.take_over(before)
+
+    def take_over(self, path: str) -> None:
+        """Copies the records of files out of a datagram file into one of this epoch.
+
+        They came while a datagram, perhaps forged, had begun another epoch.
+        """
+        taken = self.taken
+        try:
+            with open(os.open(path, os.O_RDONLY | os.O_NONBLOCK | os.O_NOFOLLOW), "rb") as file:
+                for block in blocks_of_files(Records(file)):
+                    self.write(block)
+        except (OSError, Fault, Cut) as fault:
+            note(f"{path}: not all of it could be copied to {self.path()}: {fault}")
+        self.taken = taken  # the blocks that were given
+        self.close()
+        self.end_file()
+        self.part += 1
 
     def end_file(self) -> None:
         if self.records > self.before:
@@ -173,6 +225,11 @@ class Growing:
                     raise  # the folder is missing, and not the file
                 self.lose("was removed or moved while it was closed")
                 continue
+            except OSError as fault:
+                if fault.errno != errno.ELOOP or not is_made:
+                    raise
+                self.lose("was replaced by a link while it was closed")
+                continue
             found = os.fstat(descriptor)
             if not is_made:
                 self.identity = found.st_dev, found.st_ino
@@ -198,7 +255,7 @@ class Growing:
             return
         found = os.fstat(self.descriptor)
         try:
-            is_there = os.path.samestat(os.stat(self.path()), found)
+            is_there = os.path.samestat(os.lstat(self.path()), found)
         except OSError:
             is_there = False
         if is_there and found.st_size == self.size:
@@ -268,7 +325,7 @@ class Copy:
             self.growing.opened.held += written
 
     def make(self) -> int:
-        flags = os.O_RDWR | os.O_CREAT | os.O_EXCL | os.O_CLOEXEC
+        flags = MAKE_FLAGS & ~os.O_APPEND
         while True:
             try:
                 self.target = target = self.growing.opened.open(self.path(), flags)

@@ -1,4 +1,4 @@
-"""What a journal holds of each object, and a journal of its FDT Instances alone.
+"""What a journal holds of each object, and a journal of some of its objects.
 
 One pass over a journal (docs/FORMATS.md) finds the transmission information and the number of
 symbols of each object. It is quick and checks little: flutejoin reads the same journal, and reports
@@ -6,7 +6,18 @@ its faults.
 """
 from __future__ import annotations
 
-from typing import BinaryIO, Callable, Iterator, NamedTuple, Optional, Union
+import itertools
+import struct
+from typing import (
+    BinaryIO,
+    Callable,
+    Iterable,
+    Iterator,
+    NamedTuple,
+    Optional,
+    Tuple,
+    Union,
+)
 
 from flutejoin_entries import (
     END,
@@ -18,6 +29,7 @@ from flutejoin_entries import (
     SYMBOL_CONFLICT,
     information_of,
 )
+from flutejoin_gaps import Numbers
 from flutejoin_records import Cut, Fault
 
 PIECE = 1 << 20
@@ -28,7 +40,6 @@ SYMBOL_ID, LENGTH, NUMBERS = 4, 2, 12
 # Bytes after the object's number, of an entry that is no symbol
 SIZES = {INFORMATION: NUMBERS, INFORMATION_CONFLICT: 0, SYMBOL_CONFLICT: SYMBOL_ID}
 LONGEST = 1 + KEY + SYMBOL_ID + LENGTH + (1 << 16)
-MOST_OBJECTS = 1 << 18  # that are kept
 
 
 class Key(NamedTuple):
@@ -44,6 +55,11 @@ class Key(NamedTuple):
         source = f"source {self.source.hex()} " if any(self.source) else ""
         fdt = "fdt " if self.tag == FDT_INSTANCE else ""
         return f"{source}session {self.tsi} object {fdt}{self.number}"
+
+    def raw(self) -> bytes:
+        """The object as it is in an entry of a journal of version 2."""
+        tsi, number = self.tsi.to_bytes(6, "big"), self.number.to_bytes(14, "big")
+        return self.source + tsi + bytes([self.tag]) + number
 
     def file_name(self) -> str:
         """The name that `flutejoin extract --all` gives the object's file."""
@@ -78,6 +94,8 @@ class Held:
 NOTHING = Held()
 # Whether an object is chosen
 Choice = Callable[[Key], bool]
+# Transmission information of an object
+Added = Tuple[Key, Numbers]
 
 
 def entries(file: BinaryIO) -> Iterator[tuple[int, bytes, memoryview]]:
@@ -126,40 +144,47 @@ class Copy:
         self.out.write(bytes([kind]) + raw + more)
         self.count += 1
 
+    def inform(self, key: Key, numbers: Numbers) -> None:
+        """Adds transmission information."""
+        length, symbol, block = numbers
+        more = struct.pack(">HIHI", length >> 32, length & 0xFFFFFFFF, symbol, block)
+        self.add(INFORMATION, key.raw(), more)
+
     def finish(self) -> None:
         self.out.write(bytes([END]) + self.count.to_bytes(8, "big"))
 
 
-def holdings(file: BinaryIO, choice: Choice, instances: Copy) -> dict[Key, Held]:
-    """What a journal holds of the chosen objects. Their FDT Instances are copied to `instances`."""
-    found: dict[Key, Held] = {}
+def holdings(file: BinaryIO, choice: Choice) -> Iterator[tuple[Key, Held]]:
+    """Yields what a journal holds of each chosen object."""
     last, key, held = b"", None, NOTHING
     for kind, raw, more in entries(file):
         if raw != last:
-            last = raw
             if key:
-                found[key] = held
-            key, held = key_of(raw), Held()
+                yield key, held
+            last, key, held = raw, key_of(raw), Held()
             key = key if choice(key) else None
-            if key and len(found) == MOST_OBJECTS:
-                raise Fault("full")
-        if not key:
-            continue
-        if key.tag == FDT_INSTANCE:
-            instances.add(kind, raw, more)
-        held.add(kind, more)
+        if key:
+            held.add(kind, more)
     if key:
-        found[key] = held
-    instances.finish()
-    return found
+        yield key, held
 
 
-def copy(file: BinaryIO, choice: Choice, out: BinaryIO) -> None:
-    """Writes a journal of the chosen objects."""
+def copy(file: BinaryIO, choice: Choice, out: BinaryIO, added: Iterable[Added]) -> None:
+    """Writes a journal of the chosen objects, with transmission information that is added.
+
+    That is of objects that lack it, in the order of a journal.
+    """
     copied, last, is_chosen = Copy(out), b"", False
+    rest = iter(added)
+    wanted = next(rest, None)
     for kind, raw, more in entries(file):
         if raw != last:
             last, is_chosen = raw, choice(key_of(raw))
+            while wanted and wanted[0].raw() <= raw:
+                copied.inform(*wanted)
+                wanted = next(rest, None)
         if is_chosen:
             copied.add(kind, raw, more)
+    for each in itertools.chain([wanted] if wanted else [], rest):
+        copied.inform(*each)
     copied.finish()

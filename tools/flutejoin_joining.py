@@ -1,26 +1,42 @@
 """Runs flutejoin join at a low priority, while other work continues."""
 from __future__ import annotations
 
+import collections
+import contextlib
 import errno
 import os
+import re
 import select
 import signal
 import subprocess
-from typing import Callable, Iterator, NamedTuple, Optional, Sequence
+from typing import IO, Callable, Iterator, NamedTuple, Optional, Sequence, Union
 
-from flutejoin_records import HEADER
+from flutejoin_files import PARTIAL
+from flutejoin_packets import header_of
+from flutejoin_records import HEADER, LENGTH, Buffer, ends
 
 PIECE = 1 << 20  # bytes that are handed to a join at once
 NICE = 10
 LOOK = 0.5  # seconds between two calls of `tend` during a join
 DIE_WITH_PARENT = 1  # prctl's PR_SET_PDEATHSIG
+MOST_SESSIONS = 64  # that one `flutejoin join` takes by their names
+MOST_COUNTED = 1 << 16  # sessions that are counted at a time
+TEND_EACH = 4096  # datagrams
+FULL = "full"  # the program's message where more came than one join holds
+CONFLICTING = re.compile(rb" conflicting (\d+) ")
 
 
 class Answer(NamedTuple):
-    """How a join ended, and its message if it failed."""
+    """How a run of flutejoin ended, its message if it failed, and what it printed."""
 
     status: int
     told: str
+    out: bytes = b""
+
+    def count(self, what: str) -> int:
+        """A number that a join printed, as of the datagrams that it `refused`."""
+        found = re.search(rf"^{what} (\d+)$".encode(), self.out, re.MULTILINE)
+        return int(found[1]) if found else 0
 
 
 class Fed(NamedTuple):
@@ -32,6 +48,9 @@ class Fed(NamedTuple):
 
     def pieces(self) -> Iterator[bytes]:
         yield HEADER
+        yield from self.data()
+
+    def data(self) -> Iterator[bytes]:
         with open(self.path, "rb", buffering=0) as file:
             place = file.seek(self.begin)
             while place < self.end:
@@ -40,6 +59,23 @@ class Fed(NamedTuple):
                     raise OSError(errno.EIO, "became shorter", self.path)
                 place += len(piece)
                 yield piece
+
+    def datagrams(self) -> Iterator[bytes]:
+        rest = b""
+        for piece in self.data():
+            data, at = rest + piece, 0
+            for end in ends(data):
+                if end > len(data):
+                    break
+                yield data[at + LENGTH.size : end]
+                at = end
+            rest = data[at:]
+
+
+def session_of(datagram: Buffer) -> Optional[int]:
+    """The TSI of a datagram that is like FLUTE, or None."""
+    header = header_of(datagram)
+    return int.from_bytes(datagram[header.tsi : header.toi], "big") if header else None
 
 
 def die_with_parent(number: int = signal.SIGTERM) -> Callable[[], None]:
@@ -82,22 +118,22 @@ class Program:
     """Runs the program flutejoin. Meanwhile `tend` is called, at least once a second."""
 
     def __init__(self, path: str, tend: Callable[[], None], sessions: Sequence[int] = ()) -> None:
-        self.path, self.tend = path, tend
-        self.words = ["--any-size"]
-        self.words += [word for tsi in sessions for word in ("--tsi", str(tsi))]
+        self.path, self.tend, self.sessions = path, tend, sessions
 
     def join(
-        self, source: bytes, out: str, inputs: Sequence[str], fed: Optional[Fed] = None
+        self,
+        source: bytes,
+        out: str,
+        inputs: Sequence[str],
+        fed: Optional[Fed] = None,
+        sessions: Sequence[int] = (),
     ) -> Answer:
-        words = [self.path, "join", "--source", source.hex(), *self.words, "-o", out, *inputs]
+        """Joins inputs, of these sessions alone if there are any, or of those of all joins."""
+        words = ["join", "--source", source.hex(), "--any-size"]
+        words += [word for tsi in sessions or self.sessions for word in ("--tsi", str(tsi))]
+        words += ["-o", out, *inputs, *["-"] * bool(fed)]
         try:
-            child = subprocess.Popen(
-                words + ["-"] * bool(fed),
-                stdin=subprocess.PIPE if fed else subprocess.DEVNULL,
-                stdout=subprocess.DEVNULL,
-                stderr=subprocess.PIPE,
-                preexec_fn=in_background(),
-            )
+            child = self.start(words, subprocess.PIPE if fed else subprocess.DEVNULL)
         except (OSError, subprocess.SubprocessError) as fault:
             return Answer(3, f"{self.path} cannot be run: {fault}")
         with child:
@@ -108,6 +144,15 @@ class Program:
             except BaseException:
                 child.kill()
                 raise
+
+    def start(self, words: Sequence[str], feed: Union[int, IO[bytes]]) -> subprocess.Popen:
+        return subprocess.Popen(
+            [self.path, *words],
+            stdin=feed,
+            stdout=subprocess.PIPE,
+            stderr=subprocess.PIPE,
+            preexec_fn=in_background(),
+        )
 
     def feed(self, child: subprocess.Popen, fed: Fed) -> None:
         """Sends records to a join. If it ends early, its message says why."""
@@ -131,12 +176,81 @@ class Program:
     def answer(self, child: subprocess.Popen) -> Answer:
         while True:
             try:
-                _, told = child.communicate(timeout=LOOK)
+                out, told = child.communicate(timeout=LOOK)
             except subprocess.TimeoutExpired:
                 self.tend()
                 continue
             status = child.returncode
             if status < 0:
-                return Answer(3, f"flutejoin join was ended by signal {-status}")
-            text = os.fsdecode(told).strip() or f"flutejoin join ended with status {status}"
-            return Answer(status, text)
+                return Answer(3, f"flutejoin was ended by signal {-status}")
+            text = os.fsdecode(told).strip() or f"flutejoin ended with status {status}"
+            return Answer(status, text, out)
+
+    def conflicts(self, journals: Sequence[str]) -> Optional[int]:
+        """How many symbols are in conflict in one or two journals; None if that cannot be told."""
+        gaps = ["gaps", "--any-size", "--summary"]
+        if len(journals) == 1:
+            answer = self.run([*gaps, *journals])
+        else:
+            answer = self.run(["join", "--any-size", "-o", "-", *journals], [*gaps, "-"])
+        return None if answer.status else sum(map(int, CONFLICTING.findall(answer.out)))
+
+    def run(self, *commands: Sequence[str]) -> Answer:
+        """Runs commands, of which each reads what the one before it writes.
+
+        Returns how the last one ended.
+        """
+        running: list[subprocess.Popen] = []
+        try:
+            for words in commands:
+                feed = running[-1].stdout if running else None
+                running.append(self.start(words, feed or subprocess.DEVNULL))
+                if feed:
+                    feed.close()
+            return self.answer(running[-1])
+        except (OSError, subprocess.SubprocessError) as fault:
+            return Answer(3, f"{self.path} cannot be run: {fault}")
+        finally:
+            for child in running:
+                with child:  # which waits for its end
+                    child.kill()
+
+    def reason(self, datagram: bytes) -> str:
+        """Why a datagram is refused; empty if it is not, or cannot be told."""
+        answer = self.run(["packet", datagram.hex()])
+        return answer.told if answer.status == 1 else ""
+
+    def largest_sessions(self, fed: Fed) -> list[int]:
+        """The sessions that have most datagrams, as many as one join takes by their names.
+
+        Those with few are forgotten while there are too many of them to be counted.
+        """
+        counts: collections.Counter[int] = collections.Counter()
+        for number, datagram in enumerate(fed.datagrams()):
+            tsi = session_of(datagram)
+            if tsi is not None and (not self.sessions or tsi in self.sessions):
+                counts[tsi] += 1
+            if len(counts) > MOST_COUNTED:
+                counts = collections.Counter({tsi: n - 1 for tsi, n in counts.items() if n > 1})
+            if number % TEND_EACH == 0:
+                self.tend()
+        return [tsi for tsi, _ in counts.most_common(MOST_SESSIONS)]
+
+    def write_others(self, fed: Fed, sessions: Sequence[int], path: str) -> int:
+        """Writes the datagrams of other sessions to a new file, and returns their number."""
+        taken, count = frozenset(sessions), 0
+        try:
+            with open(path + PARTIAL, "xb") as file:
+                file.write(HEADER)
+                for number, datagram in enumerate(fed.datagrams()):
+                    if session_of(datagram) not in taken:
+                        file.write(LENGTH.pack(len(datagram)) + datagram)
+                        count += 1
+                    if number % TEND_EACH == 0:
+                        self.tend()
+            os.rename(path + PARTIAL, path)
+        except BaseException:
+            with contextlib.suppress(OSError):
+                os.unlink(path + PARTIAL)
+            raise
+        return count

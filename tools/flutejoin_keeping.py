@@ -13,84 +13,53 @@ from __future__ import annotations
 import collections
 import os
 import time
-from typing import Callable, Iterable, NamedTuple, Optional
+from typing import Callable, Iterable, NamedTuple, Optional, Sequence
 
 import flutejoin_files as files
-from flutejoin_joining import Answer, Program
-from flutejoin_incoming import NoDatagramFile, Part, Sender, sender_of
+from flutejoin_incoming import Incoming, Part, Sender, State, sender_of
+from flutejoin_joining import FULL, Answer, Program
 from flutejoin_records import HEADER, MOST
-from flutejoin_shelves import Shelf, bring_to_disk, move, remove, size_of
+from flutejoin_room import Room
+from flutejoin_shelves import Shelf, bring_to_disk, entries_of, move, remove, size_of
+from flutejoin_voice import Counts, Log, line_of
 
 SHARE = 10  # a small journal is joined once the large one has at most so many times its bytes
 MOST_AT_ONCE = 1 << 28  # bytes of the datagram files of one join, which holds them in memory
 MOST_IN_OUTBOX = 7  # journals of one sender
-FIRST_DELAY, LONGEST_DELAY = 10, 300  # seconds until a join that failed is repeated
+AT_A_TIME = 1  # seconds of joins until it is looked again who has most
 ROOM = 1 << 20  # bytes that a join needs in addition to those of its inputs
-
-
-class State:
-    """When a sender's datagrams were joined last, and when the next try is due after a failure."""
-
-    def __init__(self) -> None:
-        self.joined_at = self.next_try = float("-inf")
-        self.delay = self.wanted = 0  # free bytes that a failed join needed
-        self.suspects: set[str] = set()  # paths of datagram files that are joined one by one
-
-    def is_due(self, part: Part, now: float, every: float) -> bool:
-        return part.is_new() and (not part.is_last or now >= self.joined_at + every)
-
-    def succeed(self, now: float) -> None:
-        self.joined_at, self.next_try = now, now
-        self.delay = self.wanted = 0
-
-    def fail(self, now: float) -> int:
-        """Puts off the next try after a failure, and returns for how many seconds."""
-        self.delay = min(max(2 * self.delay, FIRST_DELAY), LONGEST_DELAY)
-        self.next_try = now + self.delay
-        return self.delay
-
-
-def entries_of(path: str) -> Optional[int]:
-    """The number of entries of a journal, from its last bytes; None if it has no such end."""
-    try:
-        with open(path, "rb") as file:
-            file.seek(-9, os.SEEK_END)
-            end = file.read(9)
-    except OSError:
-        return None
-    return int.from_bytes(end[1:], "big") if end[:1] == b"\xff" else None
 
 
 class Settings(NamedTuple):
     every: float  # seconds between two joins of a file that grows
     keep_raw: int  # bytes of joined datagram files that are kept
     has_outbox: bool
+    most: Optional[int] = None  # bytes of the disk
 
 
 class Keeper:
     """Joins the files that a receiver writes to a folder into journals beside that."""
 
-    def __init__(
-        self, folder: str, program: Program, settings: Settings, report: files.Report
-    ) -> None:
+    def __init__(self, folder: str, program: Program, settings: Settings, report: Log) -> None:
         self.folder, self.program, self.settings, self.report = folder, program, settings, report
         self.states: dict[Sender, State] = collections.defaultdict(State)
-        self.parts: dict[str, Part] = {}
-        self.is_receiving = self.has_come = False
-        self.ends: Optional[dict[str, int]] = None  # where each file ended at the last look
-        self.incoming = os.path.join(folder, "in")
         self.small, self.journals, self.outbox, self.raw, self.aside = (
             Shelf(os.path.join(folder, name))
             for name in ("recent", "journals", "outbox", "raw", "aside")
         )
+        self.incoming = Incoming(folder, lambda sender: bool(self.kept(sender)))
+        self.room = Room(folder, settings.most, (self.raw, self.aside), report)
+        self.counts = Counts(report, program)
+        self.has_more = False  # since the last look
         self.make_folders()
         for shelf in self.small, self.journals, self.outbox, self.raw, self.aside:
             shelf.clear_partial()
         self.raw.trim(settings.keep_raw)
+        self.room.look()
 
     def make_folders(self) -> None:
         """Makes the folders that are missing, also if somebody removed them meanwhile."""
-        for path in self.incoming, self.small.path, self.journals.path:
+        for path in self.incoming.path, self.small.path, self.journals.path:
             os.makedirs(path, exist_ok=True)
         if self.settings.has_outbox:
             os.makedirs(self.outbox.path, exist_ok=True)
@@ -101,64 +70,62 @@ class Keeper:
     def large(self, sender: Sender) -> str:
         return os.path.join(self.journals.path, sender.stem() + ".journal")
 
-    def look(self) -> dict[Sender, list[Part]]:
-        """The datagram files of each sender, the oldest first.
-
-        The last one of an address may grow.
-        """
-        found: dict[Sender, list[Part]] = collections.defaultdict(list)
-        last: dict[files.IPAddress, int] = {}
-        for name in os.listdir(self.incoming):
-            sender, number = sender_of(name) or (None, 0)
-            part = self.parts.get(name) or Part(os.path.join(self.incoming, name), number)
-            if sender and self.can_be_read(sender, part):
-                found[sender].append(part)
-                last[sender.address] = max(sender.epoch, last.get(sender.address, 0))
-        for sender, parts in found.items():
-            parts.sort(key=lambda part: part.number)
-            for part in parts:
-                part.is_last = part is parts[-1] and sender.epoch == last[sender.address]
-        self.parts = {os.path.basename(it.path): it for parts in found.values() for it in parts}
-        ends = {name: part.end for name, part in self.parts.items()}
-        # What was there at the first look came in another run.
-        if self.ends is not None and any(ends[name] > self.ends.get(name, 0) for name in ends):
-            self.has_come = True
-        self.ends = ends
-        return found
-
-    def can_be_read(self, sender: Sender, part: Part) -> bool:
-        try:
-            part.look()
-            return True
-        except FileNotFoundError:
-            return False
-        except NoDatagramFile as fault:
-            told = str(fault)
-        except PermissionError as fault:
-            told = f"cannot be read: {fault.strerror}"
-        if time.monotonic() >= self.states[sender].next_try:
-            self.attempt(sender, lambda: self.set_aside(part.path, told))
-        return False
+    def kept(self, sender: Sender) -> list[str]:
+        """The journals of a sender."""
+        return [*filter(os.path.exists, (self.large(sender), self.recent(sender)))]
 
     def work(self, is_receiving: bool, has_patience: bool = True) -> bool:
-        """Joins what is due, and returns whether anything was.
+        """Joins what is due, for some time, and returns whether anything was.
 
-        Without patience, joins that failed are repeated at once.
+        The sender that has most bytes comes first. Without patience, joins that failed are repeated
+        at once.
         """
-        has_worked, self.is_receiving = False, is_receiving
+        self.incoming.is_receiving = is_receiving
         self.make_folders()
-        for sender, parts in self.look().items():
-            state, now = self.states[sender], time.monotonic()
-            is_early = now < state.next_try and not 0 < state.wanted <= self.free()
-            if has_patience and is_early:
-                continue
-            every = self.settings.every if is_receiving else 0
-            due = [part for part in parts if state.is_due(part, now, every)]
-            if due:
-                self.attempt(sender, lambda: self.bring(sender, self.batch(state, due)))
-                has_worked = True
-            self.retire(sender, parts)
+        if not is_receiving or time.monotonic() >= self.incoming.look_at:
+            self.look()
+            self.has_more = True
+        if self.has_more:
+            self.has_more = self.work_for_a_time(has_patience)
+        self.keep_house()
+        return self.has_more
+
+    def work_for_a_time(self, has_patience: bool) -> bool:
+        began, has_worked, found = time.monotonic(), False, self.incoming.found
+        for sender in sorted(found, key=lambda it: -sum(part.size for part in found[it])):
+            has_worked = self.work_at(sender, found[sender], has_patience) or has_worked
+            if self.incoming.is_receiving and has_worked and time.monotonic() >= began + AT_A_TIME:
+                break
         return has_worked
+
+    def work_at(self, sender: Sender, parts: list[Part], has_patience: bool) -> bool:
+        state, now = self.states[sender], time.monotonic()
+        if has_patience and now < state.next_try and not 0 < state.wanted <= self.free():
+            return False
+        every = self.settings.every if self.incoming.is_receiving else 0
+        due = [part for part in parts if state.is_due(part, now, every)]
+        if due:
+            self.attempt(sender, lambda: self.bring(sender, self.batch(state, due)))
+        self.retire(sender, parts)
+        return bool(due)
+
+    def keep_house(self) -> None:
+        """Does what comes every few seconds."""
+        self.incoming.joined.write_at_times(self.incoming.parts.values())
+        self.room.keep_at_times()
+        self.counts.tell()
+        self.counts.tell_hourly(lambda: line_of(self))
+
+    def look(self) -> None:
+        """Looks at the datagram files, and drops the states of senders that have none."""
+        self.incoming.look()
+        now = time.monotonic()
+        for sender, part, told in self.incoming.faults:
+            if now >= self.states[sender].next_try:
+                self.attempt(sender, lambda: self.set_aside(part.path, told))
+        for sender in [it for it in self.states if it not in self.incoming.found]:
+            if now >= self.states[sender].next_try:
+                del self.states[sender]
 
     def batch(self, state: State, due: list[Part]) -> list[Part]:
         """The first of the files that are due, as many as one join takes.
@@ -175,7 +142,7 @@ class Keeper:
             chosen.append(part)
         return chosen
 
-    def attempt(self, sender: Sender, step: Callable[[], None]) -> None:
+    def attempt(self, sender: Sender, step: Callable[[], object]) -> None:
         """Takes a step. If the system refuses it, that is reported, and it is repeated later."""
         try:
             step()
@@ -185,6 +152,7 @@ class Keeper:
     def put_off(self, sender: Sender, told: str) -> None:
         delay = self.states[sender].fail(time.monotonic())
         self.report.warn(f"{sender.stem()}: {told}; tried again in {delay} seconds")
+        self.report.begin_fault(sender.stem(), f"{sender.stem()}: {told}")
 
     def join(
         self,
@@ -193,6 +161,7 @@ class Keeper:
         journals: Iterable[str],
         parts: Iterable[Part] = (),
         needed: Iterable[str] = (),
+        sessions: Sequence[int] = (),
     ) -> Answer:
         """Joins the journals that exist, those that are needed, and the datagram files.
 
@@ -204,40 +173,51 @@ class Keeper:
                 inputs.append(part.path)
             else:
                 fed = part.fed()
-        return self.program.join(sender.address.packed, out, inputs, fed)
+        return self.program.join(sender.address.packed, out, inputs, fed, sessions)
 
-    def bring(self, sender: Sender, batch: list[Part]) -> None:
-        """Joins datagram files into the small journal of their sender."""
+    def bring(self, sender: Sender, batch: list[Part], sessions: Sequence[int] = ()) -> bool:
+        """Joins datagram files into the small journal of their sender, or these sessions of them.
+
+        Returns whether it did.
+        """
         ends, recent = [part.end for part in batch], self.recent(sender)
         if self.settings.has_outbox:
-            answer = self.join_through_outbox(sender, batch)
+            answer = self.join_through_outbox(sender, batch, sessions)
         else:
-            answer = self.join(sender, recent, [recent], batch)
+            answer = self.join(sender, recent, [recent], batch, sessions=sessions)
         if answer.status:
-            self.answer_fault(sender, batch, answer)
-            return
+            self.answer_fault(sender, batch, answer, sessions)
+            return False
         bring_to_disk(recent)
+        self.states[sender].refused += answer.count("refused")
+        self.counts.add(sender.stem(), answer, batch[0].fed())
         for part, end in zip(batch, ends):
             part.taken = end
-        self.states[sender].succeed(time.monotonic())
+        if self.states[sender].succeed(time.monotonic()):
+            self.report.warn(f"{sender.stem()}: is joined again")
+            self.report.end_fault(sender.stem())
         if SHARE * size_of(recent) >= size_of(self.large(sender)):
             self.promote(sender)
+        self.counts.count_conflicts(sender.stem(), self.states[sender], self.kept(sender))
+        return True
 
-    def join_through_outbox(self, sender: Sender, batch: list[Part]) -> Answer:
+    def join_through_outbox(
+        self, sender: Sender, batch: list[Part], sessions: Sequence[int]
+    ) -> Answer:
         """Joins as `bring` does, and leaves a journal of the new facts alone in the outbox.
 
         If that is taken away before it is joined here, the join fails, and is repeated.
         """
         new, recent = self.outbox.next(sender.stem(), ".journal"), self.recent(sender)
-        answer = self.join(sender, new, [], batch)
+        answer = self.join(sender, new, [], batch, sessions=sessions)
         if answer.status:
             return answer
         bring_to_disk(new)
-        answer = self.join(sender, recent, [recent], needed=[new])
-        if answer.status:
+        both = self.join(sender, recent, [recent], needed=[new])
+        if both.status:
             remove(new)
-        else:
-            self.join_outbox(sender)
+            return both
+        self.join_outbox(sender)
         return answer
 
     def join_outbox(self, sender: Sender) -> None:
@@ -259,7 +239,9 @@ class Keeper:
             for path in waiting:
                 remove(path)
 
-    def answer_fault(self, sender: Sender, batch: list[Part], answer: Answer) -> None:
+    def answer_fault(
+        self, sender: Sender, batch: list[Part], answer: Answer, sessions: Sequence[int]
+    ) -> None:
         """After a join that failed: sets the input at fault aside, and the others can be joined."""
         recent = self.recent(sender)
         if answer.status != 1:
@@ -267,8 +249,10 @@ class Keeper:
             self.wait_for_room(sender, answer, size)
         elif len(batch) > 1:
             self.states[sender].suspects.update(part.path for part in batch)
-        elif self.is_at_fault(sender, [], batch):
-            if batch[0].is_last and self.is_receiving:
+        elif self.is_at_fault(sender, [], batch, sessions):
+            if answer.told == FULL:
+                self.bring_sessions(sender, batch[0], sessions)
+            elif batch[0].is_last and self.incoming.is_receiving:
                 self.put_off(sender, answer.told)
             else:
                 self.set_aside(batch[0].path, answer.told)
@@ -280,11 +264,39 @@ class Keeper:
         else:
             self.put_off(sender, answer.told)
 
+    def bring_sessions(self, sender: Sender, part: Part, sessions: Sequence[int]) -> None:
+        """Joins the sessions with most datagrams of a file that is more than one join takes.
+
+        The datagrams of the others are set aside, so that nothing is read again and again; all, if
+        these sessions are too much as well.
+        """
+        fed = part.fed()
+        if not sessions:
+            sessions = self.program.largest_sessions(fed)
+            if sessions and not self.bring(sender, [part], sessions):
+                return
+        else:
+            sessions, part.taken = [], fed.end
+        kept = self.aside.next(sender.stem(), ".fldg")
+        try:
+            os.makedirs(self.aside.path, exist_ok=True)
+            count = self.program.write_others(fed, sessions, kept)
+            bring_to_disk(kept)
+        except OSError:
+            part.taken = fed.begin
+            raise
+        told = f"; those of the {len(sessions)} sessions with most are joined" if sessions else ""
+        self.report.fault(1, f"{part.path}: {FULL}: {count} datagrams are kept as {kept}{told}")
+
     def is_at_fault(
-        self, sender: Sender, journals: Iterable[str], parts: Iterable[Part] = ()
+        self,
+        sender: Sender,
+        journals: Iterable[str],
+        parts: Iterable[Part] = (),
+        sessions: Sequence[int] = (),
     ) -> bool:
         """Whether an input is refused when it is joined alone."""
-        return self.join(sender, os.devnull, journals, parts).status == 1
+        return self.join(sender, os.devnull, journals, parts, sessions=sessions).status == 1
 
     def wait_for_room(self, sender: Sender, answer: Answer, size: int) -> None:
         """After a join that failed without an input at fault: makes room, if the disk is full."""
@@ -364,10 +376,10 @@ class Keeper:
 
         Datagram files of its sender that are still there are joined again.
         """
+        for part in self.incoming.found.get(sender, []):
+            part.taken = len(HEADER)
+        self.incoming.joined.write(self.incoming.parts.values())
         self.set_aside(path, told)
-        for name, part in self.parts.items():
-            if (sender_of(name) or (None, 0))[0] == sender:
-                part.taken = len(HEADER)
 
     def set_aside(self, path: str, told: str) -> None:
         name = os.path.basename(path)
@@ -377,24 +389,11 @@ class Keeper:
 
     def waiting(self) -> int:
         """The bytes of datagrams that are still to be joined."""
-        parts = [part for of_sender in self.look().values() for part in of_sender]
-        return sum(part.end - part.taken for part in parts)
+        self.look()
+        return self.incoming.waiting()
 
-    def status(self) -> dict:
-        """The status: the journals of each sender, and bytes that wait or are kept."""
-        journals: dict[str, dict] = collections.defaultdict(dict)
-        for kind, folder in ("entries", self.journals.path), ("recent entries", self.small.path):
-            for name in sorted(os.listdir(folder)):
-                if name.endswith(".journal"):
-                    entries = entries_of(os.path.join(folder, name))
-                    journals[name.removesuffix(".journal")][kind] = entries
-        return {
-            "journals": journals,
-            "bytes to join": self.waiting(),
-            "set aside": len(list(self.aside.files())),
-            "disk": sum(
-                size_of(os.path.join(folder, name))
-                for folder, _, names in os.walk(self.folder)
-                for name in names
-            ),
-        }
+    def finish(self) -> None:
+        """At the end of a run: says what is left to say, and for the next run what is joined."""
+        self.incoming.joined.write(self.incoming.parts.values())
+        self.room.look()
+        self.counts.tell_last()

@@ -7,10 +7,11 @@ hexadecimal digits. Several names may give one path; `assign` makes their paths 
 from __future__ import annotations
 
 import hashlib
+import ipaddress
 import re
-from typing import NamedTuple, Sequence
+from typing import Callable, NamedTuple, Optional, Sequence
 
-from flutejoin_files import has_bytes
+from flutejoin_files import has_bytes, stem
 from flutejoin_holdings import Key
 
 MOST_PART, MOST_PATH = 180, 900  # bytes of a part of a path, and of a path
@@ -18,7 +19,9 @@ MOST_DEPTH = 16
 ENDING = 12  # bytes of an ending that a name keeps when it is shortened
 INDEX = "index"  # the file name for a name that ends in a folder
 UNVERIFIED = ".unverified"
+FROM = ".from-"  # and a sender, whose file it is, where another sender has the name
 OWN_ENDINGS = (".partial", UNVERIFIED)
+OWN_SENDER = re.compile(r"\.from-[0-9A-Fa-f.-]*\Z")
 
 URI = re.compile(
     r"(?:[A-Za-z][A-Za-z0-9+.-]*:)?(?://([^/?#]*))?([^?#]*)(\?[^#]*)?(?:#.*)?", re.DOTALL
@@ -49,6 +52,9 @@ def part(text: str) -> str:
     for ending in OWN_ENDINGS:
         if text.endswith(ending):
             chars[-len(ending)] = encoded(".")
+    own = OWN_SENDER.search(text)
+    if own:
+        chars[own.start()] = encoded(".")
     # `~` marks the names that this module makes different.
     chars[1:] = [encoded(char) if char == "~" else char for char in chars[1:]]
     name = "".join(chars)
@@ -103,31 +109,70 @@ class Claim(NamedTuple):
     path: str
     session: tuple[bytes, int]
     of: str  # its FDT Instance; a later claim from another of the session is an older file
+    rank: tuple[int, int]  # of that FDT Instance
+    worth: int  # of several files of one name in a session the one that is worth most has it
     mark: str  # added to the path if another claim has it
 
 
-def assign(claims: Sequence[Claim]) -> dict[Key, str]:
-    """The path of each claim, of which earlier ones have priority.
+# The sender whose file has a path already; None if there is none, or that is unknown
+OwnerOf = Callable[[str], Optional[bytes]]
 
-    If another claim has the path, or has a file below it, the claim's mark is added. A claim
-    without a path in the result is an older file of the same name.
-    """
+
+class Paths(NamedTuple):
+    """The paths of files."""
+
+    of: dict[Key, str]
+    owners: dict[Key, bytes]  # the sender that has the path that was asked for, if it is another
+    replaced: set[Key]  # older files of the same name, which have no path
+
+
+def folders_of(claims: Sequence[Claim]) -> set[str]:
+    """The folders of the paths that claims ask for."""
     folders = set()
     for claim in claims:
         place = claim.path.find("/")
         while place >= 0:
             folders.add(claim.path[:place])
             place = claim.path.find("/", place + 1)
+    return folders
+
+
+def assign(claims: Sequence[Claim], owner_of: OwnerOf) -> Paths:
+    """The path of each claim, of which earlier ones have priority.
+
+    If another sender has the path, the claim's sender is added to it; if another claim of the same
+    sender has it, or has a file below it, the claim's mark. A newer file that is not there yet
+    does not replace an older one.
+    """
+    folders = folders_of(claims)
     taken: dict[str, Claim] = {}
-    paths: dict[Key, str] = {}
+    found = Paths({}, {}, set())
     for claim in claims:
-        path, count = claim.path, 1
-        first = taken.get(path)
+        owner, asked = owner_of(claim.path), claim.path
+        if owner is None and asked in taken:
+            owner = taken[asked].key.source
+        is_of_other = owner not in (None, claim.key.source)
+        if is_of_other:
+            asked = f"{asked}{FROM}{stem_of(claim.key.source)}"
+        first = taken.get(asked)
         if first and first.session == claim.session and first.of != claim.of:
-            continue
+            if claim.rank <= first.rank:
+                found.replaced.add(claim.key)
+                continue
+            if not claim.worth:
+                continue
+        if owner and is_of_other:
+            found.owners[claim.key] = owner
+        path, count = asked, 1
         while path in taken or path in folders:
-            path = f"{claim.path}~{claim.mark}" + (f"-{count}" if count > 1 else "")
+            path = f"{asked}~{claim.mark}" + (f"-{count}" if count > 1 else "")
             count += 1
         taken[path] = claim
-        paths[claim.key] = path
-    return paths
+        found.of[claim.key] = path
+    return found
+
+
+def stem_of(source: bytes) -> str:
+    """A sender's address as it is in names."""
+    address = ipaddress.IPv6Address(source)
+    return stem(str(address.ipv4_mapped or address))

@@ -1,11 +1,15 @@
 """The fields of a FLUTE packet that the tools look at (RFC 5651, RFC 6726, RFC 5445)."""
 from __future__ import annotations
 
+import struct
 from typing import Iterator, NamedTuple, Optional
 
+from flutejoin_partition import fault_of
 from flutejoin_records import Buffer
 
-EXT_FTI, EXT_FDT = 64, 192  # types of header extensions
+EXT_FTI, EXT_FDT, EXT_CENC = 64, 192, 193  # types of header extensions
+READ = EXT_FTI, EXT_FDT, EXT_CENC
+SYMBOL_AND_BLOCK = struct.Struct(">HI")
 FIXED_ALL = 40  # the greatest length of the header without extensions, in bytes
 
 
@@ -87,6 +91,11 @@ def is_like_flute(payload: Buffer) -> bool:
     return end == header.end
 
 
+def information_in(payload: Buffer, place: int) -> bytes:
+    """The lengths in EXT_FTI, which begins at `place`. The 2 bytes between them are reserved."""
+    return bytes(payload[place + 2 : place + 8]) + bytes(payload[place + 10 : place + 16])
+
+
 def packet_of(payload: Buffer) -> Optional[Packet]:
     """The fields of a datagram that is like FLUTE, or None."""
     header = header_of(payload)
@@ -98,8 +107,7 @@ def packet_of(payload: Buffer) -> Optional[Packet]:
         if kind == EXT_FDT:
             instance = int.from_bytes(payload[place + 1 : place + 4], "big") & 0xFFFFF
         elif kind == EXT_FTI and end - place == 16:
-            # The 2 bytes between the lengths are reserved.
-            information = bytes(payload[place + 2 : place + 8]) + bytes(payload[place + 10 : end])
+            information = information_in(payload, place)
     if end != header.end:
         return None
     has_symbol = len(payload) > end + 4
@@ -111,3 +119,53 @@ def packet_of(payload: Buffer) -> Optional[Packet]:
         bytes(payload[end : end + 4]) if has_symbol else b"",
         bytes(payload[end + 4 :]) if has_symbol else b"",
     )
+
+
+def numbers_of(information: bytes) -> tuple[int, int, int]:
+    """The transfer length, symbol length and block length."""
+    length = int.from_bytes(information[:6], "big")
+    return (length, *SYMBOL_AND_BLOCK.unpack_from(information, 6))
+
+
+def refusal_of(payload: Buffer) -> Optional[str]:
+    """Why `flutejoin join` refuses a datagram, by its name for it; None if it does not.
+
+    docs/FORMATS.md has the list, of which the first that applies is the answer.
+    """
+    if not 4 <= len(payload) <= 65535:
+        return "TooShort" if len(payload) < 4 else "TooLong"
+    if payload[0] >> 4 != 1:
+        return "LctVersion"
+    header = Header(*fixed_fields(payload[0], payload[1]), 4 * payload[2])
+    if not header.extensions <= header.end <= len(payload):
+        return "HeaderLength" if header.end < header.extensions else "HeaderCut"
+    if header.tsi == header.toi or header.toi == header.extensions:
+        return "NoTsi" if header.tsi == header.toi else "NoToi"
+    if payload[3]:
+        return "Codepoint"
+    found = list(extensions_of(payload, header))
+    if (found[-1][2] if found else header.extensions) != header.end:
+        return "ExtensionLength"
+    return refusal_by_extensions(payload, header, found)
+
+
+def refusal_by_extensions(
+    payload: Buffer, header: Header, found: list[tuple[int, int, int]]
+) -> Optional[str]:
+    read = {kind: (begin, end) for kind, begin, end in found if kind in READ}
+    if len(read) < sum(kind in READ for kind, _, _ in found):
+        return "Repeated"
+    if EXT_FTI in read:
+        begin, end = read[EXT_FTI]
+        if end - begin != 16:
+            return "FtiLength"
+        if fault_of(*numbers_of(information_in(payload, begin))):
+            return "Information"
+    if not any(payload[header.toi : header.extensions]):
+        if EXT_FDT not in read:
+            return "NoInstance"
+        if payload[read[EXT_FDT][0] + 1] >> 4 != 2:
+            return "FluteVersion"
+    if EXT_CENC in read and payload[read[EXT_CENC][0] + 1]:
+        return "ContentEncoded"
+    return "PayloadIdCut" if 0 < len(payload) - header.end < 4 else None

@@ -1,6 +1,10 @@
 """How an object is cut into source blocks and symbols (RFC 5052, section 9.1)."""
 from __future__ import annotations
 
+from typing import Union
+
+Buffer = Union[bytes, memoryview]
+
 
 class Partition:
     """The source blocks of an object.
@@ -20,6 +24,22 @@ class Partition:
 
     def size(self, block: int) -> int:
         return self.small + (block < self.larger)
+
+    def place(self, symbol: bytes) -> int | None:
+        """The place of a symbol in the object, by its block and number; None if it has none."""
+        block, number = symbol[0] << 8 | symbol[1], symbol[2] << 8 | symbol[3]
+        if block >= self.blocks or number >= self.size(block):
+            return None
+        return self.start(block) + number
+
+    def piece(self, place: int, value: Buffer) -> Buffer | None:
+        """The bytes of the object that a symbol at this place is; None if the value does not fit.
+
+        Only the last symbol may be shorter, or padded.
+        """
+        length, size, _ = self.numbers
+        last = min(size, length - place * size)
+        return value[:last] if len(value) in (size, last) else None
 
     def id_at(self, place: int) -> tuple[int, int]:
         """The block and the symbol's number in it, of the symbol with this place in the object."""

@@ -10,12 +10,30 @@ import os
 from typing import Iterator
 
 import flutejoin_files as files
-from flutejoin_epochs import CONTRADICTING, Epochs, may_tell_of_instance
-from flutejoin_records import HEADER, LENGTH, MOST, whole_records
+from flutejoin_adapting import Adapting
+from flutejoin_epochs import CONTRADICTING, RENEWED, Epochs, may_tell_of_instance
+from flutejoin_records import HEADER, LENGTH, MOST, Cut, Fault, Records, whole_records
 
 MOST_SENDERS = 200  # each has an open file
+MOST_ADAPTED = 4096  # senders of whose datagrams something is remembered
+MOST_COUNTED = 1 << 16  # senders beyond these of which bytes are counted
 SENDERS = f"more than {MOST_SENDERS} senders"
 OCCUPIED = "its sender's file cannot be made"
+
+
+def bring_names_to_disk(folder: str) -> None:
+    """Syncs the names in a folder. Raises OSError, unless the file system can't do so."""
+    try:
+        descriptor = os.open(folder, os.O_RDONLY | os.O_DIRECTORY)
+    except PermissionError:  # it may be one that can be written and not read
+        return
+    try:
+        os.fsync(descriptor)
+    except OSError as fault:
+        if fault.errno not in (errno.EINVAL, errno.ENOTSUP):
+            raise
+    finally:
+        os.close(descriptor)
 
 
 class Unwritable(Exception):
@@ -61,7 +79,7 @@ class Part:
         self.file.truncate(self.size)
 
     def finish(self) -> None:
-        """Syncs the file and gives it its name. A file without records is removed.
+        """Brings the file to the disk, with its name. A file without records is removed.
 
         Raises FileExistsError if there is another file of that name by now.
         """
@@ -70,6 +88,7 @@ class Part:
                 os.fsync(self.file.fileno())
         if self.count:
             files.give_name(self.path + files.PARTIAL, self.path)
+            bring_names_to_disk(os.path.dirname(self.path) or ".")
         else:
             os.remove(self.path + files.PARTIAL)
 
@@ -82,7 +101,10 @@ class Files:
         self.open: dict[bytes, Part] = {}
         self.refused: set[bytes] = set()
         self.left_out: collections.Counter[str] = collections.Counter()
+        # The bytes of senders that have no file, since there are too many
+        self.beyond: collections.Counter[bytes] = collections.Counter()
         self.epochs: dict[bytes, Epochs] = {}  # of each sender
+        self.adapting: dict[bytes, Adapting] = {}
         # How many files a sender has of an epoch
         self.parts: collections.Counter[tuple[bytes, int]] = collections.Counter()
         self.is_made = False
@@ -96,6 +118,7 @@ class Files:
             if not os.path.isdir(self.folder):
                 os.mkdir(self.folder)
                 self.is_made = True
+                bring_names_to_disk(os.path.dirname(os.path.abspath(self.folder)))
         except OSError as fault:
             raise Unwritable(f"cannot make the folder {self.folder}: {fault.strerror}") from None
         if not os.access(self.folder, os.W_OK | os.X_OK):
@@ -104,10 +127,36 @@ class Files:
     def path(self, sender: bytes, part: int, epoch: int) -> str:
         return os.path.join(self.folder, files.file_name(files.address(sender), part, epoch))
 
+    def take(self, sender: bytes, payload: bytes, when: int | None = None) -> None:
+        """Adds a datagram in the form that flutejoin reads, or counts it as left out."""
+        if sender not in self.epochs and len(self.epochs) >= MOST_SENDERS:
+            self.add(sender, payload, when)  # which counts it as left out
+            return
+        adapting = self.adapting.get(sender) or Adapting()
+        if len(self.adapting) < MOST_ADAPTED:
+            self.adapting[sender] = adapting
+        if adapting.is_plain(payload):
+            self.add(sender, payload, when)
+            return
+        taken = adapting.take(payload)
+        if taken.left_out:
+            self.left_out[taken.left_out] += 1
+        for written in taken.datagrams:
+            self.add(sender, bytes(written), when)
+
+    def tell(self) -> None:
+        """Reports in which forms datagrams came, for each sender once."""
+        for sender, adapting in self.adapting.items():
+            for line in adapting.lines(0):
+                self.report.warn(f"{files.address(sender)} {line}")
+
     def add(self, sender: bytes, payload: bytes, when: int | None = None) -> None:
         """Adds a datagram. `when` is the second at which it came, if that is known."""
         if may_tell_of_instance(payload) and self.is_too_often(sender, payload, when or 0):
             self.left_out[CONTRADICTING] += 1
+            return
+        if may_tell_of_instance(payload) and self.is_renewed(sender, payload):
+            self.left_out[RENEWED] += 1
             return
         part = self.open.get(sender)
         size = len(payload) + 2
@@ -117,7 +166,7 @@ class Files:
         if is_full:
             self.close(sender)
             part = None
-        part = part or self.begin(sender)
+        part = part or self.begin(sender, size)
         if part:
             part.waiting += LENGTH.pack(size - 2)
             part.waiting += payload
@@ -138,18 +187,52 @@ class Files:
         begins = epochs.begins(payload, when)
         if begins:
             self.report.warn(f"{files.address(sender)} {epochs.told()}")
-            if sender in self.open:
+            before = self.open.get(sender)
+            if before:
                 self.close(sender)
+                if epochs.is_back:
+                    self.take_over(sender, before.path)
         return begins is None
 
-    def begin(self, sender: bytes) -> Part | None:
-        """Begins the next file of a sender, and returns it.
+    def is_renewed(self, sender: bytes, payload: bytes) -> bool:
+        epochs = self.epochs.get(sender)
+        return epochs is not None and epochs.is_renewed(payload)
+
+    def take_over(self, sender: bytes, path: str) -> None:
+        """Copies the datagrams of files out of a sender's last file into one of its epoch now.
+
+        They came while a datagram, perhaps forged, had begun another epoch.
+        """
+        try:
+            with open(path, "rb") as file:
+                for datagram in Records(file):
+                    if not may_tell_of_instance(datagram):
+                        self.add(sender, datagram)
+        except (OSError, Fault, Cut) as fault:
+            self.report.fault(3, f"{path}: cannot be read again: {fault}")
+
+    def count_beyond(self, sender: bytes, size: int) -> None:
+        """Counts a datagram of a sender that has no file. Those of fewest bytes are forgotten."""
+        self.left_out[SENDERS] += 1
+        if sender not in self.beyond and len(self.beyond) >= MOST_COUNTED:
+            most = self.beyond.most_common(MOST_COUNTED // 2)
+            self.beyond = collections.Counter(dict(most))
+        self.beyond[sender] += size
+
+    def largest_beyond(self) -> list[bytes]:
+        """Of the senders that have no file those that sent most."""
+        return [sender for sender, _ in self.beyond.most_common(MOST_SENDERS)]
+
+    def begin(self, sender: bytes, size: int) -> Part | None:
+        """Begins the next file of a sender, for a record of this size, and returns it.
 
         Returns None if the sender can have none, and reports that the first time.
         """
-        is_new = sender not in self.epochs
-        if sender in self.refused or is_new and len(self.epochs) >= MOST_SENDERS:
-            self.left_out[OCCUPIED if sender in self.refused else SENDERS] += 1
+        if sender in self.refused:
+            self.left_out[OCCUPIED] += 1
+            return None
+        if sender not in self.epochs and len(self.epochs) >= MOST_SENDERS:
+            self.count_beyond(sender, size)
             return None
         epoch = self.epochs.setdefault(sender, Epochs()).number
         path = self.path(sender, self.parts[sender, epoch] + 1, epoch)
@@ -180,6 +263,7 @@ class Files:
             ) from None
 
     def flush_all(self) -> None:
+        self.tell()
         for part in self.open.values():
             self.flush(part)
 
@@ -202,13 +286,17 @@ class Files:
             self.report.say(f"{part.path}: {part.count} datagrams from {files.address(sender)}")
 
     def finish(self) -> None:
+        self.tell()
         for sender in list(self.open):
             self.close(sender)
-        if self.is_made and not any(self.parts.values()):
+        if self.is_made and not self.is_used():
             try:
                 os.rmdir(self.folder)
             except OSError:
                 pass  # others have put something into it
+
+    def is_used(self) -> bool:
+        return any(self.parts.values())
 
     def join_lines(self) -> Iterator[str]:
         """Yields the commands that join the files of each sender, epoch by epoch."""

@@ -4,6 +4,8 @@ from __future__ import annotations
 import contextlib
 import errno
 import fcntl
+import hashlib
+import ipaddress
 import os
 import shutil
 import stat
@@ -12,6 +14,7 @@ from typing import Iterator
 from flutejoin_files import PARTIAL
 
 PIECE = 1 << 18
+SENDER = "user.flutejoin.sender"  # the extended attribute of a file that has its sender
 FOLDER = os.O_RDONLY | os.O_DIRECTORY | os.O_NOFOLLOW | os.O_CLOEXEC
 REGULAR = os.O_RDONLY | os.O_NOFOLLOW | os.O_NONBLOCK | os.O_CLOEXEC
 
@@ -27,6 +30,17 @@ def bring_to_disk(folder: int) -> None:
         os.sync()
 
 
+def note_sender(file: str | int, sender: bytes) -> None:
+    """Notes whose file this is, if the file system keeps extended attributes."""
+    address = ipaddress.IPv6Address(sender)
+    text = str(address.ipv4_mapped or address).encode()
+    with contextlib.suppress(OSError, AttributeError):
+        if os.getxattr(file, SENDER) == text:
+            return
+    with contextlib.suppress(OSError, AttributeError):
+        os.setxattr(file, SENDER, text)
+
+
 class Work:
     """A temporary folder, used by one run at a time.
 
@@ -36,8 +50,8 @@ class Work:
     """
 
     NAMES = (
-        *("journal", "fdt.journal", "fdt", "lines", "known", "objects", "decoded"),
-        *("resolved.journal", "resolved", "described"),
+        *("journal", "fdt", "described", "objects", "decoded"),
+        *("resolved.journal", "resolved"),
     )
 
     def __init__(self, path: str) -> None:
@@ -122,11 +136,35 @@ class Place:
         finally:
             os.close(folder)
 
-    def put(self, source: str, path: str) -> str | None:
-        """Moves a file to this path.
+    def has(self, path: str, size: int | None, md5: bytes, sender: bytes) -> bool:
+        """Whether there is a file of this size, if it is known, and this MD5.
+
+        Then it is this sender's.
+        """
+        try:
+            with self.parent(path, False) as (folder, name):
+                here = os.open(name, REGULAR, dir_fd=folder)
+        except OSError:
+            return False
+        digest = hashlib.md5(usedforsecurity=False)
+        try:
+            found = os.fstat(here)
+            if not stat.S_ISREG(found.st_mode) or size not in (None, found.st_size):
+                return False
+            while piece := os.read(here, PIECE):
+                digest.update(piece)
+            if digest.digest() == md5:
+                note_sender(here, sender)
+            return digest.digest() == md5
+        finally:
+            os.close(here)
+
+    def put(self, source: str, path: str, sender: bytes) -> str | None:
+        """Moves a sender's file to this path.
 
         Returns "new" or "changed", or None if the file there had the same bytes.
         """
+        note_sender(source, sender)
         with self.parent(path, True) as (folder, name):
             try:
                 found = os.stat(name, dir_fd=folder, follow_symlinks=False)
@@ -135,15 +173,18 @@ class Place:
                 return "new"
             if not stat.S_ISREG(found.st_mode):
                 raise FileExistsError(errno.EEXIST, "is in the way: it is no regular file", name)
-            if self.is_same(source, folder, name):
+            if self.is_same(source, folder, name, sender):
                 os.remove(source)
                 return None
             os.rename(source, name, dst_dir_fd=folder)
             return "changed"
 
     @staticmethod
-    def is_same(source: str, folder: int, name: str) -> bool:
-        """Whether the file of this name in the folder has the same bytes as another."""
+    def is_same(source: str, folder: int, name: str, sender: bytes) -> bool:
+        """Whether the file of this name in the folder has the same bytes as another.
+
+        Then it is this sender's.
+        """
         with open(source, "rb", buffering=0) as one:
             here = os.open(name, REGULAR, dir_fd=folder)
             with open(here, "rb", buffering=0) as other:
@@ -152,6 +193,7 @@ class Place:
                 while piece := one.read(PIECE):
                     if piece != other.read(len(piece)):
                         return False
+                note_sender(here, sender)
         return True
 
     def remove(self, path: str) -> None:

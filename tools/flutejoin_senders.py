@@ -1,146 +1,134 @@
-"""The senders of one folder, with the datagrams that wait to be written."""
+"""The senders of one folder, with the datagrams that wait to be written.
+
+One thread uses all this. It hands orders over to the writer's, and reads nothing that the writer
+changes, but for the number of a file.
+"""
 from __future__ import annotations
 
 import collections
 import heapq
+import ipaddress
 import itertools
 import os
-import time
-from typing import Iterable, Iterator, Optional
+from typing import TYPE_CHECKING, Iterable, Iterator, Optional
 
-from flutejoin_epochs import CONTRADICTING, Epoch, Epochs
-from flutejoin_files import IPAddress, file_name, join_lines, name_of, stem
-from flutejoin_found import Found, look_at, newest
-from flutejoin_growing import Begin, Block, Grown, Growing
-from flutejoin_notes import EachMinute, note
-from flutejoin_records import HEADER, Buffer
-from flutejoin_records import MOST as MOST_RECORDS
+from flutejoin_epochs import MOST_EARLIER, Epoch
+from flutejoin_files import IPAddress, Name, file_name, join_lines, name_of, stem
+from flutejoin_found import epoch_in, look_at
+from flutejoin_growing import Block, Grown, Growing
+from flutejoin_newcomers import Budget, Newcomer, Newcomers, Pace
+from flutejoin_notes import EachMinute, Fault, note
+from flutejoin_records import HEADER, PIECE, Buffer
+from flutejoin_sender import ENOUGH, TOO_SLOW, UNWRITTEN, Sender
 from flutejoin_writer import Folder, Writer
 
-WRITE_AT = 1 << 18  # bytes that wait for a file before they are handed to the writer in any case
+if TYPE_CHECKING:
+    from flutejoin_sessions import Session
+
 MOST_SILENT = 4096  # silent senders whose totals are remembered
-MOST_ASKING = 4096
-FEW = 16  # datagrams; a sender with fewer may be a made-up address
-SILENCE, LONG_SILENCE = 10, 60  # seconds of silence after which another sender may take the place
+# How many times as much as a sender with a place a newcomer has to send that gets it: or else two
+# that send alike would change places again and again. Of the sender of most bytes it is more.
+MORE, MUCH_MORE = 1.25, 16
+FILES_A_MINUTE = 16  # of all who sent little
+EPOCHS_A_MINUTE = 16
 
-UNWRITTEN = "not written, after a fault"
-TOO_SLOW = "not written, since the disk was slower than what came"
-
-
-class Sender:
-    """One sender: what it sent, and its files."""
-
-    def __init__(
-        self, growing: Growing, writer: Writer, split: int, causes: collections.Counter
-    ) -> None:
-        self.growing, self.writer, self.split = growing, writer, split
-        self.of_all = causes  # datagrams of all senders that are left out, by cause
-        self.keys: list[tuple[dict, bytes]] = []  # where it is registered under its address
-        self.waiting = bytearray()
-        self.begin_file()
-        self.epochs = Epochs()
-        self.datagrams = self.bytes = 0
-        self.seen = float("-inf")  # by a clock that is never set
-        self.seen_at: Optional[float] = None  # in seconds since 1970
-        self.left_out: collections.Counter = collections.Counter()
-
-    def begin_file(self) -> None:
-        self.grown, self.records, self.handed = len(HEADER), 0, 0
-        self.room = 0  # length up to which the file may grow before `make_room` is called again
-
-    def make_room(self, size: int) -> None:
-        """Makes room for a record: hands others to the writer, or begins another file.
-
-        Each file gets at least one record, however short files are to be.
-        """
-        if self.grown + size > self.split and self.records or self.records >= MOST_RECORDS:
-            self.begin(Begin.PART)
-        elif len(self.waiting) > WRITE_AT:
-            self.hand_over()
-        # A record has at least 2 bytes.
-        most = min(WRITE_AT, 2 * (MOST_RECORDS - self.records))
-        self.room = max(self.grown + size, min(self.split, self.grown + most))
-
-    def begin(self, what: Begin) -> None:
-        self.hand_over()
-        self.writer.give(self.growing, what)
-        self.begin_file()
-
-    def hand_over(self) -> None:
-        """Hands the waiting records to the writer."""
-        count = self.records - self.handed
-        if not count:
-            return
-        waiting, self.waiting = self.waiting, bytearray()
-        self.handed = self.records
-        self.datagrams += count
-        self.bytes += len(waiting) - 2 * count
-        self.seen, self.seen_at = time.monotonic(), time.time()
-        if not self.writer.give(self.growing, Block(waiting, count)):
-            self.leave_out(UNWRITTEN if self.growing.fault else TOO_SLOW, count)
-
-    def leave_out(self, cause: str, count: int) -> None:
-        self.left_out[cause] += count
-        self.of_all[cause] += count
-
-    def contradicts(self, datagram: Buffer, now: float) -> bool:
-        """Looks at a datagram that may be of an FDT Instance, and returns whether it is left out.
-
-        One that contradicts an earlier one begins an epoch, but only a few may begin in a short
-        time.
-        """
-        begins = self.epochs.begins(datagram, now)
-        if begins is None:
-            self.leave_out(CONTRADICTING, 1)
-        elif begins:
-            self.begin(Begin.EPOCH)
-            note(f"{self.growing.address} {self.epochs.told()}")
-        return begins is None
-
-    def is_silent(self, now: float) -> bool:
-        return now - self.seen >= (SILENCE if self.datagrams < FEW else LONG_SILENCE)
+FEW_CAME = f"of new senders that sent little, beyond {FILES_A_MINUTE} in a minute"
+OUTDONE = "senders of more bytes than one that was kept"
+WAY_OUT = "(--senders takes more, and --from names the one)"
 
 
 class Senders:
-    """All senders of a folder."""
+    """All senders of a folder.
+
+    Anyone who can send here can make addresses up. So a sender has a place by what it sent in the
+    last seconds, and without one it has no file.
+    """
 
     def __init__(self, folder: Folder, writer: Writer, most: int, split: int) -> None:
         self.folder, self.writer, self.most, self.split = folder, writer, most, split
-        self.admitted: dict = {}  # by address
-        self.known: collections.OrderedDict = collections.OrderedDict()  # the others
-        self.remembered: collections.deque = collections.deque()
-        # The senders that ask for a place, and how often; and those that may have one.
-        self.asking: dict[bytes, int] = {}
-        self.invited: set[bytes] = set()
-        self.asked = False  # in the last second
-        self.forgotten = 0
+        self.admitted: dict[IPAddress, Sender] = {}
+        self.known: dict[IPAddress, Sender] = {}  # others that have files
+        self.found: dict[str, tuple[int, int]] = {}  # of still others the newest: epoch and part
+        self.remembered: collections.deque[Sender] = collections.deque()
+        self.newcomers = Newcomers()
+        self.files = Budget(most, FILES_A_MINUTE)
+        self.begun = Budget(EPOCHS_A_MINUTE, EPOCHS_A_MINUTE)
+        self.forgotten = self.outdone = 0
         self.causes: collections.Counter = collections.Counter()
         self.told = EachMinute()
 
     def sender(self, address: IPAddress) -> Sender:
-        growing = Growing(self.folder.path, address, self.writer.opened)
-        return Sender(growing, self.writer, self.split, self.causes)
+        return Sender(Growing(self.folder.path, address, self.writer.opened), self)
 
     def look(self, only: Optional[set]) -> None:
-        """Looks through the files of earlier runs: those of these senders, or of all.
+        """Looks for the files of earlier runs: those of these senders, or of all.
 
-        This comes before anything is received, since long files take seconds. No file stays open.
+        The newest files of those who sent most are read, of as many as may send. This comes before
+        anything is received, since long files take seconds. No file stays open.
         """
-        found = newest(self.folder.names())
-        for address in sorted(found, key=lambda it: (it.version, it)):
-            if only is None or address in only:
-                self.known[address] = self.go_on(address, look_at(self.folder.path, found[address]))
+        packed = only and {address.packed for address in only}
+        sizes: collections.Counter[str] = collections.Counter()
+        same: dict[tuple[int, int], tuple[int, int]] = {}  # each pair once, however many senders
+        for entry in self.folder.entries():
+            address, epoch, part = entry.name
+            if not packed or address.packed in packed:
+                text = str(address)
+                number = same.setdefault((epoch, part), (epoch, part))
+                self.found[text] = max(self.found.get(text, number), number)
+                sizes[text] += entry.size
+        most = len(sizes) if packed else self.most
+        chosen = heapq.nlargest(most, sizes, key=lambda text: sizes[text])
+        of_epochs = self.last_files({text for text in chosen if self.found[text][0] > 1})
+        for text in chosen:
+            found = of_epochs.get(text, {})
+            if found:  # the one that was written last goes on
+                epoch = max(found, key=lambda epoch: (found[epoch][1], epoch))
+                self.found[text] = epoch, found[epoch][0]
+            sender = self.go_on(ipaddress.ip_address(text))
+            self.remember_epochs(sender, found)
+            sender.total = sizes[text]
+            self.known[sender.growing.address] = sender
 
-    def go_on(self, address: IPAddress, found: Found) -> Sender:
+    def last_files(self, texts: set[str]) -> dict[str, dict[int, tuple[int, int]]]:
+        """The number of the last file of each epoch of these senders, and when it was written."""
+        found: dict[str, dict[int, tuple[int, int]]] = {}
+        for entry in self.folder.entries() if texts else ():
+            address, epoch, part = entry.name
+            if str(address) in texts:
+                last = found.setdefault(str(address), {})
+                last[epoch] = max(last.get(epoch, (0, 0)), (part, entry.changed))
+        return found
+
+    def remember_epochs(self, sender: Sender, found: dict[int, tuple[int, int]]) -> None:
+        """Reads what earlier runs received of the FDT Instances of other epochs of a sender."""
+        growing, epochs = sender.growing, sender.epochs
+        others = sorted(found.keys() - {growing.epoch}, key=lambda epoch: found[epoch][1])
+        growing.parts = {epoch: found[epoch][0] for epoch in others}
+        epochs.last = max([growing.epoch, *others])
+        for epoch in others[-MOST_EARLIER:]:
+            name = Name(growing.address, epoch, found[epoch][0])
+            epochs.epoch.add_earlier(epoch, epoch_in(self.folder.path, name).hashes)
+
+    def go_on(self, address: IPAddress, most: Optional[int] = None) -> Sender:
+        """A sender that has files. The newest is read, unless it has more than `most` bytes."""
         sender = self.sender(address)
-        sender.growing.epoch, sender.growing.part = found.name.epoch, found.name.part
+        epoch, part = self.found.pop(str(address))
+        growing, epochs = sender.growing, sender.epochs
+        growing.epoch, growing.part, epochs.number = epoch, part, epoch
+        try:
+            found = look_at(self.folder.path, Name(address, epoch, part), most)
+        except Fault as fault:
+            if os.path.lexists(growing.path()):
+                note(f"{fault}; another file is begun for its sender")
+            growing.part += 1
+            return sender
+        epochs.epoch = found.epoch
         if found.size is None:
-            sender.growing.part += 1
+            growing.part += 1
         else:
-            sender.growing.go_on(found.identity, found.size, found.records)
-            sender.grown, sender.records = found.size or len(HEADER), found.records
-            sender.handed = found.records
-        sender.epochs.epoch, sender.epochs.number = found.epoch, found.name.epoch
+            growing.go_on(found.identity, found.size, found.records)
+            sender.grown, sender.total = found.size or len(HEADER), found.size
+            sender.records = sender.handed = found.records
         self.remember(sender)
         return sender
 
@@ -154,62 +142,140 @@ class Senders:
                 if not is_admitted and other not in self.remembered:
                     other.epochs.epoch = Epoch()
 
-    def has_room(self, key: bytes, now: float) -> bool:
-        """Whether another sender may come: a silent one leaves, if all places are taken.
+    def place(self, address: IPAddress, now: float) -> Optional[Sender]:
+        """The sender of this address, if it has a place or gets a free one at once."""
+        if address not in self.admitted:
+            if len(self.admitted) >= self.most:
+                return None
+            if not self.has_file(address) and not self.files.take(now):
+                return None
+        return self.admit(address)
 
-        If several ask for a place, those get it that asked most often in the last second: with many
-        made-up addresses, each one asks seldom.
+    def has_file(self, address: IPAddress) -> bool:
+        return address in self.known or bool(self.found) and str(address) in self.found
+
+    def hold(
+        self, key: bytes, address: IPAddress, session: Session, datagram: Buffer, now: float
+    ) -> None:
+        """Keeps a datagram of a new sender without a place, until that may get one."""
+        if self.newcomers.is_full():
+            self.leave_out(self.newcomers.halve())
+        known, earlier = self.known.get(address), None
+        if known or self.found and str(address) in self.found:
+            earlier = known.total if known else 0
+        newcomer = Newcomer(address, earlier, now)
+        self.newcomers.by_key[key] = newcomer
+        self.hold_more(newcomer, session, datagram)
+
+    def hold_more(self, newcomer: Newcomer, session: Session, datagram: Buffer) -> None:
+        if not self.newcomers.hold(newcomer, session, datagram):
+            session.full += 1
+        elif self.newcomers.is_full():
+            self.leave_out(self.newcomers.halve())
+
+    def give_places(self, now: float, is_end: bool = False) -> None:
+        """Gives places to newcomers that sent enough or waited long: those first that sent most.
+
+        At the end of a run all that waits is written where there is a place, of those first that
+        sent most in the last seconds: so that nobody loses a place that was got just now.
+        """
+        for sender in self.admitted.values():
+            sender.pace.measure(sender.sent())
+        self.newcomers.measure()
+        waiting = self.newcomers.by_key
+        top = max((sender.sent() for sender in self.admitted.values()), default=0)
+        ready = [key for key, it in waiting.items() if is_end or it.is_ready(now)]
+        sent = {key: waiting[key].pace.recent if is_end else waiting[key].bytes for key in ready}
+        ready.sort(key=lambda key: (waiting[key].total() > top, sent[key]), reverse=True)
+        least, wanted = self.first_to_go()
+        for key in ready:
+            newcomer = waiting[key]
+            may_begin = newcomer.has_file or newcomer.bytes >= ENOUGH or self.files.has(now)
+            has_place = newcomer.pace.recent > wanted or newcomer.total() > top
+            if has_place and (may_begin or is_end):
+                if least:
+                    self.retire(least)
+                self.settle(key, now)
+                least, wanted = self.first_to_go()
+            elif is_end or newcomer.is_late(now):
+                self.leave_out([self.newcomers.remove(key)], FEW_CAME if has_place else None)
+            elif newcomer.lost():
+                self.compare(newcomer, self.least())
+
+    def first_to_go(self) -> tuple[Optional[Sender], float]:
+        """The sender whose place the next one gets, and how much that has to send for it.
+
+        None if a place is free. The sender of most bytes is the last to go.
         """
         if len(self.admitted) < self.most:
-            return True
-        if key in self.invited or not self.invited and not self.asking and not self.asked:
-            silent = self.silent(now)
-            if silent:
-                self.invited.discard(key)
-                self.retire(min(silent, key=lambda sender: sender.seen))
-                return True
-        self.asking[key] = self.asking.get(key, 0) + 1
-        if len(self.asking) > MOST_ASKING:
-            self.asking = {key: count for key, count in self.asking.items() if count > 1}
-        return False
+            return None, float("-inf")
+        first = max(self.admitted.values(), key=Sender.sent)
+        least = min(self.admitted.values(), key=lambda it: (it is first, it.pace.recent))
+        return least, (MUCH_MORE if least is first else MORE) * least.pace.recent
 
-    def silent(self, now: float) -> list[Sender]:
-        return [sender for sender in self.admitted.values() if sender.is_silent(now)]
+    def settle(self, key: bytes, now: float) -> None:
+        """Gives a newcomer its place, and keeps what waited of it."""
+        newcomer = self.newcomers.remove(key)
+        if not newcomer.has_file and newcomer.bytes < ENOUGH:
+            self.files.take(now)
+        sender = self.admit(newcomer.address)
+        for session, datagram in newcomer.held:
+            session.keep(key, sender, datagram, now)
+        sender.hand_over()
+        sender.pace.recent = newcomer.pace.recent
+        sender.pace.before = sender.total
 
-    def invite(self, now: float) -> None:
-        """Once a second: invites as many of the senders that asked as there are silent ones."""
-        self.asked = bool(self.asking)
-        if self.asked:
-            count = len(self.silent(now))
-            often = heapq.nlargest(count, self.asking, key=lambda key: self.asking[key])
-            self.invited = set(often)
-            self.asking = {}
+    def leave_out(self, newcomers: Iterable[Newcomer], cause: Optional[str] = None) -> None:
+        """Counts what waited of newcomers, which get no place."""
+        least = self.least()
+        for newcomer in newcomers:
+            if cause is not None:
+                self.causes[cause] += len(newcomer.held)
+            for session, _ in newcomer.held if cause is None else ():
+                session.full += 1
+            self.compare(newcomer, least)
+
+    def least(self) -> int:
+        """The bytes of the sender with a place that sent least in all."""
+        return min((sender.sent() for sender in self.admitted.values()), default=0)
+
+    def compare(self, newcomer: Newcomer, least: int) -> None:
+        """Counts a newcomer of which something is left out, if it sent more than another."""
+        if newcomer.bytes > least and not newcomer.is_outdone:
+            newcomer.is_outdone = True
+            self.outdone += 1
 
     def retire(self, sender: Sender) -> None:
+        sender.hand_over()
         for table, key in sender.keys:
             table.pop(key, None)
         sender.keys.clear()
+        sender.adapting.forget()
         address = sender.growing.address
         self.known[address] = self.admitted.pop(address)
         self.remember(sender)
         if len(self.known) > MOST_SILENT:
-            self.known.popitem(last=False)
+            other = self.known.pop(next(iter(self.known))).growing
+            self.found[str(other.address)] = other.epoch, other.part
             self.forgotten += 1
 
-    def admit(self, address: IPAddress, now: float) -> Sender:
-        sender = self.admitted.get(address) or self.known.pop(address, None)
+    def admit(self, address: IPAddress) -> Sender:
+        """Gives a place to the sender of this address, unless it has one, and returns it."""
+        sender = self.admitted.get(address)
         if sender is None:
-            sender = self.sender(address)
-        sender.seen = now
-        self.admitted[address] = sender
+            sender = self.known.pop(address, None)
+            if sender is None and self.found and str(address) in self.found:
+                sender = self.go_on(address, PIECE)
+            self.admitted[address] = sender = sender or self.sender(address)
+            sender.pace = Pace(sender.total)
         return sender
 
     def all(self) -> Iterable[Sender]:
-        return itertools.chain(list(self.known.values()), list(self.admitted.values()))
+        return itertools.chain(self.known.values(), self.admitted.values())
 
     def heard(self) -> list[Sender]:
         """The senders that sent something in this run: silent ones at most as many as may send."""
-        silent = [sender for sender in list(self.known.values()) if sender.datagrams]
+        silent = [sender for sender in self.known.values() if sender.datagrams]
         return silent[-self.most :] + list(self.admitted.values())
 
     def hand_over(self) -> None:
@@ -217,9 +283,10 @@ class Senders:
             sender.hand_over()
 
     def each_second(self, now: float) -> None:
-        self.invite(now)
+        self.give_places(now)
         for cause, count in self.causes.items():
             self.told.tell(cause, count, now)
+        self.told.tell(OUTDONE, self.outdone, now, f"left out {{}} {{}} {WAY_OUT}")
 
     def finish(self) -> None:
         """At the end of a run: counts what could not be written as left out."""

@@ -8,13 +8,16 @@ import socket
 import time
 from typing import Optional
 
+from flutejoin_adapting import Adapting, Taken
 from flutejoin_batches import Batch
+from flutejoin_epochs import may_tell_of_instance
 from flutejoin_files import IPAddress
 from flutejoin_found import address_of
 from flutejoin_notes import EachMinute, Fault, note
 from flutejoin_packets import TOI_PLACES, ZEROS, is_like_flute
 from flutejoin_records import LENGTH, Buffer
-from flutejoin_senders import Sender, Senders
+from flutejoin_sender import Sender
+from flutejoin_senders import Senders
 from flutejoin_settings import SessionOptions
 from flutejoin_sockets import (
     LINUX,
@@ -28,6 +31,10 @@ from flutejoin_sockets import (
 LONGEST = 65535  # bytes of a datagram that a record can hold
 LOOK_EACH = 10  # seconds between two looks at whether the system still receives for a socket
 MOST_TESTS = 10000  # datagrams of unknown senders that are looked at in a second
+TESTS_EACH = 0.1  # seconds, in each of which a tenth of these is looked at
+# Then unknown senders are remembered, and the next datagram of one is looked at too: among made-up
+# addresses that each send once, it is that of a real sender.
+MOST_ONCE = 1 << 14
 
 UNLIKE = "of senders from whom nothing like FLUTE came"
 UNSEEN = f"of senders that are not kept, beyond {MOST_TESTS:,} in a second"
@@ -35,7 +42,7 @@ TOO_LONG = "more than 65,535 bytes"
 
 
 def packed_for(family: int, address: IPAddress) -> bytes:
-    """An address as a socket of this family names it."""
+    """What a socket of this family names an address by, or begins with."""
     if family == socket.AF_INET6 and address.version == 4:
         return ipaddress.ip_address(f"::ffff:{address}").packed
     return address.packed
@@ -51,10 +58,14 @@ class Session:
         self.batch = Batch(self.udp)
         self.only = packed_for(self.udp.family, options.sender) if options.sender else None
         self.by_key: dict[bytes, Sender] = {}
+        self.newcomers = senders.newcomers.by_key
         self.datagrams = self.bytes = 0
         self.seen_at: Optional[float] = None
         self.others = self.full = self.unlike = self.unseen = self.too_long = 0
-        self.tests = MOST_TESTS
+        self.tests = self.repeats = 0
+        self.tests_at = float("-inf")
+        self.once: set[bytes] = set()
+        self.causes: collections.Counter[str] = collections.Counter()  # of unknown senders
         self.told = EachMinute()
 
     def listen(self, interface: Interface) -> socket.socket:
@@ -112,6 +123,7 @@ class Session:
         """
         came = kept = size = 0
         get, put_length = self.by_key.get, LENGTH.pack_into
+        is_as_received = self.options.as_received
         buffer, view = self.batch.buffer, self.batch.view
         for key, length, (head,), place in self.batch.receive(most):
             came += 1
@@ -119,6 +131,13 @@ class Session:
             sender = get(key) or self.admit(key, view[begin:end], now)
             if sender is None:
                 continue
+            if not is_as_received:
+                behind = head[2] << 2
+                if not behind + 4 < length <= sender.adapting.plain.get(head[:behind], 0):
+                    is_kept = self.take(sender, view[begin:end], now)
+                    kept += is_kept
+                    size += length * is_kept
+                    continue
             # Datagrams of FDT Instances have TOI 0.
             if head[TOI_PLACES[(head[0] & 15) << 8 | head[1]]] in ZEROS:
                 if sender.contradicts(view[begin:end], now):
@@ -142,34 +161,94 @@ class Session:
             self.seen_at = time.time()
         return came, kept
 
-    def admit(self, key: bytes, datagram: Buffer, now: float) -> Optional[Sender]:
-        """Admits a sender that is not known here, and returns it; None if it is left out.
+    def take(self, sender: Sender, datagram: Buffer, now: float) -> bool:
+        """Takes a datagram, in the form that flutejoin reads, and returns whether it is kept."""
+        if len(datagram) > LONGEST:
+            self.too_long += 1
+            return False
+        is_kept, taken = False, Taken((datagram,))
+        if not self.options.as_received:
+            taken = sender.adapting.take(datagram)
+        if taken.left_out:
+            sender.leave_out(taken.left_out, 1)
+        for written in taken.datagrams:
+            if may_tell_of_instance(written) and sender.contradicts(written, now):
+                continue
+            sender.add(written)
+            is_kept = True
+        return is_kept
 
-        Anyone who can send here can invent addresses, any number of them. So this is as quick as
-        possible, and remembers nothing of a sender that is left out.
+    def admit(self, key: bytes, datagram: Buffer, now: float) -> Optional[Sender]:
+        """Admits a sender that has no place here, and returns it; None if its datagram waits or is
+        left out.
+
+        Anyone who can send here can invent addresses, any number of them. So this is quick, and
+        remembers a few thousand senders at most.
         """
         if self.only is not None:
-            if key != self.only:
+            if not key.startswith(self.only):
                 self.others += 1
                 return None
-        elif not self.is_welcome(key, datagram, now):
+            return self.register(key, self.senders.admit(address_of(key)))
+        newcomer = self.newcomers.get(key)
+        if newcomer is not None:
+            self.senders.hold_more(newcomer, self, datagram)
             return None
-        sender = self.senders.admit(address_of(key), now)
+        if now >= self.tests_at:
+            self.begin_tests(now)
+        if self.tests <= 0 and not self.is_repeated(key):
+            self.unseen += 1
+            return None
+        self.tests -= 1
+        if not self.is_like_flute(datagram):
+            return None
+        address = address_of(key)
+        sender = self.senders.place(address, now)
+        if sender is None:
+            self.senders.hold(key, address, self, datagram, now)
+            return None
+        return self.register(key, sender)
+
+    def register(self, key: bytes, sender: Sender) -> Sender:
         sender.keys.append((self.by_key, key))
         self.by_key[key] = sender
         return sender
 
-    def is_welcome(self, key: bytes, datagram: Buffer, now: float) -> bool:
-        self.tests -= 1
-        if self.tests < 0:
-            self.unseen += 1
-        elif not is_like_flute(datagram):
-            self.unlike += 1
-        elif not self.senders.has_room(key, now):
-            self.full += 1
-        else:
+    def keep(self, key: bytes, sender: Sender, datagram: bytes, now: float) -> None:
+        """Keeps a datagram that waited until its sender got a place."""
+        if key not in self.by_key:
+            self.register(key, sender)
+        if self.take(sender, datagram, now):
+            self.datagrams += 1
+            self.bytes += len(datagram)
+            self.seen_at = time.time()
+
+    def begin_tests(self, now: float) -> None:
+        self.tests = self.repeats = int(MOST_TESTS * TESTS_EACH)
+        self.tests_at = now + TESTS_EACH
+        self.once.clear()
+
+    def is_like_flute(self, datagram: Buffer) -> bool:
+        """Whether a datagram of an unknown sender is like FLUTE, in whatever form."""
+        if is_like_flute(datagram):
             return True
+        taken = None if self.options.as_received else Adapting().take(datagram)
+        if taken and taken.is_flute():
+            return True
+        if taken and taken.left_out:
+            self.causes[taken.left_out] += 1
+        else:
+            self.unlike += 1
         return False
+
+    def is_repeated(self, key: bytes) -> bool:
+        once = self.once
+        if key not in once:
+            if len(once) < MOST_ONCE:
+                once.add(key)
+            return False
+        self.repeats -= 1
+        return self.repeats >= 0
 
     def dropped(self) -> int:
         return dropped_by_system(self.udp) or 0
@@ -184,10 +263,13 @@ class Session:
             UNLIKE: self.unlike,
             UNSEEN: self.unseen,
             TOO_LONG: self.too_long,
+            **self.causes,
         }
         return collections.Counter({cause: count for cause, count in causes.items() if count})
 
     def each_second(self, now: float) -> None:
-        self.tests = MOST_TESTS
         for cause, count in self.left_out().items():
             self.told.tell(cause, count, now)
+        for sender in set(self.by_key.values()):
+            for line in sender.adapting.lines(now):
+                note(f"{sender.growing.address} {line}")

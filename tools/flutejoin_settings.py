@@ -1,14 +1,18 @@
-"""What the command line and the file of settings of flutejoin-receive ask for."""
+"""What the command lines and the file of settings of flutejoin-receive and -station ask for."""
 from __future__ import annotations
 
 import argparse
 import ipaddress
-from typing import Any, Callable, Container, Optional
+from typing import Any, Callable, Container, Iterator, Optional
 
+from flutejoin_adapting import WITHOUT_CHANGE
 from flutejoin_files import MOST_BYTES, CommandLine, IPAddress, shown
 from flutejoin_found import address_of
 
 OF_SESSION = "group", "port", "from", "interface", "folder"
+OF_STATION = (
+    "every", "window", "keep-raw", "most", "nightly", "outbox", "tsi", "status", "flutejoin"
+)
 
 
 def number_within(least: int, most: int) -> Callable[[str], int]:
@@ -37,6 +41,8 @@ def plain_address(text: str) -> IPAddress:
 
 
 def name(text: str) -> str:
+    if "\0" in text:
+        raise argparse.ArgumentTypeError(f"{text!r} is no name")
     return text
 
 
@@ -62,6 +68,7 @@ class SessionOptions:
         self.port, self.group, self.sender = port, group, sender
         self.interface: Optional[str] = interface
         self.folder, self.buffer = folder, BUFFER
+        self.as_received = False
 
     def wrong(self) -> Optional[str]:
         """Which of these options contradict each other, as a message; None if they fit."""
@@ -126,6 +133,7 @@ SETTINGS = {
         "write there each 10 seconds what came, as JSON; SIGUSR1 tells the same",
     ),
 }
+AS_RECEIVED = "as-received"
 BUFFER = 1 << 24
 DEFAULTS = {"folder": ".", "senders": 64, "split": MOST_BYTES, "buffer": BUFFER}
 
@@ -139,6 +147,7 @@ def command_line(description: str, epilog: str) -> argparse.Namespace:
         parser.add_argument(
             word, dest=key, type=kind, metavar=metavar, help=text, action=action
         )
+    parser.add_argument(f"--{AS_RECEIVED}", action="store_true", help=WITHOUT_CHANGE)
     parser.add_argument(
         "--count",
         type=number_within(1, 1 << 62),
@@ -167,6 +176,10 @@ def complete(options: argparse.Namespace) -> None:
     tables = file.pop("session", [])
     if not isinstance(tables, list) or not all(isinstance(table, dict) for table in tables):
         raise ValueError(f"{shown(options.config)}: session is no [[session]]")
+    as_received = file.pop(AS_RECEIVED, False)
+    if not isinstance(as_received, bool):
+        raise ValueError(f"{shown(options.config)}: {AS_RECEIVED} is true or false")
+    options.as_received = options.as_received or as_received
     given = {key: value_of(options.config, key, file[key]) for key in file}
     for key in ("folder", "senders", "split", "most", "buffer", "status"):
         if getattr(options, key) is None:
@@ -184,6 +197,7 @@ def complete(options: argparse.Namespace) -> None:
         options.split = min(options.split, max(1, options.most // 4))
     for session in options.sessions:
         session.buffer, session.folder = options.buffer, session.folder or options.folder
+        session.as_received = options.as_received
         wrong = session.wrong()
         if wrong:
             raise ValueError(wrong)
@@ -212,17 +226,38 @@ def sessions_of(options: argparse.Namespace) -> list[SessionOptions]:
 
 
 def read_config(path: str) -> dict:
+    """The settings in a file of TOML. Raises ValueError."""
     try:
         import tomllib
     except ImportError:
         raise ValueError("argument --config: needs Python 3.11 or later") from None
     try:
         with open(path, "rb") as file:
-            return tomllib.load(file)
+            settings = tomllib.load(file)
     except OSError as fault:
         raise ValueError(f"argument --config: {shown(path)}: {fault.strerror}") from None
     except ValueError as fault:  # not UTF-8, or not TOML
         raise ValueError(f"argument --config: {shown(path)}: {fault}") from None
+    except RecursionError:
+        raise ValueError(f"argument --config: {shown(path)}: is nested too deeply") from None
+    wrong = with_nul(settings)
+    if wrong is not None:
+        raise ValueError(f"argument --config: {shown(path)}: {wrong} is no name")
+    return settings
+
+
+def with_nul(settings: dict) -> Optional[str]:
+    """A setting with a NUL in it, which no path and no interface may have."""
+    waiting: list[tuple[str, Any]] = list(settings.items())
+    while waiting:
+        key, value = waiting.pop()
+        if isinstance(value, dict):
+            waiting += value.items()
+        elif isinstance(value, list):
+            waiting += [(key, each) for each in value]
+        if "\0" in key or isinstance(value, str) and "\0" in value:
+            return f"{key}: {value!r}"
+    return None
 
 
 def value_of(path: str, key: str, value: Any, keys: Container[str] = tuple(SETTINGS)) -> Any:
@@ -236,3 +271,29 @@ def value_of(path: str, key: str, value: Any, keys: Container[str] = tuple(SETTI
         return SETTINGS[key][0](str(value))
     except (ValueError, argparse.ArgumentTypeError) as fault:
         raise ValueError(f"{at}: {fault}") from None
+
+
+def words_of_station(path: str) -> Iterator[str]:
+    """Yields the settings of a station from a file, as words of its command line.
+
+    Raises ValueError.
+    """
+    settings = read_config(path)
+    tables, table = settings.get("session", []), settings.get("station", {})
+    if not isinstance(tables, list) or not all(isinstance(each, dict) for each in tables):
+        raise ValueError(f"{path}: session is no [[session]]")
+    if not isinstance(table, dict):
+        raise ValueError(f"{path}: station is no [station]")
+    if "most" in settings or any("folder" in each for each in [settings, *tables]):
+        told = "a station chooses folder by itself, and most is a setting of [station]"
+        raise ValueError(f"{path}: {told}")
+    for key in table:
+        if key not in OF_STATION:
+            raise ValueError(f"{path}: [station]: there is no setting {key}")
+        for value in table[key] if isinstance(table[key], list) else [table[key]]:
+            if key != "outbox":
+                yield f"--{key}={value}"
+            elif not isinstance(value, bool):
+                raise ValueError(f"{path}: [station]: outbox is true or false")
+            elif value:
+                yield "--outbox"

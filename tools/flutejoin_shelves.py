@@ -8,7 +8,7 @@ import os
 import re
 import shutil
 import time
-from typing import Iterator
+from typing import Iterator, Optional
 
 from flutejoin_files import PARTIAL
 from flutejoin_notes import Fault
@@ -50,6 +50,17 @@ def size_of(path: str) -> int:
         return os.stat(path).st_size
     except FileNotFoundError:
         return 0
+
+
+def entries_of(path: str) -> Optional[int]:
+    """The number of entries of a journal, from its last bytes; None if it has no such end."""
+    try:
+        with open(path, "rb") as file:
+            file.seek(-9, os.SEEK_END)
+            end = file.read(9)
+    except OSError:
+        return None
+    return int.from_bytes(end[1:], "big") if end[:1] == b"\xff" else None
 
 
 def remove(path: str) -> None:
@@ -109,10 +120,11 @@ class Shelf:
             number += 1
 
     def take(self, path: str, stem: str) -> str:
-        """Moves a file here, and returns its new path."""
+        """Moves a file here, and returns its new path, once it is on the disk there."""
         os.makedirs(self.path, exist_ok=True)
         kept = self.next(stem, os.path.splitext(path)[1])
         move(path, kept)
+        bring_to_disk(kept)
         return kept
 
     def names(self) -> list[re.Match[str]]:

@@ -27,22 +27,22 @@ class Waiting(NamedTuple):
 class Survey:
     """The panels of the objects that are drawn.
 
-    The states of all objects are read first. Gaps are read only for objects that are drawn, and are
-    counted as they come, so memory does not grow with them.
+    The states of all objects are read first, and again for an overview. Gaps are read only for
+    objects that are drawn. All are counted as they come, so memory does not grow with them.
     """
 
     def __init__(
         self, program: gaps.Program, journals: list[str], wanted: str | None, is_text: bool
     ) -> None:
         self.program, self.journals, self.is_text = program, journals, is_text
-        self.all = program.states(journals, None if wanted is None else {wanted})
+        self.count = len(journals) + (len(journals) > 1)
+        self.objects = self.whole = 0  # how many there are
+        self.all = self.read(wanted)
         if wanted is not None and not self.all:
             raise gaps.Fault(1, "no object")
-        self.count = len(journals) + (len(journals) > 1)
         self.keys = self.chosen()
-        left = [state for key, state in self.all.items() if key not in self.keys]
-        whole = sum(state.words == gaps.WHOLE for state in left)
-        self.left = pictures.Left(len(left), whole)
+        drawn = sum(self.all[key].words == gaps.WHOLE for key in self.keys)
+        self.left = pictures.Left(self.objects - len(self.keys), self.whole - drawn)
         self.partitions: dict[str, Partition] = {}  # of objects about which all journals agree
         self.panels: dict[str, list[pictures.Panel]] = {key: [] for key in self.keys}
         for journal, waiting in [(journal, self.look(journal)) for journal in journals]:
@@ -50,18 +50,35 @@ class Survey:
         if len(journals) > 1:
             self.look_at_all()
 
+    def read(self, wanted: str | None) -> dict[str, gaps.State]:
+        """The states of all objects; if they are too many, of those not whole, up to a number.
+
+        So memory does not grow with the number of objects, which are counted.
+        """
+        most, found = self.most(), {}
+        for key, state in self.program.states(self.journals):
+            if wanted not in (None, key):
+                continue
+            self.objects += 1
+            self.whole += state.words == gaps.WHOLE
+            if self.objects == most + 1:
+                found = {key: state for key, state in found.items() if state.words != gaps.WHOLE}
+            if self.objects <= most or len(found) < most and state.words != gaps.WHOLE:
+                found[key] = state
+        return found
+
+    def most(self) -> int:
+        """How many objects are drawn at most."""
+        return max(1, MOST_PANELS // self.count)
+
     def chosen(self) -> dict[str, None]:
-        """All objects; if they are too many, those not whole, as many as a page takes."""
-        most = max(1, MOST_PANELS // self.count)
-        keys = list(self.all)
-        if len(keys) > most:
-            keys = [key for key in keys if self.all[key].words != gaps.WHOLE][:most]
+        """The objects that are drawn: as many as have room with their gaps."""
         chosen: dict[str, None] = {}
         left = MOST_GAPS
-        for key in keys:
-            if not chosen or self.all[key].gaps <= left:
+        for key, state in self.all.items():
+            if not chosen or state.gaps <= left:
                 chosen[key] = None
-                left -= self.all[key].gaps
+                left -= state.gaps
         return chosen
 
     def look(self, journal: str) -> list[Waiting]:
@@ -71,7 +88,8 @@ class Survey:
         """
         states = self.all
         if len(self.journals) > 1:
-            states = self.program.states([journal], self.keys)
+            every = self.program.states([journal])
+            states = {key: state for key, state in every if key in self.keys}
         name, waiting = shown(journal), []
         grids = self.grids([journal], name, states, self.partitions_of(journal, states))
         for key in self.keys:
@@ -162,10 +180,13 @@ class Survey:
     def drawings(self) -> Iterator[pictures.Drawing]:
         """Yields what is drawn: before the objects an overview, if some objects are left out."""
         if self.left.objects:
-            grid = Overview(self.all, *self.shape(1, 1))
+            grid = Overview(self.objects, *self.shape(1, 1))
+            for key, state in self.program.states(self.journals):
+                if not grid.take(key, state):
+                    raise gaps.Fault(3, f"{self.name_of_all()}: changed while it was read")
             words = pictures.kinds_words(grid.names) if self.is_text else ""
             panel = pictures.Panel(self.name_of_all(), "overview", grid, len(self.journals) > 1)
-            yield pictures.Drawing(f"{len(self.all)} objects", words, [panel])
+            yield pictures.Drawing(f"{self.objects} objects", words, [panel])
         for key in self.keys:
             is_whole = self.all[key].words == gaps.WHOLE
             yield pictures.Drawing(title_of(key), self.words(key), self.panels[key], is_whole)

@@ -2,12 +2,16 @@
 from __future__ import annotations
 
 import collections
+import itertools
+import json
 from typing import Iterator
 
+import flutejoin_fdt as fdt
 import flutejoin_gaps as gaps
-from flutejoin_catalogue import Catalogue, Outcome, Session
+from flutejoin_catalogue import MOST_TOLD, Catalogue
 from flutejoin_content import Verdict
 from flutejoin_holdings import NOTHING
+from flutejoin_session import Outcome, Session, address_of
 
 HEAD = ("toi", "bytes", "have", "state", "type", "name")
 RIGHT = 3  # columns that are aligned to the right
@@ -33,12 +37,14 @@ def title(session: Session) -> str:
     if session.newest is None:
         return f"{session.title()}: no FDT Instance"
     numbers = ranges([int(head.name) for head in session.heads if head.is_named_by_number()])
-    named = [head.name for head in session.heads if not head.is_named_by_number()]
+    others = [head for head in session.heads if not head.is_named_by_number()]
+    named = [head.name for head in sorted(others, key=fdt.Instance.rank)]
     told = ", ".join([numbers] * bool(numbers) + named)
     several = "s" if len(session.heads) > 1 else ""
     newest = session.newest
+    suspect = f", suspect {', '.join(sorted(session.suspects))}" if session.suspects else ""
     which = f", the newest {newest.name}" if several else ""
-    return f"{session.title()}: FDT Instance{several} {told}{which}, {newest.expiry()}"
+    return f"{session.title()}: FDT Instance{several} {told}{which}, {newest.expiry()}{suspect}"
 
 
 def share(session: Session, toi: int) -> str:
@@ -67,14 +73,23 @@ def row(session: Session, toi: int) -> list[str]:
         several = "" if symbols == 1 else "s"
         front[2] = front[2] if information else "-"
         return [*front, f"in no FDT Instance: {symbols} symbol{several}"]
-    outcome = session.outcomes.get(toi)
-    state = described.left_alone() or str(session.state(toi))
-    if outcome:
-        state = outcome.checked.verdict.value
-    elif toi in session.replaced:
-        state = "replaced"
+    outcome, state = session.outcomes.get(toi), state_words(session, toi)
+    if state == gaps.PARTIAL:
+        state = str(session.state(toi))
     name = location(session, toi) + notes(session, toi, outcome)
     return [*front, state, described.file.type or "-", name]
+
+
+def state_words(session: Session, toi: int) -> str:
+    """The state of a file that is described."""
+    outcome = session.outcomes.get(toi)
+    if outcome:
+        return outcome.checked.verdict.value
+    if toi in session.replaced:
+        return "replaced"
+    if session.is_left_alone(toi):
+        return session.files[toi].left_alone()
+    return session.state(toi).words
 
 
 def location(session: Session, toi: int) -> str:
@@ -90,12 +105,13 @@ def notes(session: Session, toi: int, outcome: Outcome | None) -> str:
     if told and described.file.length is not None:
         told.append(f"{described.file.length:,}")
     if toi in session.resolved:
-        told.append(f"{session.resolved[toi]} in conflict, by its MD5")
+        told.append(f"{session.resolved[toi]}, by its MD5")
     elif session.state(toi).disputed:
         told.append(f"{session.state(toi).disputed} in conflict")
     if outcome and outcome.checked.told:
         told.append(outcome.checked.told)
-    if session.newest and toi not in session.newest.files:
+    newest, of_newest = session.newest_and_files()
+    if newest and toi not in of_newest:
         told.append(f"FDT Instance {described.instance}")
     return f" ({', '.join(told)})" if told else ""
 
@@ -103,9 +119,17 @@ def notes(session: Session, toi: int, outcome: Outcome | None) -> str:
 def table(session: Session) -> Iterator[str]:
     """Yields the lines of a session."""
     yield title(session)
-    for number, state in session.unread.items():
+    for number, state in itertools.islice(session.unread.items(), MOST_TOLD):
         yield f"  FDT Instance {number}: {state}"
-    rows = [row(session, toi) for toi in session.tois()]
+    if len(session.unread) > MOST_TOLD:
+        yield f"  {len(session.unread) - MOST_TOLD} more FDT Instances that are not whole"
+    yield from table_of([row(session, toi) for toi in session.tois()])
+    if session.strays:
+        yield f"  {session.strays} more objects in no FDT Instance"
+
+
+def table_of(rows: list[list[str]]) -> Iterator[str]:
+    """Yields rows with a head, if there are any, in columns."""
     if not rows:
         return
     full = [list(HEAD), *(columns for columns in rows if len(columns) == len(HEAD))]
@@ -120,16 +144,44 @@ def table(session: Session) -> Iterator[str]:
         yield f"  {'  '.join(cells)}".rstrip()
 
 
+def more_lines(catalogue: Catalogue) -> Iterator[str]:
+    """Yields the line about sessions that have none of their own."""
+    if catalogue.without:
+        several = "s" if len(catalogue.without) > 1 else ""
+        yield f"{len(catalogue.without)} more session{several} without an FDT Instance"
+
+
+def json_lines(session: Session) -> Iterator[str]:
+    """Yields a JSON object for each file that is described."""
+    for toi, described in sorted(session.files.items()):
+        outcome, file = session.outcomes.get(toi), described.file
+        length = (session.information(toi) or (file.transfer_length(),))[0]
+        told = {
+            "sender": address_of(session.source),
+            "tsi": session.tsi,
+            "toi": toi,
+            "name": location(session, toi),
+            "type": file.type,
+            "bytes": length,
+            "md5": file.md5.hex() if file.md5 else None,
+            "state": state_words(session, toi),
+            "wanted": session.state(toi).wanted,
+            "path": outcome.path if outcome else None,
+            "put": outcome.put if outcome else None,
+        }
+        yield json.dumps(told)
+
+
 def outcome_lines(session: Session) -> Iterator[str]:
     """Yields a line for each file that was not written and verified as usual."""
     for toi, outcome in sorted(session.outcomes.items()):
         verdict = outcome.checked.verdict
         told = f" ({outcome.checked.told})" if outcome.checked.told else ""
-        symbols = session.resolved.get(toi)
-        if symbols:
-            several = "s" if symbols > 1 else ""
-            yield f"resolved: {outcome.path} ({symbols} conflicting symbol{several}, by its MD5)"
-        if verdict is not Verdict.VERIFIED:
+        if toi in session.resolved:
+            yield f"resolved: {outcome.path} ({session.resolved[toi]}, by its MD5)"
+        if verdict is Verdict.LEFT:
+            yield f"not written: {outcome.path}{told}"
+        elif verdict is not Verdict.VERIFIED:
             yield f"{verdict.value}: {outcome.path}{told}"
         elif outcome.put == "changed":
             yield f"changed: {outcome.path}"
@@ -148,12 +200,14 @@ class Sum:
 
     def add(self, session: Session, toi: int) -> None:
         outcome, state = session.outcomes.get(toi), session.state(toi)
-        if outcome:
+        if outcome and outcome.checked.verdict is Verdict.LEFT:
+            self.counts["not written"] += 1
+        elif outcome:
             self.counts["written" if outcome.put else "unchanged"] += 1
             self.counts[outcome.checked.verdict] += 1
         elif toi in session.replaced:
             self.counts["replaced"] += 1
-        elif session.files[toi].left_alone():
+        elif session.is_left_alone(toi):
             self.counts["left alone"] += 1
         elif state.words == gaps.PARTIAL:
             self.counts["partial"] += 1

@@ -2,16 +2,18 @@
 from __future__ import annotations
 
 import collections
+import contextlib
 import errno
 import fcntl
 import os
 import resource
 import threading
 import time
-from typing import Callable, Iterable, NamedTuple, Optional, Union
+from typing import Callable, Iterable, Iterator, NamedTuple, Optional
 
-from flutejoin_found import Name, name_of
-from flutejoin_growing import Begin, Block, Growing
+from flutejoin_files import Name, name_of
+from flutejoin_found import FLAGS
+from flutejoin_growing import Begin, Block, Growing, Order
 from flutejoin_notes import Fault, note
 from flutejoin_records import HEADER, LENGTH
 
@@ -44,7 +46,7 @@ class Entry(NamedTuple):
         """Whether the file has a single datagram."""
         begin = len(HEADER) + LENGTH.size
         try:
-            with open(os.open(self.path, os.O_RDONLY | os.O_NONBLOCK), "rb", buffering=0) as file:
+            with open(os.open(self.path, os.O_RDONLY | FLAGS), "rb", buffering=0) as file:
                 head = file.read(begin)
         except OSError:
             return False
@@ -110,19 +112,18 @@ class Folder:
         except OSError:
             return []
 
-    def entries(self) -> list[Entry]:
-        found = []
-        for name in self.names():
-            of = name_of(name)
-            if not of:
-                continue
-            path = os.path.join(self.path, name)
-            try:
-                status = os.lstat(path)
-            except OSError:
-                continue
-            found.append(Entry(status.st_mtime_ns, path, status.st_size, of, self.path))
-        return found
+    def entries(self) -> Iterator[Entry]:
+        try:
+            with os.scandir(self.path) as found:
+                for file in found:
+                    name = name_of(file.name)
+                    if name:
+                        with contextlib.suppress(FileNotFoundError):
+                            status = file.stat(follow_symlinks=False)
+                            changed, size = status.st_mtime_ns, status.st_size
+                            yield Entry(changed, file.path, size, name, self.path)
+        except OSError:
+            pass
 
 
 def descriptors() -> int:
@@ -191,13 +192,13 @@ class Writer(threading.Thread):
         self.given, self.taken = 0, 0  # bytes, each counted by one thread alone
         self.todo: collections.deque[Growing] = collections.deque()
         self.unfinished: set[Growing] = set()
-        self.reports: collections.deque[Callable[[list[Entry]], None]] = collections.deque()
+        self.reports: collections.deque[Callable[[Iterable[Entry]], None]] = collections.deque()
         self.unremovable: set[str] = set()
         self.removed = 0
         self.is_ending = self.is_stuck = False
         self.fault: Optional[BaseException] = None
 
-    def give(self, growing: Growing, order: Union[Block, Begin]) -> bool:
+    def give(self, growing: Growing, order: Order) -> bool:
         """Gives the thread an order. Returns False if too much waits already."""
         if isinstance(order, Block):
             waiting = self.given - self.taken
@@ -211,7 +212,7 @@ class Writer(threading.Thread):
         self.event.set()
         return True
 
-    def report(self, to: Callable[[list[Entry]], None]) -> None:
+    def report(self, to: Callable[[Iterable[Entry]], None]) -> None:
         """Orders a report of what is in the folders."""
         self.reports.append(to)
         self.event.set()
@@ -228,13 +229,17 @@ class Writer(threading.Thread):
                     look_at = time.monotonic() + 1
                     self.look()
                 while self.reports:
-                    self.reports.popleft()(self.entries())
+                    self.reports.popleft()(self.found())
             self.work()
         except BaseException as fault:  # the run ends with this fault
             self.fault = fault
 
+    def found(self) -> Iterator[Entry]:
+        for folder in self.folders:
+            yield from folder.entries()
+
     def entries(self) -> list[Entry]:
-        entries = [entry for folder in self.folders for entry in folder.entries()]
+        entries = list(self.found())
         self.opened.held = sum(entry.size for entry in entries)
         return entries
 
@@ -314,11 +319,3 @@ class Writer(threading.Thread):
         self.is_ending = True
         self.event.set()
         self.join()
-
-
-def sizes(entries: Iterable[Entry]) -> dict:
-    """Bytes on disk, by a sender's folder and address."""
-    held: collections.Counter = collections.Counter()
-    for entry in entries:
-        held[entry.folder, entry.name.address] += entry.size
-    return held

@@ -1,81 +1,125 @@
 """Writes whole objects as named files, after checking each."""
 from __future__ import annotations
 
+import collections
 import contextlib
 import os
-from typing import Iterator, NamedTuple
+from typing import Container, Iterator, NamedTuple
 
 import flutejoin_content as content
 import flutejoin_files as files
-from flutejoin_catalogue import Catalogue, Outcome, Session
-from flutejoin_content import Checked, Verdict
-from flutejoin_gaps import shown
+import flutejoin_names as names
+from flutejoin_catalogue import Catalogue
+from flutejoin_content import Budget, Checked, Verdict
+from flutejoin_gaps import WHOLE, shown
 from flutejoin_holdings import Key
 from flutejoin_names import UNVERIFIED
+from flutejoin_owners import Owners
 from flutejoin_places import Place, Work, bring_to_disk
+from flutejoin_session import Outcome, Session, State
 
 WRONG = (Verdict.WRONG, Verdict.WRONG_MD5)
 
 
 class Ready(NamedTuple):
-    """An object that was checked, and the path of the file that was made of it."""
+    """An object that was checked, and the file that was made of it."""
 
     session: Session
     toi: int
     checked: Checked
     source: str
-    path: str  # below the folder
 
 
 class Writing:
     """The files of one run: first all are checked, then synced, then given their names."""
 
-    def __init__(self, catalogue: Catalogue, work: Work, most: int, report: files.Report) -> None:
+    def __init__(
+        self, catalogue: Catalogue, work: Work, most: Budget, report: files.Report
+    ) -> None:
         self.catalogue, self.work, self.most, self.report = catalogue, work, most, report
+        self.ready: dict[Key, Ready] = {}
+        os.mkdir(work.at("decoded"))
 
-    def write(self, folder: str) -> None:
-        paths = self.catalogue.paths()
-        os.mkdir(self.work.at("decoded"))
-        ready = [self.check(*whole) for whole in self.whole(paths)]
-        if any(each and each.checked.is_decoded for each in ready):
+    def find(self, folder: str, named: bytes | None) -> None:
+        """Finds the files that are there already, with the MD5 of their only description.
+
+        Their objects need not be extracted.
+        """
+        if not os.path.isdir(folder):
+            return
+        claims = [claim for session in self.catalogue for claim in session.claims()]
+        asked = collections.Counter(claim.path for claim in claims)
+        folders = names.folders_of(claims)
+        with contextlib.closing(Place(folder)) as place:
+            owner_of = Owners(place, self.catalogue, named).of
+            for claim in claims:
+                is_free = asked[claim.path] == 1 and claim.path not in folders
+                if is_free and owner_of(claim.path) in (None, claim.key.source):
+                    self.find_one(place, claim)
+
+    def find_one(self, place: Place, claim: names.Claim) -> None:
+        session, toi = self.catalogue.of(claim.key), claim.key.number
+        described, file = session.described(toi), session.files[toi].file
+        if len(described) > 1 or session.is_left_alone(toi) or not file.md5:
+            return
+        if place.has(claim.path, file.length, file.md5, session.source):
+            told = "MD5 of the decoded bytes" if file.encoding else ""
+            checked = Checked(Verdict.VERIFIED, told, False)
+            session.states[toi] = State(WHOLE)
+            session.check(toi, checked, described[0])
+            session.outcomes[toi] = Outcome(checked, claim.path, None)
+
+    def check(self, only: Container[Key] | None = None) -> None:
+        """Checks the whole objects, or some of them, those of newer descriptions first."""
+        whole = sorted(self.whole(), key=lambda it: it[0].files[it[1]].rank, reverse=True)
+        for session, toi in whole:
+            if only is None or session.key(toi) in only:
+                self.check_one(session, toi)
+
+    def whole(self) -> Iterator[tuple[Session, int]]:
+        for session in self.catalogue:
+            for toi in session.files:
+                is_whole = session.state(toi).is_whole() and toi not in session.outcomes
+                if is_whole and session.usable(toi):
+                    yield session, toi
+
+    def check_one(self, session: Session, toi: int) -> None:
+        key, described = session.key(toi), session.usable(toi)
+        source, decoded = (self.work.at(os.path.join(at, key.file_name())) for at in FOLDERS)
+        try:
+            of = content.Check(source, [each.file for each in described], self.most, decoded)
+            at, checked = of.result()
+            if checked.is_decoded:
+                os.remove(source)
+                source = of.place(described[at].file.encoding)
+        except OSError as fault:
+            self.report.fault(3, f"{shown(described[0].file.location)}: {fault.strerror}")
+            return
+        session.check(toi, checked, described[at])
+        self.ready[key] = Ready(session, toi, checked, source)
+
+    def write(self, folder: str, named: bytes | None) -> None:
+        """Gives the files their names. The sender `named` gets the names that it asks for."""
+        if any(each.checked.is_decoded for each in self.ready.values()):
             bring_to_disk(self.work.folder)
         place = Place(folder)
         try:
-            for each in ready:
-                if each:
-                    self.put(place, each)
+            paths = self.catalogue.paths(Owners(place, self.catalogue, named).of)
+            for key, ready in sorted(self.ready.items()):
+                if key in paths:
+                    self.put(place, ready, paths[key])
             bring_to_disk(place.folder)
         finally:
             place.close()
 
-    def whole(self, paths: dict[Key, str]) -> Iterator[tuple[Session, int, str]]:
-        """Yields the whole objects of which a file is made, each with its path."""
-        for session in self.catalogue:
-            for toi, described in sorted(session.files.items()):
-                path = paths.get(session.key(toi))
-                if path and session.state(toi).is_whole() and not described.left_alone():
-                    yield session, toi, path
-
-    def check(self, session: Session, toi: int, path: str) -> Ready | None:
-        name = session.key(toi).file_name()
-        source, decoded = (os.path.join(self.work.at(at), name) for at in ("objects", "decoded"))
-        try:
-            checked = content.check(source, session.files[toi].file, self.most, decoded)
-            if checked.is_decoded:
-                os.remove(source)
-                source = decoded
-        except OSError as fault:
-            self.report.fault(3, f"{shown(path)}: {fault.strerror}")
-            with contextlib.suppress(FileNotFoundError):
-                os.remove(decoded)
-            return None
-        return Ready(session, toi, checked, source, path)
-
-    def put(self, place: Place, ready: Ready) -> None:
+    def put(self, place: Place, ready: Ready, named: str) -> None:
         is_wrong = ready.checked.verdict in WRONG
-        path = ready.path + (UNVERIFIED if is_wrong else "")
+        path = named + (UNVERIFIED if is_wrong else "")
+        if ready.checked.verdict is Verdict.LEFT:
+            ready.session.outcomes[ready.toi] = Outcome(ready.checked, path, None)
+            return
         try:
-            put = place.put(ready.source, path)
+            put = place.put(ready.source, path, ready.session.source)
             if not is_wrong:
                 place.remove(path + UNVERIFIED)
         except OSError as fault:
@@ -83,6 +127,9 @@ class Writing:
             self.report.fault(3, f"{shown(name)}: {told_of(fault)}")
             return
         ready.session.outcomes[ready.toi] = Outcome(ready.checked, path, put)
+
+
+FOLDERS = "objects", "decoded"  # in the work folder
 
 
 def told_of(fault: OSError) -> str:

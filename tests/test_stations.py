@@ -1,0 +1,811 @@
+#!/usr/bin/env python3
+"""Tests what those who send to a station can do to it: what it keeps, of whom, in which order, and
+what it says. Most are of its parts alone, with a clock that is set.
+
+usage: tests/test_stations.py [CLASS[.TEST]..], with the program's path in FLUTEJOIN
+"""
+from __future__ import annotations
+
+import collections
+import contextlib
+import json
+import os
+import pathlib
+import random
+import struct
+import sys
+import unittest
+from typing import Callable, Iterable, Iterator
+from unittest import mock
+
+sys.dont_write_bytecode = True
+import run  # before datagram_files, which it puts on the path
+import datagram_files
+import flute_sender
+from flute_sender import header
+from run import ROOT
+
+sys.path.insert(0, str(ROOT / "tools"))
+import flutejoin_files
+import flutejoin_incoming
+import flutejoin_room
+import flutejoin_voice
+from flutejoin_epochs import Epochs
+from flutejoin_growing import Block, Growing, Turn
+from flutejoin_incoming import Part
+from flutejoin_joining import Answer, Program
+from flutejoin_keeping import Keeper, Settings
+from flutejoin_parts import Files
+from flutejoin_room import Room
+from flutejoin_settings import read_config, words_of_station
+from flutejoin_senders import Senders
+from flutejoin_shelves import Shelf
+from flutejoin_status import replace_text
+from flutejoin_voice import Log, status_of
+from flutejoin_writer import Folder, Writer
+
+REAL = "10.0.0.1"
+
+
+def records(datagrams: Iterable[bytes]) -> bytes:
+    return datagram_files.content(datagrams)
+
+
+def symbols(count: int, tsi: int = 7, toi: int = 1, first: int = 0) -> list[bytes]:
+    """Datagrams of an object of 1,000,000 bytes."""
+    sent = flute_sender.packets(tsi, toi, bytes(range(250)) * 4000, 1000, 64)
+    return sent[first : first + count]
+
+
+class Told(Log):
+    """Keeps the lines that a station would print."""
+
+    def __init__(self) -> None:
+        super().__init__("station")
+        self.printed: list[str] = []
+        self.notes = mock.Mock()
+        self.notes.add = self.printed.append
+
+
+class Clock:
+    """A clock that stands still, but for what is added."""
+
+    def __init__(self) -> None:
+        self.now = 1000.0
+
+    def __call__(self) -> float:
+        return self.now
+
+
+class Faked(Program):
+    """A program that joins nothing, and keeps what it was asked to join."""
+
+    def __init__(self, takes: Callable[[], object] = lambda: None) -> None:
+        super().__init__("nothing", lambda: None)
+        self.asked: list[str] = []
+        self.takes = takes
+
+    def join(self, source: bytes, out: str, *_: object, **more: object) -> Answer:
+        self.asked.append(os.path.basename(out))
+        self.takes()
+        pathlib.Path(out).write_bytes(b"FLJN\0\2\xff" + bytes(8))
+        return Answer(0, "", b"datagrams 1\nrefused 0\nentries 1\n")
+
+    def conflicts(self, journals: object) -> None:
+        return None
+
+
+class Case(run.Case):
+    def setUp(self) -> None:
+        super().setUp()
+        self.news, self.told, self.clock = self.path("news"), Told(), Clock()
+        (self.news / "in").mkdir(parents=True)
+
+    def run(self, result: unittest.TestResult | None = None) -> unittest.TestResult | None:
+        """Counts a test that holds as one check."""
+        result = result or self.defaultTestResult()
+        before = len(result.failures) + len(result.errors)
+        super().run(result)
+        run.Counts.passed += before == len(result.failures) + len(result.errors)
+        return result
+
+    @contextlib.contextmanager
+    def set_clock(self) -> Iterator[Clock]:
+        with mock.patch("time.monotonic", self.clock):
+            yield self.clock
+
+    def incoming(self, name: str, datagrams: Iterable[bytes]) -> pathlib.Path:
+        path = self.news / "in" / f"{name}.fldg"
+        path.write_bytes(records(datagrams))
+        return path
+
+    def keeper(self, program: Program | None = None, **settings: object) -> Keeper:
+        chosen = {"every": 0, "keep_raw": 0, "has_outbox": False, **settings}
+        program = program or Program(str(run.PROGRAM), lambda: None)
+        return Keeper(str(self.news), program, Settings(**chosen), self.told)  # type: ignore
+
+    def joined_all(self, keeper: Keeper) -> None:
+        while keeper.waiting():
+            keeper.work(False)
+
+    def journals(self, name: str = REAL) -> list[str]:
+        paths = [self.news / folder / f"{name}.journal" for folder in ("journals", "recent")]
+        return [str(path) for path in paths if path.exists()]
+
+    def lines(self, text: str) -> list[str]:
+        return [line for line in self.told.printed if text in line]
+
+
+class Most(Case):
+    """The disk that a station takes."""
+
+    def sender(self, name: str, size: int, age: int) -> None:
+        for folder, ending in ("in", ".fldg"), ("journals", ".journal"):
+            path = self.news / folder / (name + ending)
+            path.parent.mkdir(exist_ok=True)
+            path.write_bytes(bytes(size))
+            os.utime(path, (1e9 - age, 1e9 - age))
+
+    def room(self, most: int) -> Room:
+        shelves = [Shelf(str(self.news / name)) for name in ("raw", "aside")]
+        room = Room(str(self.news), most, shelves, self.told)
+        room.keep_at_times()
+        return room
+
+    def left(self) -> list[str]:
+        return sorted(path.stem for path in (self.news / "journals").iterdir())
+
+    def test_blocks_are_counted(self) -> None:
+        for number in range(10):
+            self.sender(f"11.0.0.{number}", 40, 0)
+        room = self.room(1 << 30)
+        blocks = sum(path.stat().st_blocks for path in self.news.glob("*/*"))
+        self.assertGreater(blocks * 512, 20 * 40)
+        self.assertEqual(room.bytes, blocks * 512)
+        self.assertEqual(len(self.left()), 10)
+
+    def test_small_and_silent_senders_go_first(self) -> None:
+        self.sender(REAL, 1_000_000, 500)
+        self.sender("10.0.0.2", 100_000, 900)
+        for number in range(100):
+            self.sender(f"11.0.0.{number}", 40, 100 + number)
+        self.sender("10.0.0.3", 40, 1)
+        self.sender("2001-db8--1", 40, 300)
+        room = self.room(2_500_000)
+        left = self.left()
+        self.assertLess(room.bytes, 2_500_000)
+        # The last of those with few bytes that sent; never one that has many.
+        wanted = [f"11.0.0.{number}" for number in range(len(left) - 3)]
+        self.assertEqual(left, sorted([REAL, "10.0.0.2", "10.0.0.3", *wanted]))
+        self.assertGreater(len(wanted), 10)
+        self.assertEqual(room.removed.senders, 104 - len(left))
+        self.assertEqual(len(self.lines("removed all of")), 1, self.told.printed)
+        self.assertTrue(self.lines("2001-db8--1"), "which was silent longest")
+
+    def test_the_sender_with_most_stays(self) -> None:
+        self.sender(REAL, 1_000_000, 500)
+        self.sender("10.0.0.2", 900_000, 1)
+        room = self.room(100_000)
+        self.assertEqual(self.left(), [REAL])
+        self.assertEqual(len(self.lines("of the sender that has most")), 1)
+        room.look_at = 0
+        room.keep_at_times()
+        self.assertEqual(len(self.lines("of the sender that has most")), 1)
+
+    def test_what_is_kept_raw_or_aside_goes_before(self) -> None:
+        self.sender("10.0.0.2", 40, 1)
+        self.sender(REAL, 100_000, 1)
+        for folder in "raw", "aside":
+            (self.news / folder).mkdir()
+            for number in range(5):
+                name = f"{REAL}.2026010100000000000{number}.fldg"
+                (self.news / folder / name).write_bytes(bytes(100_000))
+        self.room(700_000)
+        counts = [len(os.listdir(self.news / folder)) for folder in ("raw", "aside")]
+        self.assertEqual((counts, self.left()), ([0, 4], [REAL, "10.0.0.2"]))
+        self.assertEqual(len(self.lines("files of")), 1, self.told.printed)
+
+    def test_a_bound_of_senders(self) -> None:
+        with mock.patch.object(flutejoin_room, "MOST_SENDERS", 32):
+            for number in range(40):
+                self.sender(f"11.0.0.{number}", 40, number)
+            self.room(1 << 40)
+        self.assertEqual(self.left(), sorted(f"11.0.0.{number}" for number in range(30)))
+
+    def test_the_last_epoch_stays(self) -> None:
+        """The number of the next one comes from it."""
+        self.sender(REAL, 100_000, 1)
+        for number in range(2, 20):
+            self.sender(f"{REAL}.e{number}", 40, 100 - number)
+        self.room(250_000)
+        self.assertIn(f"{REAL}.e19", self.left())
+        self.assertNotIn(f"{REAL}.e2", self.left())
+
+    def test_a_file_that_a_receiver_has_open(self) -> None:
+        """It would write it anew if it were removed at once."""
+        self.sender(REAL, 100_000, 1)
+        self.sender("11.0.0.1", 40, 1)
+        with open(self.news / "in/11.0.0.1.fldg", "rb") as file:
+            room = self.room(210_000)
+            self.assertFalse((self.news / "in/11.0.0.1.fldg").exists())
+            self.assertEqual(os.fstat(file.fileno()).st_nlink, 1)
+            room.look_at = 0
+            room.keep_at_times()
+            self.assertEqual(os.fstat(file.fileno()).st_nlink, 0)
+
+    def test_a_station(self) -> None:
+        """The journals of made-up senders go, and their states with their files."""
+        self.incoming(REAL, symbols(200))
+        for number in range(60):
+            self.incoming(f"11.0.0.{number}", symbols(1))
+        keeper = self.keeper(most=600_000)
+        with self.set_clock() as clock:
+            for _ in range(20):
+                keeper.work(True)
+                clock.now += 20
+        self.assertLessEqual(keeper.room.bytes, 600_000)
+        self.assertTrue(self.journals())
+        self.assertLess(len(keeper.states), 60)
+        self.assertEqual(len(keeper.states), len(os.listdir(self.news / "in")))
+        removed = status_of(keeper)["removed"]
+        self.assertEqual(removed["senders"], 61 - len(keeper.states))
+        self.assertEqual(status_of(keeper)["disk"], keeper.room.bytes)
+
+
+class Order(Case):
+    """Which sender is joined when, and how often all files are looked at."""
+
+    def test_the_sender_with_most_bytes_is_first(self) -> None:
+        for number in range(50):
+            self.incoming(f"11.0.0.{number}", symbols(1))
+        self.incoming(REAL, symbols(100))
+        program = Faked()
+        self.keeper(program).work(False)
+        self.assertEqual(program.asked[0], f"{REAL}.journal")
+        self.assertEqual(len(set(program.asked)), 51)
+
+    def test_it_is_first_again_before_all_others_were(self) -> None:
+        with self.set_clock() as clock:
+
+            def takes() -> None:
+                clock.now += 0.4
+
+            for number in range(50):
+                self.incoming(f"11.0.0.{number}", symbols(1))
+            path = self.incoming(REAL, symbols(100))
+            program = Faked(takes)
+            keeper = self.keeper(program, every=1)
+            for number in range(10):
+                with path.open("ab") as file:
+                    file.write(records(symbols(1, first=200 + number))[6:])
+                keeper.work(True)
+            self.assertGreater(program.asked.count(f"{REAL}.journal"), 4)
+            self.assertGreater(len(set(program.asked)), 10)
+
+    def test_many_files_are_seldom_looked_at(self) -> None:
+        for number in range(50):
+            self.incoming(f"11.0.0.{number}", symbols(1))
+        look, looks = Part.look, 0
+        with self.set_clock() as clock:
+
+            def slowly(part: Part) -> None:
+                nonlocal looks
+                looks += 1
+                clock.now += 0.02
+                look(part)
+
+            with mock.patch.object(Part, "look", slowly):
+                keeper = self.keeper(Faked())
+                while keeper.work(True):
+                    pass
+                looks, end = 0, clock.now + 200
+                while clock.now < end:
+                    keeper.work(True)
+                    clock.now += 0.5
+        # A twentieth of the time is that of 10 seconds, in which 500 files are looked at.
+        self.assertLessEqual(looks, 550)
+        self.assertGreaterEqual(looks, 400)
+
+    def test_no_state_is_kept_for_a_sender_that_is_gone(self) -> None:
+        paths = [self.incoming(f"11.0.0.{number}", symbols(1)) for number in range(20)]
+        keeper = self.keeper(Faked())
+        keeper.work(False)
+        self.assertEqual(len(keeper.states), 20)
+        for path in paths:
+            path.unlink()
+        keeper.work(False)
+        self.assertEqual((len(keeper.states), len(keeper.incoming.parts)), (0, 0))
+
+
+class Restart(Case):
+    """What was joined before a restart is not joined again."""
+
+    def again(self) -> int:
+        """How many bytes a new run has to join."""
+        return self.keeper().waiting()
+
+    def joined(self, name: str = REAL) -> pathlib.Path:
+        path = self.incoming(name, symbols(40))
+        keeper = self.keeper()
+        self.joined_all(keeper)
+        keeper.finish()
+        return path
+
+    def test_all_was_joined(self) -> None:
+        self.joined()
+        self.joined("11.0.0.1")
+        self.assertEqual(self.again(), 0)
+
+    def test_a_kill(self) -> None:
+        """Every few seconds it is written down what is joined."""
+        self.incoming(REAL, symbols(40))
+        keeper = self.keeper()
+        keeper.work(True)
+        keeper.work(True)
+        self.assertEqual(self.again(), 0)
+
+    def test_what_came_since_is_joined(self) -> None:
+        path = self.joined()
+        more = records(symbols(3, first=40))[6:]
+        with path.open("ab") as file:
+            file.write(more)
+        keeper = self.keeper()
+        self.assertEqual(keeper.waiting(), len(more))
+        self.joined_all(keeper)
+        self.path("all").write_bytes(path.read_bytes())
+        self.made(["join", "--source", REAL, "-o", "wanted", "all"])
+        self.made(["join", "-o", "have", *self.journals()])
+        self.same("all is kept", "have", "wanted")
+
+    def test_other_bytes_of_that_name(self) -> None:
+        path = self.joined()
+        size = path.stat().st_size
+        path.write_bytes(records(symbols(60, first=50)))
+        self.assertEqual(self.again(), path.stat().st_size - 6)
+        self.assertGreater(path.stat().st_size, size)
+
+    def test_a_journal_that_is_gone(self) -> None:
+        path = self.joined()
+        for journal in self.journals():
+            os.unlink(journal)
+        self.assertEqual(self.again(), path.stat().st_size - 6)
+
+    def test_a_journal_that_was_set_aside(self) -> None:
+        """What it had is joined again, also if the run is killed at once."""
+        path = self.joined()
+        keeper = self.keeper()
+        keeper.look()
+        (sender,) = keeper.incoming.found
+        keeper.set_journal_aside(sender, keeper.large(sender), "damaged")
+        pathlib.Path(keeper.recent(sender)).touch()
+        self.assertEqual(self.again(), path.stat().st_size - 6)
+
+    def test_a_file_that_was_cut(self) -> None:
+        path = self.joined()
+        for text in b"", b"{", b"[1, 2]", b'{"x": 3}', b'{"10.0.0.1.fldg": [9e99, 1]}', b"[" * 5000:
+            (self.news / "joined.json").write_bytes(text)
+            self.assertEqual(self.again(), path.stat().st_size - 6, text[:40])
+
+
+class Full(Case):
+    """More sessions than one join takes, all from the address of a real sender."""
+
+    def flood(self, count: int) -> list[bytes]:
+        front = bytes.fromhex("10a0040000000000")
+        return [front + struct.pack(">II", 1000 + tsi, 1) + b"\0\0\0\0N" for tsi in range(count)]
+
+    def real(self) -> list[bytes]:
+        data = random.Random(1).randbytes(7984 * 100)
+        return flute_sender.packets(7, 1, data, 100, 64)
+
+    def test_the_real_session_is_joined(self) -> None:
+        sent, made_up = self.real(), self.flood(45_000)
+        came = [*sent, *made_up]
+        random.Random(2).shuffle(came)
+        path = self.incoming(REAL, came)
+        keeper, joins = self.keeper(every=1), collections.Counter()
+        join = keeper.program.join
+
+        def counted(*words: object, **more: object) -> Answer:
+            joins["all"] += 1
+            return join(*words, **more)  # type: ignore
+
+        with mock.patch.object(keeper.program, "join", counted), self.set_clock() as clock:
+            for _ in range(20):
+                keeper.work(True)
+                clock.now += 60
+        self.assertLessEqual(joins["all"], 4)
+        self.assertEqual(keeper.waiting(), 0)
+        summary = self.made(["gaps", "--any-size", "--tsi", "7", *self.journals()])
+        self.assertIn(f" whole {len(sent) * 100}", summary.out.decode())
+        aside = list((self.news / "aside").iterdir())
+        self.assertEqual(len(aside), 1)
+        kept = list(datagram_files.read(str(aside[0])))
+        self.assertEqual(len(kept), 45_000 - 63)
+        self.assertLessEqual(set(kept), set(made_up))
+        self.assertTrue(path.exists(), "the growing file stays")
+        told = self.lines("those of the 64 sessions with most are joined")
+        self.assertEqual((len(told), self.told.status), (1, 1), self.told.printed)
+
+    def test_what_comes_then_is_joined(self) -> None:
+        sent = self.real()
+        path = self.incoming(REAL, [*self.flood(40_000), *sent[:4000]])
+        keeper = self.keeper()
+        keeper.work(True)
+        with path.open("ab") as file:
+            file.write(records(sent[4000:])[6:])
+        keeper.look()
+        keeper.incoming.look_at = 0
+        keeper.work(True)
+        self.joined_all(keeper)
+        self.made(["join", "--any-size", "-o", "all", *self.journals()])
+        summary = self.made("gaps --any-size --tsi 7 all").out.decode()
+        self.assertIn(f" whole {len(sent) * 100}", summary)
+
+    def test_few_are_counted_at_a_time(self) -> None:
+        with mock.patch("flutejoin_joining.MOST_COUNTED", 100):
+            path = self.incoming(REAL, [*self.flood(5000), *self.real()[:500], *self.flood(300)])
+            program = Program("nothing", lambda: None)
+            part = Part(str(path), 1)
+            part.look()
+            self.assertEqual(program.largest_sessions(part.fed())[0], 7)
+
+
+class Voice(Case):
+    def test_a_sender_that_is_refused(self) -> None:
+        """An FDT Instance of another version, at once or within a minute, with the reason."""
+        old = [
+            header(7, 0, struct.pack(">I", 192 << 24 | 1 << 20 | 1)) + bytes(4) + b"<FDT/>"
+        ] * 3
+        with self.set_clock() as clock:
+            self.incoming("10.0.0.2", [*symbols(5), b"no packet"])
+            keeper = self.keeper()
+            keeper.work(True)
+            self.assertEqual(len(self.lines("refused datagrams")), 1)
+            self.assertTrue(self.lines("1 of 6 of 10.0.0.2"), self.told.printed)
+            self.incoming(REAL, old)
+            clock.now += 1
+            keeper.work(True)
+            clock.now += 59
+            keeper.work(True)
+        told = self.lines("all 3 of 10.0.0.1")
+        self.assertEqual(len(told), 1, self.told.printed)
+        self.assertIn("FluteVersion", told[0])
+        status = status_of(keeper)
+        self.assertEqual((status["refused"], status["datagrams"]), (4, 9))
+        self.assertEqual(status["journals"][REAL]["refused"], 3)
+
+    def test_symbols_in_conflict(self) -> None:
+        path = self.incoming(REAL, symbols(10))
+        others = flute_sender.packets(7, 1, bytes(1_000_000), 1000, 64)
+        with self.set_clock() as clock:
+            keeper = self.keeper()
+            keeper.work(True)
+            for first in 0, 3:
+                with path.open("ab") as file:
+                    file.write(records(others[first : first + 3])[6:])
+                clock.now += 120
+                keeper.work(True)
+        told = [line.partition(" ")[2] for line in self.lines("in conflict")]
+        self.assertEqual([line.split()[0] for line in told], ["3", "6"], self.told.printed)
+        self.assertEqual(status_of(keeper)["in conflict"], 6)
+
+    def test_the_last_fault_and_its_end(self) -> None:
+        self.incoming(REAL, symbols(10))
+        program = Program("/nothing", lambda: None)
+        with self.set_clock() as clock:
+            keeper = self.keeper(program)
+            self.assertIsNone(status_of(keeper)["last fault"])
+            keeper.work(True)
+            fault = status_of(keeper)["last fault"]
+            self.assertIn("/nothing cannot be run", fault["fault"])
+            self.assertIsNone(fault["ended"])
+            program.path = str(run.PROGRAM)
+            clock.now += 11
+            keeper.work(True)
+        self.assertTrue(self.lines(f"{REAL}: is joined again"), self.told.printed)
+        self.assertIsNotNone(status_of(keeper)["last fault"]["ended"])
+
+    def test_the_outbox_and_the_room_that_is_free(self) -> None:
+        self.incoming(REAL, symbols(10))
+        with self.set_clock() as clock:
+            keeper = self.keeper(has_outbox=True)
+            self.joined_all(keeper)
+            clock.now += 3601
+            keeper.work(True)
+        status = status_of(keeper)
+        self.assertEqual(status["outbox"]["files"], 1)
+        self.assertGreater(status["outbox"]["bytes"], 10_000)
+        self.assertGreater(status["free"], 0)
+        (line,) = self.lines("in an hour 10 datagrams, 0 refused")
+        self.assertIn("in 1 journals of the outbox", line)
+        json.dumps(status)
+
+    def test_few_lines_in_a_minute(self) -> None:
+        with self.set_clock() as clock:
+            for number in range(5000):
+                self.told.warn(f"line {number}")
+            self.assertEqual(len(self.told.printed), flutejoin_voice.MOST_LINES)
+            clock.now += 61
+            self.told.warn("another")
+        self.assertIn("4900 lines more", self.told.printed[-2])
+        self.assertEqual(self.told.printed[-1], "another")
+
+    def test_a_status_is_no_longer_than_so(self) -> None:
+        (self.news / "journals").mkdir()
+        with mock.patch.object(flutejoin_room, "MOST_TOLD", 5):
+            for number in range(20):
+                path = self.news / "journals" / f"11.0.0.{number}.journal"
+                path.write_bytes(bytes(5000 * number))
+            status = status_of(self.keeper(Faked()))
+        self.assertEqual(list(status["journals"]), [f"11.0.0.{number}" for number in range(15, 20)])
+        self.assertEqual(status["other senders"], 15)
+
+
+class OnTheDisk(Case):
+    """New files are on the disk with their names."""
+
+    def synced(self, work: Callable[[], object]) -> set[int]:
+        inodes, fsync = set(), os.fsync
+
+        def kept(descriptor: int) -> None:
+            inodes.add(os.fstat(descriptor).st_ino)
+            fsync(descriptor)
+
+        with mock.patch("os.fsync", kept):
+            work()
+        return inodes
+
+    def has_all(self, inodes: set[int], *paths: str | pathlib.Path) -> None:
+        for path in map(pathlib.Path, paths):
+            self.assertIn(path.stat().st_ino, inodes, path)
+            self.assertIn(path.parent.stat().st_ino, inodes, path.parent)
+
+    def test_what_is_moved(self) -> None:
+        shelf, path = Shelf(str(self.news / "raw")), self.incoming(REAL, symbols(3))
+        kept: list[str] = []
+        inodes = self.synced(lambda: kept.append(shelf.take(str(path), REAL)))
+        self.has_all(inodes, *kept)
+
+    def test_what_is_joined_and_what_is_aside(self) -> None:
+        self.incoming(REAL, [*symbols(5), *Full.flood(Full(), 40_000)])  # type: ignore
+        keeper = self.keeper()
+
+        def work() -> None:
+            keeper.work(True)
+            keeper.finish()
+
+        inodes = self.synced(work)
+        aside = list((self.news / "aside").iterdir())
+        self.assertEqual(len(aside), 1)
+        self.has_all(inodes, self.news / "joined.json", *aside, *self.journals())
+
+    def test_a_link_beside_a_status(self) -> None:
+        """Somebody else's file is not written through it."""
+        self.write("alice", "hers")
+        self.path("status.partial").symlink_to(self.path("alice"))
+        replace_text(str(self.path("status")), "{}")
+        self.assertEqual((self.read("alice"), self.read("status")), (b"hers", b"{}"))
+        self.assertFalse(self.path("status").is_symlink())
+
+
+class Forged(Case):
+    """FDT Instances with other contents, which begin epochs."""
+
+    ADDRESS = b"\n\0\0\1"
+
+    def setUp(self) -> None:
+        super().setUp()
+        self.sent = flute_sender.packets(7, 1, bytes(60_000), 100, 60)
+        self.fdt = self.instance(0)
+
+    @staticmethod
+    def instance(number: int) -> list[bytes]:
+        name = f"http://example.com/{number}"
+        of = flute_sender.Sent(1, bytes(60_000), name, symbol=100, block=60)
+        return flute_sender.instance(7, 1, flute_sender.fdt([of], flute_sender.EXPIRES))
+
+    def session(self, seconds: int, forged: dict[float, bytes]) -> list[tuple[float, bytes]]:
+        """A carousel of 10 symbols a second, and the FDT Instance every 5 seconds."""
+        came = [(number / 10, self.sent[number % 600]) for number in range(10 * seconds)]
+        for second in range(0, seconds, 5):
+            came += [(second + 0.01, datagram) for datagram in self.fdt]
+        return sorted([*came, *forged.items()], key=lambda it: it[0])
+
+    def captured(self, came: list[tuple[float, bytes]]) -> dict[str, list[bytes]]:
+        """The datagrams of each epoch."""
+        report = mock.Mock()
+        kept = Files(str(self.path("kept")), 1 << 30, report)
+        kept.make_folder()
+        for second, datagram in came:
+            kept.add(self.ADDRESS, datagram, 1_000_000 + int(second))
+        kept.finish()
+        self.said = [call.args[0] for call in report.warn.call_args_list]
+        epochs: dict[str, list[bytes]] = collections.defaultdict(list)
+        for path in sorted(self.path("kept").iterdir()):
+            name = flutejoin_files.name_of(path.name)
+            assert name
+            epochs[str(name.epoch)] += datagram_files.read(str(path))
+        return epochs
+
+    def test_four_a_minute(self) -> None:
+        forged = {2.0 + 15 * number: self.instance(number + 1)[0] for number in range(20)}
+        epochs = self.captured(self.session(300, forged))
+        self.assertLessEqual(set(self.sent), set(epochs["1"]))
+        self.assertFalse(set(epochs["1"]) & set(forged.values()))
+        self.assertLess(max(len(epochs[number]) for number in epochs if number != "1"), 40)
+        real = sum(datagram in self.fdt for datagram in epochs["1"])
+        self.assertGreaterEqual(real, 55)
+        self.assertTrue(any("epoch 1 goes on" in line for line in self.said), self.said)
+
+    def test_one_that_is_repeated(self) -> None:
+        """It begins one epoch, and few files."""
+        one = self.instance(1)[0]
+        epochs = self.captured(self.session(300, {2 + number / 2: one for number in range(590)}))
+        self.assertEqual(sorted(epochs), ["1", "2"])
+        self.assertLess(len(os.listdir(self.path("kept"))), 50)
+
+    def test_a_sender_that_starts_again(self) -> None:
+        """Its FDT Instance has two symbols, the second one as before."""
+        runs = [[text, b"the same"] for text in (b"first", b"second")]
+        came = []
+        for number in range(200):
+            fdt = [
+                header(7, 0, struct.pack(">I", 192 << 24 | 2 << 20 | 1))
+                + struct.pack(">HH", 0, place) + text
+                for place, text in enumerate(runs[number >= 100])
+            ]
+            second = 3.0 * number
+            came += [(second, each) for each in fdt] + [(second + 1, symbols(1, first=number)[0])]
+        epochs = self.captured(came)
+        self.assertEqual(sorted(epochs), ["1", "2"])
+        self.assertEqual(epochs["2"], [datagram for _, datagram in came[300:]])
+
+    def test_what_is_remembered_has_a_bound(self) -> None:
+        epochs = Epochs()
+        front = header(7, 0, struct.pack(">I", 192 << 24 | 2 << 20 | 1))
+        for number in range(20):
+            for place in range(600):
+                datagram = front + struct.pack(">HH", 0, place) + b"%d" % number
+                epochs.begins(datagram, 100 * number)
+        self.assertEqual((epochs.number, len(epochs.epoch.hashes)), (20, 600))
+        held = sum(map(len, epochs.epoch.earlier.values())) + len(epochs.epoch.hashes)
+        self.assertEqual(held, 8 * 512 + 600)
+
+    def test_files_of_a_receiver(self) -> None:
+        """What came behind the forged one is copied to where the sender goes on."""
+        opened = mock.Mock(held=0)
+        opened.open = lambda path, flags: os.open(path, flags, 0o666)
+        address = flutejoin_files.ipaddress.ip_address(REAL)
+        growing = Growing(str(self.news / "in"), address, opened)
+        forged = self.instance(1)[0]
+
+        def give(*orders: object) -> None:
+            growing.orders.extend(orders)  # type: ignore
+            growing.work()
+
+        def block(*datagrams: bytes) -> Block:
+            return Block(bytearray(records(datagrams)[6:]), len(datagrams))
+
+        give(block(self.fdt[0], *self.sent[:3]), Turn(2, False), block(forged, *self.sent[3:6]))
+        taken = growing.taken
+        give(Turn(1, True))
+        self.assertEqual(growing.taken, taken)
+        give(block(self.fdt[0], *self.sent[6:8]), Turn(2, False), block(forged), Turn(1, True))
+        growing.finish()
+        paths = (self.news / "in").iterdir()
+        found = {path.name: list(datagram_files.read(str(path))) for path in paths}
+        self.assertEqual(found[f"{REAL}.e2.fldg"], [forged, *self.sent[3:6]])
+        self.assertEqual(found[f"{REAL}.2.fldg"], self.sent[3:6])
+        self.assertEqual(found[f"{REAL}.3.fldg"], [self.fdt[0], *self.sent[6:8]])
+        self.assertEqual(found[f"{REAL}.e2.2.fldg"], [forged])
+        self.assertEqual(len(found), 5)
+
+    def test_a_receiver_that_starts_again(self) -> None:
+        """It goes on with the file that was written last, and knows the other epochs."""
+        forged = self.instance(1)[0]
+        names = (REAL, self.fdt), (f"{REAL}.e2", [forged]), (f"{REAL}.3", [self.fdt[0]])
+        for age, (name, datagrams) in enumerate(names):
+            path = self.incoming(name, [*datagrams, self.sent[age]])
+            os.utime(path, (1e9 + age, 1e9 + age))
+        folder = Folder(str(self.news / "in"))
+        senders = Senders(folder, Writer([folder], None, 0), 4, 1 << 30)
+        senders.look(None)
+        os.close(folder.lock)
+        (sender,) = senders.known.values()
+        self.assertEqual((sender.growing.epoch, sender.growing.part), (1, 3))
+        for datagram, epoch, begins in (
+            (self.fdt[0], 1, False), (forged, 2, True), (self.fdt[0], 1, True),
+            (self.instance(2)[0], 3, True),
+        ):
+            self.assertEqual(sender.epochs.begins(datagram, 1000), begins)
+            self.assertEqual(sender.epochs.number, epoch)
+
+    def test_files_that_a_station_keeps(self) -> None:
+        """The one that grows may be of an earlier epoch; it is never joined as a whole one."""
+        for name, age in (REAL, 50), (f"{REAL}.2", 1), (f"{REAL}.e2", 30), (f"{REAL}.e3", 20):
+            path = self.incoming(name, symbols(2, first=age))
+            os.utime(path, (1e9 - age, 1e9 - age))
+        keeper = self.keeper()
+        with self.set_clock() as clock:
+            keeper.work(True)
+            last = {name: part.is_last for name, part in keeper.incoming.parts.items()}
+            self.assertEqual(sorted(name for name in last if last[name]), [
+                f"{REAL}.2.fldg", f"{REAL}.e2.fldg", f"{REAL}.e3.fldg",
+            ])
+            clock.now += flutejoin_incoming.QUIET + 1
+            for _ in range(3):
+                keeper.work(True)
+                clock.now += 1
+        names = sorted(os.listdir(self.news / "in"))
+        self.assertEqual(names, [f"{REAL}.2.fldg", f"{REAL}.e3.fldg"])
+        self.assertEqual(keeper.waiting(), 0)
+
+
+
+class Config(Case):
+    NUL = (
+        '[[session]]\nport = 4001\ninterface = "\\u0000"',
+        '[[session]]\nport = 4001\ninterface = "eth0\\u0000"\ngroup = "239.1.1.1"',
+        '[[session]]\nport = 4999\nfolder = "\\u0000"',
+        '[[session]]\nport = 4001\nfolder = "../../x\\u0000"',
+        'status = "\\u0000"\n[[session]]\nport = 4999',
+        '[station]\nstatus = "\\u0000"\n[[session]]\nport = 4999',
+        '[station]\ntsi = ["7", "\\u0000"]\n[[session]]\nport = 4999',
+        '"a\\u0000b" = 1',
+    )
+    NO_TOML = "port=1\nport=2", "port=" + "[" * 2000, "x = {y = " * 2000, "\udcff"
+    WRONG = (
+        "session = 5", "session = [5]", "station = 5", '[station]\n-o = "x"', "most = 5",
+        "[station]\nevery = 0x" + "f" * 9000,
+    )
+
+    def test_all_are_faults(self) -> None:
+        for text in (*self.NUL, *self.NO_TOML):
+            self.write("news.toml", text.encode("utf-8", "surrogateescape"))
+            with self.assertRaises(ValueError, msg=text[:60]) as fault:
+                read_config(str(self.path("news.toml")))
+            if text in self.NUL:
+                self.assertIn("is no name", str(fault.exception))
+        for text in self.WRONG:
+            self.write("news.toml", text)
+            with self.assertRaises(ValueError, msg=text[:60]):
+                list(words_of_station(str(self.path("news.toml"))))
+
+    def test_a_bound_of_the_disk(self) -> None:
+        self.write("news.toml", '[station]\nmost = "20G"\noutbox = true\ntsi = [7, 8]')
+        words = list(words_of_station(str(self.path("news.toml"))))
+        self.assertEqual(words, ["--most=20G", "--outbox", "--tsi=7", "--tsi=8"])
+
+    def test_a_line_and_a_status(self) -> None:
+        for text in self.NUL[0], self.NO_TOML[1]:
+            self.write("news.toml", text)
+            for tool in "receive", "station":
+                done = self.tool(f"flutejoin-{tool}", "-o kept --config news.toml")
+                self.assertEqual((done.status, done.out), (2, b""), done)
+                self.assertEqual(done.err.count(b"error: "), 1, done)
+                self.assertNotIn(b"Traceback", done.err)
+
+
+class Push(Case):
+    def test_names_are_no_commands(self) -> None:
+        empty = b"FLJN\0\2\xff" + bytes(8)
+        names = "x;id>injected;y.1.journal", "$(id>injected).1.journal", "a\n10.0.0.9.1.journal"
+        (self.news / "outbox").mkdir()
+        for name in (*names, "10.0.0.2.20260101000000000000.journal", "--1.2.journal"):
+            (self.news / "outbox" / name).write_bytes(empty)
+        self.path("bin").mkdir()
+        self.path("bin/flutejoin").symlink_to(run.PROGRAM)
+        path = f"{self.path('bin')}:{os.environ['PATH']}"
+        words = [ROOT / "examples/push.sh", "news", "centre", "sh", "-c"]
+        done = self.command(words, env={"PATH": path})
+        self.assertEqual(done.status, 1, done)
+        self.assertIn(b"a name in news/outbox is no sender's", done.err)
+        self.assertEqual(list(self.folder.rglob("injected*")), [])
+        self.assertEqual(sorted(os.listdir(self.news / "outbox")), sorted(names))
+        centre = sorted(os.listdir(self.path("centre")))
+        self.assertEqual(centre, ["--1.journal", "10.0.0.2.journal"])
+
+
+if __name__ == "__main__":
+    run.main("stations")

@@ -1,0 +1,202 @@
+"""What a station says: its lines, and what its joins printed of each sender."""
+from __future__ import annotations
+
+import time
+from typing import TYPE_CHECKING, Callable, NamedTuple, Optional, Sequence
+
+import flutejoin_files as files
+from flutejoin_incoming import State
+from flutejoin_joining import Answer, Fed, Program
+from flutejoin_notes import EACH, Notes
+
+if TYPE_CHECKING:
+    from flutejoin_keeping import Keeper
+
+MOST_LINES = 100  # that are printed in a minute; whoever can send to the port can cause many
+MOST_NAMED = 8  # senders in one line
+MOST_SAMPLES = 16
+MOST_SAMPLE = 1 << 15  # bytes of a datagram that is given to the program as a word
+HOUR = 3600
+COUNT_EACH, COUNT_SHARE = 60, 100  # seconds between two counts of conflicts, or part of the time
+
+
+def instant() -> str:
+    return time.strftime("%Y-%m-%dT%H:%M:%SZ", time.gmtime())
+
+
+class Log(files.Report):
+    """Reports lines, with the time unless standard error is a terminal. It never waits."""
+
+    def __init__(self, tool: str) -> None:
+        super().__init__(tool)
+        self.notes = Notes(tool)
+        self.failing: dict[str, str] = {}  # what fails, and why
+        self.last: Optional[dict] = None  # the last fault: what, when, and when it ended
+        self.minute, self.lines, self.missed = float("-inf"), 0, 0
+
+    def warn(self, text: str) -> None:
+        now = time.monotonic()
+        if now >= self.minute + EACH:
+            missed, self.missed = self.missed, 0
+            self.minute, self.lines = now, 0
+            if missed:
+                self.notes.add(f"{missed} lines more were not told, as too many came in a minute")
+        self.lines += 1
+        if self.lines <= MOST_LINES:
+            self.notes.add(files.shown(text))
+        else:
+            self.missed += 1
+
+    def fault(self, status: int, text: str) -> None:
+        super().fault(status, text)
+        self.begin_fault(text, text)
+        self.end_fault(text)
+
+    def fails(self, what: str, told: str) -> None:
+        """Reports a failure of what is repeated every few seconds, unless it was the last one."""
+        if self.failing.get(what) != told:
+            self.failing[what] = told
+            self.warn(f"{told}; it is tried again")
+            self.begin_fault(what, told)
+
+    def works(self, what: str) -> None:
+        if self.failing.pop(what, None) is not None:
+            self.warn(f"{what}: works again")
+            self.end_fault(what)
+
+    def begin_fault(self, what: str, told: str) -> None:
+        self.last = {"what": what, "fault": files.shown(told), "time": instant(), "ended": None}
+
+    def end_fault(self, what: str) -> None:
+        if self.last and self.last["what"] == what and self.last["ended"] is None:
+            self.last["ended"] = instant()
+
+    def last_fault(self) -> Optional[dict]:
+        return self.last and {key: self.last[key] for key in ("fault", "time", "ended")}
+
+
+class Refused(NamedTuple):
+    """How many datagrams of a sender came since the last line, and how many were refused."""
+
+    datagrams: int
+    refused: int
+
+    def told(self, stem: str, reason: str) -> str:
+        count = f"all {self.refused}" if self.refused == self.datagrams else str(self.refused)
+        of = "" if self.refused == self.datagrams else f" of {self.datagrams}"
+        return f"{count}{of} of {stem}" + (f" ({reason})" if reason else "")
+
+
+class Counts:
+    """What joins printed, of all senders together, and of each since the last line."""
+
+    def __init__(self, report: files.Report, program: Program) -> None:
+        self.report, self.program = report, program
+        self.datagrams = self.refused = 0
+        self.since: dict[str, Refused] = {}
+        self.samples: dict[str, bytes] = {}  # a datagram of each of those that are all refused
+        self.told_at = float("-inf")
+        self.hour, self.before = time.monotonic() + HOUR, (0, 0)
+
+    def add(self, stem: str, answer: Answer, fed: Fed) -> None:
+        """Adds what a join of these datagrams printed."""
+        datagrams, refused = answer.count("datagrams"), answer.count("refused")
+        self.datagrams += datagrams
+        self.refused += refused
+        before = self.since.get(stem, Refused(0, 0))
+        self.since[stem] = Refused(before.datagrams + datagrams, before.refused + refused)
+        is_wanted = stem not in self.samples and len(self.samples) < MOST_SAMPLES
+        if is_wanted and 0 < datagrams == refused:
+            for datagram in fed.datagrams():
+                self.samples[stem] = datagram[:MOST_SAMPLE]
+                break
+
+    def count_conflicts(self, stem: str, state: State, journals: Sequence[str]) -> None:
+        """Reports symbols in conflict, if there are more, in at most a hundredth of the time.
+
+        A sender that sent once, as many made-up ones, costs nothing.
+        """
+        now = time.monotonic()
+        if state.joins < 2 or now < state.count_at:
+            return
+        conflicts = self.program.conflicts(journals)
+        state.count_at = now + max(COUNT_EACH, COUNT_SHARE * (time.monotonic() - now))
+        if conflicts is None:
+            return
+        if conflicts > state.conflicts:
+            told = f"{conflicts} symbols are in conflict, which flutejoin gaps --conflicts names"
+            self.report.warn(f"{stem}: {told}")
+        state.conflicts = conflicts
+
+    def tell(self) -> None:
+        """Reports refused datagrams: at once, and then once a minute while there are more."""
+        now = time.monotonic()
+        if now < self.told_at + EACH:
+            return
+        refused, self.since = {stem: it for stem, it in self.since.items() if it.refused}, {}
+        if not refused:
+            return
+        self.told_at = now
+        order = sorted(refused, key=lambda stem: -refused[stem].refused)
+        named = [refused[stem].told(stem, self.reason_of(stem)) for stem in order[:MOST_NAMED]]
+        others = order[MOST_NAMED:]
+        if others:
+            count = sum(refused[stem].refused for stem in others)
+            named.append(f"{count} of {len(others)} other senders")
+        self.samples = {}
+        self.report.warn(f"refused datagrams, which flutejoin does not read: {', '.join(named)}")
+
+    def tell_last(self) -> None:
+        """At the end of a run: the same, at once."""
+        self.told_at = float("-inf")
+        self.tell()
+
+    def reason_of(self, stem: str) -> str:
+        sample = self.samples.get(stem)
+        return files.shown(self.program.reason(sample)) if sample is not None else ""
+
+    def tell_hourly(self, told: Callable[[], str]) -> None:
+        """Reports once an hour what was joined and what is kept, if anything was joined."""
+        now = time.monotonic()
+        if now >= self.hour:
+            self.hour = now + HOUR
+            if self.before != (self.datagrams, self.refused):
+                came = self.datagrams - self.before[0], self.refused - self.before[1]
+                self.before = self.datagrams, self.refused
+                self.report.warn(f"in an hour {came[0]} datagrams, {came[1]} refused; {told()}")
+
+
+def conflicts_of(keeper: Keeper) -> int:
+    return sum(state.conflicts for state in keeper.states.values())
+
+
+def line_of(keeper: Keeper) -> str:
+    """What a station keeps, for a line."""
+    told = f"{conflicts_of(keeper)} symbols in conflict; {keeper.room.bytes} bytes on the disk"
+    if keeper.settings.has_outbox:
+        outbox = keeper.room.count("outbox")
+        told += f", {outbox.bytes} of them in {outbox.files} journals of the outbox"
+    return f"{told}, {keeper.free()} free"
+
+
+def status_of(keeper: Keeper) -> dict:
+    """What a station keeps: the journals with most bytes, and what waits or was removed."""
+    journals, others = keeper.room.journals()
+    for sender, state in keeper.states.items():
+        told = journals.get(sender.stem())
+        if told is not None:
+            told.update({"refused": state.refused, "in conflict": state.conflicts})
+    return {
+        "journals": journals,
+        "other senders": others,
+        "bytes to join": keeper.incoming.waiting(),
+        "set aside": keeper.room.count("aside").files,
+        "datagrams": keeper.counts.datagrams,
+        "refused": keeper.counts.refused,
+        "in conflict": conflicts_of(keeper),
+        "outbox": keeper.room.count("outbox")._asdict() if keeper.settings.has_outbox else None,
+        "disk": keeper.room.bytes,
+        "free": keeper.free(),
+        "removed": keeper.room.removed._asdict(),
+        "last fault": keeper.report.last_fault(),
+    }
