@@ -718,8 +718,11 @@ def many_signals(work: pathlib.Path) -> None:
 
 
 def a_sender_that_starts_again(work: pathlib.Path) -> None:
-    """Each run of the sender gets its own journal, even if the station restarts meanwhile."""
-    folder, port, sent = work / "again", Port(), []
+    """Each run of the sender gets its own journal, even if the station restarts meanwhile.
+
+    It makes no difference whether all is joined before a run of the station ends.
+    """
+    port, sent = Port(), []
     words = "--tsi", 7, "--toi", 0, "--fdt", 1, "--symbol", 100, "--block", 8
     for number in range(2):
         (work / "fdt").write_bytes(random.Random(number).randbytes(900))
@@ -727,16 +730,26 @@ def a_sender_that_starts_again(work: pathlib.Path) -> None:
         done = flutejoin("carousel", "-o", path, *words, work / "fdt")
         assert done.returncode == 0, done.stderr
         sent.append(records(path.read_bytes()))
-    for of in sent[0], sent[1][:5], sent[1][5:]:
-        run = Run(folder, port.number)
-        port.send(of, 0.01)
-        time.sleep(0.3)
-        check("a sender that starts again: status", run.end() == 0, run.text())
-    for name, of in (NAME, sent[0]), (f"{NAME}.e2", sent[1]):
-        path = datagram_file(work / "all.fldg", of)
-        have = journal_of(folder / f"journals/{name}.journal", folder / f"recent/{name}.journal")
-        check(f"a sender that starts again: {name}", have == journal_of(path))
-    check("a sender that starts again: files", os.listdir(folder / "in") == [f"{NAME}.e2.fldg"])
+    epochs = {NAME: sent[0], f"{NAME}.e2": sent[1]}
+    steps = (NAME, 0, None), (f"{NAME}.e2", 0, 5), (f"{NAME}.e2", 5, None)
+    for folder, is_joined in (work / "joined", True), (work / "at_once", False):
+        for name, begin, end in steps:
+            run = Run(folder, port.number, "--every", 0.1)
+            port.send(epochs[name][begin:end], 0.01)
+            if is_joined:
+                until(lambda: has_all(folder, name, epochs[name][:end]), run)
+            check("a sender that starts again: status", run.end() == 0, run.text())
+        told = f"a sender that starts again: {folder.name}"
+        for name, of in epochs.items():
+            check(f"{told}: {name}", has_all(folder, name, of), os.listdir(folder / "journals"))
+        files = os.listdir(folder / "in")
+        check(f"{told}: files", files == [f"{NAME}.e2.fldg"], files)
+
+
+def has_all(folder: pathlib.Path, name: str, of: list[bytes]) -> bool:
+    """Whether the journals of a name have what these datagrams tell, and nothing else."""
+    journals = folder / f"journals/{name}.journal", folder / f"recent/{name}.journal"
+    return journal_of(*journals) == journal_of(datagram_file(folder.parent / "wanted.fldg", of))
 
 
 def settings_in_a_file(work: pathlib.Path, sent: list[bytes]) -> None:
