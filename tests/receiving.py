@@ -34,7 +34,7 @@ ROOT = os.path.dirname(os.path.dirname(os.path.abspath(__file__)))
 TOOLS = os.path.join(ROOT, "tools")
 sys.path[:0] = [TOOLS, os.path.join(ROOT, "examples")]
 import datagram_files
-from ports import free_port
+from ports import free_port, make_way, waiting_at
 
 TOOL = os.path.join(TOOLS, "flutejoin-receive")
 PROGRAM = os.path.abspath(sys.argv[1])
@@ -179,12 +179,7 @@ class Receiver:
 
     def waiting(self) -> int:
         """How many bytes wait in the receive buffer."""
-        with open("/proc/net/udp") as table:
-            for line in table:
-                fields = line.split()
-                if fields[1] == f"0100007F:{self.port:04X}":
-                    return int(fields[4].split(":")[1], 16)
-        return self.test.fail(f"nobody listens at {self.port}")
+        return waiting_at(self.port)
 
     def until_received(self) -> None:
         """Waits until the receive buffer is empty."""
@@ -193,7 +188,8 @@ class Receiver:
     def send(self, datagrams: Iterable[bytes], source: str = "127.0.0.1", port: int = 0) -> None:
         with socket.socket(socket.AF_INET, socket.SOCK_DGRAM) as udp:
             udp.bind((source, 0))
-            for datagram in datagrams:
+            for number, datagram in enumerate(datagrams):
+                make_way(number, port or self.port, LONGEST_WAIT)
                 udp.sendto(datagram, ("127.0.0.1", port or self.port))
 
     def until_kept(self, count: int, *names: str) -> None:
@@ -892,12 +888,14 @@ class Strangers(Case):
         receiver = Receiver(self, "-o", "kept", "--senders", "2")
         receiver.send(self.symbols(900, 1000))
         receiver.until_kept(900, "kept/127.0.0.1.fldg")
-        receiver.send(self.symbols(100, 1000), "127.0.0.2")
-        receiver.send(self.symbols(110, 1000), "127.0.0.3")
+        with receiver.stopped():  # so that it finds all of them within a second or two
+            for _ in range(10):
+                receiver.send(self.symbols(8), "127.0.0.2")
+                receiver.send(self.symbols(9), "127.0.0.3")
         status, lines = receiver.end()
         self.assertEqual((status, self.names()), (1, ["127.0.0.1.fldg", "127.0.0.2.fldg"]))
         cause = "more than 2 senders (--senders takes more, and --from names the one)"
-        self.assertIn(f"left out 110: {cause}", lines)
+        self.assertIn(f"left out 90: {cause}", lines)
         told = "1 senders of more bytes than one that was kept were left out\n"
         self.assertIn(told, receiver.stderr())
 
@@ -908,7 +906,7 @@ class Strangers(Case):
     def test_a_flood_of_made_up_senders(self) -> None:
         """Ten thousand addresses: few files, and the real one is kept."""
         self.needs_namespace()
-        receiver = Receiver(self, "-o", "kept", "--senders", "4")
+        receiver, began = Receiver(self, "-o", "kept", "--senders", "4"), time.monotonic()
         sent = self.symbols(3)
         receiver.send(sent[:1])
         receiver.until_kept(1, "kept/127.0.0.1.fldg")
@@ -927,10 +925,12 @@ class Strangers(Case):
             (memory,) = re.findall(r"VmRSS:\s+(\d+) kB", file.read())
         self.assertLess(int(memory), 60000)
         self.assertLess(len(os.listdir(f"/proc/{receiver.process.pid}/fd")), 20)
-        self.assertEqual(len(self.names()), 4)
+        # Four at once, and of those who waited for long 16 in a minute
+        before = len(self.names())
+        self.assertLessEqual(before, 4 + 16 * (time.monotonic() - began) / 60 + 1)
         status, lines = receiver.end()
         # At the end others get those places: of whom the last came.
-        self.assertEqual((status, len(self.names()) <= 7), (0, True))
+        self.assertEqual((status, len(self.names()) <= before + 4), (0, True))
         self.assertEqual(records(self.path("kept/127.0.0.1.fldg")), sent)
         self.assertTrue(any("more than 4 senders" in line for line in lines), lines)
 
@@ -1051,7 +1051,7 @@ class Patched(Case):
             "Session.receive = stopped"
         )
         receiver = self.run_patched(patch, "-o", "kept")
-        sent = self.symbols(200)
+        sent = self.symbols(100)
         receiver.send(sent[:1])
         os.waitid(os.P_PID, receiver.process.pid, os.WSTOPPED | os.WEXITED | os.WNOWAIT)
         receiver.send(sent[1:])

@@ -45,7 +45,7 @@ from datagram_files import HEADER, record
 from flutejoin_joining import Program
 from flutejoin_keeping import Keeper, Settings
 from flutejoin_voice import Log
-from ports import free_port
+from ports import free_port, make_way
 
 PROGRAM = os.path.abspath(sys.argv[1])
 SOAK = 10 if "--soak" in sys.argv else 1
@@ -129,7 +129,9 @@ class Port:
         self.udp = socket.socket(socket.AF_INET, socket.SOCK_DGRAM)
 
     def send(self, of: list[bytes], pause: float = 0.0) -> None:
+        """Sends so that the system drops none."""
         for number, sent in enumerate(of):
+            make_way(number, self.number)
             self.udp.sendto(sent[2:], (NAME, self.number))
             if number % 16 == 15:
                 time.sleep(pause)
@@ -497,7 +499,6 @@ def runs(work: pathlib.Path) -> None:
     until(lambda: run.text().count("listening") == 2, run)
     check("a receiver that ended is told", "ended with status -9" in run.text(), run.text())
     port.send(sent[30:], 0.01)
-    time.sleep(0.3)
     status = run.end()
     check("with a receiver that was killed: status", status == 0, run.text())
     datagram_file(work / "all.fldg", sent)
@@ -762,7 +763,6 @@ def settings_in_a_file(work: pathlib.Path, sent: list[bytes]) -> None:
     until(lambda: run.text().count("listening") == 2, run)
     ports[0].send(sent[:30], 0.01)
     ports[1].send(sent[30:], 0.01)
-    time.sleep(0.3)
     check("settings in a file: status", run.end() == 0, run.text())
     datagram_file(work / "all.fldg", sent)
     check("two sessions", journal_of(*kept(folder)) == journal_of(work / "all.fldg"), run.text())
