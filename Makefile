@@ -15,6 +15,8 @@
 # make uninstall     takes away what `make install` copies
 # make deb           makes bin/flutejoin_VERSION_ARCHITECTURE.deb of it, for Debian
 # make soak          runs stations for longer than the gate does
+# make fuzz          gives the parsers of the tools inputs that are made up, for SECONDS (600), by
+#                    SEED (1); what one at fault is given is left here
 # make scale         runs what docs/SCALE.md has for several machines, where its engines are here
 #
 # PROGRAM=PATH       a program that is built already, in the place of bin/flutejoin
@@ -82,6 +84,7 @@ test-tools:
 	tests/capture_cases.py
 	tests/test_adapting.py
 	tests/test_values.py
+	tests/test_fuzz.py
 	tests/files.py "$(FLUTEJOIN)"
 	tests/test_map.py
 	tests/map_cases.py
@@ -101,6 +104,9 @@ wrong-bodies:
 
 soak: $(PROGRAM)
 	tests/station.py "$(PROGRAM)" --soak
+
+fuzz:
+	tests/fuzz.py --seconds "$(or $(SECONDS),600)" --seed "$(or $(SEED),1)"
 
 scale: $(PROGRAM)
 	tests/scale.sh "$(PROGRAM)"
@@ -141,5 +147,5 @@ deb: $(PROGRAM)
 clean:
 	rm -rf bin crates/*/out
 
-.PHONY: test test-program test-tools test-stations wrong-bodies soak scale try example install \
-	uninstall deb clean
+.PHONY: test test-program test-tools test-stations wrong-bodies soak fuzz scale try example \
+	install uninstall deb clean

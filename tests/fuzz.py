@@ -37,9 +37,10 @@ class TooMany(BaseException):
 
 
 class Coverage:
-    """Which lines of the tools come after which ones."""
+    """Which lines of the code in a folder come after which ones."""
 
-    def __init__(self) -> None:
+    def __init__(self, folder: str) -> None:
+        self.folder = folder + os.sep
         self.seen: set[tuple[CodeType, int, int]] = set()
         self.run: set[tuple[CodeType, int, int]] = set()
         self.is_ours: dict[CodeType, bool] = {}
@@ -49,7 +50,7 @@ class Coverage:
         code = frame.f_code
         is_ours = self.is_ours.get(code)
         if is_ours is None:
-            is_ours = self.is_ours[code] = code.co_filename.startswith(TOOLS + os.sep)
+            is_ours = self.is_ours[code] = code.co_filename.startswith(self.folder)
         return self.stepped if is_ours else None
 
     def stepped(self, frame: FrameType, event: str, _: Any) -> Optional[Callable]:
@@ -118,9 +119,11 @@ def change(draw: random.Random, data: bytearray, kept: list[bytes], words: tuple
 class Fuzzed:
     """A parser, the inputs that are kept of it, and its faults."""
 
+    code = TOOLS  # the folder of the code that is followed
+
     def __init__(self, name: str, parser: Parser, seed: int, folder: str) -> None:
         self.name, self.parser, self.folder = name, parser, folder
-        self.draw, self.coverage = random.Random(f"{name} {seed}"), Coverage()
+        self.draw, self.coverage = random.Random(f"{name} {seed}"), Coverage(self.code)
         self.kept: list[bytes] = []
         self.inputs = self.faults = self.steps = 0
         self.told: set[str] = set()

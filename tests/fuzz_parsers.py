@@ -166,7 +166,7 @@ def files(data: bytes) -> None:
     if isinstance(reader, Records):
         size, _ = whole_records(data[len(HEADER) :])
         assert last_whole(io.BytesIO(data), len(data), len(HEADER))[0] in (0, 6, 6 + size)
-    elif len(data) >= len(JOURNAL) and data[5] in (1, 2):
+    elif data[4:6] in (b"\0\1", b"\0\2"):
         salvaged(data)
 
 

@@ -541,7 +541,19 @@ class Disk(Case):
         left = sorted(int(name.split(".")[4]) for name in self.names() if name.count(".") == 5)
         self.assertEqual(self.names(), sorted(f"127.0.0.1.{number}.fldg" for number in left))
         self.assertEqual(left, numbers[-len(left) :])
-        self.assertEqual(len(left), 7)
+        self.assertIn(len(left), range(1, 8))
+
+    def test_small_files_take_blocks(self) -> None:
+        """What counts is what files take of the disk, and not their lengths."""
+        os.mkdir(self.path("kept"))
+        for number in range(1, 41):
+            datagram_files.write(self.path(f"kept/127.0.1.{number}.fldg"), self.symbols(1))
+        one, most = self.held() // 40, self.held() // 4
+        if one < 4096:
+            self.skipTest("small files take no blocks of this file system")
+        receiver = Receiver(self, "-o", "kept", "--most", str(most))
+        receiver.until(lambda: self.held() <= most, "fewer files")
+        self.assertEqual((receiver.end()[0], len(self.names())), (1, most // one))
 
     def test_a_clock_that_was_set_back(self) -> None:
         """What was written before goes first, though its time is still to come."""
@@ -602,11 +614,11 @@ class Disk(Case):
         self.assertEqual(receiver.end()[0], 1)
 
     def held(self) -> int:
-        """The bytes of all files; one that is removed meanwhile counts as empty."""
+        """What all files take of the disk; one that is removed meanwhile counts as empty."""
         sizes = []
         for name in self.names():
             with contextlib.suppress(FileNotFoundError):
-                sizes.append(os.path.getsize(self.path(f"kept/{name}")))
+                sizes.append(512 * os.stat(self.path(f"kept/{name}")).st_blocks)
         return sum(sizes)
 
     def part(self, number: int) -> list[bytes]:

@@ -49,6 +49,7 @@ CLOSES = 0x03  # the flags A and B
 CODED = 1, 2, 3  # ZLIB, DEFLATE, GZIP
 MOST = 1024  # headers, and objects, that are remembered of a sender
 PAYLOAD_ID = struct.Struct(">HH")
+MOST_TIMES = 8  # how many times as long as a packet the datagrams may be that are written of it
 EACH = 60  # seconds between two lines about a sender of whom everything is refused
 
 VERSION, ENCODING, TIME, SEVERAL = "FLUTE 1", "EXT_CENC", "SCT or ERT", "several symbols a packet"
@@ -77,6 +78,7 @@ FEC = {
 WITHOUT_CHANGE = (
     "keep datagrams as they came, also those of other forms of FLUTE, and what flutejoin refuses"
 )
+SHORT = f"several symbols a packet, so short that they would take {MOST_TIMES} times its bytes"
 CLOSE = "the end of a session or an object, told by a packet without TOI"
 
 
@@ -241,6 +243,8 @@ class Adapting:
         self.forms.update(plan.forms)
         information = self.known.get(plan.key, b"") if plan.key else plan.information
         symbols = symbols_of(payload, end, information) if information else []
+        if len(symbols) * end > MOST_TIMES * len(payload):
+            return Taken((), SHORT)
         if symbols:
             self.forms[SEVERAL] += 1
             return Taken([(plan.head or head) + symbol for symbol in symbols])

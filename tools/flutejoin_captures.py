@@ -24,6 +24,10 @@ MOST_INTERFACES = 1 << 16  # of a section
 GRACE = 1.0  # seconds after a signal in which a capture in a pipe may send its last packets
 TICK = 1.0  # seconds between two calls of `tick`
 GZIP = b"\x1f\x8b"  # how a gzip member begins
+# What comes out of gzip: bytes, and packets, at first and then for each byte that goes in. A file of
+# a few MB could be that of many GB, of which nothing is worth reading.
+INFLATED, INFLATED_EACH = 1 << 30, 100
+PACKETS, BYTES_OF_EACH = 1 << 20, 8
 SECTION = b"\x0a\x0d\x0d\x0a"  # how pcapng begins
 ORDERS = {  # how pcap begins
     b"\xd4\xc3\xb2\xa1": "<",
@@ -160,13 +164,14 @@ class Inflated(io.RawIOBase):
     """The decompressed bytes of a gzip stream, one member after another (RFC 1952).
 
     Bytes after a member that begin no other one, as the zeros that fill a tape, are ignored, as
-    gzip does.
+    gzip does. `came` counts the bytes that go in, and `out` those that come out.
     """
 
     def __init__(self, stream: io.BufferedReader) -> None:
         self.stream, self.member = stream, zlib.decompressobj(31)
         self.fault: Optional[Damage] = None
         self.has_garbage = False
+        self.came = self.out = 0
 
     def readable(self) -> bool:
         return True
@@ -174,13 +179,16 @@ class Inflated(io.RawIOBase):
     def readinto(self, buffer: Any) -> int:
         while not self.fault:
             data = self.member.unused_data or self.member.unconsumed_tail
-            data = data or self.stream.read1(65536)
+            data = data or self.more()
             if self.member.eof:
                 data = self.next_member(data)
                 if not data:
                     return 0
                 self.member = zlib.decompressobj(31)
             inflated = self.inflate(data, len(buffer))
+            self.out += len(inflated)
+            if self.out > INFLATED + INFLATED_EACH * self.came:
+                raise Damage(f"gzip: more than {INFLATED_EACH} times as many bytes come out")
             if inflated:
                 buffer[: len(inflated)] = inflated
                 return len(inflated)
@@ -188,11 +196,20 @@ class Inflated(io.RawIOBase):
                 raise Ends("what gzip compressed")
         raise self.fault
 
+    def more(self) -> bytes:
+        data = self.stream.read1(65536)
+        self.came += len(data)
+        return data
+
+    def may_have(self, packets: int) -> bool:
+        """Whether so many packets may have come out until now."""
+        return packets <= PACKETS + self.came // BYTES_OF_EACH
+
     def next_member(self, data: bytes) -> bytes:
         """The first bytes of the next member, from `data` on; empty if there is none."""
         data = data.lstrip(b"\0")
         while len(data) < len(GZIP):
-            more = self.stream.read1(65536)
+            more = self.more()
             if not more:
                 break
             data = (data + more).lstrip(b"\0")
@@ -244,7 +261,9 @@ def read(
             inflated = Inflated(stream) if source.is_gzip else None
             if inflated:
                 stream = io.BufferedReader(inflated, 1 << 18)
-            for link, frame, is_cut, when in packets(stream):
+            for count, (link, frame, is_cut, when) in enumerate(packets(stream)):
+                if inflated and not inflated.may_have(count):
+                    raise Damage(f"gzip: fewer than {BYTES_OF_EACH} bytes for a packet")
                 take(link, frame, is_cut, when)
         except Ends:
             if not stop.asked:

@@ -20,6 +20,8 @@ from flutejoin_records import PIECE
 MOST_BYTES = (1 << 32) - 1  # of a datagram file, so that it fits on any file system
 MOST_INPUTS = 64  # of one `flutejoin join`
 PARTIAL = ".partial"
+# Bytes in which systems count the blocks of a file, and those of a block on most of them
+UNIT, BLOCK = 512, 4096
 STANDARD_OUTPUT = "-"  # as the name of an output
 STOPPING = (signal.SIGINT, signal.SIGTERM, signal.SIGHUP)
 RAISING = (*STOPPING, signal.SIGALRM)  # what `raise_again` uses too
@@ -277,6 +279,16 @@ def stem(text: str, epoch: int = 1) -> str:
     Some systems and tools do not accept colons in names.
     """
     return text.replace(":", "-") + (f".e{epoch}" if epoch > 1 else "")
+
+
+def blocks_of(found: os.stat_result) -> int:
+    """The bytes of the disk that a file takes."""
+    return found.st_blocks * UNIT
+
+
+def on_disk(size: int) -> int:
+    """The bytes of the disk that a file of so many bytes will likely take."""
+    return -(-size // BLOCK) * BLOCK
 
 
 def file_name(text: str, part: int, epoch: int = 1) -> str:

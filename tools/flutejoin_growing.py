@@ -14,7 +14,7 @@ import os
 from typing import TYPE_CHECKING, Iterable, Iterator, NamedTuple, Optional, Tuple, Union
 
 from flutejoin_epochs import may_tell_of_instance
-from flutejoin_files import IPAddress, file_name
+from flutejoin_files import IPAddress, file_name, on_disk
 from flutejoin_notes import note
 from flutejoin_records import HEADER, LENGTH, PIECE, Buffer, Cut, Fault, Records
 from flutejoin_records import last_whole, whole_records
@@ -168,7 +168,7 @@ class Growing:
         self.identity, self.size, self.records, self.before = None, 0, 0, 0
 
     def write(self, block: Block) -> None:
-        self.opened.make_room(len(HEADER) + len(block.data))  # which may end this file
+        self.opened.make_room(on_disk(len(HEADER) + len(block.data)))  # which may end this file
         descriptor = self.open() if self.descriptor is None else self.descriptor
         self.opened.touch(self)
         data = block.data if self.size else HEADER + block.data
@@ -182,8 +182,8 @@ class Growing:
         self.add(len(data), len(block.data), block.records)
 
     def add(self, size: int, of_block: int, records: int) -> None:
+        self.opened.held += on_disk(self.size + size) - on_disk(self.size)
         self.size += size
-        self.opened.held += size
         self.taken += of_block
         self.records += records
 
@@ -321,8 +321,9 @@ class Copy:
                 self.end(self.records)
                 return
             written = os.pwrite(target, piece, self.copied)
+            held = on_disk(self.copied + written) - on_disk(self.copied)
             self.copied += written
-            self.growing.opened.held += written
+            self.growing.opened.held += held
 
     def make(self) -> int:
         flags = MAKE_FLAGS & ~os.O_APPEND

@@ -11,7 +11,6 @@ import flutejoin_files as files
 from flutejoin_incoming import SHARE, Sender, sender_of
 from flutejoin_shelves import NAME, Shelf, entries_of, remove
 
-BLOCK = 512  # bytes in which a system counts the blocks of a file
 LOOK_EACH = 10  # seconds between two looks at the disk
 MOST_SENDERS = 1 << 14  # that are kept with a bound, since each file also takes an inode
 MOST_TOLD = 256  # senders in the status
@@ -29,7 +28,7 @@ class Held:
 
     def add(self, path: str, found: os.stat_result) -> None:
         self.paths.append(path)
-        self.bytes += found.st_blocks * BLOCK
+        self.bytes += files.blocks_of(found)
         self.seen = max(self.seen, found.st_mtime_ns)
 
 
@@ -88,7 +87,7 @@ class Room:
         for path, found in self.walk(self.folder):
             folder, name = os.path.split(path)
             stem = stem_of(name)
-            self.bytes += found.st_blocks * BLOCK
+            self.bytes += files.blocks_of(found)
             counts[os.path.basename(folder)][0] += 1
             counts[os.path.basename(folder)][1] += found.st_size
             if stem is not None:

@@ -24,6 +24,8 @@ from flutejoin_partition import fault_of
 
 SENDER, TSI, NUMBER = 16, 6, 14  # bytes of the fields of an object
 CHAIN = 4  # entries that have to follow one another where entries begin again
+# Places where entries may begin again that are looked at: so many, and one for so many bytes
+TRIES, TRIES_EACH = 1 << 18, 32
 ENDING = 9  # bytes of the end of a journal
 # The bytes after an object's number, of entries that are no symbols
 REST = {INFORMATION: 12, INFORMATION_CONFLICT: 0, SYMBOL_CONFLICT: 4}
@@ -44,6 +46,7 @@ class Salvage:
 
     def __init__(self, file: BinaryIO) -> None:
         self.data = mmap.mmap(file.fileno(), 0, access=mmap.ACCESS_READ)
+        self.tries = 0  # that are left; below 0 if there were too few
         version = self.data[4] << 8 | self.data[5]
         self.key = (SENDER if version == 2 else 0) + TSI + 1 + NUMBER
         self.tag = self.key - NUMBER  # its place in an entry, after the kind
@@ -93,12 +96,16 @@ class Salvage:
     def search(self, at: int, after: bytes) -> Optional[int]:
         """Where entries begin again, from here on; None if they do not."""
         for found in self.likely.finditer(self.data, at):
+            self.tries -= 1
+            if self.tries < 0:
+                return None
             if self.follow(found.start(), after):
                 return found.start()
         return None
 
     def kept(self) -> Iterator[Entry]:
         """Yields the entries that are kept."""
+        self.tries = TRIES + len(self.data) // TRIES_EACH
         at: Optional[int] = len(HEADER)
         last: Optional[Entry] = None  # which is kept unless what follows says otherwise
         before = b""  # the address before it

@@ -118,9 +118,9 @@ SETTINGS = {
     "most": (
         number_within(1, 1 << 62),
         "BYTES",
-        "keep at most so many bytes of datagram files in all, or one datagram that has more: the "
-        "oldest files are removed before more is written (default: all are kept); then a file has "
-        "a quarter of it at most",
+        "keep datagram files that take at most so many bytes of the disk, by its blocks, or one "
+        "datagram that has more: the oldest files are removed before more is written (default: all "
+        "are kept); then a file has a quarter of it at most",
     ),
     "buffer": (
         number_within(1, (1 << 30) - 1),

@@ -11,7 +11,7 @@ import threading
 import time
 from typing import Callable, Iterable, Iterator, NamedTuple, Optional
 
-from flutejoin_files import Name, name_of
+from flutejoin_files import Name, blocks_of, name_of
 from flutejoin_found import FLAGS
 from flutejoin_growing import Begin, Block, Growing, Order
 from flutejoin_notes import Fault, note
@@ -33,6 +33,7 @@ class Entry(NamedTuple):
     size: int
     name: Name
     folder: str
+    on_disk: int  # bytes of its blocks
 
     def age(self) -> tuple[int, bytes, int, int, str]:
         """Orders files from the oldest on.
@@ -121,7 +122,8 @@ class Folder:
                         with contextlib.suppress(FileNotFoundError):
                             status = file.stat(follow_symlinks=False)
                             changed, size = status.st_mtime_ns, status.st_size
-                            yield Entry(changed, file.path, size, name, self.path)
+                            blocks = blocks_of(status)
+                            yield Entry(changed, file.path, size, name, self.path, blocks)
         except OSError:
             pass
 
@@ -142,7 +144,8 @@ def descriptors() -> int:
 class Opened:
     """The open files of senders: at most as many as the system has descriptors for.
 
-    `make_room` is called with the number of bytes before they are written; `held` counts the bytes.
+    `make_room` is called with the number of bytes before they are written; `held` counts the bytes
+    that the files take of the disk.
     """
 
     def __init__(self, reserved: int, make_room: Callable[[int], None]) -> None:
@@ -150,7 +153,7 @@ class Opened:
         self.growing: collections.OrderedDict[Growing, None] = collections.OrderedDict()
         self.is_told = False
         self.make_room = make_room
-        self.held = 0  # bytes of all datagram files
+        self.held = 0  # of all datagram files
 
     def open(self, path: str, flags: int) -> int:
         while len(self.growing) >= self.most and self.close_silent():
@@ -240,7 +243,7 @@ class Writer(threading.Thread):
 
     def entries(self) -> list[Entry]:
         entries = list(self.found())
-        self.opened.held = sum(entry.size for entry in entries)
+        self.opened.held = sum(entry.on_disk for entry in entries)
         return entries
 
     def work(self) -> None:
@@ -309,9 +312,9 @@ class Writer(threading.Thread):
                     note(f"{entry.path}: cannot be removed: {fault.strerror}")
                     self.unremovable.add(entry.path)
                 continue
-            self.opened.held -= entry.size
+            self.opened.held -= entry.on_disk
             self.removed += 1
-            told = f"{entry.path}: its {entry.size} bytes are removed"
+            told = f"{entry.path}: its {entry.on_disk} bytes are removed"
             note(f"{told}, since the datagram files would have more than {self.most} in all")
 
     def end(self) -> None:
