@@ -25,12 +25,14 @@ class Stays(Case):
 
 
 class Inputs(Stays):
-    def test_merge_join_and_info(self) -> None:
+    def test_merge_minus_join_and_info(self) -> None:
         self.write("cut", self.part("one", 100))
         self.write("cut_end", self.part("one", -1))
         for target in TARGETS:
             for name, words, text in (
                 ("merge with a cut journal", f"merge -o {target} two cut", "input 2: Cut"),
+                ("minus of a cut journal", f"minus -o {target} cut two", "input 1: Cut"),
+                ("minus, the other cut", f"minus -o {target} two cut", "input 2: Cut"),
                 ("join, cut at its end", f"join -o {target} two sent2 cut_end", "input 3: Cut"),
                 ("info, cut at its end", f"info -o {target} {THIRD} cut_end", "input 1: Cut"),
             ):
@@ -66,9 +68,9 @@ class Limits(Stays):
         """A write fails after some bytes."""
         limits = {resource.RLIMIT_FSIZE: 512_000}
         for target in TARGETS:
-            for command in "join", "merge":
+            for command in "join", "merge", "minus":
                 self.copy("one", "all")
-                words = f"{command} -o {target} one three"
+                words = f"{command} -o {target} three one"
                 done = self.program(words, limits=limits, signals={SIGXFSZ: SIG_IGN})
                 self.stays(f"a limit, {command}", done, target, "one", 3, "", WRITE)
 

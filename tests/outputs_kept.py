@@ -30,6 +30,9 @@ class InPlace(Case):
         self.copy("one", "a")
         self.row("by another name", "merge -o ./a a two", 0, "entries 14")
         self.same("what was merged", "a", "both")
+        self.copy("both", "a")
+        self.row("minus by another name", "minus -o ./a a one", 0, "entries 3")
+        self.same("what is left", "a", "two")
         self.copy("one", "a")
         os.link(self.path("a"), self.path("linked"))
         self.row("a hard link", "merge -o linked a two", 0, "entries 14")
@@ -88,8 +91,9 @@ class Kept(Case):
         words = f"join -o {shlex.join(stations)}"
         self.kept("sent1", DATAGRAMS, words, stations[0])
         for words in (
-            *("merge -o d one two", "forget -o d --conflicts two", f"info -o d {THIRD} two"),
-            *(f"extract -o d {SECOND} two", f"carousel -o d {SECOND} {CUT} other"),
+            *("merge -o d one two", "minus -o d both one", "forget -o d --conflicts two"),
+            *(f"info -o d {THIRD} two", f"extract -o d {SECOND} two"),
+            f"carousel -o d {SECOND} {CUT} other",
         ):
             self.kept("sent1", DATAGRAMS, words)
         self.path("to_datagrams").symlink_to("d")
@@ -109,6 +113,42 @@ class Kept(Case):
         self.path("soft").symlink_to("d")
         self.kept("content", INPUT, f"carousel -o soft {of} d")
         self.kept("content", INPUT, f"carousel -o d {of} soft")
+
+    def test_list(self) -> None:
+        """LINES of `info --list` is kept, unless forced; its journal may be OUT."""
+        self.write("lines", "session 7 object 3 info length 3 symbol 4 block 2\n")
+        self.kept("lines", INPUT, "info -o d --list d two")
+        self.copy("lines", "d")
+        self.path("soft").symlink_to("d")
+        self.kept("lines", INPUT, "info -o d --list soft two")
+        self.copy("lines", "d")
+        done = self.shell("flutejoin info -o d --list - two < d")
+        self.check("on standard input", done, 2, "", INPUT)
+        self.same("it stays", "d", "lines")
+        self.copy("two", "d")
+        self.row("over its journal", "info -o d --list lines d", 0, "entries 4")
+
+    def test_standard_output_is_an_input(self) -> None:
+        of = f"{SECOND} {CUT}"
+        for copied, words in (
+            *(("two", "join -o - d one"), ("two", "join -o /dev/stdout one d")),
+            *(("sent1", "join -o - d"), ("two", "merge -o - one d")),
+            *(("two", "forget -o - --conflicts d"), ("two", f"info -o - {THIRD} d")),
+            *(("two", f"extract -o - {SECOND} d"), ("content", f"carousel -o - {of} d")),
+        ):
+            self.copy(copied, "d")
+            with self.path("d").open("ab") as out:
+                self.row(f"{words} >> d", words, 2, None, INPUT, to=out)
+            self.same(f"{words} >> d: the file stays", "d", copied)
+            with self.path("d").open("ab") as out:
+                self.row(f"{words} >> d, forced", f"{words} --force", 0, None, None, to=out)
+        self.copy("two", "d")
+        done = self.shell("flutejoin join -o - - one < d >> d")
+        self.check("by way of standard input", done, 2, "", INPUT)
+        self.same("the file stays", "d", "two")
+        with self.path("another").open("ab") as out:
+            self.row("another file", "join -o - d", 0, None, None, to=out)
+        self.same("it has the journal", "another", "two")
 
     def test_order_of_faults(self) -> None:
         self.copy("sent1", "d")
@@ -200,6 +240,8 @@ class Before(Case):
         self.same("the input of info stays", "in.partial", "one")
         self.row("merge", "merge -o in two in.partial", *created)
         self.same("the input of merge stays", "in.partial", "one")
+        self.row("minus", "minus -o in in.partial two", *created)
+        self.same("the input of minus stays", "in.partial", "one")
         self.row("extract", f"extract -o in {FIRST} in.partial", *created)
         self.same("the input of extract stays", "in.partial", "one")
 

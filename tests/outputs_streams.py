@@ -182,6 +182,7 @@ class Closed(Case):
             (f"info -o closed {THIRD} two", "informed"),
             ("join -o closed two", "two"),
             ("merge -o closed one two", "both"),
+            ("minus -o closed both one", "two"),
             ("forget -o closed --conflicts two", "two"),
             (f"carousel -o closed {SECOND} {CUT} other", "sent2"),
         ):

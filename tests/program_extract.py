@@ -122,8 +122,8 @@ class InfoList(Case):
         words = "info -o - --list lines symbols"
         self.row("to standard output", words, 0, self.read("whole2"), "entries 3")
         words = "info -o got3 --list - -"
-        list_alone = self.path("lines")
-        self.row("both from standard input", words, 1, "", "input 1: Cut", stdin=list_alone)
+        both = self.path("lines")
+        self.row("both from standard input", words, 2, "", "standard input twice", stdin=both)
         self.absent("no file after it", "got3")
 
     def test_over_its_journal(self) -> None:

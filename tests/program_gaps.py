@@ -7,8 +7,13 @@ from typing import NamedTuple
 
 from program_case import (
     CONFLICTING,
+    FIRST,
+    HEADER,
     HEADER2,
     HELLO_OF_ZERO,
+    INFO,
+    KEY,
+    LAST,
     PART,
     V4,
     V6,
@@ -100,6 +105,35 @@ class GapsSummary(Case):
             ("none is", "gaps --conflicts --summary whole", 0, ""),
         )
 
+    def test_unplaced(self) -> None:
+        """Conflicts of symbols that no gap has."""
+        first, last = f"04 {KEY} 0000 0000", f"04 {KEY} 0000 0001"
+        beyond = f"04 {KEY} 0000 0002 04 {KEY} 0001 0000"
+        self.journal("without", HEADER, first, last, ended(2))
+        self.journal("twice", HEADER, f"02 {KEY}", first, ended(2))
+        self.journal("beyond", HEADER, INFO, FIRST, LAST, beyond, ended(5))
+        self.journal("both", HEADER, INFO, FIRST, last, beyond, ended(5))
+        name, gap = "session 7 object 1", "gap 0/1-1 conflicting"
+        for journal, line, gaps, sums in (
+            ("without", f"{name} no information unplaced conflicting 2", [], [1, 0, 0, 0, 2, 0, 1]),
+            ("twice", f"{CONFLICTING} unplaced conflicting 1", [], [1, 0, 0, 0, 1, 0, 1]),
+            ("beyond", f"{WHOLE} unplaced conflicting 2", [], [1, 1, 0, 0, 2, 0, 0]),
+            ("both", f"{JOINED} unplaced conflicting 2", [gap], [1, 0, 1, 0, 3, 0, 0]),
+        ):
+            told, of_session = lines(line, *gaps), summary("session 7", *sums)
+            self.rows(
+                (f"{journal}: its line", f"gaps --conflicts {journal}", 0, told),
+                (journal, f"gaps --check --conflicts {journal}", 1, told, NOT_WHOLE),
+                (f"{journal}: sums", f"gaps --conflicts --summary {journal}", 0, of_session),
+                (f"{journal}: all sums", f"gaps --summary {journal}", 0, of_session),
+                (
+                    *(f"{journal}: checked", f"gaps --check --conflicts --summary {journal}", 1),
+                    *(of_session, NOT_WHOLE),
+                ),
+            )
+        self.row("only with the option", "gaps beyond", 0, WHOLE)
+        self.row("it is whole", "gaps --check beyond", 0, WHOLE)
+
 
 class Object(NamedTuple):
     """What plain `gaps` prints of an object."""
@@ -107,6 +141,7 @@ class Object(NamedTuple):
     session: str
     line: str
     gaps: list[str]
+    conflicts: int  # its symbols with two values
 
     @property
     def state(self) -> str:
@@ -114,25 +149,33 @@ class Object(NamedTuple):
 
     @property
     def is_conflict(self) -> bool:
-        if self.state.startswith("partial"):
-            return " conflicting 0 " not in self.state
-        return self.state == "conflicting information"
+        return self.conflicts > 0 or self.state == "conflicting information"
+
+    @property
+    def unplaced(self) -> str:
+        """The end of its line, if it has conflicts that are in no gap."""
+        placed = re.search("conflicting ([0-9]+)", self.state)
+        count = self.conflicts - (int(placed[1]) if placed else 0)
+        return f" unplaced conflicting {count}" if count else ""
 
     def counts(self) -> list[int]:
         partial = self.state.startswith("partial")
         of_symbols = [int(number) for number in re.findall("[0-9]+", self.state)]
         whole = self.state.startswith("whole")
         kinds = [int(whole), int(partial)]
-        return [1, *kinds, *(of_symbols if partial else [0, 0, 0]), 1 - sum(kinds)]
+        missing, _, misfit = of_symbols if partial else [0, 0, 0]
+        return [1, *kinds, missing, self.conflicts, misfit, 1 - sum(kinds)]
 
 
-def objects_of(text: list[str]) -> list[Object]:
+def objects_of(text: list[str], conflicts: list[int]) -> list[Object]:
+    """The objects of these lines, each of which has so many conflicts."""
     found: list[Object] = []
     for line in text:
         if line.startswith("gap "):
             found[-1].gaps.append(line)
         else:
-            found.append(Object(line.partition(" object ")[0], line, []))
+            count = conflicts[len(found)]
+            found.append(Object(line.partition(" object ")[0], line, [], count))
     return found
 
 
@@ -166,15 +209,16 @@ def drawn_object(draw: random.Random, key: str) -> list[str]:
     return entries
 
 
-def drawn_journal(draw: random.Random) -> list[str]:
-    entries = []
+def drawn_journal(draw: random.Random) -> list[list[str]]:
+    """The entries of each object."""
+    objects = []
     for sender in sorted(draw.sample((0, 1, (0xFFFF << 32) + 0x0A000001), draw.randint(1, 2))):
         for session in sorted(draw.sample(range(1, 6), draw.randint(1, 3))):
             for number in sorted(draw.sample(range(1, 9), draw.randint(1, 4))):
                 kind = draw.randrange(2)
                 key = f"{sender:032X} {session:012X} 01 {2 * number + kind:028X}"
-                entries += drawn_object(draw, key)
-    return entries
+                objects.append(drawn_object(draw, key))
+    return objects
 
 
 class GapsDrawn(Case):
@@ -183,9 +227,11 @@ class GapsDrawn(Case):
     def test_journals(self) -> None:
         wholes = 0
         for number in range(JOURNALS):
-            entries = drawn_journal(random.Random(number))
+            drawn = [entries for entries in drawn_journal(random.Random(number)) if entries]
+            entries = [entry for of_object in drawn for entry in of_object]
             self.file("drawn", HEADER2, *entries, ended(len(entries)))
-            objects = objects_of(self.made("gaps drawn").lines())
+            conflicts = [sum(entry.startswith("04 ") for entry in each) for each in drawn]
+            objects = objects_of(self.made("gaps drawn").lines(), conflicts)
             conflicting = [one for one in objects if one.is_conflict]
             whole = all(one.state.startswith("whole") for one in objects)
             wholes += whole
@@ -204,7 +250,10 @@ class GapsDrawn(Case):
         of_symbols = [
             line
             for one in conflicting
-            for line in (one.line, *(gap for gap in one.gaps if gap.endswith(" conflicting")))
+            for line in (
+                one.line + one.unplaced,
+                *(gap for gap in one.gaps if gap.endswith(" conflicting")),
+            )
         ]
         status, fault = faults[not conflicting]
         words = "gaps --check --conflicts drawn"

@@ -89,6 +89,98 @@ class Join(Case):
             self.makes("a journal", "join -o got sent pipe sent", joined(4, 4), "joined2")
 
 
+class Reasons(Case):
+    """Why datagrams are refused: a line for each reason that occurred, in the order of FORMATS."""
+
+    FIXED = "00000000 00000007 00000001"
+    INSTANCE = "00000000 00000007 00000000"
+    # Each reason that a datagram of a file may have, and one
+    REFUSED = {
+        "2 TooShort": "10A004",
+        "3 LctVersion": f"20A00400 {FIXED}",
+        "4 HeaderLength": f"10A00300 {FIXED}",
+        "5 HeaderCut": f"10A00500 {FIXED}",
+        "6 NoTsi": "10200300 00000000 00000001",
+        "7 NoToi": "10800300 00000000 00000007",
+        "8 Codepoint": f"10A00405 {FIXED}",
+        "9 ExtensionLength": f"10A00500 {FIXED} 01000000",
+        "10 Repeated": f"10A00600 {FIXED} C0200000 C0200000",
+        "11 FtiLength": f"10A00500 {FIXED} 40010000",
+        "12 Information SymbolLength": f"10A00800 {FIXED} 40040000 00000005 00000000 00000002",
+        "12 Information BlockLength": f"10A00800 {FIXED} 40040000 00000005 00000004 00000000",
+        "12 Information TooManyBlocks": f"10A00800 {FIXED} 40040000 00010001 00000001 00000001",
+        "12 Information BlockTooLong": f"10A00800 {FIXED} 40040000 00010001 00000001 00010001",
+        "13 NoInstance": f"10A00400 {INSTANCE}",
+        "14 FluteVersion": f"10A00500 {INSTANCE} C0100000",
+        "15 ContentEncoded": f"10A00500 {FIXED} C1010000",
+        "16 PayloadIdCut": f"10A00400 {FIXED} 00",
+    }
+
+    def datagrams(self, name: str, *texts: str) -> None:
+        """Makes a datagram file of these datagrams, in hexadecimal."""
+        records = [bytes.fromhex(text) for text in texts]
+        self.write(name, b"FLDG\0\1" + b"".join(
+            len(record).to_bytes(2, "big") + record for record in records
+        ))
+
+    def reported(self, datagrams: int, counts: dict[str, int], *others: str) -> str:
+        """What `join --reasons` prints of datagrams of which these are refused."""
+        reasons = [f"refused {count}: {reason}" for reason, count in counts.items()]
+        refused = f"refused {sum(counts.values())}"
+        return lines(f"datagrams {datagrams}", refused, *reasons, *others)
+
+    def test_each(self) -> None:
+        """Each alone, as often as its place says, and as `packet` tells it."""
+        for number, (reason, text) in enumerate(self.REFUSED.items(), 1):
+            self.datagrams("some", *[text] * number)
+            wanted = self.reported(number, {reason: number}, "entries 0")
+            self.makes(reason, "join --reasons -o got some", wanted, "empty2")
+            self.row(f"{reason} of packet", ["packet", text.replace(" ", "")], 1, "",
+                     f"refused: {reason}")
+
+    def test_all(self) -> None:
+        """In several files, in any order, with packets between; in the order of the reasons."""
+        counts = {reason: 2 * number for number, reason in enumerate(self.REFUSED, 1)}
+        texts = [
+            text for number, text in enumerate(self.REFUSED.values(), 1) for _ in range(number)
+        ]
+        self.datagrams("some", *texts)
+        self.datagrams("turned", *reversed(texts))
+        wanted = self.reported(2 * len(texts) + 2, counts, "entries 3")
+        self.makes("all", "join --reasons -o got some sent turned whole", wanted, "whole2")
+        wanted = self.reported(2 * len(texts) + 2, counts, "others 2", "entries 0")
+        self.makes("of no session", "join -o got --tsi 8 --reasons some sent turned", wanted,
+                   "empty2")
+        wanted = self.reported(2 * len(texts) + 2, counts, "entries 3")
+        self.makes("put aside meanwhile", "join --reasons --memory 1 -o got some sent turned",
+                   wanted, "whole2")
+
+    def test_first_reason(self) -> None:
+        """Of several reasons the first counts."""
+        self.datagrams("some", "20A00305", f"10A00305 {self.FIXED}", f"10A00405 {self.INSTANCE}")
+        counts = {"3 LctVersion": 1, "4 HeaderLength": 1, "8 Codepoint": 1}
+        wanted = self.reported(3, counts, "entries 0")
+        self.makes("the first", "join --reasons -o got some", wanted, "empty2")
+
+    def test_none(self) -> None:
+        self.makes("no refused datagram", "join --reasons -o got sent", joined(2, 3), "whole2")
+        self.makes("no datagram file", "join --reasons -o got whole", joined(0, 3), "whole2")
+        self.rows(
+            ("a journal at fault", "join -o none --reasons refused bad", 1, "",
+             "input 2: Trailing"),
+            ("twice", "join -o none --reasons --reasons refused", 2, "", None),
+            ("with a value", "join -o none --reasons=8 refused", 2, "", None),
+            ("of another command", "merge -o none --reasons whole others", 2, "", None),
+        )
+        self.absent("no file after a fault", "none")
+
+    def test_standard_output(self) -> None:
+        """With the journal on standard output the lines go to standard error."""
+        wanted = self.reported(1, {"2 TooShort": 1}, "entries 0")
+        done = self.program("join --reasons -o - refused")
+        self.assertEqual((done.status, done.err.decode()), (0, wanted), done)
+
+
 class JoinLimits(Case):
     """A fault of any input is reported before `full` of all inputs together."""
 

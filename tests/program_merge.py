@@ -79,7 +79,7 @@ class Forget(Case):
     def test_words(self) -> None:
         both = "forget -o got --source nobody --symbol x whole"
         self.rows(
-            ("nothing in particular", "forget -o got whole", 2, "", "bad option: --conflicts"),
+            ("nothing", "forget -o got whole", 2, "", "missing option: what to forget"),
             ("no block", "forget -o got --symbol 0 whole", 2, "", "bad number: --symbol"),
             ("range", "forget -o got --symbol 0/65536 whole", 2, "", "bad number: --symbol"),
             ("an FDT Instance without the TOI 0", "forget -o got --fdt 3 whole", 2, "", "bad key"),

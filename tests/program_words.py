@@ -3,7 +3,7 @@ from __future__ import annotations
 
 import re
 
-from program_case import SYMBOL, Case, lines
+from program_case import FIELDS, NAME, SYMBOL, Case, lines
 
 FULL = {"to": "/dev/full"}
 
@@ -16,6 +16,47 @@ class Words(Case):
             ("no datagram", "packet", 2, "", None),
             ("no text", ["packet", b"\xff\xfe"], 2, "", "an argument is not text"),
         )
+
+    def test_standard_input_once(self) -> None:
+        for words in (
+            *("join -o got - -", "join -o got - whole -", "merge -o got - -", "minus -o got - -"),
+            *("compare - -", "compare --check --tsi 7 - -", "info -o got --list - -"),
+        ):
+            self.row(words, words, 2, "", "standard input twice", stdin=self.path("whole"))
+        self.absent("no file after them", "got")
+        whole, words = self.path("whole"), "merge -o - - empty"
+        self.row("an input, and OUT", words, 0, self.read("whole2"), "entries 3", stdin=whole)
+
+    def test_options(self) -> None:
+        rows = [
+            ("extract -o got --toi 1 whole", "missing option: --tsi"),
+            ("extract -o got --tsi 7 whole", "missing option: --toi"),
+            ("extract -o got --tsi 7 --tsi 7 --toi 1 whole", "bad option: --tsi"),
+            (f"extract -o got --all {NAME} whole", "bad option: --toi"),
+            ("extract -o got -f --all whole", "bad option: --force"),
+            (f"info -o got {NAME} --symbol 4 --block 2 whole", "missing option: --length"),
+            (f"info -o got --list lines {NAME} {FIELDS} whole", "bad option: --tsi"),
+            ("forget -o got whole", "missing option: what to forget"),
+            ("forget -o got --any-size whole", "missing option: what to forget"),
+        ]
+        self.rows(*((words, words, 2, "", fault) for words, fault in rows))
+        self.absent("no file after them", "got")
+
+    def test_any_size(self) -> None:
+        """Each command that reads a journal takes it."""
+        for words in "show whole", "gaps whole", "compare whole whole":
+            plain = self.row(words, words, 0, None)
+            self.row(f"{words}, of any size", f"{words} --any-size", 0, plain.out)
+        for words in (
+            *("join -o got whole", "merge -o got whole others", "minus -o got whole others"),
+            *(f"extract -o got {NAME} whole", f"info -o got {NAME} {FIELDS} whole"),
+            f"forget -o got {NAME} others",
+        ):
+            plain = self.row(words, words, 0, None)
+            wanted = self.read("got")
+            self.row(f"{words}, of any size", f"{words} --any-size", 0, plain.out)
+            self.same(f"{words}: OUT", "got", wanted)
+            self.remove("got")
 
     def test_versions(self) -> None:
         self.row("the version", "-V", 0, "flutejoin 0.1.0")

@@ -8,6 +8,7 @@ from __future__ import annotations
 
 import os
 import random
+import struct
 import sys
 import time
 
@@ -105,6 +106,36 @@ class Groups(Sent):
         script = "cat good | flutejoin join --memory 1K -o - - | cat > apart"
         self.check("through pipes", self.shell(script), 0, "", None)
         self.same("the same journal", "apart", "whole")
+
+
+class Hostile(Sent):
+    """Datagrams of very many objects or sessions, which a few bytes each make."""
+
+    def test_bound(self) -> None:
+        """With room for 8 MiB the program takes no more than 32 MiB."""
+        for name, datagrams in (
+            ("objects of one symbol", (datagram(7, toi) for toi in range(1, 100_001))),
+            ("sessions of one object", (datagram(tsi, 1) for tsi in range(1, 32_001))),
+            ("sessions of few", (datagram(1 + n // 4, 1 + n % 4) for n in range(100_000))),
+            ("objects of no symbol", (datagram(7, toi, None) for toi in range(1, 100_001))),
+            ("small symbols", (datagram(7, n % 4, n // 4) for n in range(200_000))),
+            ("one after another", (datagram(7, n % 50_000, n % 2) for n in range(150_000))),
+        ):
+            self.datagrams("hostile", [len(each).to_bytes(2, "big") + each for each in datagrams])
+            self.made("join --any-size --memory 1G -f -o whole hostile")
+            words = "flutejoin join --any-size --memory 8M -f -o apart hostile"
+            done = self.shell(f"ulimit -v 32768; exec {words}")
+            self.check(name, done, 0, None)
+            self.same(f"{name}: its journal", "apart", "whole")
+
+
+def datagram(tsi: int, toi: int, symbol: int | None = 0) -> bytes:
+    """A datagram of one small symbol, or, without one, of transmission information."""
+    names = struct.pack(">III", 0, tsi, toi)
+    if symbol is None:
+        info = struct.pack(">HHIHHI", 0x4004, 0, 5, 0, 4, 2)
+        return bytes.fromhex("10A00800") + names + info + bytes(4)
+    return bytes.fromhex("10A00400") + names + symbol.to_bytes(4, "big") + b"abcd"
 
 
 class Full(Mounted, Sent):

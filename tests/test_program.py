@@ -7,10 +7,12 @@ import sys
 
 sys.dont_write_bytecode = True
 import run
+from program_compare import Compare, CompareDrawn
 from program_extract import Extract, Info, InfoList
 from program_gaps import GapsCheck, GapsDrawn, GapsSummary
-from program_join import Join, JoinLimits, Symbols
+from program_join import Join, JoinLimits, Reasons, Symbols
 from program_merge import Carousel, Forget, Merge
+from program_minus import Minus, MinusDrawn
 from program_only import Names, OnlyObjects, Sessions
 from program_prints import Gaps, Objects, Packet, Show
 from program_sends import Sending
@@ -21,9 +23,10 @@ from program_words import Help, Words
 
 __all__ = [
     "Packet", "Show", "Gaps", "GapsCheck", "GapsSummary", "GapsDrawn", "Objects", "Extract",
-    "Info", "InfoList", "Merge", "Forget", "Carousel", "Sending", "Join", "JoinLimits",
-    "Symbols", "Sessions", "Names", "OnlyObjects", "Sparse", "BothVersions", "Senders",
-    "Faults", "ExtractOf", "InfoOf", "JoinOf", "BadSources", "Help", "Words",
+    "Info", "InfoList", "Merge", "Minus", "MinusDrawn", "Compare", "CompareDrawn", "Forget",
+    "Carousel", "Sending", "Join", "JoinLimits", "Reasons", "Symbols", "Sessions", "Names",
+    "OnlyObjects", "Sparse", "BothVersions", "Senders", "Faults", "ExtractOf", "InfoOf", "JoinOf",
+    "BadSources", "Help", "Words",
 ]
 
 if __name__ == "__main__":

@@ -35,7 +35,14 @@ OF_MEMORY = "OutOfMemory|out of memory|AllocError|AllocFailed|memory allocation 
 OF_DEVICES = "DeviceFault|(Cannot)?Write|CannotPutAside"
 ERROR = re.compile(rf"error: (.*\W)?({OF_MEMORY}|{OF_DEVICES})[\W\d]*$", re.I | re.M)
 MOST = 10_000  # runs of a command
-PRINTS = "--help", f"packet {SYMBOL}", "show whole", "gaps whole"
+PRINTS = (
+    "--help",
+    f"packet {SYMBOL}",
+    "show whole",
+    "gaps whole",
+    "compare whole others",
+    "compare --summary whole others",
+)
 OUTPUTS = (
     f"extract -o made {NAME} whole",
     f"info -o made {NAME} {FIELDS} others",
@@ -43,6 +50,7 @@ OUTPUTS = (
     "join -o made sent others",
     "join -o made --source 0a000001 sent others",
     "merge -o made whole others",
+    "minus -o made others whole",
     f"forget -o made {NAME} --symbol 0/1 whole",
     f"carousel -o made {NAME} --symbol 4 --block 2 content",
     f"carousel -o made {NAME} --symbol 4 --block 2 /dev/null",

@@ -75,7 +75,8 @@ module _ {S T : Type 0} (a : Behaviour S) (b : Behaviour T) where
   StopsOne side s t s' t' (Input fault) = StopAs side fault.number fault.fault s t s' t'
   StopsOne side s t s' t' Write = ⊥
 
-  -- both gave their facts and ended, and of each object that they name a row was told
+  -- both gave their facts and ended, no device failed, and of each object that they name a row was
+  -- told
   pub record ComparedAs (s : S) (t : T) (s' : S) (t' : T) (old new : List Row) : Type 0 where
     pub facts : List Fact
     pub others : List Fact
@@ -83,6 +84,10 @@ module _ {S T : Type 0} (a : Behaviour S) (b : Behaviour T) where
     pub second_tells : b.tells t others
     pub first_ends : a.ends s s' facts
     pub second_ends : b.ends t t' others
+    pub first_quiet : a.fails s s' None
+    pub second_quiet : b.fails t t' None
+    pub first_few : length facts ≤ a.most s
+    pub second_few : length others ≤ b.most t
     pub rows : List Row
     pub are : AreRows facts others rows
     pub told : new ≡ old ++ rows

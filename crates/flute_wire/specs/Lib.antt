@@ -3,6 +3,7 @@ pub mod Extensions
 pub mod Content
 pub mod Datagram
 pub mod Refusals
+pub mod RefusalWords
 pub mod Walk
 pub mod Facts
 pub mod Reading

@@ -35,6 +35,6 @@ pub use datagram::{Datagram, DatagramFault};
 pub use laws::{an_object_is_told_by_its_datagrams, one_reading};
 pub use packet::Packet;
 pub use reading::read;
-pub use refusal::Refusal;
+pub use refusal::{REFUSALS, Refusal};
 pub use sending::{CarouselFault, Datagrams, carousel};
 pub use writing::{Outgoing, WriteFault, write};

@@ -1,5 +1,6 @@
 mod lines_lemmas
 mod gaps_lemmas
+mod compare_lemmas
 mod SelectedFacts
 mod Shown
 mod Mapped
@@ -7,6 +8,7 @@ mod join_lemmas
 mod Firsts
 mod extract_lemmas
 mod Forgotten
+mod Subtracted
 mod Lefts
 mod info_lemmas
 mod carousel_lemmas

@@ -12,10 +12,12 @@ use Rattle.flute_journal.specs.Framing.{HasFault}
 use Rattle.flute_streams.specs.declared.streams.owned_journal_stream.OwnedJournalStream.{OwnedJournalStream}
 use Rattle.flutejoin.specs.Asides.{AreRunsOf, AreHeld, IsNewRun}
 use Rattle.flutejoin.specs.Limits.{Limits, IsOver}
-use Rattle.flutejoin.specs.Refused.{is_refused}
+use Rattle.flutejoin.specs.Refused.{AreReasons, all_counts, count_for, is_refused}
 use Rattle.flutejoin.specs.declared.limits.TheConstants.{MAX_ENTRIES}
-use Rattle.flutejoin.specs.declared.join.joined.Joined.{Joined}
 use Rattle.flutejoin.specs.declared.join.held_files.HeldFiles.{HeldFiles}
+use Rattle.flutejoin.specs.declared.join.reasons.Reasons.{Reasons}
+use Rattle.flute_wire.specs.Refusals.{Refuses}
+use Rattle.flute_wire.specs.declared.refusal.Refusal.{Refusal}
 use Rattle.flute_journal.specs.Kinds.{HasKind, IsNeither}
 use Rattle.flutejoin.specs.declared.command_fault.CommandFault.{CommandFault}
 use Rattle.flutejoin.specs.declared.command_fault.CommandFault.TheVariants.{UnknownKind, Input}
@@ -42,14 +44,22 @@ use Rattle.flutejoin.specs.InputStreams.{input_behaviour, journal_behaviour, lef
 abbrev pub StoreFails : Limits → List Fact → CommandFault → Type 0
 StoreFails most told fault = ((fault ≡ Full) × IsOver most told) ⊎ (fault ≡ OutOfMemory)
 
-module _ {s o y : ℕ} where
-  -- one more datagram, and whether it is refused, are counted, and these facts of it are held
-  pub record TakesDatagram (told : List Fact) (before : Joined s o y) (datagram : List ℕ)
-      (now : Joined s o y) : Type 0 where
-    pub content : Same now.store (before.store ++ told)
-    pub datagrams : now.datagrams ≡ before.datagrams + 1
-    pub refused : now.refused
-        ≡ (if is_refused datagram then before.refused + 1 else before.refused)
+-- a reason for which the datagram is refused is counted once more
+abbrev pub CountsReason : Reasons → List ℕ → Reasons → Type 0
+CountsReason before datagram now =
+    (why : Refusal)
+    → (Refuses datagram why × (count_for now why ≡ count_for before why + 1))
+    ⊎ (¬ Refuses datagram why × (count_for now why ≡ count_for before why))
+
+module _ {s o y : ℕ} {R : Type 0} where
+  -- one more datagram, whether it is refused, and why, are counted, and these facts of it are held
+  pub record TakesDatagram (told : List Fact) (before : HeldFiles s o y R) (datagram : List ℕ)
+      (now : HeldFiles s o y R) : Type 0 where
+    pub content : Same now.told.store (before.told.store ++ told)
+    pub datagrams : now.told.datagrams ≡ before.told.datagrams + 1
+    pub refused : now.told.refused
+        ≡ (if is_refused datagram then before.told.refused + 1 else before.told.refused)
+    pub reasons : CountsReason before.reasons datagram now.reasons
 
 module _ {s o y : ℕ} {R : Type 0} (unread : R → Option (List ℕ)) (buffered : R → List ℕ) where
   -- these datagrams are counted, and their facts held, in memory or aside
@@ -60,6 +70,7 @@ module _ {s o y : ℕ} {R : Type 0} (unread : R → Option (List ℕ)) (buffered
     pub content : Same (held.told.store ++ aside) (flat_map (facts_by choice) datagrams)
     pub count : held.told.datagrams ≡ length datagrams
     pub refused : held.told.refused ≡ count_by is_refused datagrams
+    pub reasons : AreReasons held.reasons datagrams
 
   -- the facts of these datagrams are held; or, alone, they are over the limits
   abbrev pub HoldsAll : Choice → Bool → HeldFiles s o y R → List (List ℕ) → Type 0
@@ -86,11 +97,12 @@ module _ {s o y : ℕ} {R : Type 0} (unread : R → Option (List ℕ)) (buffered
       (facts : List Fact) × AreHeld unread buffered held.told.store run facts
       × Same facts (flat_map (facts_by choice) datagrams)
 
-  -- no more datagrams are refused, or of others, than there are; and there are few runs, all new,
-  -- and none without a datagram
+  -- no more datagrams are refused, or of others, than there are, each of them for a reason; and
+  -- there are few runs, all new, and none without a datagram
   abbrev pub IsSound : (R → ℕ) → HeldFiles s o y R → Type 0
   IsSound failures held =
       (held.told.refused ≤ held.told.datagrams) × (held.others ≤ held.told.datagrams)
+      × (all_counts held.reasons ≡ held.told.refused)
       × (length held.runs.items ≤ 64) × (length held.runs.items ≤ 64 * held.told.datagrams)
       × AllByRecursion (IsNewRun unread buffered failures) held.runs.items
 

@@ -21,6 +21,11 @@ pub mod InputAside
 pub mod Digits
 pub mod Examples
 pub mod Merge
+pub mod Minus
+pub mod Parts
+pub mod CompareSums
+pub mod CompareLines
+pub mod Compare
 pub mod Forget
 pub mod Carousel
 pub mod Sending
@@ -31,6 +36,7 @@ pub mod JoinInputs
 pub mod InputStreams
 pub mod Joining
 pub mod JoinFaults
+pub mod HeldSizes
 pub mod JoinParts
 pub mod JoinTrees
 pub mod Info
@@ -45,3 +51,5 @@ pub mod NextEntry
 pub mod Progress
 pub mod Walk
 pub mod GapLines
+pub mod RowsTold
+pub mod RowLaws

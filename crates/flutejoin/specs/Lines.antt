@@ -100,6 +100,12 @@ status_words (Whole length) = codes "whole " ++ decimal length
 unfoldable pub status_line : Key → Status → List ℕ
 status_line key status = line (key_words key ++ codes " " ++ status_words status)
 
+-- and how many of its symbols in conflict are in no gap of its partition
+unfoldable pub unplaced_line : Key → Status → ℕ → List ℕ
+unplaced_line key status n =
+    line (key_words key ++ codes " " ++ status_words status ++ codes " unplaced conflicting "
+    ++ decimal n)
+
 abbrev pub reason_words : Reason → List ℕ
 reason_words Missing = codes " missing"
 reason_words Conflicting = codes " conflicting"

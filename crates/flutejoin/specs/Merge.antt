@@ -1,4 +1,4 @@
--- Why two journals are not merged.
+-- Why two journals are not read to their ends.
 use Rattle.std.specs.Prelude.{◌≡◌, ℕ, zero, suc, ◌⊎◌, List, Option, ⊤, Result, Err}
 use Rattle.flute_parts.specs.declared.fact.Fact.{Fact}
 use Rattle.flute_journal.specs.Input.{Fails}
@@ -16,12 +16,12 @@ MergeFails first second (Input number fault) =
 MergeFails first second CannotWrite = ⊤
 MergeFails first second _ = ⊥
 
--- how often each source failed in a merge that gave this: only if its input was at fault
-abbrev pub FirstInputFails : ℕ → ℕ → Result ℕ CommandFault → Type 0
+-- how often each source failed in a command that gave this: only if its input was at fault
+abbrev pub FirstInputFails : {T : Type 0} → ℕ → ℕ → Result T CommandFault → Type 0
 FirstInputFails old new (Err (Input (suc zero) fault)) = Fails {T = Option Fact} old new (Err fault)
 FirstInputFails old new _ = new ≡ old
 
-abbrev pub SecondInputFails : ℕ → ℕ → Result ℕ CommandFault → Type 0
+abbrev pub SecondInputFails : {T : Type 0} → ℕ → ℕ → Result T CommandFault → Type 0
 SecondInputFails old new (Err (Input (suc (suc zero)) fault)) =
     Fails {T = Option Fact} old new (Err fault)
 SecondInputFails old new _ = new ≡ old

@@ -1,5 +1,5 @@
 -- Which files that are there an output overwrites, and why not.
-use Rattle.std.specs.Prelude.{◌≡◌, ◌⊎◌, ℕ, Bool, List, if◌then◌else◌, ⊤}
+use Rattle.std.specs.Prelude.{◌≡◌, ◌⊎◌, ℕ, Bool, true, false, List, if◌then◌else◌, ⊤}
 use Rattle.flute_journal.specs.Kinds.{HasKind, IsNeither}
 use Rattle.flute_journal.specs.declared.kind.Kind.TheVariants.{Datagrams}
 use Rattle.flutejoin.specs.declared.output_guard.Overwrites.{Overwrites}
@@ -22,6 +22,12 @@ abbrev pub IsOverwritten : Overwrites → List ℕ → Type 0
 IsOverwritten Any first = ⊤
 IsOverwritten Journals first = ¬ HasKind Datagrams first
 IsOverwritten OtherFiles first = IsNeither first
+
+-- an input is kept whose bytes would be lost, unless the command is forced
+abbrev pub spares : Overwrites → Bool
+spares Any = false
+spares Journals = true
+spares OtherFiles = true
 
 -- why a file is not
 abbrev pub IsKeptOutput : CommandFault → Type 0

@@ -4,6 +4,9 @@ use Rattle.flutejoin.specs.declared.command_fault.CommandFault.{CommandFault}
 use Rattle.flutejoin.specs.declared.command_fault.CommandFault.TheVariants.{CommandLine, NotText}
 use Rattle.flutejoin.specs.declared.command_fault.CommandFault.TheVariants.{BadNumber, BadSource}
 use Rattle.flutejoin.specs.declared.command_fault.CommandFault.TheVariants.{BadOption, BadKey}
+use Rattle.flutejoin.specs.declared.command_fault.CommandFault.TheVariants.{MissingChoice}
+use Rattle.flutejoin.specs.declared.command_fault.CommandFault.TheVariants.{MissingOption}
+use Rattle.flutejoin.specs.declared.command_fault.CommandFault.TheVariants.{StandardInputTwice}
 use Rattle.flutejoin.specs.declared.command_fault.CommandFault.TheVariants.{TooManyInputs}
 use Rattle.flutejoin.specs.declared.command_fault.CommandFault.TheVariants.{OutputIsInput}
 use Rattle.flutejoin.specs.declared.command_fault.CommandFault.TheVariants.{OutputIsDatagrams}
@@ -19,7 +22,7 @@ use Rattle.flutejoin.specs.declared.command_fault.CommandFault.TheVariants.{Conf
 use Rattle.flutejoin.specs.declared.command_fault.CommandFault.TheVariants.{NotWhole, OutOfMemory}
 use Rattle.flutejoin.specs.declared.command_fault.CommandFault.TheVariants.{CannotCreate}
 use Rattle.flutejoin.specs.declared.command_fault.CommandFault.TheVariants.{CannotWrite, NotOnDisk}
-use Rattle.flutejoin.specs.declared.command_fault.CommandFault.TheVariants.{NotAllWhole}
+use Rattle.flutejoin.specs.declared.command_fault.CommandFault.TheVariants.{NotAllWhole, ValuesDiffer}
 use Rattle.flutejoin.specs.declared.command_fault.CommandFault.TheVariants.{CannotPutAside}
 use Rattle.flute_journal.specs.declared.fault.ReadFault.{ReadFault}
 use Rattle.flute_journal.specs.declared.fault.ReadFault.TheVariants as faults
@@ -38,9 +41,12 @@ exit_status (CommandLine text) = 2
 exit_status NotText = 2
 exit_status (BadNumber option) = 2
 exit_status (BadOption option) = 2
+exit_status (MissingOption option) = 2
+exit_status MissingChoice = 2
 exit_status BadSource = 2
 exit_status BadKey = 2
 exit_status TooManyInputs = 2
+exit_status StandardInputTwice = 2
 exit_status OutputIsInput = 2
 exit_status OutputIsDatagrams = 2
 exit_status OutputIsJournal = 2
@@ -65,6 +71,7 @@ exit_status CannotWrite = 3
 exit_status CannotPutAside = 3
 exit_status NotOnDisk = 3
 exit_status NotAllWhole = 1
+exit_status ValuesDiffer = 1
 
 -- what the fault of a journal with this number, read into a store, is
 abbrev pub of_load : ℕ → LoadFault → CommandFault

@@ -6,9 +6,9 @@ use Rattle.flute_parts.specs.Session.{session}
 use Rattle.flute_parts.specs.declared.object_key.ObjectName.TheVariants.{File}
 use Rattle.flute_store.specs.declared.gap.Reason.TheVariants.{Missing, Conflicting}
 use Rattle.flute_store.specs.declared.status.Status.TheVariants.{ConflictingInformation}
-use Rattle.flute_store.specs.declared.status.Status.TheVariants.{Partial, Whole}
-use Rattle.flutejoin.specs.Lines.{gap_line, status_line}
-use Rattle.flutejoin.specs.Styles.{passes_check, printed, told_lines}
+use Rattle.flute_store.specs.declared.status.Status.TheVariants.{NoInformation, Partial, Whole}
+use Rattle.flutejoin.specs.Lines.{gap_line, status_line, unplaced_line}
+use Rattle.flutejoin.specs.Styles.{object_line, passes_check, printed, told_lines}
 use Rattle.flutejoin.specs.Sums.{by_session, sums_line}
 use Rattle.flutejoin.specs.Told.{Told}
 use Rattle.flutejoin.specs.declared.lines.style.Style.{Style}
@@ -20,6 +20,7 @@ whole = record {
   status = Whole 5;
   gaps = [];
   bytes = Some (codes "ABCDE");
+  conflicts = 0;
 }
 
 abbrev partial : Told
@@ -30,6 +31,7 @@ partial = record {
       record { sbn = 0; first = 1; last = 2; reason = Missing }
       ∷ record { sbn = 0; first = 3; last = 3; reason = Conflicting } ∷ [];
   bytes = None;
+  conflicts = 1;
 }
 
 abbrev conflict : Told
@@ -38,6 +40,20 @@ conflict = record {
   status = ConflictingInformation;
   gaps = [];
   bytes = None;
+  conflicts = 0;
+}
+
+-- a whole object, and one without information, with a conflict that no gap has
+abbrev beyond : Told
+beyond = record whole { conflicts = 1 }
+
+abbrev unknown : Told
+unknown = record {
+  key = record { session = session 0 8; object = File 2 };
+  status = NoInformation;
+  gaps = [];
+  bytes = None;
+  conflicts = 2;
 }
 
 abbrev objects : List Told
@@ -52,13 +68,13 @@ pub plain : printed (style false false) objects
     ++ codes "session 7 object 2 partial missing 2 conflicting 1 misfit 0\n"
     ++ codes "gap 0/1-2 missing\n" ++ codes "gap 0/3-3 conflicting\n"
     ++ codes "session 8 object 1 conflicting information\n"
-unfolding digits printed told_lines status_line gap_line
+unfolding digits printed told_lines object_line status_line gap_line
 plain = refl
 
 pub conflicts : printed (style false true) objects
     ≡ codes "session 7 object 2 partial missing 2 conflicting 1 misfit 0\n"
     ++ codes "gap 0/3-3 conflicting\n" ++ codes "session 8 object 1 conflicting information\n"
-unfolding digits printed told_lines status_line gap_line
+unfolding digits printed told_lines object_line status_line gap_line
 conflicts = refl
 
 pub summary : printed (style true false) objects
@@ -73,6 +89,24 @@ pub conflicts_of_sessions : printed (style true true) objects
     ++ codes "session 8 objects 1 whole 0 partial 0 missing 0 conflicting 0 misfit 0 unknown 1\n"
 unfolding digits printed by_session sums_line
 conflicts_of_sessions = refl
+
+pub unplaced : printed (style false true) (beyond ∷ unknown ∷ [])
+    ≡ codes "session 7 object 1 whole 5 unplaced conflicting 1\n"
+    ++ codes "session 8 object 2 no information unplaced conflicting 2\n"
+unfolding digits printed told_lines object_line unplaced_line
+unplaced = refl
+
+pub unplaced_in_sums : printed (style true true) (beyond ∷ unknown ∷ [])
+    ≡ codes "session 7 objects 1 whole 1 partial 0 missing 0 conflicting 1 misfit 0 unknown 0\n"
+    ++ codes "session 8 objects 1 whole 0 partial 0 missing 0 conflicting 2 misfit 0 unknown 1\n"
+unfolding digits printed by_session sums_line
+unplaced_in_sums = refl
+
+-- a conflict that no gap has does not pass
+pub unplaced_checked : (passes_check (style false true) (beyond ∷ []) ≡ false)
+    × (passes_check (style false true) (unknown ∷ []) ≡ false)
+    × (passes_check (style false false) (beyond ∷ []) ≡ true)
+unplaced_checked = (refl, refl, refl)
 
 pub checked : (passes_check (style false false) objects ≡ false)
     × (passes_check (style false false) (whole ∷ []) ≡ true)

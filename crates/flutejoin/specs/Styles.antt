@@ -1,7 +1,8 @@
 -- What `gaps` prints of objects, by its options.
-use Rattle.std.specs.Prelude.{◌≡◌, ℕ, ◌&&◌, ◌||◌, Bool, true, false, not, List, [], ◌++◌, filter}
+use Rattle.std.specs.Prelude.{◌≡◌, ℕ, ◌-◌, ◌&&◌, ◌||◌, Bool, true, false, not, List, [], ◌++◌, filter}
 use Rattle.std.specs.Prelude.{if◌then◌else◌, nat_lt}
 use Rattle.std.specs.List.{flat_map, list_all}
+use Rattle.flute_parts.specs.declared.key.Key.{Key}
 use Rattle.flute_store.specs.declared.gap.Reason.{Reason}
 use Rattle.flute_store.specs.declared.gap.Reason.TheVariants.{Conflicting}
 use Rattle.flute_store.specs.declared.gap.Gap.{Gap}
@@ -9,7 +10,7 @@ use Rattle.flute_store.specs.declared.status.Status.{Status}
 use Rattle.flute_store.specs.declared.status.Status.TheVariants.{ConflictingInformation}
 use Rattle.flute_store.specs.declared.status.Status.TheVariants.{Partial, Whole}
 use Rattle.flute_store.specs.Objects.{same_reason}
-use Rattle.flutejoin.specs.Lines.{gap_line, status_line}
+use Rattle.flutejoin.specs.Lines.{gap_line, status_line, unplaced_line}
 use Rattle.flutejoin.specs.Sums.{by_session, session_line}
 use Rattle.flutejoin.specs.Told.{Told}
 use Rattle.flutejoin.specs.declared.lines.style.Style.{Style}
@@ -18,15 +19,16 @@ abbrev pub is_whole : Status → Bool
 is_whole (Whole length) = true
 is_whole _ = false
 
--- its information has two values, or some of its symbols have
+-- its information has two values, or some symbols of its partition have
 abbrev pub has_conflict : Status → Bool
 has_conflict ConflictingInformation = true
 has_conflict (Partial missing conflicting misfit) = nat_lt 0 conflicting
 has_conflict _ = false
 
--- with `--conflicts` only objects with a conflict are listed
-abbrev pub is_told : Style → Status → Bool
-is_told style status = not style.conflicts || has_conflict status
+-- with `--conflicts` only objects with a conflict are listed, whether or not the partition has it
+abbrev pub is_told : Style → Status → ℕ → Bool
+is_told style status conflicts =
+    not style.conflicts || (nat_lt 0 conflicts || has_conflict status)
 
 -- and only their gaps of symbols in conflict; with `--summary` none
 abbrev pub is_shown : Style → Reason → Bool
@@ -35,13 +37,30 @@ is_shown style reason = not style.summary && (not style.conflicts || same_reason
 abbrev pub shown_gap : Style → Gap → List ℕ
 shown_gap style gap = if is_shown style gap.reason then gap_line gap else []
 
+-- how many symbols of its partition are in conflict
+abbrev pub conflicting_in : Status → ℕ
+conflicting_in (Partial missing conflicting misfit) = conflicting
+conflicting_in _ = 0
+
+-- how many of so many conflicts are told in the line of an object: with `--conflicts` those that
+-- none of its gaps has
+abbrev pub unplaced_in : Style → Status → ℕ → ℕ
+unplaced_in style status conflicts =
+    if style.conflicts then conflicts - conflicting_in status else 0
+
+unfoldable pub object_line : Style → Key → Status → ℕ → List ℕ
+object_line style key status conflicts =
+    if nat_lt 0 (unplaced_in style status conflicts)
+    then unplaced_line key status (unplaced_in style status conflicts) else status_line key status
+
 -- the line of an object, and those of its gaps
 unfoldable pub told_lines : Style → Told → List ℕ
-told_lines style t = status_line t.key t.status ++ flat_map (shown_gap style) t.gaps
+told_lines style t =
+    object_line style t.key t.status t.conflicts ++ flat_map (shown_gap style) t.gaps
 
 -- the objects that are listed
 abbrev pub listed_by : Style → List Told → List Told
-listed_by style objects = filter (λ (t : Told). is_told style t.status) objects
+listed_by style objects = filter (λ (t : Told). is_told style t.status t.conflicts) objects
 
 -- their lines, or with `--summary` a line for each of their sessions
 unfoldable pub printed : Style → List Told → List ℕ
@@ -49,9 +68,14 @@ printed style objects =
     if style.summary then flat_map session_line (by_session (listed_by style objects))
     else flat_map (told_lines style) (listed_by style objects)
 
--- they are all whole
+-- a whole object is right, but not if it is listed since it has a conflict
+abbrev pub is_right : Style → Status → Bool
+is_right style status = not style.conflicts && is_whole status
+
+-- they are all whole, or with `--conflicts` there is none
 abbrev pub are_whole : Style → List Told → Bool
-are_whole style objects = list_all (λ (t : Told). is_whole t.status) (listed_by style objects)
+are_whole style objects =
+    list_all (λ (t : Told). is_right style t.status) (listed_by style objects)
 
 -- with `--check` they have to be
 abbrev pub passes_check : Style → List Told → Bool
@@ -59,4 +83,4 @@ passes_check style objects = not style.check || are_whole style objects
 
 -- an object that is not listed has no gap with a line
 abbrev pub HasNoStray : Style → Told → Type 0
-HasNoStray style t = is_told style t.status ≡ false → flat_map (shown_gap style) t.gaps ≡ []
+HasNoStray style t = is_told style t.status t.conflicts ≡ false → flat_map (shown_gap style) t.gaps ≡ []

@@ -27,10 +27,6 @@ abbrev pub missing_in : Status → ℕ
 missing_in (Partial missing conflicting misfit) = missing
 missing_in _ = 0
 
-abbrev pub conflicting_in : Status → ℕ
-conflicting_in (Partial missing conflicting misfit) = conflicting
-conflicting_in _ = 0
-
 abbrev pub misfit_in : Status → ℕ
 misfit_in (Partial missing conflicting misfit) = misfit
 misfit_in _ = 0
@@ -51,7 +47,7 @@ sums_of t ts = record {
   whole = sum_by (λ (u : Told). whole_in u.status) (t ∷ ts);
   partial = sum_by (λ (u : Told). partial_in u.status) (t ∷ ts);
   missing = sum_by (λ (u : Told). missing_in u.status) (t ∷ ts);
-  conflicting = sum_by (λ (u : Told). conflicting_in u.status) (t ∷ ts);
+  conflicting = sum_by (λ (u : Told). u.conflicts) (t ∷ ts);
   misfit = sum_by (λ (u : Told). misfit_in u.status) (t ∷ ts);
   unknown = sum_by (λ (u : Told). unknown_in u.status) (t ∷ ts);
 }
@@ -92,13 +88,13 @@ pub record IsNone (session : Session) (sums : SessionSums) : Type 0 where
   pub misfit : sums.misfit ≡ 0
   pub unknown : sums.unknown ≡ 0
 
-pub record AddsObject (status : Status) (old new : SessionSums) : Type 0 where
+pub record AddsObject (status : Status) (conflicts : ℕ) (old new : SessionSums) : Type 0 where
   pub session : new.session ≡ old.session
   pub objects : new.objects ≡ old.objects + 1
   pub whole : new.whole ≡ old.whole + whole_in status
   pub partial : new.partial ≡ old.partial + partial_in status
   pub missing : new.missing ≡ old.missing + missing_in status
-  pub conflicting : new.conflicting ≡ old.conflicting + conflicting_in status
+  pub conflicting : new.conflicting ≡ old.conflicting + conflicts
   pub misfit : new.misfit ≡ old.misfit + misfit_in status
   pub unknown : new.unknown ≡ old.unknown + unknown_in status
 

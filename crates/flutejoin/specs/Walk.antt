@@ -1,6 +1,7 @@
 -- A walk over the objects of facts that come in the order of their addresses.
 use Rattle.std.specs.Prelude.{◌≡◌, ◌≤◌, ℕ, Bool, List, [], ◌∷◌, ◌++◌, Contains, Option, Some, None}
 use Rattle.std.specs.Prelude.{IfSome, filter, length}
+use Rattle.std.specs.Borrow.{Bor}
 use Rattle.flute_parts.specs.Addresses.{address}
 use Rattle.flute_parts.specs.Facts.{IsRising}
 use Rattle.flute_parts.specs.declared.address.Part.TheVariants.{Info as InfoPart}
@@ -15,13 +16,18 @@ use Rattle.flute_store.specs.Status.{TellsStatus}
 use Rattle.flutejoin.specs.Limits.{Limits, IsOver}
 use Rattle.flutejoin.specs.Listing.{IsFirstOf}
 use Rattle.flutejoin.specs.Progress.{EndsAs, IsBroken, Progress, progress_of}
-use Rattle.flutejoin.specs.Told.{AreTold, Told, told_of}
+use Rattle.flutejoin.specs.Told.{AreTold, Told, conflicts_of, told_of}
 use Rattle.flutejoin.specs.declared.limits.TheConstants.{MAX_ENTRIES}
 use Rattle.flutejoin.specs.declared.walk.object_walk.ObjectState.{ObjectState}
 use Rattle.flutejoin.specs.declared.walk.object_walk.ObjectState.TheVariants.{NoInformation}
 use Rattle.flutejoin.specs.declared.walk.object_walk.ObjectState.TheVariants.{ConflictingInformation}
 use Rattle.flutejoin.specs.declared.walk.object_walk.ObjectState.TheVariants.{OneInformation}
 use Rattle.flutejoin.specs.declared.walk.object_walk.OpenObject.{OpenObject}
+
+-- how many conflicts a symbol is by its one value, or none if it has two
+abbrev pub conflicts_in : Option (Bor (List ℕ)) → ℕ
+conflicts_in None = 1
+conflicts_in (Some bytes) = 0
 
 -- these facts of an object with one information were passed, and this was told of it
 pub record HasScanned (key : Key) (mine : List Fact) (progress : Option Progress)
@@ -54,6 +60,7 @@ pub record HasOpen (F : List Fact) (objects : List Told) (progress : Option Prog
   pub of_object : (f : Fact) → Contains mine f → (address f).key ≡ object.key
   pub some : (f : Fact) × Contains mine f
   pub state_is : StateIs object.key mine progress object.state
+  pub counted : object.conflicts ≡ conflicts_of mine object.key
 
 -- these facts came, and nothing else; these objects ended, and this was told of the open one
 abbrev pub Walks : List Fact → List Told → Option Progress → Option OpenObject → Type 0

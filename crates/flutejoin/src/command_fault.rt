@@ -22,10 +22,15 @@ pub enum CommandFault {
     /// not within its range.
     #[error("bad number: --{0}")]
     BadNumber(&'static str),
-    /// The option with this name is left out, is given more often than once, or does not go with
-    /// the others.
+    /// The option with this name is given more often than once, or does not go with the others.
     #[error("bad option: --{0}")]
     BadOption(&'static str),
+    /// The option with this name is left out.
+    #[error("missing option: --{0}")]
+    MissingOption(&'static str),
+    /// No option says what `forget` is to forget.
+    #[error("missing option: what to forget")]
+    MissingChoice,
     /// The value of `--source` is neither 32 or 8 hexadecimal digits nor an address.
     #[error("bad source")]
     BadSource,
@@ -35,6 +40,9 @@ pub enum CommandFault {
     /// `join` was given more than 64 inputs.
     #[error("too many inputs")]
     TooManyInputs,
+    /// Two inputs are standard input.
+    #[error("standard input twice")]
+    StandardInputTwice,
     /// The output is an input.
     #[error("output is an input")]
     OutputIsInput,
@@ -112,6 +120,9 @@ pub enum CommandFault {
     /// `gaps --check` printed all, and not all objects that it listed are whole.
     #[error("not all objects are whole")]
     NotAllWhole,
+    /// `compare --check` printed all, and the journals have different values of something.
+    #[error("values differ")]
+    ValuesDiffer,
 }
 
 impl CommandFault {
@@ -128,13 +139,17 @@ impl CommandFault {
             CommandFault::TooLarge(_) => 1,
             CommandFault::ListLine(_) | CommandFault::ListInformation(..) => 1,
             CommandFault::NoObject | CommandFault::NoInformation | CommandFault::NotAllWhole => 1,
+            CommandFault::ValuesDiffer => 1,
             CommandFault::ConflictingInformation | CommandFault::NotWhole { .. } => 1,
             CommandFault::CommandLine(_) | CommandFault::NotText => 2,
             CommandFault::BadNumber(_)
             | CommandFault::BadOption(_)
+            | CommandFault::MissingOption(_)
+            | CommandFault::MissingChoice
             | CommandFault::BadSource
             | CommandFault::BadKey => 2,
-            CommandFault::TooManyInputs | CommandFault::OutputIsInput => 2,
+            CommandFault::TooManyInputs | CommandFault::StandardInputTwice => 2,
+            CommandFault::OutputIsInput => 2,
             CommandFault::OutputIsDatagrams | CommandFault::OutputIsJournal => 2,
             CommandFault::Input(_, ReadFault::Read | ReadFault::OutOfMemory) => 3,
             CommandFault::Input(..) | CommandFault::UnknownKind(_) => 1,

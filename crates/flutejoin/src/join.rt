@@ -21,11 +21,13 @@ ghost use Rattle.flutejoin.specs.JoinParts.{IsHeld, Ends, NeverStops};
 ghost use Rattle.flutejoin.specs.Limits.{IsCountable, at_most};
 
 pub(crate) mod held_files;
+pub(crate) mod held_size;
 pub(crate) mod inspecting;
 pub(crate) mod join_counts;
 pub(crate) mod join_input;
 pub(crate) mod joined;
 pub(crate) mod peeked_source;
+pub(crate) mod reasons;
 pub(crate) mod runs;
 
 use crate::aside::Asides;
@@ -46,8 +48,8 @@ use std::alloc::Global;
 /// datagram file, as its first four bytes say. What they contain of other objects is passed over,
 /// and counted: entries, and datagrams that are packets.
 /// There may be up to 64 inputs; of none the journal is empty. A datagram that is refused contains
-/// nothing, and is counted. Any inputs with the same facts, in any order, number and grouping, have
-/// the same journal, byte for byte.
+/// nothing, and is counted, for the first reason that applies. Any inputs with the same facts, in
+/// any order, number and grouping, have the same journal, byte for byte.
 ///
 /// First the datagram files are read, record by record, and their facts are held: up to
 /// about `memory` bytes in memory, and the rest aside, as journals. Then the journals are read, and
@@ -128,6 +130,7 @@ pub fn join_to<
     Ok(JoinCounts {
         datagrams: held.told.datagrams,
         refused: held.told.refused,
+        reasons: held.reasons,
         others: others_of(held.others, inputs),
         entries: joined.entries,
     })

@@ -1,10 +1,11 @@
 //! Laws of journals, each the contract of a function that does nothing.
-ghost use Rattle.std.specs.Prelude.{◌≡◌, ℕ, List, flat_map};
-ghost use Rattle.flute_parts.specs.Facts.{Same};
+ghost use Rattle.std.specs.Prelude.{◌≡◌, ℕ, List, [], ◌∷◌, flat_map, true};
+ghost use Rattle.flute_parts.specs.Facts.{Below, Same};
 ghost use Rattle.flute_parts.specs.declared.fact.Fact.{Fact as Known};
+ghost use Rattle.flute_parts.specs.declared.key.Key.{Key};
 ghost use Rattle.flute_journal.specs.Journal.{Journal, IsJournal};
 ghost use Rattle.flute_journal.specs.Stores.{IsJournalOf};
-ghost use Rattle.flutejoin.specs.Laws.{Leaves};
+ghost use Rattle.flutejoin.specs.Laws.{IsMinus, Leaves};
 ghost use Rattle.flutejoin.specs.Joined.{Choice, InputContent, TellAll, content_facts};
 ghost use Rattle.flutejoin.specs.JoinTrees.{Joined, Inputs, AreMade, bytes_of, leaf_facts};
 ghost use Rattle.flute_streams.specs.declared.choice.selection.Selection.{Selection as Selecting};
@@ -12,6 +13,7 @@ ghost use Rattle.flutejoin.specs.declared.forget.ForgetCounts.{ForgetCounts as C
 ghost use Rattle.flutejoin.specs.declared.limits.TheConstants.{MAX_ENTRIES};
 
 use flute_journal::laws::bytes_are_a_file_or_stop;
+use flute_streams::laws::minus_is_what_a_join_needs;
 
 /// A journal of which entries were forgotten has the others as they were.
 ///
@@ -54,4 +56,28 @@ pub fn joins_of_the_same_write_the_same()
 {
     // By this the proof knows that a datagram file contains one list of datagrams.
     bytes_are_a_file_or_stop();
+}
+
+/// What `minus` writes of a journal is all that a join of another needs of it, and no more.
+///
+/// - `enough`: in a join after the other it stands for the journal: whatever objects are taken, and
+///   whatever else is joined, the bytes are equal.
+/// - `held`: it has no entries if the other contains all that the journal contains.
+/// - `after`: so it is with the other that it was joined into.
+pub fn minus_is_enough_for_a_join()
+    ensures enough { (choice : Choice) (first second missing bs cs : List ℕ) (count : ℕ)
+        (others : List (List ℕ)) → IsMinus first second missing count
+        → Joined choice (second ∷ missing ∷ others) bs
+        → Joined choice (second ∷ first ∷ others) cs → bs ≡ cs }
+    ensures held { (first second missing : List ℕ) (count : ℕ) (facts held : List Known)
+        → IsMinus first second missing count → IsJournal first facts → IsJournal second held
+        → Below facts held → count ≡ 0 }
+    ensures after { (choice : Choice) (first second missing joined again : List ℕ)
+        (count number : ℕ) → ((key : Key) → choice.takes key ≡ true)
+        → IsMinus first second missing count → Joined choice (second ∷ missing ∷ []) joined
+        → IsMinus first joined again number → number ≡ 0 }
+{
+    // By this the proof knows that a datagram file contains one list of datagrams.
+    bytes_are_a_file_or_stop();
+    minus_is_what_a_join_needs();
 }

@@ -22,6 +22,7 @@
 mod aside;
 mod carousel;
 mod command_fault;
+mod compare;
 mod extract;
 mod forget;
 mod gaps;
@@ -32,6 +33,7 @@ pub mod laws;
 mod limits;
 mod lines;
 mod merge;
+mod minus;
 mod next_entry;
 mod nothing;
 mod output_guard;
@@ -43,6 +45,7 @@ mod walk;
 pub use aside::{Aside, Asides};
 pub use carousel::send_to;
 pub use command_fault::{CommandFault, at_input, load_fault};
+pub use compare::{CompareInput, compare_from, compare_input};
 pub use extract::extract_all::extract_all_to;
 pub use extract::extract_to;
 pub use extract::file_names::{different_objects_have_different_names, file_name};
@@ -58,14 +61,18 @@ pub use join::join_input::{JoinInput, JournalInput};
 pub use join::join_to;
 pub use join::joined::{Joined, JoinedShelf};
 pub use join::peeked_source::PeekedSource;
+pub use join::reasons::Reasons;
 pub use limits::{
     ANY_OBJECTS, ANY_SESSIONS, ANY_SYMBOLS, DEFAULT_MEMORY, MAX_ENTRIES, MAX_INPUTS, MAX_MEMORY,
     MAX_OBJECTS, MAX_SESSIONS, MAX_SYMBOLS,
 };
+pub use lines::compare_style::CompareStyle;
+pub use lines::report::Report;
 pub use lines::report_lines::{count_to, write_words};
 pub use lines::style::Style;
 pub use lines::text::Text;
 pub use merge::merge_to;
+pub use minus::{MinusInput, minus_input, minus_to};
 pub use nothing::Nothing;
 pub use output_guard::Overwrites;
 pub use packet::packet_to;

@@ -4,6 +4,7 @@ ghost use Rattle.flute_journal.specs.Kinds.{HasKind, IsNeither};
 ghost use Rattle.flute_journal.specs.declared.kind.Kind.TheVariants.{Journal, Datagrams};
 ghost use Rattle.flutejoin.specs.OutputGuard.{IsKeptOutput, IsOverwritten};
 ghost use Rattle.flutejoin.specs.OutputGuard.{overwrites_journal, overwrites_other};
+ghost use Rattle.flutejoin.specs.OutputGuard.{spares};
 
 use crate::command_fault::CommandFault;
 use flute_journal::{Kind, kind_of};
@@ -39,6 +40,16 @@ impl Overwrites {
             Overwrites::Any
         } else {
             Overwrites::OtherFiles
+        }
+    }
+
+    /// Whether the bytes of an input are kept, if they would be lost by the output.
+    pub fn spares_inputs(self) -> bool
+        ensures { result ≡ spares self }
+    {
+        match self {
+            Overwrites::Any => false,
+            Overwrites::Journals | Overwrites::OtherFiles => true,
         }
     }
 

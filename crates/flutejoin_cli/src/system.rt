@@ -22,6 +22,9 @@ const STANDARD: &str = "-";
 /// What is standard input, whatever the program was started with.
 const STANDARD_INPUT: &str = "/proc/self/fd/0";
 
+/// What is standard output.
+const STANDARD_OUTPUT: &str = "/proc/self/fd/1";
+
 /// The files of the system, and standard input. A folder is no input.
 #[derive(Drop)]
 pub struct System<'a> {
@@ -116,8 +119,14 @@ impl<'a> World for System<'a> {
         self.size
     }
 
-    /// Nothing but a regular file is looked at, and standard output neither.
+    /// Nothing but a regular file is looked at.
     fn guard(&mut self, out: &str, overwrites: Overwrites) -> Result<(), CommandFault> {
+        if let Some(output) = standard_output_at(self.rt, out) {
+            if overwrites.spares_inputs() && self.files.contains(&output) {
+                return Err(CommandFault::OutputIsInput);
+            }
+            return Ok(());
+        }
         match Found::at(self.rt, out) {
             Some(found) if out != STANDARD => {
                 overwrites.check(&found.first, self.files.contains(&found.id))?;
@@ -147,6 +156,22 @@ impl<'a> World for System<'a> {
     }
 
     fn close(&mut self, _out: &str, _folder: Self::Folder) {}
+}
+
+// The regular file that standard output goes to, if this path means standard output.
+fn standard_output_at(rt: &HostRuntime, path: &str) -> Option<FileId> {
+    let output = fs::metadata(rt, STANDARD_OUTPUT).ok()?;
+    if !output.is_file() {
+        return None;
+    }
+    let id = FileId::of(&output);
+    if path == STANDARD {
+        return Some(id);
+    }
+    match fs::metadata(rt, path) {
+        Ok(found) if FileId::of(&found) == id => Some(id),
+        _ => None,
+    }
 }
 
 fn not_made(error: io::Error) -> CommandFault

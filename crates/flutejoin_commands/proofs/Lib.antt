@@ -1,5 +1,6 @@
 mod Closed
 mod Checks
+mod Comparisons
 pub mod LeftFiles
 pub mod ObjectBytes
 pub mod OfNames

@@ -10,8 +10,10 @@ use Rattle.flutejoin_commands.specs.Named.{AddListOfNamesFails, AddToNameFails}
 use Rattle.flutejoin_commands.specs.Named.{AddsListOfNames, AddsToName, ExtractOfNameFails}
 use Rattle.flutejoin_commands.specs.Named.{ForgetsInName, ForgetInNameFails}
 use Rattle.flutejoin_commands.specs.Named.{HoldsOfName, JoinsNames, JoinNamesFails}
-use Rattle.flutejoin_commands.specs.Named.{MergesNames, MergeNamesFails, SendsName}
-use Rattle.flutejoin_commands.specs.Named.{SendNameFails, WritesOfName}
+use Rattle.flutejoin_commands.specs.Named.{MergesNames, MergeNamesFails, MinusOfNames}
+use Rattle.flutejoin_commands.specs.Named.{MinusOfNamesFails, SendsName, SendNameFails}
+use Rattle.flutejoin_commands.specs.Named.{WritesOfName}
+use Rattle.flutejoin_commands.specs.Printed.{CompareNamesFail, ComparesNames}
 use Rattle.flutejoin_commands.specs.Printed.{FolderOfNameFails, LeavesFolderOfName, ListNameFails}
 use Rattle.flutejoin_commands.specs.Printed.{ListsName, PacketFails, PrintsPacket, ShowNameFails}
 use Rattle.flutejoin_commands.specs.Printed.{ShowsName}
@@ -19,6 +21,7 @@ use Rattle.flutejoin_commands.specs.Works.{bytes_line, datagrams_line, forget_li
 use Rattle.flutejoin_commands.specs.Works.{most_of}
 use Rattle.flutejoin_commands.specs.Worlds.{FailsToLeave, Leaves, Outside}
 use Rattle.flutejoin_line.specs.declared.carousel_line.CarouselLine.{CarouselLine}
+use Rattle.flutejoin_line.specs.declared.compare_line.CompareLine.{CompareLine}
 use Rattle.flutejoin_line.specs.declared.extract_line.ExtractAllLine.{ExtractAllLine}
 use Rattle.flutejoin_line.specs.declared.extract_line.ExtractLine.{ExtractLine}
 use Rattle.flutejoin_line.specs.declared.forget_line.ForgetLine.{ForgetLine}
@@ -27,6 +30,7 @@ use Rattle.flutejoin_line.specs.declared.info_line.InfoLine.{InfoLine}
 use Rattle.flutejoin_line.specs.declared.info_line.InfoListLine.{InfoListLine}
 use Rattle.flutejoin_line.specs.declared.join_line.JoinLine.{JoinLine}
 use Rattle.flutejoin_line.specs.declared.merge_line.MergeLine.{MergeLine}
+use Rattle.flutejoin_line.specs.declared.minus_line.MinusLine.{MinusLine}
 use Rattle.flutejoin_line.specs.declared.show_line.ShowLine.{ShowLine}
 use Rattle.flutejoin_line.specs.declared.target.Target.{Target}
 
@@ -66,11 +70,15 @@ IsNotDone deed target old new fault =
 
 abbrev pub joins : JoinLine → Deed
 joins line = plain {A = JoinCounts} (λ files. JoinsNames files line)
-    (λ files. JoinNamesFails files line) (join_lines line.scope)
+    (λ files. JoinNamesFails files line) (join_lines line.scope line.reasons)
 
 abbrev pub merges : MergeLine → Deed
 merges line = plain {A = ℕ} (λ files. MergesNames files line.a.now line.b.now)
     (λ files. MergeNamesFails files line.a.now line.b.now) entries_line
+
+abbrev pub subtracts : MinusLine → Deed
+subtracts line = plain {A = ℕ} (λ files. MinusOfNames files line.first.now line.second.now)
+    (λ files. MinusOfNamesFails files line.first.now line.second.now) entries_line
 
 abbrev pub adds : InfoLine → Deed
 adds line = plain {A = ℕ} (λ files. AddsToName files line.j.now line.key line.info)
@@ -122,6 +130,14 @@ abbrev pub lists : GapsLine → Printing
 lists line = record {
   done = λ folders files. ListsName files line.j.now (most_of line.limit) line.selection line.style;
   fails = λ folders files. ListNameFails files line.j.now (most_of line.limit) line.selection
+      line.style;
+}
+
+abbrev pub compares : CompareLine → Printing
+compares line = record {
+  done = λ folders files. ComparesNames files line.first.now line.second.now line.selection
+      line.style;
+  fails = λ folders files. CompareNamesFail files line.first.now line.second.now line.selection
       line.style;
 }
 

@@ -10,6 +10,8 @@ use Rattle.flutejoin.specs.Forget.{ForgetFails}
 use Rattle.flutejoin.specs.JoinFaults.{NamesOneOf}
 use Rattle.flutejoin.specs.declared.forget.ForgetCounts.{ForgetCounts}
 use Rattle.flutejoin.specs.Limits.{Limits}
+use Rattle.flutejoin.specs.Merge.{MergeFails}
+use Rattle.flutejoin.specs.Minus.{WritesMinus}
 use Rattle.flutejoin.specs.declared.join.join_counts.JoinCounts.{JoinCounts}
 use Rattle.flutejoin.specs.declared.command_fault.CommandFault.{CommandFault}
 use Rattle.flutejoin.specs.declared.command_fault.CommandFault.TheVariants.{CannotOpen, CannotWrite}
@@ -82,6 +84,15 @@ module _ (files : Option Files) where
   MergeNamesFails a b fault =
       IsBefore files (a ∷ b ∷ []) fault
       ⊎ IfFiles files (λ f. MergeReadFails (f a) (f b) fault)
+
+  -- the journal of what of the file of one name a join would change that of another by
+  abbrev pub MinusOfNames : List ℕ → List ℕ → ℕ → Option (List ℕ) → Option (List ℕ)
+      → Type 0
+  MinusOfNames a b n old new = IfFiles files (λ f. WritesMinus (f a) (f b) n old new)
+
+  abbrev pub MinusOfNamesFails : List ℕ → List ℕ → CommandFault → Type 0
+  MinusOfNamesFails a b fault =
+      IsBefore files (a ∷ b ∷ []) fault ⊎ IfFiles files (λ f. MergeFails (f a) (f b) fault)
 
   -- the journal of all that the file of a name contains and of the information
   abbrev pub AddsToName : List ℕ → Key → Information → ℕ → Option (List ℕ)

@@ -3,17 +3,22 @@ use Rattle.std.specs.Prelude.{◌≡◌, ◌≢◌, ◌⊎◌, ℕ, Bool, true, 
 use Rattle.std.specs.Io.KnownBytes.{Appends, IsAtEnd}
 use Rattle.flute_streams.specs.declared.choice.selection.Selection.{Selection}
 use Rattle.flute_output.specs.NewFolders.{Places}
+use Rattle.flutejoin.specs.Compare.{ComparesJournals}
+use Rattle.flutejoin.specs.CompareLines as comparison
 use Rattle.flutejoin.specs.Gaps.{ListsJournal, GapsFail}
 use Rattle.flutejoin.specs.Limits.{Limits}
+use Rattle.flutejoin.specs.Merge.{MergeFails}
 use Rattle.flutejoin.specs.Packet.{HasLines, FailsWith}
 use Rattle.flutejoin.specs.Show.{ShowsAll, ShowFails}
 use Rattle.flutejoin.specs.Styles.{passes_check, printed}
+use Rattle.flutejoin.specs.declared.lines.compare_style.CompareStyle.{CompareStyle}
 use Rattle.flutejoin.specs.declared.lines.style.Style.{Style}
 use Rattle.flutejoin.specs.declared.extract.picked.Picked.{Picked}
 use Rattle.flutejoin.specs.declared.command_fault.CommandFault.{CommandFault}
 use Rattle.flutejoin.specs.declared.command_fault.CommandFault.TheVariants.{CannotWrite}
 use Rattle.flutejoin.specs.declared.command_fault.CommandFault.TheVariants.{NotAllWhole}
 use Rattle.flutejoin.specs.declared.command_fault.CommandFault.TheVariants.{OutOfMemory}
+use Rattle.flutejoin.specs.declared.command_fault.CommandFault.TheVariants.{ValuesDiffer}
 use Rattle.flutejoin_commands.specs.Files.{Files, IfFiles}
 use Rattle.flutejoin_commands.specs.Folders.{LeavesFolder, FolderFails}
 use Rattle.flutejoin_commands.specs.Named.{IsUnopened}
@@ -85,3 +90,28 @@ module _ (files : Option Files) (name : List ℕ) where
       ⊎ IfFiles files (λ f. (left : Option (List ℕ))
       × ((after : Option Places) × FolderFails most (f name) left picked folder after
       fault))
+
+module _ (files : Option Files) (first second : List ℕ) where
+  -- how the journals of two names differ in the selected objects was printed, and they passed
+  -- their check, or did not
+  abbrev pub ComparesObjects : Selection → CompareStyle → Bool → Option (List ℕ)
+      → Option (List ℕ) → Type 0
+  ComparesObjects selection style passes old new =
+      IfFiles files (λ f. ComparesJournals selection selection (f first) (f second)
+      (λ rows. Appends old new (comparison.compared style rows)
+      × (comparison.passes_check style rows ≡ passes)))
+
+  -- it was printed, and nothing differs that must not
+  abbrev pub ComparesNames : Selection → CompareStyle → Option (List ℕ) → Option (List ℕ)
+      → Type 0
+  ComparesNames selection style = ComparesObjects selection style true
+
+  -- why not: all was printed, and something differs that must not; or nothing was printed, unless
+  -- the fault is that of writing
+  abbrev pub CompareNamesFail : Selection → CompareStyle → Option (List ℕ) → Option (List ℕ)
+      → CommandFault → Type 0
+  CompareNamesFail selection style old new fault =
+      ((fault ≡ ValuesDiffer) × ComparesObjects selection style false old new)
+      ⊎ (((IsUnopened files (first ∷ second ∷ []) fault ⊎ (fault ≡ OutOfMemory))
+      ⊎ IfFiles files (λ f. MergeFails (f first) (f second) fault))
+      × (fault ≢ CannotWrite → new ≡ old))

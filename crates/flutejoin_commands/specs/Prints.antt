@@ -2,7 +2,7 @@
 use Rattle.std.specs.Prelude.{◌≡◌, ℕ, Bool, true, false, List, Option, Result, OnOk, IfErr}
 use Rattle.flutejoin.specs.declared.command_fault.CommandFault.{CommandFault}
 use Rattle.flutejoin.specs.declared.command_fault.CommandFault.TheVariants.{CannotWrite}
-use Rattle.flutejoin.specs.declared.command_fault.CommandFault.TheVariants.{NotAllWhole}
+use Rattle.flutejoin.specs.declared.command_fault.CommandFault.TheVariants.{NotAllWhole, ValuesDiffer}
 
 -- if the report has not failed, all that was written was handed on
 abbrev pub IsHandedOn : ℕ → ℕ → Option (List ℕ) → Option (List ℕ) → Type 0
@@ -16,3 +16,8 @@ FailsToFlush all_written fault = (fault ≡ CannotWrite) × all_written
 abbrev pub IfPrinted : {T : Type 0} → Result T CommandFault → (Bool → Type 0) → Type 0
 IfPrinted result P = OnOk result (P true)
     × IfErr result (λ fault. fault ≡ NotAllWhole → P false)
+
+-- likewise of two journals
+abbrev pub IfCompared : {T : Type 0} → Result T CommandFault → (Bool → Type 0) → Type 0
+IfCompared result P = OnOk result (P true)
+    × IfErr result (λ fault. fault ≡ ValuesDiffer → P false)

@@ -23,6 +23,7 @@ use Rattle.flutejoin.specs.JoinFaults.{JoinToFails, NamesOneOf}
 use Rattle.flutejoin.specs.Limits.{Limits, limits_of}
 use Rattle.flutejoin.specs.Lines.{count_line}
 use Rattle.flutejoin.specs.Merge.{MergeFails}
+use Rattle.flutejoin.specs.Refused.{reason_lines}
 use Rattle.flutejoin.specs.declared.forget.ForgetCounts.{ForgetCounts}
 use Rattle.flutejoin.specs.declared.join.join_counts.JoinCounts.{JoinCounts}
 use Rattle.flutejoin.specs.declared.join.join_input.JoinInput.{JoinInput}
@@ -40,11 +41,12 @@ bytes_line n = count_line (codes "bytes") n
 abbrev pub datagrams_line : ℕ → List ℕ
 datagrams_line n = count_line (codes "datagrams") n
 
--- the lines of a join: of all objects, or of some
-abbrev pub join_lines : Scope → JoinCounts → List ℕ
-join_lines scope counts =
+-- the lines of a join, of all objects or of some, and perhaps with the reasons of refusals
+abbrev pub join_lines : Scope → Bool → JoinCounts → List ℕ
+join_lines scope reasons counts =
     count_line (codes "datagrams") counts.datagrams
     ++ count_line (codes "refused") counts.refused
+    ++ (if reasons then reason_lines counts.reasons else [])
     ++ (if is_all scope then [] else count_line (codes "others") counts.others)
     ++ count_line (codes "entries") counts.entries
 

@@ -6,7 +6,7 @@ use crate::work::Work;
 use flute_parts::{Sink, Source};
 use flutejoin::{
     ANY_OBJECTS, ANY_SESSIONS, ANY_SYMBOLS, CommandFault, MAX_ENTRIES, MAX_OBJECTS, MAX_SESSIONS,
-    MAX_SYMBOLS, Text, info_list_to,
+    MAX_SYMBOLS, Report, info_list_to,
 };
 use flutejoin_line::Limit;
 use std::alloc::Global;
@@ -32,7 +32,7 @@ impl<R: Source + Drop> Work for InfoListWork<R> {
 
     ghost tells = { λ _. entries_line };
 
-    fn write<W: Sink>(&mut self, sink: &mut W) -> Result<(u64, Text), CommandFault> {
+    fn write<W: Sink>(&mut self, sink: &mut W) -> Result<(u64, Report), CommandFault> {
         let source = &mut self.source;
         let list = &mut self.list;
         let entries = match self.limit {
@@ -46,7 +46,7 @@ impl<R: Source + Drop> Work for InfoListWork<R> {
         if entries > MAX_ENTRIES {
             return Err(CommandFault::Full);
         }
-        let mut lines = Text::new();
+        let mut lines = Report::new();
         lines.push_count("entries", entries);
         Ok((entries, lines))
     }

@@ -8,7 +8,7 @@ ghost use Rattle.flutejoin_commands.specs.Worlds.{MayOverwrite};
 
 use crate::opening::{open_inputs, open_two};
 use crate::world::World;
-use flutejoin::{CommandFault, JoinInput};
+use flutejoin::{CommandFault, JoinInput, Overwrites};
 use flutejoin_line::Target;
 use std::alloc::Global;
 
@@ -59,6 +59,37 @@ pub fn begin_with_two<W: World>(
     world.look(target.out);
     let both = open_two(world, first, second)?;
     world.guard(target.out, target.overwrites)?;
+    Ok(both)
+}
+
+/// Opens the journal and the list of a command with this output, which may be the journal.
+///
+/// # Errors
+///
+/// The first that is not opened; then why OUT is not overwritten: `OutputIsInput` if it is one of
+/// them, and no journal.
+pub fn begin_with_list<W: World>(
+    world: &mut W,
+    target: Target<'_>,
+    journal: &str,
+    list: &str,
+) -> Result<(W::Input, W::Input), CommandFault>
+    ensures opened { IfOk result (λ both.
+        HasBytes (W.files world.old) journal.now (W.Input.unread both.0)
+        × HasBytes (W.files world.old) list.now (W.Input.unread both.1)) }
+    ensures spared { OnOk result
+        (MayOverwrite (W.files world.old) target.entry.overwrites target.entry.out.now) }
+    ensures failed { IfErr result (IsBefore (W.files world.old) (journal.now ∷ list.now ∷ [])) }
+    ensures same_files { W.files world.new ≡ W.files world.old }
+    ensures same_closed { W.closed world.new ≡ W.closed world.old }
+{
+    let both = begin_with_two(world, target, journal, list)?;
+    if target.overwrites.spares_inputs() {
+        // Of what is neither kind of file, no input may be overwritten: LINES is one.
+        if let Err(CommandFault::OutputIsInput) = world.guard(target.out, Overwrites::OtherFiles) {
+            return Err(CommandFault::OutputIsInput);
+        }
+    }
     Ok(both)
 }
 

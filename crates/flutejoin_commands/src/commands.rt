@@ -9,7 +9,7 @@ ghost use Rattle.flutejoin_commands.specs.Worlds.{FailsToLeave, IsAgain, Leaves,
 
 use crate::adding::InfoWork;
 use crate::adding_list::InfoListWork;
-use crate::beginning::{begin, begin_join, begin_with_two};
+use crate::beginning::{begin, begin_join, begin_with_list, begin_with_two};
 use crate::delivery::Delivery;
 use crate::extracting::ExtractWork;
 use crate::forgetting::ForgetWork;
@@ -64,6 +64,7 @@ pub fn join<W: World, O: Outlet, E: Sink>(
         asides: world.asides(),
         sender: line.sender,
         scope: line.scope,
+        reasons: line.reasons,
         inputs,
     };
     leave(
@@ -190,7 +191,7 @@ pub fn info_list<W: World, O: Outlet, E: Sink>(
         (outside (W.files world.new) (O.written output.new) (E.written errors.new))) }
 {
     let target = line.target;
-    let (source, list) = begin_with_two(world, target, line.j, line.list)?;
+    let (source, list) = begin_with_list(world, target, line.j, line.list)?;
     let work = InfoListWork {
         alloc,
         limit: line.limit,

@@ -7,7 +7,7 @@ use crate::work::Work;
 use flute_parts::{Key, Sink, Source};
 use flutejoin::{
     ANY_OBJECTS, ANY_SESSIONS, ANY_SYMBOLS, CommandFault, MAX_OBJECTS, MAX_SESSIONS, MAX_SYMBOLS,
-    Text, extract_to,
+    Report, extract_to,
 };
 use flutejoin_line::Limit;
 use std::alloc::Global;
@@ -55,9 +55,9 @@ impl<R: Source + Drop> Work for ExtractWork<R> {
 
     ghost tells = { λ _. bytes_line };
 
-    fn write<W: Sink>(&mut self, sink: &mut W) -> Result<(u64, Text), CommandFault> {
+    fn write<W: Sink>(&mut self, sink: &mut W) -> Result<(u64, Report), CommandFault> {
         let bytes = self.extract(sink)?;
-        let mut lines = Text::new();
+        let mut lines = Report::new();
         lines.push_count("bytes", bytes);
         Ok((bytes, lines))
     }

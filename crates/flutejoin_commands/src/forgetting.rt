@@ -4,7 +4,7 @@ ghost use Rattle.flutejoin_commands.specs.Works.{ForgetsIn, forget_lines};
 
 use crate::work::Work;
 use flute_parts::{Sink, Source};
-use flutejoin::{CommandFault, ForgetCounts, ForgetInput, Text, forget_to};
+use flutejoin::{CommandFault, ForgetCounts, ForgetInput, Report, forget_to};
 use std::alloc::Global;
 
 /// Takes entries out of a journal.
@@ -23,9 +23,9 @@ impl<R: Source + Drop> Work for ForgetWork<R> {
 
     ghost tells = { λ _. forget_lines };
 
-    fn write<W: Sink>(&mut self, sink: &mut W) -> Result<(ForgetCounts, Text), CommandFault> {
+    fn write<W: Sink>(&mut self, sink: &mut W) -> Result<(ForgetCounts, Report), CommandFault> {
         let counts = forget_to(self.alloc, &mut self.input, sink)?;
-        let mut lines = Text::new();
+        let mut lines = Report::new();
         lines.push_count("forgotten", counts.forgotten);
         lines.push_count("entries", counts.entries);
         Ok((counts, lines))

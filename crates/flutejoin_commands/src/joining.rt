@@ -12,7 +12,7 @@ use flute_parts::{Sender, Sink, Source};
 use flute_streams::Scope;
 use flutejoin::{
     ANY_OBJECTS, ANY_SESSIONS, ANY_SYMBOLS, Asides, CommandFault, JoinCounts, JoinInput,
-    MAX_ENTRIES, MAX_OBJECTS, MAX_SESSIONS, MAX_SYMBOLS, Text, join_to,
+    MAX_ENTRIES, MAX_OBJECTS, MAX_SESSIONS, MAX_SYMBOLS, Report, join_to,
 };
 use flutejoin_line::Limit;
 use std::alloc::Global;
@@ -28,6 +28,8 @@ pub struct JoinWork<R, A> {
     pub asides: A,
     pub sender: Sender,
     pub scope: Scope,
+    /// Whether it is reported why datagrams are refused.
+    pub reasons: bool,
     pub inputs: Vec<JoinInput<R>>,
     pub ghost few: { length inputs.items ≤ 64 },
 }
@@ -45,7 +47,8 @@ impl<R: Source + Drop, A: Asides<Input = R>> JoinWork<R, A> {
             → IfErr result (JoinToFails
             (choice_of (most_of self.old.limit) self.old.sender self.old.scope) contents) }
         ensures names { IfErr result (NamesOneOf (length self.old.inputs.items)) }
-        ensures scope { self.new.scope ≡ self.old.scope }
+        ensures lines { (self.new.scope ≡ self.old.scope)
+            × (self.new.reasons ≡ self.old.reasons) }
         ensures quiet { OnOk result (W.failures sink.new ≡ W.failures sink.old) }
         ensures cause { IfErr result (λ fault. fault ≡ CannotWrite
             → W.failures sink.new ≡ W.failures sink.old + 1) }
@@ -83,16 +86,19 @@ impl<R: Source + Drop, A: Asides<Input = R>> Work for JoinWork<R, A> {
     ghost fails = { λ w. JoinAllFails R.unread (A.tells w.asides)
         (choice_of (most_of w.limit) w.sender w.scope) w.inputs.items };
 
-    ghost tells = { λ w. join_lines w.scope };
+    ghost tells = { λ w. join_lines w.scope w.reasons };
 
-    fn write<W: Sink>(&mut self, sink: &mut W) -> Result<(JoinCounts, Text), CommandFault> {
+    fn write<W: Sink>(&mut self, sink: &mut W) -> Result<(JoinCounts, Report), CommandFault> {
         let counts = self.join(sink)?;
         if counts.entries > MAX_ENTRIES {
             return Err(CommandFault::Full);
         }
-        let mut lines = Text::new();
+        let mut lines = Report::new();
         lines.push_count("datagrams", counts.datagrams);
         lines.push_count("refused", counts.refused);
+        if self.reasons {
+            lines.push_reasons(&counts.reasons);
+        }
         if !self.scope.is_all() {
             lines.push_count("others", counts.others);
         }

@@ -6,8 +6,9 @@
 //! [`open_inputs`] opens inputs by their names.
 //!
 //! Where an output is at a name, [`leave`] does one of these with what the name leads to, in a
-//! [`World`]; [`join`], [`merge`], [`info`], [`extract`], [`carousel`], [`show`], [`gaps`] and
-//! [`extract_all`] take a line of words alone, as [`JoinLine`](flutejoin_line::JoinLine).
+//! [`World`]; [`join`], [`merge`], [`minus`], [`info`], [`extract`], [`carousel`], [`show`], [`gaps`],
+//! [`compare`] and [`extract_all`] take a line of words alone, as
+//! [`JoinLine`](flutejoin_line::JoinLine).
 //!
 //! Two journals, merged (from `commands.rt`):
 //!
@@ -35,6 +36,7 @@ mod adding_list;
 mod beginning;
 mod begun_output;
 mod commands;
+mod comparing;
 mod delivery;
 mod device_outlet;
 mod extracting;
@@ -51,12 +53,14 @@ mod output_command;
 mod printing;
 mod prints;
 mod sending;
+mod subtracting;
 mod work;
 mod world;
 
 pub use adding::InfoWork;
 pub use adding_list::InfoListWork;
 pub use commands::{carousel, extract, forget, info, info_list, join, merge};
+pub use comparing::compare_on;
 pub use delivery::Delivery;
 pub use extracting::ExtractWork;
 pub use extracting_all::extract_all_into;
@@ -70,7 +74,8 @@ pub use outlet::Outlet;
 pub use outlet_command::{write_held, write_through};
 pub use output_command::write_into;
 pub use printing::{Listing, gaps_on, hand_on};
-pub use prints::{extract_all, gaps, packet, show};
+pub use prints::{compare, extract_all, gaps, packet, show};
 pub use sending::SendWork;
+pub use subtracting::{MinusWork, minus};
 pub use work::Work;
 pub use world::World;

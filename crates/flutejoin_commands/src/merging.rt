@@ -4,7 +4,7 @@ ghost use Rattle.flutejoin_commands.specs.Works.{MergeReadFails, MergesRead};
 
 use crate::work::Work;
 use flute_parts::{Sink, Source};
-use flutejoin::{CommandFault, MAX_ENTRIES, Text, merge_to};
+use flutejoin::{CommandFault, MAX_ENTRIES, Report, merge_to};
 use std::alloc::Global;
 
 /// Merges two journals.
@@ -25,12 +25,12 @@ impl<A: Source + Drop, B: Source + Drop> Work for MergeWork<A, B> {
 
     ghost tells = { λ _. entries_line };
 
-    fn write<W: Sink>(&mut self, sink: &mut W) -> Result<(u64, Text), CommandFault> {
+    fn write<W: Sink>(&mut self, sink: &mut W) -> Result<(u64, Report), CommandFault> {
         let entries = merge_to(self.alloc, &mut self.first, &mut self.second, sink)?;
         if entries > MAX_ENTRIES {
             return Err(CommandFault::Full);
         }
-        let mut lines = Text::new();
+        let mut lines = Report::new();
         lines.push_count("entries", entries);
         Ok((entries, lines))
     }

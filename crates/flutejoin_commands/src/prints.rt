@@ -1,18 +1,21 @@
 //! The commands that leave no file at a name, from the names of their files to what they print.
 ghost use Rattle.std.specs.Prelude.{◌≡◌, ◌⊎◌, ◌<◌, OnOk, IfErr};
 ghost use Rattle.flutejoin.specs.declared.command_fault.CommandFault.TheVariants.{CannotWrite};
+ghost use Rattle.flutejoin_commands.specs.Printed.{CompareNamesFail, ComparesNames};
 ghost use Rattle.flutejoin_commands.specs.Printed.{FolderOfNameFails, LeavesFolderOfName};
 ghost use Rattle.flutejoin_commands.specs.Printed.{ListNameFails, ListsName, PacketFails};
 ghost use Rattle.flutejoin_commands.specs.Printed.{PrintsPacket, ShowNameFails, ShowsName};
-ghost use Rattle.flutejoin_commands.specs.Prints.{IfPrinted, IsHandedOn};
+ghost use Rattle.flutejoin_commands.specs.Prints.{IfCompared, IfPrinted, IsHandedOn};
 ghost use Rattle.flutejoin_commands.specs.Works.{most_of};
 
+use crate::comparing::compare_on;
 use crate::extracting_all::extract_all_into;
+use crate::opening::open_two;
 use crate::outlet::Outlet;
 use crate::printing::{Listing, gaps_on, hand_on};
 use crate::world::World;
 use flute_streams::Selection;
-use flutejoin::{Asides, CommandFault, Picked, packet_to, show_to};
+use flutejoin::{Asides, CommandFault, CompareStyle, Picked, compare_input, packet_to, show_to};
 use flutejoin_line::Limit;
 use std::alloc::Global;
 
@@ -103,6 +106,37 @@ pub fn gaps<W: World, P: Outlet>(
         &mut gap_lines,
         output,
     )
+}
+
+/// Prints how the journals of two names differ in the selected objects, in a style.
+///
+/// # Errors
+///
+/// That an input is not opened, or `OutOfMemory`; then those of [`compare_on`].
+pub fn compare<W: World, P: Outlet>(
+    world: &mut W,
+    alloc: Global,
+    selection: &Selection,
+    style: CompareStyle,
+    first: &str,
+    second: &str,
+    output: &mut P,
+) -> Result<(), CommandFault>
+    ensures compared { OnOk result (ComparesNames (W.files world.old) first.now
+        second.now selection.now style (P.written output.old) (P.written output.new)) }
+    ensures handed_on { IfCompared result (λ passes.
+        P.handed_on output.new ≡ P.written output.new) }
+    ensures failed { IfErr result (CompareNamesFail (W.files world.old) first.now
+        second.now selection.now style (P.written output.old) (P.written output.new)) }
+    ensures same_files { W.files world.new ≡ W.files world.old }
+    ensures same_closed { W.closed world.new ≡ W.closed world.old }
+{
+    let (first, second) = open_two(world, first, second)?;
+    let mut asides = world.asides();
+    let mut lines = asides.aside()?;
+    let mut first = compare_input(first, *selection);
+    let mut second = compare_input(second, *selection);
+    compare_on(alloc, &mut first, &mut second, style, &mut lines, output)
 }
 
 /// Leaves a new folder of this name, with a file for each object that the journal of the other

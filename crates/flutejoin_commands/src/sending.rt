@@ -3,7 +3,7 @@ ghost use Rattle.flutejoin_commands.specs.Works.{SendReadFails, SendsRead, datag
 
 use crate::work::Work;
 use flute_parts::{Key, Sink, Source};
-use flutejoin::{CommandFault, MAX_ENTRIES, Text, send_to};
+use flutejoin::{CommandFault, MAX_ENTRIES, Report, send_to};
 use std::alloc::Global;
 
 /// Writes the datagrams of an object whose content is all that a source has, `size` bytes.
@@ -26,7 +26,7 @@ impl<R: Source + Drop> Work for SendWork<R> {
 
     ghost tells = { λ _. datagrams_line };
 
-    fn write<W: Sink>(&mut self, sink: &mut W) -> Result<(u64, Text), CommandFault> {
+    fn write<W: Sink>(&mut self, sink: &mut W) -> Result<(u64, Report), CommandFault> {
         let datagrams = send_to(
             self.alloc,
             &self.key,
@@ -39,7 +39,7 @@ impl<R: Source + Drop> Work for SendWork<R> {
         if datagrams > MAX_ENTRIES {
             return Err(CommandFault::Full);
         }
-        let mut lines = Text::new();
+        let mut lines = Report::new();
         lines.push_count("datagrams", datagrams);
         Ok((datagrams, lines))
     }

@@ -4,7 +4,7 @@ ghost use Rattle.flutejoin.specs.declared.command_fault.CommandFault.TheVariants
 ghost use Rattle.flutejoin.specs.declared.command_fault.CommandFault.{CommandFault as Fault};
 
 use flute_parts::Sink;
-use flutejoin::{CommandFault, Text};
+use flutejoin::{CommandFault, Report};
 
 /// What a command does with its inputs: it writes an output, and reports its answer in some lines.
 pub trait Work {
@@ -24,7 +24,7 @@ pub trait Work {
     /// # Errors
     ///
     /// What is wrong with the inputs; or `CannotWrite` if the sink failed.
-    fn write<W: Sink>(&mut self, sink: &mut W) -> Result<(Self::Answer, Text), CommandFault>
+    fn write<W: Sink>(&mut self, sink: &mut W) -> Result<(Self::Answer, Report), CommandFault>
         ensures written { IfOk result
             (λ x. writes self.old x.0 (W.written sink.old) (W.written sink.new)) }
         ensures told { IfOk result (λ x. x.1 ≡ tells self.old x.0) }

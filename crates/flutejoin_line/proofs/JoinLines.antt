@@ -1,5 +1,5 @@
 -- join_of: the line of a join, and why there is none (specs/CommandLine).
-use Rattle.std.proofs.Common.{◌≡◌, ℕ, List, length, map, Bor, Option, None, false, inl, inr, sym, ap, ◌∙◌}
+use Rattle.std.proofs.Common.{◌≡◌, ◌<◌, ◌≤◌, ℕ, List, length, map, Bor, Option, None, false, inl, inr, ap, ◌∙◌}
 use Rattle.std.proofs.Common.{codes, Bool}
 use Rattle.std.specs.Prelude.{Some, is_some}
 use Rattle.std.proofs.lemmas.List.{length-map}
@@ -8,7 +8,8 @@ use Rattle.flute_parts.specs.declared.object_key.ObjectName.{ObjectName}
 use Rattle.flute_streams.specs.Sessions.{listed_tsis}
 use Rattle.flute_streams.specs.declared.choice.scope.Scope.{Scope}
 use Rattle.flute_streams.specs.declared.choice.sessions.Sessions.{Sessions}
-use Rattle.flutejoin_line.specs.LineFaults.{AreJoinNumbers, IsJoinFault, IsManyInputs}
+use Rattle.flutejoin_line.specs.Inputs.{IsTwice, is_standard_twice}
+use Rattle.flutejoin_line.specs.LineFaults.{AreJoinNumbers, IsInputsFault, IsJoinFault}
 use Rattle.flutejoin_line.specs.Options.{HasSessions, HasSource, IsBadNumber, IsFlag, IsInstance}
 use Rattle.flutejoin_line.specs.Options.{IsToi}
 use Rattle.flutejoin_line.specs.Options.{are_sessions, words}
@@ -17,7 +18,9 @@ use Rattle.flutejoin_line.specs.Selecting.{object_of}
 use Rattle.flutejoin_line.specs.Sizes.{memory_in}
 use Rattle.flutejoin.specs.declared.command_fault.CommandFault.{CommandFault}
 use Rattle.flutejoin.specs.declared.command_fault.CommandFault.TheVariants.{BadNumber, BadSource}
-use Rattle.flutejoin.specs.declared.command_fault.CommandFault.TheVariants.{BadKey}
+use Rattle.flutejoin.specs.declared.command_fault.CommandFault.TheVariants.{BadKey, OutOfMemory}
+use Rattle.flutejoin.specs.declared.command_fault.CommandFault.TheVariants.{StandardInputTwice}
+use Rattle.flutejoin.specs.declared.command_fault.CommandFault.TheVariants.{TooManyInputs}
 use Rattle.flutejoin_line.proofs.Selecting.{IsNumbersFault, right_numbers}
 
 module _ (rows : List Row) where
@@ -83,14 +86,31 @@ module _ (rows : List Row) where
 
 module _ (rows : List Row) (inputs : List (Bor (List ℕ))) (are : map (λ (w : Bor (List ℕ)). w.now)
     inputs ≡ words (codes "INPUT") rows) where
-  -- too many inputs, or no memory for them
+  as_many : length (map (λ (w : Bor (List ℕ)). w.now) inputs) ≡ length inputs
+  as_many = length-map inputs (λ (w : Bor (List ℕ)). w.now)
+
+  pub too_many : 64 < length inputs
+      → IsInputsFault (map (λ (w : Bor (List ℕ)). w.now) inputs) TooManyInputs
+  too_many many = rw as_many many
+
+  pub twice : (fault : CommandFault) → length inputs ≤ 64
+      → IsTwice (map (λ (w : Bor (List ℕ)). w.now) inputs) fault
+      → IsInputsFault (map (λ (w : Bor (List ℕ)). w.now) inputs) fault
+  twice StandardInputTwice few is = (rw as_many few, is)
+  twice _ few is = absurd is
+
+  pub no_memory : length inputs ≤ 64
+      → is_standard_twice (map (λ (w : Bor (List ℕ)). w.now) inputs) ≡ false
+      → IsInputsFault (map (λ (w : Bor (List ℕ)). w.now) inputs) OutOfMemory
+  no_memory few once = (rw as_many few, once)
+
+  -- the inputs of a join are at fault, or there is no memory for them
   pub not_joined : {scope : Scope} {memory : ℕ} (fault : CommandFault) → IsScope rows scope
       → memory_in rows ≡ Some memory → ((sender : ℕ) × HasSource rows sender)
-      → IsManyInputs (length inputs) fault → IsJoinFault rows fault
-  not_joined {scope = scope} fault taken held from many = go fault
-      (rw (sym (length-map inputs (λ (w : Bor (List ℕ)). w.now)) ∙ ap length are) at many)
+      → IsInputsFault (map (λ (w : Bor (List ℕ)). w.now) inputs) fault → IsJoinFault rows fault
+  not_joined {scope = scope} fault taken held from why = go fault (rw are at why)
     where
-      go : (f : CommandFault) → IsManyInputs (length (words (codes "INPUT") rows)) f
+      go : (f : CommandFault) → IsInputsFault (words (codes "INPUT") rows) f
           → IsJoinFault rows f
       go (BadNumber option) h = absurd h
       go BadSource h = absurd h

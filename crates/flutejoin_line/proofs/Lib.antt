@@ -5,3 +5,4 @@ mod Options
 mod Selecting
 mod Parsing
 mod SessionLists
+mod StandardInputs

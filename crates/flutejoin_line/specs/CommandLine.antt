@@ -15,6 +15,7 @@ use Rattle.flute_streams.specs.declared.choice.selection.Selection.{Selection}
 use Rattle.flutejoin.specs.OutputGuard.{overwrites_journal, overwrites_other}
 use Rattle.flutejoin.specs.declared.lines.style.Style.{Style}
 use Rattle.flutejoin.specs.declared.output_guard.Overwrites.{Overwrites}
+use Rattle.flutejoin_line.specs.Inputs.{is_standard_twice}
 use Rattle.flutejoin_line.specs.Options.{HasSessions, HasSource, IsFlag, IsKey, IsNumber}
 use Rattle.flutejoin_line.specs.Options.{IsSourceIf, IsZero, all_form, extract_form, first_unfit}
 use Rattle.flutejoin_line.specs.Options.{info_form, list_form, word, words}
@@ -26,6 +27,7 @@ use Rattle.flutejoin_line.specs.Scoping.{IsScope}
 use Rattle.flutejoin_line.specs.Selecting.{IsSelection}
 use Rattle.flutejoin_line.specs.Sizes.{memory_in}
 use Rattle.flutejoin_line.specs.declared.carousel_line.CarouselLine.{CarouselLine}
+use Rattle.flutejoin_line.specs.declared.compare_line.CompareLine.{CompareLine}
 use Rattle.flutejoin_line.specs.declared.extract_line.ExtractAllLine.{ExtractAllLine}
 use Rattle.flutejoin_line.specs.declared.extract_line.ExtractLine.{ExtractLine}
 use Rattle.flutejoin_line.specs.declared.forget_line.ForgetLine.{ForgetLine}
@@ -39,7 +41,9 @@ use Rattle.flutejoin_line.specs.declared.line.Line.{Line}
 use Rattle.flutejoin_line.specs.declared.line.Line.TheVariants.{Packet, Show, Gaps, Extract}
 use Rattle.flutejoin_line.specs.declared.line.Line.TheVariants.{Info, Join, Merge, Carousel}
 use Rattle.flutejoin_line.specs.declared.line.Line.TheVariants.{ExtractAll, InfoList, Forget}
+use Rattle.flutejoin_line.specs.declared.line.Line.TheVariants.{Compare, Minus}
 use Rattle.flutejoin_line.specs.declared.merge_line.MergeLine.{MergeLine}
+use Rattle.flutejoin_line.specs.declared.minus_line.MinusLine.{MinusLine}
 use Rattle.flutejoin_line.specs.declared.show_line.ShowLine.{ShowLine}
 use Rattle.flutejoin_line.specs.declared.target.Target.{Target}
 
@@ -64,6 +68,26 @@ is_any_size AnySize = true
 abbrev pub IsLimit : List Row → Limit → Type 0
 IsLimit rows limit = IsFlag (codes "any-size") rows (is_any_size limit)
 
+-- two journals
+abbrev pub pair_rules : List Rule
+pair_rules = place (codes "A") ∷ place (codes "B") ∷ []
+
+abbrev pub pair_words : List Row → List (List ℕ)
+pair_words rows = word (codes "A") rows ∷ word (codes "B") rows ∷ []
+
+-- standard input is one of them at most
+pub record IsPair (rows : List Row) (first second : Bor (List ℕ)) : Type 0 where
+  pub first_is : IsWord (codes "A") rows first
+  pub second_is : IsWord (codes "B") rows second
+  pub once : is_standard_twice (pair_words rows) ≡ false
+
+-- OUT is none of them, unless it is standard output
+abbrev pub is_out_an_input : List Row → Bool
+is_out_an_input rows =
+    let out = word (codes "OUT") rows in
+    not (bytes_eq out (codes "-"))
+    && (bytes_eq out (word (codes "A") rows) || bytes_eq out (word (codes "B") rows))
+
 -- ---- the commands
 
 abbrev pub packet_rules : List Rule
@@ -71,7 +95,7 @@ packet_rules = place (codes "HEX") ∷ []
 
 -- its options select entries
 abbrev pub show_rules : List Rule
-show_rules = long_flag (codes "conflicts") ∷ object_rules ++ journal_rules
+show_rules = size_flag ∷ long_flag (codes "conflicts") ∷ object_rules ++ journal_rules
 
 pub record IsShowLine (rows : List Row) (line : ShowLine) : Type 0 where
   pub selection : IsSelection rows line.selection
@@ -94,6 +118,18 @@ pub record IsGapsLine (rows : List Row) (line : GapsLine) : Type 0 where
   pub limit : IsLimit rows line.limit
   pub styled : IsStyled rows line.selection line.style
   pub j : IsWord (codes "J") rows line.j
+
+-- its options select objects, and say what is printed of them
+abbrev pub compare_rules : List Rule
+compare_rules =
+    size_flag ∷ long_flag (codes "check") ∷ long_flag (codes "summary")
+    ∷ object_rules ++ pair_rules
+
+pub record IsCompareLine (rows : List Row) (line : CompareLine) : Type 0 where
+  pub selection : IsSelection rows line.selection
+  pub check : IsFlag (codes "check") rows line.style.check
+  pub summary : IsFlag (codes "summary") rows line.style.summary
+  pub pair : IsPair rows line.first line.second
 
 -- its options are of one object or of all
 abbrev pub extract_rules : List Rule
@@ -146,9 +182,14 @@ pub record IsInfoLine (rows : List Row) (line : InfoLine) : Type 0 where
   pub info : AreNumbersOf rows line.info
   pub j : IsWord (codes "J") rows line.j
 
+-- its inputs
+abbrev pub list_words : List Row → List (List ℕ)
+list_words rows = word (codes "list") rows ∷ word (codes "J") rows ∷ []
+
 pub record IsInfoListLine (rows : List Row) (line : InfoListLine) : Type 0 where
   pub list : first_of (codes "list") rows ≡ Some line.list.now
   pub form : first_unfit list_form rows ≡ None
+  pub once : is_standard_twice (list_words rows) ≡ false
   pub target : IsTarget overwrites_journal rows line.target
   pub limit : IsLimit rows line.limit
   pub j : IsWord (codes "J") rows line.j
@@ -157,7 +198,7 @@ abbrev pub join_rules : List Rule
 join_rules =
     out ∷ force_flag ∷ size_flag ∷ option (codes "memory") ∷ option (codes "source")
     ∷ session_list ∷ option (codes "toi") ∷ option (codes "fdt")
-    ∷ long_flag (codes "no-fdt") ∷ input_list ∷ []
+    ∷ long_flag (codes "no-fdt") ∷ long_flag (codes "reasons") ∷ input_list ∷ []
 
 -- of 1 to 64 inputs
 pub record IsJoinLine (rows : List Row) (line : JoinLine) : Type 0 where
@@ -166,27 +207,29 @@ pub record IsJoinLine (rows : List Row) (line : JoinLine) : Type 0 where
   pub memory : memory_in rows ≡ Some line.memory
   pub sender : HasSource rows line.sender
   pub scope : IsScope rows line.scope
+  pub reasons : IsFlag (codes "reasons") rows line.reasons
   pub inputs : map (λ input. input.now) line.inputs.items ≡ words (codes "INPUT") rows
+  pub once : is_standard_twice (words (codes "INPUT") rows) ≡ false
 
 abbrev pub merge_rules : List Rule
-merge_rules = out ∷ force_flag ∷ place (codes "A") ∷ place (codes "B") ∷ []
-
--- OUT is no input of a merge, unless it is standard output
-abbrev pub is_out_an_input : List Row → Bool
-is_out_an_input rows =
-    let out = word (codes "OUT") rows in
-    not (bytes_eq out (codes "-"))
-    && (bytes_eq out (word (codes "A") rows) || bytes_eq out (word (codes "B") rows))
+merge_rules = out ∷ force_flag ∷ size_flag ∷ pair_rules
 
 pub record IsMergeLine (rows : List Row) (line : MergeLine) : Type 0 where
   pub target : IsTarget overwrites_journal rows line.target
-  pub a : IsWord (codes "A") rows line.a
-  pub b : IsWord (codes "B") rows line.b
+  pub pair : IsPair rows line.a line.b
+  pub others : is_out_an_input rows ≡ false
+
+abbrev pub minus_rules : List Rule
+minus_rules = merge_rules
+
+pub record IsMinusLine (rows : List Row) (line : MinusLine) : Type 0 where
+  pub target : IsTarget overwrites_journal rows line.target
+  pub pair : IsPair rows line.first line.second
   pub others : is_out_an_input rows ≡ false
 
 -- its options select entries
 abbrev pub forget_rules : List Rule
-forget_rules = out ∷ force_flag ∷ selection_rules ++ journal_rules
+forget_rules = out ∷ force_flag ∷ size_flag ∷ selection_rules ++ journal_rules
 
 pub record IsForgetLine (rows : List Row) (line : ForgetLine) : Type 0 where
   pub target : IsTarget overwrites_journal rows line.target
@@ -213,10 +256,12 @@ program = record {
   subs = command_with (codes "packet") packet_rules
       ∷ command_with (codes "show") show_rules
       ∷ command_with (codes "gaps") gaps_rules
+      ∷ command_with (codes "compare") compare_rules
       ∷ command_with (codes "extract") extract_rules
       ∷ command_with (codes "info") info_rules
       ∷ command_with (codes "join") join_rules
       ∷ command_with (codes "merge") merge_rules
+      ∷ command_with (codes "minus") minus_rules
       ∷ command_with (codes "forget") forget_rules
       ∷ command_with (codes "carousel") carousel_rules
       ∷ [];
@@ -231,12 +276,14 @@ abbrev pub IsLine : List ℕ → List Row → Line → Type 0
 IsLine name rows (Packet hex) = (name ≡ codes "packet") × IsWord (codes "HEX") rows hex
 IsLine name rows (Show line) = (name ≡ codes "show") × IsShowLine rows line
 IsLine name rows (Gaps line) = (name ≡ codes "gaps") × IsGapsLine rows line
+IsLine name rows (Compare line) = (name ≡ codes "compare") × IsCompareLine rows line
 IsLine name rows (Extract line) = (name ≡ codes "extract") × IsExtractLine rows line
 IsLine name rows (ExtractAll line) = (name ≡ codes "extract") × IsExtractAllLine rows line
 IsLine name rows (Info line) = (name ≡ codes "info") × IsInfoLine rows line
 IsLine name rows (InfoList line) = (name ≡ codes "info") × IsInfoListLine rows line
 IsLine name rows (Join line) = (name ≡ codes "join") × IsJoinLine rows line
 IsLine name rows (Merge line) = (name ≡ codes "merge") × IsMergeLine rows line
+IsLine name rows (Minus line) = (name ≡ codes "minus") × IsMinusLine rows line
 IsLine name rows (Forget line) = (name ≡ codes "forget") × IsForgetLine rows line
 IsLine name rows (Carousel line) = (name ≡ codes "carousel") × IsCarouselLine rows line
 

@@ -1,5 +1,6 @@
 pub mod Parser
 pub mod Options
+pub mod Inputs
 pub mod Sizes
 pub mod Selecting
 pub mod Scoping

@@ -9,21 +9,25 @@ use Rattle.flute_parts.specs.Information.{Information, info_fault}
 use Rattle.flute_parts.specs.declared.info.InfoFault.{InfoFault}
 use Rattle.flute_parts.specs.declared.key.Key.{Key}
 use Rattle.flute_streams.specs.declared.choice.scope.Scope.{Scope}
+use Rattle.flute_streams.specs.declared.choice.selection.Selection.{Selection}
 use Rattle.flutejoin.specs.declared.command_fault.CommandFault.{CommandFault}
 use Rattle.flutejoin.specs.declared.command_fault.CommandFault.TheVariants.{CommandLine, BadNumber}
 use Rattle.flutejoin.specs.declared.command_fault.CommandFault.TheVariants.{BadOption, BadSource}
 use Rattle.flutejoin.specs.declared.command_fault.CommandFault.TheVariants.{BadInformation, BadKey}
 use Rattle.flutejoin.specs.declared.command_fault.CommandFault.TheVariants.{TooManyInputs}
+use Rattle.flutejoin.specs.declared.command_fault.CommandFault.TheVariants.{StandardInputTwice}
 use Rattle.flutejoin.specs.declared.command_fault.CommandFault.TheVariants.{OutputIsInput}
 use Rattle.flutejoin.specs.declared.command_fault.CommandFault.TheVariants.{OutOfMemory}
 use Rattle.flutejoin_line.specs.CommandLine.{AreNumbersOf, IsLine, command_in, is_out_an_input}
-use Rattle.flutejoin_line.specs.CommandLine.{refusals_of}
+use Rattle.flutejoin_line.specs.CommandLine.{list_words, pair_words, refusals_of}
+use Rattle.flutejoin_line.specs.Inputs.{IsTwice, is_standard_twice}
 use Rattle.flutejoin_line.specs.Options.{HasObject, HasSessions, HasSource, IsFlag, IsFormFault}
 use Rattle.flutejoin_line.specs.Options.{IsKey, IsZero, all_form, are_sessions, carousel_options}
 use Rattle.flutejoin_line.specs.Options.{extract_form, first_unfit, first_wrong, info_form}
 use Rattle.flutejoin_line.specs.Options.{info_options, key_options, list_form, words}
 use Rattle.flutejoin_line.specs.Scoping.{AreScopeNumbers, IsScope, IsWrongOfScope}
-use Rattle.flutejoin_line.specs.Selecting.{IsChoiceFault, IsSelectionFault, NamesObject}
+use Rattle.flutejoin_line.specs.Selecting.{IsChoiceFault, IsSelection, IsSelectionFault}
+use Rattle.flutejoin_line.specs.Selecting.{NamesObject}
 use Rattle.flutejoin_line.specs.Sizes.{memory_in}
 use Rattle.flutejoin_line.specs.declared.line.Line.{Line}
 
@@ -37,11 +41,13 @@ IsKeyFault options IsMeant rows BadKey =
     (first_wrong options rows ≡ None) × ((sender : ℕ) × IsMeant sender) × HasObject rows None
 IsKeyFault options IsMeant rows _ = ⊥
 
--- of that many inputs
-abbrev pub IsManyInputs : ℕ → CommandFault → Type 0
-IsManyInputs count TooManyInputs = 64 < count
-IsManyInputs count OutOfMemory = count ≤ 64
-IsManyInputs count _ = ⊥
+-- of these inputs
+abbrev pub IsInputsFault : List (List ℕ) → CommandFault → Type 0
+IsInputsFault inputs TooManyInputs = 64 < length inputs
+IsInputsFault inputs StandardInputTwice =
+    (length inputs ≤ 64) × (is_standard_twice inputs ≡ true)
+IsInputsFault inputs OutOfMemory = (length inputs ≤ 64) × (is_standard_twice inputs ≡ false)
+IsInputsFault inputs _ = ⊥
 
 -- of a join each number is one of its range
 abbrev pub AreJoinNumbers : List Row → Type 0
@@ -68,7 +74,7 @@ IsJoinFault rows BadSource =
 IsJoinFault rows BadKey =
     AreJoinNumbers rows × ((sender : ℕ) × HasSource rows sender) × NamesObject rows None
 IsJoinFault rows fault =
-    AreJoinOptions rows × IsManyInputs (length (words (codes "INPUT") rows)) fault
+    AreJoinOptions rows × IsInputsFault (words (codes "INPUT") rows) fault
 
 -- of `extract --all`, which takes no `--force`
 abbrev pub IsAllFault : List Row → CommandFault → Type 0
@@ -96,7 +102,7 @@ IsExtractFault rows fault =
     ⊎ (IsFlag (codes "all") rows false × IsOneFault rows fault)
 
 abbrev pub IsListFault : List Row → CommandFault → Type 0
-IsListFault rows = IsFormFault list_form (λ _. ⊥) rows
+IsListFault rows = IsFormFault list_form (IsTwice (list_words rows)) rows
 
 -- three numbers of their ranges are no information, of an object with a key
 pub record AreNoInformation (rows : List Row) (fault : InfoFault) : Type 0 where
@@ -119,9 +125,21 @@ IsInfoFault rows fault =
     ((is_some (first_of (codes "list") rows) ≡ true) × IsListFault rows fault)
     ⊎ ((first_of (codes "list") rows ≡ None) × IsNumbersFault rows fault)
 
-abbrev pub IsMergeFault : List Row → CommandFault → Type 0
-IsMergeFault rows OutputIsInput = is_out_an_input rows ≡ true
-IsMergeFault rows _ = ⊥
+-- of two journals
+abbrev pub IsPairFault : List Row → CommandFault → Type 0
+IsPairFault rows = IsTwice (pair_words rows)
+
+-- and of an output beside them
+abbrev pub IsOutFault : List Row → CommandFault → Type 0
+IsOutFault rows OutputIsInput =
+    (is_standard_twice (pair_words rows) ≡ false) × (is_out_an_input rows ≡ true)
+IsOutFault rows fault = IsPairFault rows fault
+
+-- of two journals, of which objects are selected
+abbrev pub IsCompareFault : List Row → CommandFault → Type 0
+IsCompareFault rows StandardInputTwice =
+    ((s : Selection) × IsSelection rows s) × (is_standard_twice (pair_words rows) ≡ true)
+IsCompareFault rows fault = IsSelectionFault rows fault
 
 -- why these rows of the command with this name are no line
 abbrev pub IsFault : List ℕ → List Row → CommandFault → Type 0
@@ -130,10 +148,12 @@ IsFault name rows fault =
     ⊎ (((name ≡ codes "info") × IsInfoFault rows fault)
     ⊎ (((name ≡ codes "carousel") × IsKeyFault (carousel_options rows) IsZero rows fault)
     ⊎ (((name ≡ codes "join") × IsJoinFault rows fault)
-    ⊎ (((name ≡ codes "merge") × IsMergeFault rows fault)
+    ⊎ (((name ≡ codes "merge") × IsOutFault rows fault)
+    ⊎ (((name ≡ codes "minus") × IsOutFault rows fault)
+    ⊎ (((name ≡ codes "compare") × IsCompareFault rows fault)
     ⊎ (((name ≡ codes "forget") × IsChoiceFault rows fault)
     ⊎ (((name ≡ codes "show") × IsSelectionFault rows fault)
-    ⊎ ((name ≡ codes "gaps") × IsSelectionFault rows fault)))))))
+    ⊎ ((name ≡ codes "gaps") × IsSelectionFault rows fault)))))))))
 
 -- the line is what the parser found for its command
 abbrev pub IsLineOf : Option (List ℕ × List Row) → Line → Type 0

@@ -16,6 +16,7 @@ use Rattle.flutejoin.specs.Sender.{NamesSender}
 use Rattle.flutejoin.specs.declared.command_fault.CommandFault.{CommandFault}
 use Rattle.flutejoin.specs.declared.command_fault.CommandFault.TheVariants.{BadNumber}
 use Rattle.flutejoin.specs.declared.command_fault.CommandFault.TheVariants.{BadOption}
+use Rattle.flutejoin.specs.declared.command_fault.CommandFault.TheVariants.{MissingOption}
 
 -- ---- words
 
@@ -49,10 +50,13 @@ first_unfit [] rows = None
 first_unfit (option ∷ options) rows =
     if times_of option.0 rows == option.1 then first_unfit options rows else Some option.0
 
--- the fault names that option, or is another
+-- the fault names that option, by whether it is given at all; or it is another
 abbrev pub IsFormFault : List (List ℕ × ℕ) → (CommandFault → Type 0) → List Row
     → CommandFault → Type 0
-IsFormFault options IsOther rows (BadOption name) = first_unfit options rows ≡ Some name.now
+IsFormFault options IsOther rows (BadOption name) =
+    (first_unfit options rows ≡ Some name.now) × (0 < times_of name.now rows)
+IsFormFault options IsOther rows (MissingOption name) =
+    (first_unfit options rows ≡ Some name.now) × (times_of name.now rows ≡ 0)
 IsFormFault options IsOther rows fault = (first_unfit options rows ≡ None) × IsOther fault
 
 -- options with their numbers, as the code has them

@@ -14,7 +14,8 @@ use Rattle.flutejoin_line.specs.Options.{object_by}
 use Rattle.flutejoin_line.specs.Options.{word, words}
 use Rattle.flutejoin.specs.declared.command_fault.CommandFault.{CommandFault}
 use Rattle.flutejoin.specs.declared.command_fault.CommandFault.TheVariants.{BadNumber, BadSource}
-use Rattle.flutejoin.specs.declared.command_fault.CommandFault.TheVariants.{BadKey, BadOption}
+use Rattle.flutejoin.specs.declared.command_fault.CommandFault.TheVariants.{BadKey}
+use Rattle.flutejoin.specs.declared.command_fault.CommandFault.TheVariants.{MissingChoice}
 
 -- ---- symbols
 
@@ -109,9 +110,8 @@ IsSelectionFault rows BadKey =
     × NamesObject rows None
 IsSelectionFault rows _ = ⊥
 
--- of a command that has to select something: `--conflicts` is reported if no option is given
+-- of a command that has to select something: its options select all
 abbrev pub IsChoiceFault : List Row → CommandFault → Type 0
-IsChoiceFault rows (BadOption name) =
-    (name.now ≡ codes "conflicts")
-    × ((s : Selection) × IsSelection rows s × (is_everything s ≡ true))
+IsChoiceFault rows MissingChoice =
+    (s : Selection) × IsSelection rows s × (is_everything s ≡ true)
 IsChoiceFault rows fault = IsSelectionFault rows fault

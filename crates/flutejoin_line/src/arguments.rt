@@ -18,6 +18,9 @@ pub const FORCE_ALL: &str = "Write OUT even if it is a datagram file, a journal 
 /// What is told of `--any-size`, which lifts the limits of a store.
 pub const ANY_SIZE: &str = "Take in more sessions, objects and symbols than a store holds";
 
+/// What is told of `--any-size` where these limits do not apply.
+pub const UNLIMITED: &str = "Taken as by the other commands: the limits of a store do not apply";
+
 /// What is told of `--conflicts` if it selects entries.
 pub const CONFLICTS: &str = "Only symbols and information of which two values were told";
 

@@ -99,8 +99,8 @@ pub fn extract_all<'a>(matches: &ArgMatches<'a>) -> Result<Line<'a>, CommandFaul
 ///
 /// # Errors
 ///
-/// `BadOption` if an option is left out; `BadNumber`, `BadSource` and `BadKey` as `line_of` has
-/// them.
+/// `MissingOption` if an option is left out, `BadOption` if it is given more often than once;
+/// `BadNumber`, `BadSource` and `BadKey` as `line_of` has them.
 pub fn extract_one<'a>(matches: &ArgMatches<'a>) -> Result<Line<'a>, CommandFault>
     requires { IsFlag (codes "all") (found_rows matches.now) false }
     ensures { let rows = found_rows matches.now in

@@ -6,8 +6,8 @@ ghost use Rattle.flutejoin_line.specs.Parser.{IsCommand};
 ghost use Rattle.flutejoin_line.specs.Selecting.{IsChoiceFault};
 
 use crate::arguments::{
-    CONFLICTS, FORCE, INSTANCE, JOURNAL, OBJECT, SOURCE, force, input, long_flag, option, output,
-    session_list,
+    CONFLICTS, FORCE, INSTANCE, JOURNAL, OBJECT, SOURCE, UNLIMITED, force, input, long_flag,
+    option, output, session_list,
 };
 use crate::help_texts::FORGET_HELP;
 use crate::line::Line;
@@ -35,6 +35,7 @@ pub fn forget_command<'a>(alloc: Global) -> Result<Command<'a>, AllocError>
     let arguments = vec![in alloc;
         output(alloc),
         force(alloc, FORCE),
+        long_flag(alloc, "any-size", UNLIMITED),
         long_flag(alloc, "conflicts", CONFLICTS),
         option(alloc, "source", "ADDRESS", SOURCE),
         session_list(alloc),
@@ -62,14 +63,14 @@ pub fn forget_command<'a>(alloc: Global) -> Result<Command<'a>, AllocError>
 ///
 /// # Errors
 ///
-/// Those of `selection`; `BadOption` with `--conflicts` if nothing is said of what to forget.
+/// Those of `selection`; `MissingChoice` if nothing is said of what to forget.
 pub fn forget_of<'a>(matches: &ArgMatches<'a>) -> Result<Line<'a>, CommandFault>
     ensures { let rows = found_rows matches.now in
         MatchResult result (IsLine (codes "forget") rows) (IsChoiceFault rows) }
 {
     let selection = selection(matches)?;
     if selection.is_all() {
-        return Err(CommandFault::BadOption("conflicts"));
+        return Err(CommandFault::MissingChoice);
     }
     Ok(Line::Forget(ForgetLine {
         target: journal_target(matches),

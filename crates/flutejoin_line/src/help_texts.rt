@@ -52,12 +52,24 @@ Prints a line for each object: whole, partial, no information or conflicting inf
 The options choose objects, and narrow one another. An FDT Instance is --toi 0 --fdt N.
 Behind partial a line for each gap follows: gap BLOCK/FIRST-LAST, and whether these symbols are
 missing, conflicting or misfit. --summary has a line for each session instead: session TSI, how many
-objects, whole, partial, the missing, conflicting and misfit symbols of these, and unknown, which
-have no or conflicting information.
---conflicts lists only objects with a conflict. --check ends with status 1 if one is not whole.
+objects, whole, partial, the missing, conflicting and misfit symbols, and unknown, which have no or
+conflicting information.
+--conflicts lists only objects with a conflict: unplaced conflicting N are symbols in no gap.
+--check ends with status 1 if one is not whole, with --conflicts if there is one.
 A line that begins with `source` is of a sender that is not ::, and `extract` takes it by --source.
 The journal may have as much as a store holds, or with --any-size more (flutejoin --help).",
     "gaps station1"
+);
+
+pub const COMPARE_HELP: &str = help_of!(
+    "\
+Prints a line for each object of either journal: the symbols of which both have the same (same) or
+not (differ), or only the first or the second has any (first, second); and then its information:
+same, differ, first, second or none. Where a conflict meets a value they differ.
+The options choose objects, and narrow one another. An FDT Instance is --toi 0 --fdt N.
+--summary has a line for each session instead. --check ends with status 1 if anything differs.
+Each journal may have up to 16,777,216 entries; the limits of a store do not apply.",
+    "compare station1 station2"
 );
 
 pub const EXTRACT_HELP: &str = help_of!(
@@ -96,6 +108,15 @@ pub const MERGE_HELP: &str = help_of!(
 Prints: entries N. Each journal may have up to 16,777,216 entries; the limits of a store do not
 apply. OUT is no input.",
     "merge -o both station1 station2"
+);
+
+pub const MINUS_HELP: &str = help_of!(
+    "\
+Prints: entries N. Joined with OUT, B becomes what it becomes if it is joined with A: OUT has the
+entries of A of which B has none, or another value.
+Each journal may have up to 16,777,216 entries; the limits of a store do not apply.
+OUT is no input.",
+    "minus -o new station1 station2"
 );
 
 pub const FORGET_HELP: &str = help_of!(

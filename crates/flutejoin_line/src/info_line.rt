@@ -12,6 +12,7 @@ use crate::arguments::{
     long_flag, option, output,
 };
 use crate::help_texts::INFO_HELP;
+use crate::inputs::standard_once;
 use crate::limit::{Limit, limit_of};
 use crate::line::Line;
 use crate::numbers::{number_below, number_if, source};
@@ -84,7 +85,8 @@ pub fn info_command<'a>(alloc: Global) -> Result<Command<'a>, AllocError>
 ///
 /// # Errors
 ///
-/// `BadOption` if an option does not go with `--list`.
+/// `BadOption` if an option does not go with `--list`; `StandardInputTwice` if both `list` and the
+/// journal are standard input.
 pub fn info_list<'a>(matches: &ArgMatches<'a>, list: &'a str) -> Result<Line<'a>, CommandFault>
     requires { first_of (codes "list") (found_rows matches.now) ≡ Some list.now }
     ensures { let rows = found_rows matches.now in
@@ -100,11 +102,13 @@ pub fn info_list<'a>(matches: &ArgMatches<'a>, list: &'a str) -> Result<Line<'a>
         ("block", 0),
     ];
     given(matches, &without_object)?;
+    let j = text(matches, "J");
+    standard_once(&[list, j])?;
     Ok(Line::InfoList(InfoListLine {
         target: journal_target(matches),
         limit: limit_of(matches),
         list,
-        j: text(matches, "J"),
+        j,
     }))
 }
 
@@ -112,8 +116,8 @@ pub fn info_list<'a>(matches: &ArgMatches<'a>, list: &'a str) -> Result<Line<'a>
 ///
 /// # Errors
 ///
-/// `BadOption` if an option is left out; `BadNumber`, `BadSource`, `BadKey` and `BadInformation` as
-/// `line_of` has them.
+/// `MissingOption` if an option is left out, `BadOption` if it is given more often than once;
+/// `BadNumber`, `BadSource`, `BadKey` and `BadInformation` as `line_of` has them.
 pub fn info_one<'a>(matches: &ArgMatches<'a>) -> Result<Line<'a>, CommandFault>
     requires { first_of (codes "list") (found_rows matches.now) ≡ None }
     ensures { let rows = found_rows matches.now in

@@ -9,7 +9,7 @@ use flute_streams::Scope;
 
 /// Join what the journals and datagram files `inputs`, 1 to 64 of them, have of the objects of
 /// `scope` into a journal. The datagrams of the files are of this sender, and about `memory` bytes
-/// of them may be held in memory.
+/// of them may be held in memory. `reasons` is whether it is told why any are refused.
 #[derive(Drop)]
 pub struct JoinLine<'a> {
     pub target: Target<'a>,
@@ -17,6 +17,7 @@ pub struct JoinLine<'a> {
     pub memory: u64,
     pub sender: Sender,
     pub scope: Scope,
+    pub reasons: bool,
     pub inputs: Vec<&'a str>,
     pub ghost few: { length inputs.items ≤ 64 },
 }

@@ -10,6 +10,7 @@ use crate::arguments::{
     session_list,
 };
 use crate::help_texts::JOIN_HELP;
+use crate::inputs::standard_once;
 use crate::join_line::JoinLine;
 use crate::limit::limit_of;
 use crate::line::Line;
@@ -39,6 +40,11 @@ pub fn join_command<'a>(alloc: Global) -> Result<Command<'a>, AllocError>
         option(alloc, "toi", "N", OBJECT),
         option(alloc, "fdt", "N", INSTANCE),
         long_flag(alloc, "no-fdt", "No FDT Instances, which have the TOI 0"),
+        long_flag(
+            alloc,
+            "reasons",
+            "Also a line for each reason why datagrams are refused: how many of them",
+        ),
         input(alloc, "INPUT", "Journals and datagram files, at most 64")
             .action(ArgAction::Append)
             .num_args(1..),
@@ -56,7 +62,8 @@ pub fn join_command<'a>(alloc: Global) -> Result<Command<'a>, AllocError>
 ///
 /// # Errors
 ///
-/// `BadNumber`, `BadSource` and `BadKey` as `line_of` has them; `TooManyInputs`; `OutOfMemory`.
+/// `BadNumber`, `BadSource` and `BadKey` as `line_of` has them; `TooManyInputs`;
+/// `StandardInputTwice`; `OutOfMemory`.
 pub fn join_of<'a>(alloc: Global, matches: &ArgMatches<'a>) -> Result<Line<'a>, CommandFault>
     ensures { let rows = found_rows matches.now in
         MatchResult result (IsLine (codes "join") rows) (IsJoinFault rows) }
@@ -76,12 +83,14 @@ pub fn join_of<'a>(alloc: Global, matches: &ArgMatches<'a>) -> Result<Line<'a>, 
     if inputs.len() > MAX_INPUTS {
         return Err(CommandFault::TooManyInputs);
     }
+    standard_once(inputs)?;
     Ok(Line::Join(JoinLine {
         target: journal_target(matches),
         limit: limit_of(matches),
         memory,
         sender,
         scope,
+        reasons: flag(matches, "reasons"),
         inputs: inputs.to_vec(alloc)?,
     }))
 }

@@ -17,18 +17,22 @@
 
 mod arguments;
 mod carousel_line;
+mod compare_line;
 mod extract_line;
 mod forget_line;
 mod gaps_line;
 mod help_texts;
 mod info_line;
+mod inputs;
 mod join_line;
 mod join_words;
 mod limit;
 mod line;
 mod merge_line;
+mod minus_line;
 mod numbers;
 mod objects;
+mod pair;
 mod parser;
 mod selection_options;
 mod show_line;
@@ -37,6 +41,7 @@ mod target;
 mod words;
 
 pub use carousel_line::CarouselLine;
+pub use compare_line::CompareLine;
 pub use extract_line::{ExtractAllLine, ExtractLine};
 pub use forget_line::ForgetLine;
 pub use gaps_line::GapsLine;
@@ -45,5 +50,6 @@ pub use join_line::JoinLine;
 pub use limit::Limit;
 pub use line::{Line, line_of};
 pub use merge_line::MergeLine;
+pub use minus_line::MinusLine;
 pub use show_line::ShowLine;
 pub use target::Target;

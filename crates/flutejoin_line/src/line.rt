@@ -8,6 +8,7 @@ ghost use Rattle.flutejoin_line.specs.LineFaults.{IsLineOf, IsRefusal};
 ghost use Rattle.flutejoin_line.specs.Options.{found_rows};
 
 use crate::carousel_line::{CarouselLine, carousel_of};
+use crate::compare_line::{CompareLine, compare_of};
 use crate::extract_line::{ExtractAllLine, ExtractLine, extract_all, extract_one};
 use crate::forget_line::{ForgetLine, forget_of};
 use crate::gaps_line::{GapsLine, gaps_of};
@@ -15,6 +16,7 @@ use crate::info_line::{InfoLine, InfoListLine, info_list, info_one};
 use crate::join_line::JoinLine;
 use crate::join_words::join_of;
 use crate::merge_line::{MergeLine, merge_of};
+use crate::minus_line::{MinusLine, minus_of};
 use crate::parser::command;
 use crate::show_line::{ShowLine, show_of};
 use crate::words::{flag, text, word};
@@ -30,12 +32,14 @@ pub enum Line<'a> {
     Packet { hex: &'a str },
     Show(ShowLine<'a>),
     Gaps(GapsLine<'a>),
+    Compare(CompareLine<'a>),
     Extract(ExtractLine<'a>),
     ExtractAll(ExtractAllLine<'a>),
     Info(InfoLine<'a>),
     InfoList(InfoListLine<'a>),
     Join(JoinLine<'a>),
     Merge(MergeLine<'a>),
+    Minus(MinusLine<'a>),
     Forget(ForgetLine<'a>),
     Carousel(CarouselLine<'a>),
 }
@@ -45,14 +49,15 @@ pub enum Line<'a> {
 /// # Errors
 ///
 /// `CommandLine` with the parser's text if that refuses the words, or if they ask for help or
-/// the version; `BadOption` with the first option that the form of `extract` or `info` lacks, or
-/// does not take; `BadNumber` with the first option, in the order `--tsi`, `--toi`, `--fdt`,
-/// `--length`, `--symbol`, `--block`, `--memory`, that is not a number of its range, or with
-/// `--tsi` if `join` has it more than 64 times; `BadSource` if `--source` is neither 32 or 8
-/// hexadecimal digits nor an address; `BadKey` if `--fdt` does not go with `--toi`;
-/// `BadInformation` if the numbers of `info` are no transmission information; `TooManyInputs` if
-/// `join` has more than 64 inputs; `OutputIsInput` if `merge` is to write one of its inputs; and
-/// `OutOfMemory`.
+/// the version; with the first option that does not fit the form of `extract` or `info`,
+/// `MissingOption` if it is left out, or else `BadOption`; `BadNumber` with the first option, in
+/// the order `--tsi`, `--toi`, `--fdt`, `--length`, `--symbol`, `--block`, `--memory`, that is not
+/// a number of its range, or with `--tsi` if `join` has it more than 64 times; `BadSource` if
+/// `--source` is neither 32 or 8 hexadecimal digits nor an address; `BadKey` if `--fdt` does not go
+/// with `--toi`; `BadInformation` if the numbers of `info` are no transmission information;
+/// `MissingChoice` if `forget` is not told what; `TooManyInputs` if `join` has more than 64 inputs;
+/// `StandardInputTwice` if two inputs are `-`; `OutputIsInput` if `merge` or `minus` is to write
+/// one of its inputs; and `OutOfMemory`.
 pub fn line_of(alloc: Global, words: &[String]) -> Result<Line<'_>, CommandFault>
     ensures read { let texts = map string_bytes words.now in
         MatchResult result (IsLineIn texts) (IsFaultIn texts) }
@@ -88,6 +93,7 @@ fn line_by_name<'a>(
         }),
         "show" => show_of(matches),
         "gaps" => gaps_of(matches),
+        "compare" => compare_of(matches),
         "extract" if flag(matches, "all") => extract_all(matches),
         "extract" => extract_one(matches),
         "info" => match word(matches, "list") {
@@ -96,6 +102,7 @@ fn line_by_name<'a>(
         },
         "join" => join_of(alloc, matches),
         "merge" => merge_of(matches),
+        "minus" => minus_of(matches),
         "forget" => forget_of(matches),
         "carousel" => carousel_of(matches),
         _ => unreachable!(),

@@ -1,22 +1,19 @@
 //! The line of `merge`.
 ghost use Rattle.std.specs.Prelude.{IfOk, MatchResult, codes};
 ghost use Rattle.flutejoin_line.specs.CommandLine.{IsLine, merge_rules};
-ghost use Rattle.flutejoin_line.specs.LineFaults.{IsMergeFault};
+ghost use Rattle.flutejoin_line.specs.LineFaults.{IsOutFault};
 ghost use Rattle.flutejoin_line.specs.Options.{found_rows};
 ghost use Rattle.flutejoin_line.specs.Parser.{IsCommand};
 
-use crate::arguments::{FORCE, force, input, output};
+use crate::arguments::{FORCE, UNLIMITED, force, input, long_flag, output};
 use crate::help_texts::MERGE_HELP;
 use crate::line::Line;
+use crate::pair::{Pair, pair_beside_out};
 use crate::parser::command_with;
 use crate::target::{Target, journal_target};
-use crate::words::text;
 use clap::{ArgMatches, Command};
 use flutejoin::CommandFault;
 use std::alloc::{AllocError, Global};
-
-/// The word for standard output as an output, and for standard input as an input.
-const STANDARD: &str = "-";
 
 /// Merge the journals `a` and `b` into a journal.
 #[derive(Clone, Copy)]
@@ -33,6 +30,7 @@ pub fn merge_command<'a>(alloc: Global) -> Result<Command<'a>, AllocError>
     let arguments = vec![in alloc;
         output(alloc),
         force(alloc, FORCE),
+        long_flag(alloc, "any-size", UNLIMITED),
         input(alloc, "A", "A journal"),
         input(alloc, "B", "Another journal"),
     ]?;
@@ -49,17 +47,15 @@ pub fn merge_command<'a>(alloc: Global) -> Result<Command<'a>, AllocError>
 ///
 /// # Errors
 ///
-/// `OutputIsInput` if it is to write one of its inputs.
+/// Those of `pair_beside_out`.
 pub fn merge_of<'a>(matches: &ArgMatches<'a>) -> Result<Line<'a>, CommandFault>
     ensures { let rows = found_rows matches.now in
-        MatchResult result (IsLine (codes "merge") rows) (IsMergeFault rows) }
+        MatchResult result (IsLine (codes "merge") rows) (IsOutFault rows) }
 {
-    let out = text(matches, "OUT");
-    let a = text(matches, "A");
-    let b = text(matches, "B");
-    if out != STANDARD && (out == a || out == b) {
-        return Err(CommandFault::OutputIsInput);
-    }
-    let target = journal_target(matches);
-    Ok(Line::Merge(MergeLine { target, a, b }))
+    let Pair { first, second } = pair_beside_out(matches)?;
+    Ok(Line::Merge(MergeLine {
+        target: journal_target(matches),
+        a: first,
+        b: second,
+    }))
 }

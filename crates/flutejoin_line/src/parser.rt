@@ -8,6 +8,7 @@ ghost use Rattle.flutejoin_line.specs.Parser.{IsArgument, IsCommand};
 
 use crate::arguments::input;
 use crate::carousel_line::carousel_command;
+use crate::compare_line::compare_command;
 use crate::extract_line::extract_command;
 use crate::forget_line::forget_command;
 use crate::gaps_line::gaps_command;
@@ -15,6 +16,7 @@ use crate::help_texts::{PACKET_HELP, PROGRAM_HELP};
 use crate::info_line::info_command;
 use crate::join_words::join_command;
 use crate::merge_line::merge_command;
+use crate::minus_line::minus_command;
 use crate::show_line::show_command;
 use clap::{Arg, Command};
 use std::alloc::{AllocError, Global};
@@ -40,10 +42,12 @@ pub fn command<'a>(alloc: Global) -> Result<Command<'a>, AllocError>
         .subcommand(packet_command(alloc)?)?
         .subcommand(show_command(alloc)?)?
         .subcommand(gaps_command(alloc)?)?
+        .subcommand(compare_command(alloc)?)?
         .subcommand(extract_command(alloc)?)?
         .subcommand(info_command(alloc)?)?
         .subcommand(join_command(alloc)?)?
         .subcommand(merge_command(alloc)?)?
+        .subcommand(minus_command(alloc)?)?
         .subcommand(forget_command(alloc)?)?
         .subcommand(carousel_command(alloc)?)?;
     Ok(command)

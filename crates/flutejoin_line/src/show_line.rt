@@ -6,7 +6,7 @@ ghost use Rattle.flutejoin_line.specs.Parser.{IsCommand};
 ghost use Rattle.flutejoin_line.specs.Selecting.{IsSelectionFault};
 
 use crate::arguments::{
-    CONFLICTS, INSTANCE, JOURNAL, OBJECT, SOURCE, input, long_flag, option, session_list,
+    CONFLICTS, INSTANCE, JOURNAL, OBJECT, SOURCE, UNLIMITED, input, long_flag, option, session_list,
 };
 use crate::help_texts::SHOW_HELP;
 use crate::line::Line;
@@ -30,6 +30,7 @@ pub fn show_command<'a>(alloc: Global) -> Result<Command<'a>, AllocError>
     ensures { IfOk result (IsCommand (codes "show") show_rules) }
 {
     let arguments = vec![in alloc;
+        long_flag(alloc, "any-size", UNLIMITED),
         long_flag(alloc, "conflicts", CONFLICTS),
         option(alloc, "source", "ADDRESS", SOURCE),
         session_list(alloc),

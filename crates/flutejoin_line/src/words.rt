@@ -25,7 +25,8 @@ pub fn text<'a>(matches: &ArgMatches<'a>, id: &str) -> &'a str
 ///
 /// # Errors
 ///
-/// `BadOption` with the first that is given more or less often.
+/// With the first that is given more or less often, `MissingOption` if it is not given at all, or
+/// else `BadOption`.
 pub fn given(
     matches: &ArgMatches<'_>,
     options: &[(&'static str, usize)],
@@ -37,7 +38,11 @@ pub fn given(
 {
     for option in options {
         let (name, times) = *option;
-        if matches.get_strs(name).unwrap_or(&[]).len() != times {
+        let given = matches.get_strs(name).unwrap_or(&[]).len();
+        if given != times {
+            if given == 0 {
+                return Err(CommandFault::MissingOption(name));
+            }
             return Err(CommandFault::BadOption(name));
         }
     }

@@ -4,15 +4,16 @@ use Rattle.flute_output.specs.NewFolders.{Places}
 use Rattle.flutejoin.specs.declared.command_fault.CommandFault.{CommandFault}
 use Rattle.flutejoin_commands.specs.Closings.{Closing, ClosesWhole}
 use Rattle.flutejoin_commands.specs.Deeds.{Deed, IsDone, IsNotDone, Printing, adds, adds_list}
-use Rattle.flutejoin_commands.specs.Deeds.{extracts, extracts_all, forgets, joins, lists, merges}
-use Rattle.flutejoin_commands.specs.Deeds.{prints_packet, sends, shows}
+use Rattle.flutejoin_commands.specs.Deeds.{compares, extracts, extracts_all, forgets, joins, lists}
+use Rattle.flutejoin_commands.specs.Deeds.{merges, prints_packet, sends, shows, subtracts}
 use Rattle.flutejoin_commands.specs.Files.{Files}
 use Rattle.flutejoin_commands.specs.Worlds.{Outside, Spares}
 use Rattle.flutejoin_line.specs.LineFaults.{IsFaultIn, IsLineIn}
 use Rattle.flutejoin_line.specs.declared.line.Line.{Line}
-use Rattle.flutejoin_line.specs.declared.line.Line.TheVariants.{Packet, Show, Gaps, Extract}
-use Rattle.flutejoin_line.specs.declared.line.Line.TheVariants.{ExtractAll, Info, InfoList}
-use Rattle.flutejoin_line.specs.declared.line.Line.TheVariants.{Join, Merge, Forget, Carousel}
+use Rattle.flutejoin_line.specs.declared.line.Line.TheVariants.{Packet, Show, Gaps, Compare}
+use Rattle.flutejoin_line.specs.declared.line.Line.TheVariants.{Extract, ExtractAll, Info}
+use Rattle.flutejoin_line.specs.declared.line.Line.TheVariants.{InfoList, Join, Merge, Minus}
+use Rattle.flutejoin_line.specs.declared.line.Line.TheVariants.{Forget, Carousel}
 use Rattle.flutejoin_line.specs.declared.target.Target.{Target}
 
 -- what a line does: it leaves what a command writes at a name, or only prints
@@ -24,12 +25,14 @@ abbrev pub work_of : Line → Work
 work_of (Packet hex) = prints (prints_packet hex.now)
 work_of (Show line) = prints (shows line)
 work_of (Gaps line) = prints (lists line)
+work_of (Compare line) = prints (compares line)
 work_of (ExtractAll line) = prints (extracts_all line)
 work_of (Extract line) = leaves line.target (extracts line)
 work_of (Info line) = leaves line.target (adds line)
 work_of (InfoList line) = leaves line.target (adds_list line)
 work_of (Join line) = leaves line.target (joins line)
 work_of (Merge line) = leaves line.target (merges line)
+work_of (Minus line) = leaves line.target (subtracts line)
 work_of (Forget line) = leaves line.target (forgets line)
 work_of (Carousel line) = leaves line.target (sends line)
 

@@ -24,10 +24,10 @@ ghost use Rattle.flutejoin_commands.specs.Worlds.{outside};
 use flute_parts::Sink;
 use flutejoin::CommandFault;
 use flutejoin_commands::{
-    Listing, Outlet, World, carousel, extract, extract_all, forget, gaps, info, info_list, join,
-    merge, packet, show,
+    Listing, Outlet, World, carousel, compare, extract, extract_all, forget, gaps, info, info_list,
+    join, merge, minus, packet, show,
 };
-use flutejoin_line::{ExtractAllLine, ForgetLine, GapsLine, Line, ShowLine, line_of};
+use flutejoin_line::{CompareLine, ExtractAllLine, ForgetLine, GapsLine, Line, ShowLine, line_of};
 use std::alloc::Global;
 
 /// Does what the words after the program's name say, in a world whose standard output and standard
@@ -94,6 +94,14 @@ fn run_line<W: World, O: Outlet, E: Sink>(
             };
             gaps(world, alloc, listing, j, output)
         }
+        Line::Compare(
+            CompareLine {
+                selection,
+                style,
+                first,
+                second,
+            },
+        ) => compare(world, alloc, &selection, style, first, second, output),
         Line::Extract(line) => extract(world, alloc, line, output, errors),
         Line::ExtractAll(
             ExtractAllLine {
@@ -107,6 +115,7 @@ fn run_line<W: World, O: Outlet, E: Sink>(
         Line::InfoList(line) => info_list(world, alloc, line, output, errors),
         Line::Join(line) => join(world, alloc, line, output, errors),
         Line::Merge(line) => merge(world, alloc, line, output, errors),
+        Line::Minus(line) => minus(world, alloc, line, output, errors),
         Line::Forget(
             ForgetLine {
                 target,

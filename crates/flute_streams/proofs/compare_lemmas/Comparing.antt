@@ -221,6 +221,10 @@ module _ {S T : Type 0} (a : Behaviour S) (b : Behaviour T) where
         second_tells = c.second.ended n.1;
         first_ends = c.first.ends n.0;
         second_ends = c.second.ends n.1;
+        first_quiet = c.first.fails;
+        second_quiet = c.second.fails;
+        first_few = omega (arith, c.first_few);
+        second_few = omega (arith, c.second_few);
         rows = map (row_of c.all c.others) (c.before ++ keys_at c.last);
         are = record {
           keys = c.before ++ keys_at c.last;

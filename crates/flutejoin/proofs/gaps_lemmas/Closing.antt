@@ -1,40 +1,33 @@
 -- ClosedObjects: objects closed one after another, listed as a style says (specs/Listing).
-use Rattle.std.proofs.lemmas.Grind.{common_steps}
 use Rattle.std.proofs.Common.{rules}
-use Rattle.std.proofs.Common.{◌≡◌, ℕ, Bool, true, false, ◌&&◌, List, [], ◌∷◌, ◌++◌, Option, Some}
+use Rattle.std.proofs.Common.{◌≡◌, ℕ, Bool, true, false, ◌&&◌, List, [], ◌∷◌, ◌++◌, Option}
 use Rattle.std.proofs.Common.{None, Result, Ok, Err, if◌then◌else◌, refl, sym, ap, ◌∙◌, subst}
 use Rattle.std.proofs.Common.{arith}
-use Rattle.std.proofs.Common.{append_assoc, append-nil, length}
-use Rattle.std.specs.Prelude.{OnOk, filter, not, ◌||◌}
-use Rattle.std.specs.List.{flat_map, list_all, AllByRecursion}
-use Rattle.std.proofs.lemmas.Bool.{false≢true, ltb-false}
+use Rattle.std.proofs.Common.{append_assoc, length}
+use Rattle.std.specs.Prelude.{OnOk, filter, not}
+use Rattle.std.specs.List.{flat_map, AllByRecursion}
 use Rattle.std.proofs.Math.Bool.{and-true}
 use Rattle.std.proofs.lemmas.List.{flat_map_more}
 use Rattle.std.proofs.lemmas.List.Elements.{filter-append}
 use Rattle.std.proofs.lemmas.List.Folds.{list_all-append}
 use Rattle.flute_parts.specs.Devices.{Writes}
 use Rattle.flute_parts.specs.declared.device.DeviceFault.{DeviceFault}
-use Rattle.flute_parts.specs.Addresses.{info_address}
-use Rattle.flute_parts.specs.Facts.{fact_at}
 use Rattle.flute_parts.specs.Information.{Information}
 use Rattle.flute_parts.specs.declared.key.Key.{Key}
 use Rattle.flute_parts.specs.declared.symbol_id.SymbolId.{SymbolId}
 use Rattle.flute_parts.specs.declared.fact.Fact.{Fact}
-use Rattle.flute_parts.specs.declared.fact.Fact.TheVariants.{Info, InfoConflict, Symbol}
-use Rattle.flute_parts.specs.declared.fact.Fact.TheVariants.{SymbolConflict}
 use Rattle.flute_store.specs.declared.gap.Gap.{Gap}
 use Rattle.flute_store.specs.declared.gap.Reason.{Reason}
 use Rattle.flute_store.specs.declared.gap.Reason.TheVariants.{Conflicting}
 use Rattle.flute_store.specs.declared.status.Status.{Status}
-use Rattle.flute_store.specs.Objects.{before, goes_on, one, runs, same_reason, wants}
+use Rattle.flute_store.specs.Objects.{before, one, runs, same_reason}
 use Rattle.flute_store.specs.Status.{how_many}
-use Rattle.flutejoin.specs.Lines.{gap_line, status_line}
+use Rattle.flutejoin.specs.Lines.{gap_line}
 use Rattle.flutejoin.specs.Listing.{AreClosed, ArePut, AreSummed, AreSummedUp, AreTheirs, Knows}
 use Rattle.flutejoin.specs.Listing.{last_line}
-use Rattle.flutejoin.specs.Objects.{gaps_at, status_at, status_wanting}
-use Rattle.flutejoin.specs.Styles.{are_whole, is_told, is_whole, listed_by, shown_gap, told_lines}
-use Rattle.flutejoin.specs.Styles.{HasNoStray, has_conflict, printed}
-use Rattle.flutejoin.specs.Sums.{by_session, session_line}
+use Rattle.flutejoin.specs.Objects.{status_wanting}
+use Rattle.flutejoin.specs.Styles.{are_whole, is_right, is_told, is_whole, listed_by, shown_gap, told_lines}
+use Rattle.flutejoin.specs.Styles.{HasNoStray, has_conflict, object_line, printed}
 use Rattle.flutejoin.specs.Told.{Told, told_of}
 use Rattle.flutejoin.specs.declared.gaps.closed_objects.ClosedObjects.{ClosedObjects}
 use Rattle.flutejoin.specs.declared.gaps.session_sums.SessionSums.{SessionSums}
@@ -43,26 +36,26 @@ use Rattle.flutejoin.proofs.gaps_lemmas.MovedAside.{knows_more}
 use Rattle.flutejoin.proofs.gaps_lemmas.Sessions.{all_summed}
 
 module _ (style : Style) (objects : List Told) (t : Told) where
-  one_told : is_told style t.status ≡ true → listed_by style (t ∷ []) ≡ t ∷ []
+  one_told : is_told style t.status t.conflicts ≡ true → listed_by style (t ∷ []) ≡ t ∷ []
   one_told e = search rules
 
-  none_told : is_told style t.status ≡ false → listed_by style (t ∷ []) ≡ []
+  none_told : is_told style t.status t.conflicts ≡ false → listed_by style (t ∷ []) ≡ []
   none_told e = search rules
 
   told_apart : listed_by style (objects ++ t ∷ [])
       ≡ listed_by style objects ++ listed_by style (t ∷ [])
   told_apart = search (rules, filter-append)
 
-  pub told_more : is_told style t.status ≡ true
+  pub told_more : is_told style t.status t.conflicts ≡ true
       → listed_by style (objects ++ t ∷ []) ≡ listed_by style objects ++ t ∷ []
   told_more e = search (rules, told_apart, one_told)
 
-  pub told_same : is_told style t.status ≡ false
+  pub told_same : is_told style t.status t.conflicts ≡ false
       → listed_by style (objects ++ t ∷ []) ≡ listed_by style objects
   told_same e = search (rules, told_apart, none_told)
 
 whole_more : (style : Style) (objects : List Told) (t : Told) (old whole : Bool)
-    → is_told style t.status ≡ true → old ≡ are_whole style objects → whole ≡ is_whole t.status
+    → is_told style t.status t.conflicts ≡ true → old ≡ are_whole style objects → whole ≡ is_right style t.status
     → (old && whole) ≡ are_whole style (objects ++ t ∷ [])
 whole_more style objects t old whole e o w = search (
   rules,
@@ -82,7 +75,7 @@ none_shown style (gap ∷ gaps) e =
 
 -- an object that is not listed
 pub told_nothing : {known : Bool} {style : Style} {objects : List Told} {lines : List ℕ} (t : Told)
-    {closed : ClosedObjects} {s : Option (List ℕ)} → is_told style t.status ≡ false
+    {closed : ClosedObjects} {s : Option (List ℕ)} → is_told style t.status t.conflicts ≡ false
     → HasNoStray style t → AreClosed style objects lines closed → Knows known s lines
     → ArePut known style (objects ++ t ∷ []) (flat_map (shown_gap style) t.gaps) s closed
 told_nothing {known} {style} {objects} {lines} t {closed} {s} e stray h k =
@@ -98,8 +91,8 @@ are_summed {style} {objects} {lines} {closed} e h = search rules
 
 -- the object is listed, and is whole or is not
 pub record IsListed (style : Style) (t : Told) (whole : Bool) : Type 0 where
-  pub told : is_told style t.status ≡ true
-  pub whole_is : whole ≡ is_whole t.status
+  pub told : is_told style t.status t.conflicts ≡ true
+  pub whole_is : whole ≡ is_right style t.status
 
 -- an object that is listed, with its session
 pub told_summed : (known : Bool) {style : Style} {objects : List Told} {lines : List ℕ} {t : Told}
@@ -117,14 +110,14 @@ told_summed known {style} {objects} {lines} {t} {closed} {whole} sums s (Ok x) y
 pub told_lined : {known : Bool} {style : Style} {objects : List Told} {lines : List ℕ} {t : Told}
     {closed : ClosedObjects} {whole : Bool} {s : Option (List ℕ)} (s' : Option (List ℕ))
     (r : Result (Unit {0}) DeviceFault) → style.summary ≡ false → IsListed style t whole → AreClosed
-    style objects lines closed → Knows known s lines → Writes s s' (status_line t.key t.status) r →
+    style objects lines closed → Knows known s lines → Writes s s' (object_line style t.key t.status t.conflicts) r →
     OnOk r (ArePut known style (objects ++ t ∷ []) (flat_map (shown_gap style) t.gaps) s'
     (record { all_whole = closed.all_whole && whole; sums = closed.sums }))
 unfolding told_lines
 told_lined s' (Err x) n is h k a = tt
 told_lined {known} {style} {objects} {lines} {t} {closed} {whole} {s} s' (Ok x) n is h k a =
     let gaps = flat_map (shown_gap style) t.gaps in
-    let line = status_line t.key t.status in
+    let line = object_line style t.key t.status t.conflicts in
     let old = subst (λ b. AreTheirs style b (listed_by style objects) lines closed.sums) n h.theirs
     in
     let all : (lines ++ line) ++ gaps ≡ flat_map (told_lines style)
@@ -173,9 +166,9 @@ none_quiet style (gap ∷ gaps) e a =
     let one = first ∙ off (not style.summary) in
     λ i. one i ++ none_quiet style gaps e a.1 i
 
-no_conflict : (style : Style) (status : Status) → is_told style status ≡ false
+no_conflict : (style : Style) (status : Status) (n : ℕ) → is_told style status n ≡ false
     → (style.conflicts ≡ true) × (has_conflict status ≡ false)
-no_conflict style status e = search rules
+no_conflict style status n e = search rules
 
 quiet_wanting : (info : Information) (ws : List (SymbolId × Reason))
     → has_conflict (status_wanting info ws) ≡ false → how_many Conflicting ws ≡ 0

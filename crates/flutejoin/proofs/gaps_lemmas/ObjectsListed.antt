@@ -1,6 +1,7 @@
 -- gaps: what is reported of objects whose facts come in rising order (specs/Told).
 use Rattle.std.proofs.Common.{◌≡◌, List, [], ◌∷◌, ◌++◌, Option, Some, None, refl, sym, ap, ◌∙◌}
-use Rattle.std.proofs.Common.{subst, inl, inr, arith}
+use Rattle.std.proofs.Common.{subst, inl, inr, arith, Bool, true, false, ℕ, if◌then◌else◌}
+use Rattle.std.proofs.lemmas.List.Sums.{sum_by-append, sum_by-cons}
 use Rattle.std.specs.Prelude.{Contains, filter_map, flat_map, map, option_map, take}
 use Rattle.std.specs.List.{AllByRecursion}
 use Rattle.std.specs.List.Sorted.{IsStrictlySortedBy}
@@ -15,7 +16,7 @@ use Rattle.std.proofs.lemmas.List.Elements.{Contains-push_cases}
 use Rattle.flute_parts.specs.Information.{Information}
 use Rattle.flute_parts.specs.Addresses.{address, info_address}
 use Rattle.flute_parts.specs.Facts.{fact_at, IsRising}
-use Rattle.flute_parts.specs.Order.{key_cmp, part_cmp, address_cmp}
+use Rattle.flute_parts.specs.Order.{key_cmp, part_cmp, address_cmp, same_key}
 use Rattle.flute_parts.specs.Partition.{ids}
 use Rattle.flute_parts.specs.Equality.{key_same}
 use Rattle.flute_parts.specs.Totality.{key_total}
@@ -35,13 +36,38 @@ use Rattle.flute_store.specs.declared.gap.Reason.{Reason}
 use Rattle.flute_store.specs.Objects.{want, wants, runs, value_bytes, object as object_of}
 use Rattle.flute_store.specs.Held.{HoldsObject}
 use Rattle.flutejoin.specs.Objects.{bytes_at, bytes_wanting, gaps_at, status_at, status_wanting}
-use Rattle.flutejoin.specs.Told.{AreTold, Told, told_of}
+use Rattle.flutejoin.specs.Told.{AreTold, Told, conflict_in, conflicts_of, told_of}
 use Rattle.flutejoin.specs.Listing.{IsFirstOf}
 
 pub in_nothing : {X : Type 0} (x : X) → Contains [] x → ⊥
 in_nothing x c = omega (arith, c.1)
 
 -- ---- the report of an object depends only on the values at its addresses
+
+-- what a test adds to a count
+abbrev pub one_if : Bool → ℕ
+one_if b = if b then 1 else 0
+
+no_conflict_in : (key : Key) (f : Fact) → ((address f).key ≡ key → ⊥) → conflict_in key f ≡ 0
+no_conflict_in key (Info k info) h = refl
+no_conflict_in key (InfoConflict k) h = refl
+no_conflict_in key (Symbol k id b) h = refl
+no_conflict_in key (SymbolConflict k id) h =
+    let P : Bool → Type 0 = λ b. same_key k key ≡ b → one_if b ≡ 0 in
+    let cases : (b : Bool) → P b = λ b. elim b as P [
+      | true ↦ λ is. absurd (h (key_same k key is))
+      | false ↦ λ is. refl
+    ] in cases (same_key k key) refl
+
+-- facts of other objects have no conflict of this one
+pub none_counted : (G : List Fact) (key : Key)
+    → ((g : Fact) → Contains G g → (address g).key ≡ key → ⊥) → conflicts_of G key ≡ 0
+none_counted [] key h = refl
+none_counted (g ∷ G) key h =
+    let one = no_conflict_in key g (h g (Contains-append_left (g ∷ []) G g (Contains-push [] g))) in
+    let others =
+    none_counted G key (λ x c. h x (Contains-append_right (g ∷ []) G x c)) in
+    omega (arith, sum_by-cons (conflict_in key) g G, one, others)
 
 module _ (F G : List Fact) (key : Key) (same : (part : Part) → fact_at F
     (record { key = key; part = part }) ≡ fact_at G (record { key = key; part = part })) where
@@ -82,8 +108,8 @@ module _ (F G : List Fact) (key : Key) (same : (part : Part) → fact_at F
   bytes_same (Some (Symbol k id b)) = refl
   bytes_same (Some (SymbolConflict k id)) = refl
 
-  told_same : told_of F key ≡ told_of G key
-  told_same =
+  told_same : conflicts_of F key ≡ conflicts_of G key → told_of F key ≡ told_of G key
+  told_same counts =
       let status : status_at F key (fact_at F (info_address key)) ≡ status_at G key
       (fact_at G (info_address key)) = status_same (fact_at F (info_address key)) ∙ ap
       (status_at G key) (same InfoPart) in
@@ -93,7 +119,13 @@ module _ (F G : List Fact) (key : Key) (same : (part : Part) → fact_at F
       let bytes : bytes_at F key (fact_at F (info_address key)) ≡ bytes_at G key
       (fact_at G (info_address key)) = bytes_same (fact_at F (info_address key)) ∙ ap
       (bytes_at G key) (same InfoPart) in
-      λ i. record { key = key; status = status i; gaps = gaps i; bytes = bytes i }
+      λ i. record {
+        key = key;
+        status = status i;
+        gaps = gaps i;
+        bytes = bytes i;
+        conflicts = counts i;
+      }
 
 -- ---- which objects facts are of
 
@@ -122,6 +154,7 @@ other_objects F G key h =
     sym (fact_at-append F G a ∙ ap (joined a (fact_at F a))
     (fact_at-none G a (λ g c e. h g c (ap (λ (x : Address). x.key) e))) ∙ joined-none a
     (fact_at F a)))
+    (omega (arith, sum_by-append (conflict_in key) F G, none_counted G key h))
 
 -- ---- objects follow one another
 

@@ -2,8 +2,8 @@
 use Rattle.std.proofs.lemmas.Grind.{common_steps}
 use Rattle.std.proofs.Common.{rules}
 use Rattle.std.proofs.Common.{◌≡◌, ◌≤◌, ◌+◌, ℕ, Bool, true, false, List, [], ◌∷◌, ◌++◌}
-use Rattle.std.proofs.Common.{Option, Some, None, if◌then◌else◌, refl, sym, ap, ◌∙◌, subst, arith}
-use Rattle.std.proofs.Common.{append_assoc, append-nil}
+use Rattle.std.proofs.Common.{Option, Some, if◌then◌else◌, refl, sym, ap, ◌∙◌, subst, arith}
+use Rattle.std.proofs.Common.{append_assoc}
 use Rattle.std.specs.Prelude.{IfSome}
 use Rattle.std.specs.Io.KnownBytes.{Appends}
 use Rattle.std.specs.List.{flat_map, sum_by, AllByRecursion}
@@ -11,10 +11,9 @@ use Rattle.std.proofs.lemmas.Grind.{flat_map-append}
 use Rattle.std.proofs.lemmas.List.Sums.{sum_by-append}
 use Rattle.flute_parts.specs.Session.{Session}
 use Rattle.flute_parts.specs.Order.{same_session}
-use Rattle.flute_parts.specs.Equality.{session_itself, session_same}
 use Rattle.flutejoin.specs.Listing.{AreFew, AreSummed, AreSummedUp, BeginsSession, HasSums}
 use Rattle.flutejoin.specs.Listing.{Knows, last_line}
-use Rattle.flutejoin.specs.Sums.{AddsObject, AreWithin, IsNone, by_session, conflicting_in}
+use Rattle.flutejoin.specs.Sums.{AddsObject, AreWithin, IsNone, by_session}
 use Rattle.flutejoin.specs.Sums.{in_front, misfit_in, missing_in, partial_in, session_line}
 use Rattle.flutejoin.specs.Sums.{sums_line, sums_of, unknown_in, whole_in}
 use Rattle.flutejoin.specs.Told.{Told}
@@ -114,12 +113,12 @@ sum_more f ts t old new o n = search (rules, sum_one, sum_by-append)
 
 -- the sums of the first object of a session
 pub sums_one : (t : Told) (none sums : SessionSums) → IsNone t.key.session none
-    → AddsObject t.status none sums → sums ≡ sums_of t []
+    → AddsObject t.status t.conflicts none sums → sums ≡ sums_of t []
 sums_one t none sums n a = search rules
 
 -- and of one more
 pub sums_more : (t : Told) (ts : List Told) (u : Told) (old sums : SessionSums)
-    → old ≡ sums_of t ts → AddsObject u.status old sums → sums ≡ sums_of t (ts ++ u ∷ [])
+    → old ≡ sums_of t ts → AddsObject u.status u.conflicts old sums → sums ≡ sums_of t (ts ++ u ∷ [])
 sums_more t ts u old sums o a =
     let more : (f : Told → ℕ) (x new : ℕ) → x ≡ sum_by f (t ∷ ts) → new ≡ x + f u → new ≡ sum_by f
     (t ∷ (ts ++ u ∷ [])) = λ f x new e n. sum_more f (t ∷ ts) u x new e n in
@@ -133,7 +132,7 @@ sums_more t ts u old sums o a =
     (ap (λ (s : SessionSums). s.partial) o) a.partial in
     let missing = more (λ u. missing_in u.status) old.missing sums.missing
     (ap (λ (s : SessionSums). s.missing) o) a.missing in
-    let conflicting = more (λ u. conflicting_in u.status) old.conflicting sums.conflicting
+    let conflicting = more (λ u. u.conflicts) old.conflicting sums.conflicting
     (ap (λ (s : SessionSums). s.conflicting) o) a.conflicting in
     let misfit = more (λ u. misfit_in u.status) old.misfit sums.misfit
     (ap (λ (s : SessionSums). s.misfit) o) a.misfit in
@@ -157,7 +156,7 @@ unfolding by_session
 first_summed objects lines t sums e n s = search rules
 
 pub more_summed : (objects : List Told) (lines : List ℕ) (t : Told) (old sums : SessionSums)
-    → HasSums objects lines old → old.session ≡ t.key.session → AddsObject t.status old sums
+    → HasSums objects lines old → old.session ≡ t.key.session → AddsObject t.status t.conflicts old sums
     → HasSums (objects ++ t ∷ []) lines sums
 more_summed objects lines t old sums h e a = record {
   before = h.before;
@@ -210,14 +209,14 @@ IsOfOthers session old = IfSome old (λ (sums : SessionSums). sums.session ≡ s
 
 begun_sums : (objects : List Told) (lines : List ℕ) (t : Told) (old new : Option SessionSums) →
     AreSummed objects lines old → IsOfOthers t.key.session old → BeginsSession t.key.session
-    t.status new → AreSummed (objects ++ t ∷ []) (lines ++ last_line old) new
+    t.status t.conflicts new → AreSummed (objects ++ t ∷ []) (lines ++ last_line old) new
 begun_sums x0 x1 x2 x3 x4 x5 x6 x7 = search (rules, first_summed, sums_one, next_summed) steps
     400000
 
 pub begun_known : {known : Bool} (objects : List Told) {lines : List ℕ} (t : Told)
     (old : Option SessionSums) {new : Option SessionSums} {s s' : Option (List ℕ)}
     → AreSummed objects lines old × IsOfOthers t.key.session old → Knows known s lines
-    → BeginsSession t.key.session t.status new → Appends s s' (last_line old)
+    → BeginsSession t.key.session t.status t.conflicts new → Appends s s' (last_line old)
     → AreSummedUp known (objects ++ t ∷ []) s' new
 begun_known objects {lines = lines} t old {new = new} h k b a = record {
   lines = lines ++ last_line old;
@@ -227,7 +226,7 @@ begun_known objects {lines = lines} t old {new = new} h k b a = record {
 
 pub more_known : {known : Bool} {objects : List Told} {lines : List ℕ} (t : Told)
     {old sums : SessionSums} {s : Option (List ℕ)} → HasSums objects lines old
-    → old.session ≡ t.key.session → AddsObject t.status old sums → Knows known s lines
+    → old.session ≡ t.key.session → AddsObject t.status t.conflicts old sums → Knows known s lines
     → AreSummedUp known (objects ++ t ∷ []) s (Some sums)
 more_known {known} {objects} {lines} t {old} {sums} {s} h e a k = search (rules, more_summed) steps
     400000

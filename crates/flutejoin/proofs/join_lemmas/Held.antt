@@ -23,10 +23,11 @@ use Rattle.flute_streams.specs.declared.streams.owned_journal_stream.OwnedJourna
 use Rattle.flutejoin.specs.Asides.{AreHeld, AreRunsOf, HoldTogether, IsRunOf}
 use Rattle.flutejoin.specs.declared.join.held_files.HeldFiles.{HeldFiles}
 use Rattle.flutejoin.specs.Joined.{Choice, facts_by, is_of_others}
-use Rattle.flutejoin.specs.JoinParts.{TakesDatagram, HoldsFacts}
+use Rattle.flutejoin.specs.JoinParts.{CountsReason, TakesDatagram, HoldsFacts}
 use Rattle.flutejoin.specs.JoinParts.{StoreFails, HoldsAll, HoldsDatagrams, HoldsMore}
 use Rattle.flutejoin.specs.Refused.{is_refused}
 use Rattle.flutejoin.specs.Limits.{Limits, IsOver}
+use Rattle.flutejoin.proofs.join_lemmas.Reasons.{reasons_more}
 use Rattle.flutejoin.proofs.join_lemmas.Receptions.{Below-left}
 
 store_over : (most : Limits) (F : List Fact) (fault : CommandFault) → StoreFails most F fault
@@ -51,6 +52,7 @@ pub record IsPopped {R : Type 0} (runs rest : List (OwnedJournalStream R))
 pub record IsUnchanged {R : Type 0} {s o y : ℕ} (old new : HeldFiles s o y R) : Type 0 where
   pub told : new.told ≡ old.told
   pub fits : new.fits ≡ old.fits
+  pub reasons : new.reasons ≡ old.reasons
   pub others : new.others ≡ old.others
   pub runs : new.runs ≡ old.runs
 
@@ -69,7 +71,7 @@ module _ {R : Type 0} (unread : R → Option (List ℕ)) (buffered : R → List 
   -- a datagram more was taken into the store
   takes_more : {s o y : ℕ} (old new : HeldFiles s o y R) (ds : List (List ℕ)) (d : List ℕ) →
       HoldsFacts unread buffered choice old ds → new.runs ≡ old.runs → TakesDatagram
-      (facts_by choice d) old.told d new.told → HoldsFacts unread buffered choice new (ds ++ d ∷ [])
+      (facts_by choice d) old d new → HoldsFacts unread buffered choice new (ds ++ d ∷ [])
   takes_more old new ds d all same one =
       let length_is = length-append ds (d ∷ []) in
       let fresh = facts_by choice d in
@@ -92,6 +94,7 @@ module _ {R : Type 0} (unread : R → Option (List ℕ)) (buffered : R → List 
         refused =
             rw (sum_by_push (λ x. cond (is_refused x) 1 0) ds d, one.refused)
             (counted old.told.refused (count_by is_refused ds) (is_refused d) all.refused);
+        reasons = reasons_more old.reasons new.reasons ds d all.reasons one.reasons;
       }
     where
       counted : (m k : ℕ) (b : Bool) → m ≡ k → cond b (m + 1) m ≡ k + cond b 1 0
@@ -142,7 +145,7 @@ module _ {R : Type 0} {unread : R → Option (List ℕ)} {buffered : R → List 
   -- a datagram more was taken
   pub holds_more : {s o y : ℕ} {old new : HeldFiles s o y R} {ds : List (List ℕ)} {d : List ℕ} →
       old.fits ≡ true → new.fits ≡ true → new.runs ≡ old.runs → TakesDatagram (facts_by choice d)
-      old.told d new.told → new.others ≡ old.others + cond (is_of_others choice d) 1 0 →
+      old d new → new.others ≡ old.others + cond (is_of_others choice d) 1 0 →
       HoldsDatagrams unread buffered choice old ds → HoldsDatagrams unread buffered choice new
       (ds ++ d ∷ [])
   holds_more {old = old} {new = new} {ds = ds} {d = d} fits still same one count h = search (
@@ -179,36 +182,38 @@ module _ {R : Type 0} {unread : R → Option (List ℕ)} {buffered : R → List 
 
   -- a datagram of another session was counted
   pub holds_passed : {s o y : ℕ} {old new : HeldFiles s o y R} {ds : List (List ℕ)} {d : List ℕ} →
-      old.fits ≡ true → new.fits ≡ true → new.runs ≡ old.runs → IsPassed choice d → new.told ≡
+      old.fits ≡ true → new.fits ≡ true → new.runs ≡ old.runs → IsPassed choice d → CountsReason
+      old.reasons d new.reasons → new.told ≡
       record {
         store = old.told.store;
         datagrams = old.told.datagrams + 1;
         refused = old.told.refused;
       } → new.others ≡ old.others + 1 → HoldsDatagrams unread buffered choice old ds →
       HoldsDatagrams unread buffered choice new (ds ++ d ∷ [])
-  holds_passed {old = old} fits still same passed is count h = holds_more fits still same (record {
+  holds_passed {old = old} fits still same passed reasons is count h = holds_more fits still same (record {
     content = search rules;
     datagrams = ap (λ t. t.datagrams) is;
     refused = rw passed.kept (ap (λ t. t.refused) is);
+    reasons = reasons;
   }) (rw passed.other count) h
 
   -- it was taken
   pub holds_taken : {s o y : ℕ} {old new : HeldFiles s o y R} {ds : List (List ℕ)} {d : List ℕ}
       {told : List Fact} → old.fits ≡ true → new.fits ≡ true → new.runs ≡ old.runs → facts_by choice
       d ≡ told → new.others ≡ old.others → is_of_others choice d ≡ false → TakesDatagram told
-      old.told d new.told → HoldsDatagrams unread buffered choice old ds → HoldsDatagrams unread
+      old d new → HoldsDatagrams unread buffered choice old ds → HoldsDatagrams unread
       buffered choice new (ds ++ d ∷ [])
   holds_taken {old = old} {new = new} {d = d} fits still runs e same own taken h = holds_more fits
-      still runs (subst (λ F. TakesDatagram F old.told d new.told) (sym e) taken)
+      still runs (subst (λ F. TakesDatagram F old d new) (sym e) taken)
       (rw own (omega (arith, same))) h
 
   -- the store was put aside
   pub holds_aside : {s o y : ℕ} {old new : HeldFiles s o y R} → old.fits ≡ true → new.fits ≡ true →
       new.told.store ≡ [] → new.told.datagrams ≡ old.told.datagrams → new.told.refused ≡
-      old.told.refused → new.others ≡ old.others → ((facts : List Fact) → AreRunsOf unread buffered
-      old.runs.items facts → HoldTogether unread buffered new.runs.items (facts ++ old.told.store))
-      → HoldsMore unread buffered choice old new []
-  holds_aside {old = old} {new = new} fits still empty datagrams refused others runs ds h =
+      old.told.refused → new.reasons ≡ old.reasons → new.others ≡ old.others
+      → ((facts : List Fact) → AreRunsOf unread buffered old.runs.items facts → HoldTogether unread buffered
+      new.runs.items (facts ++ old.told.store)) → HoldsMore unread buffered choice old new []
+  holds_aside {old = old} {new = new} fits still empty datagrams refused reasons others runs ds h =
       let all = all_held h fits in
       let files = flat_map (facts_by choice) ds in
       let more = runs all.aside all.runs in
@@ -224,6 +229,7 @@ module _ {R : Type 0} {unread : R → Option (List ℕ)} {buffered : R → List 
               (Same-swap all.aside old.told.store) all.content));
           count = datagrams ∙ all.count;
           refused = refused ∙ all.refused;
+          reasons = rw reasons all.reasons;
         });
       })
 

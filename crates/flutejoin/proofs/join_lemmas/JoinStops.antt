@@ -55,7 +55,7 @@ use Rattle.flutejoin.specs.JoinFaults.{NamesOneOf, WantsAside}
 use Rattle.flutejoin.specs.JoinParts.{InspectionFails, of_kind, of_file as of_a_file}
 use Rattle.flutejoin.specs.JoinParts.{SomeInspectionFails, IsInspected, AreInspected, IsReady}
 use Rattle.flutejoin.specs.JoinParts.{JoinsInspected, NeverStops}
-use Rattle.flutejoin.specs.Refused.{is_refused}
+use Rattle.flutejoin.specs.Refused.{AreReasons, all_counts, is_refused}
 use Rattle.flutejoin.specs.Limits.{IsOver}
 use Rattle.flutejoin.specs.Status.{of_load, of_stop}
 use Rattle.flutejoin.proofs.Firsts.{at_place, first_at, first_with}
@@ -394,6 +394,8 @@ pub record HasCounted (choice : Choice) (datagrams : List (List ℕ)) (passed : 
   pub entries : counts.entries ≡ joined.entries
   pub datagrams_are : counts.datagrams ≡ length datagrams
   pub refused : counts.refused ≡ count_by is_refused datagrams
+  pub reasons : AreReasons counts.reasons datagrams
+  pub for_all : all_counts counts.reasons ≡ counts.refused
   pub of_files : ℕ
   pub of_files_are : of_files ≡ count_by (is_of_others choice) datagrams
   pub others : counts.others ≡ min (of_files + passed) (2 ^ 64 - 1)
@@ -449,7 +451,7 @@ module _ {choice : Choice} {inputs datagrams : List (List ℕ)} {facts : List Fa
 
     pub joins_to : {counts : JoinCounts} → length inputs ≤ 64 → joined.within ≡ true → joined.cut ≡
         false → HasCounted choice datagrams passed joined counts → JoinsTo choice inputs counts w w'
-    joins_to few within whole counted =
+    joins_to {counts = counts} few within whole counted =
         let puts = subst (λ c. PutsJournal c w w' written joined.entries) whole h.puts in
         record {
           told = h.told;
@@ -472,6 +474,8 @@ module _ {choice : Choice} {inputs datagrams : List (List ℕ)} {facts : List Fa
           };
           datagrams = counted.datagrams_are ∙ ap length (sym h.datagrams_are);
           refused = counted.refused ∙ ap (count_by is_refused) (sym h.datagrams_are);
+          reasons = subst (AreReasons counts.reasons) (sym h.datagrams_are) counted.reasons;
+          for_all = counted.for_all;
           others =
               let total = others_few choice inputs h.told h.tell in
               omega (arith, counted.others, counted.of_files_are, h.others, total, few);

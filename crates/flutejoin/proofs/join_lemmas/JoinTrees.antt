@@ -64,6 +64,10 @@ same_chosen takes F G h = record {
   ];
 }
 
+pub all_taken : (takes : Key → Bool) → ((key : Key) → takes key ≡ true) → (F : List Fact)
+    → Same (chosen takes F) F
+all_taken takes all F = record { each = λ a. taken_at takes a F (all a.key) }
+
 -- An input contains one thing: it is not both a journal and a datagram file.
 
 not_both : (bytes : List ℕ) (entries : List Fact) (datagrams : List (List ℕ))
@@ -112,7 +116,7 @@ module _ (one : OneReading) where
   abbrev facts_told : Choice → List InputContent → List Fact
   facts_told choice told = flat_map (content_facts choice) told
 
-  wrote : (choice : Choice) (inputs : List (List ℕ)) (bytes : List ℕ)
+  pub wrote : (choice : Choice) (inputs : List (List ℕ)) (bytes : List ℕ)
       → (j : Joined choice inputs bytes) → Journal bytes (facts_told choice j.2.told)
   wrote choice inputs bytes j =
       let is : bytes ≡ j.2.writes.bytes =

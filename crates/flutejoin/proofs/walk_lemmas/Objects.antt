@@ -1,7 +1,8 @@
 -- ObjectWalk: the open object, whose facts are still to come (specs/Walk: HasOpen).
 use Rattle.std.proofs.Common.{◌≡◌, ◌≤◌, ◌+◌, ℕ, length, length-append, arith, List, [], ◌∷◌}
 use Rattle.std.proofs.Common.{◌++◌, Option, Some, None, Result, Ok, Err, refl, sym, ap, ◌∙◌, subst}
-use Rattle.std.proofs.Common.{inl, inr, append_assoc}
+use Rattle.std.proofs.Common.{inl, inr, append_assoc, Bool, true, false}
+use Rattle.std.proofs.lemmas.List.Sums.{sum_by-append, sum_by-cons, sum_by_push}
 use Rattle.std.specs.Prelude.{◌⊎◌, Contains, IfSome, OnOk, option_map, take}
 use Rattle.std.specs.List.{flat_map}
 use Rattle.std.specs.Borrow.{Bor}
@@ -19,7 +20,10 @@ use Rattle.flute_parts.specs.declared.address.Address.{Address}
 use Rattle.flute_parts.specs.declared.key.Key.{Key}
 use Rattle.flute_parts.specs.declared.symbol_id.SymbolId.{SymbolId}
 use Rattle.flute_parts.specs.declared.fact.Fact.{Fact}
-use Rattle.flute_parts.specs.declared.fact.Fact.TheVariants.{Info, InfoConflict}
+use Rattle.flute_parts.specs.declared.fact.Fact.TheVariants.{Info, InfoConflict, Symbol}
+use Rattle.flute_parts.specs.declared.fact.Fact.TheVariants.{SymbolConflict}
+use Rattle.flute_parts.specs.Equality.{key_itself}
+use Rattle.flute_parts.specs.Order.{same_key}
 use Rattle.flute_parts.proofs.Public.{fact_at-none, rising-front, rising_tells}
 use Rattle.flute_store.specs.Held.{HoldsObject}
 use Rattle.flute_store.specs.declared.status.Status.{Status}
@@ -34,7 +38,7 @@ use Rattle.flute_store.specs.Status.{TellsStatus}
 use Rattle.flutejoin.specs.Objects.{bytes_at, bytes_wanting, gaps_at}
 use Rattle.flutejoin.specs.Progress.{EndsAs, HasGap, IsBroken, PassesOn, Progress, at_start}
 use Rattle.flutejoin.specs.Progress.{progress_of}
-use Rattle.flutejoin.specs.Told.{AreTold, Told, told_of}
+use Rattle.flutejoin.specs.Told.{AreTold, Told, conflict_in, conflicts_of, told_of}
 use Rattle.flutejoin.specs.declared.walk.object_walk.OpenObject.{OpenObject}
 use Rattle.flutejoin.specs.declared.walk.object_walk.ObjectState.{ObjectState}
 use Rattle.flutejoin.specs.declared.walk.object_walk.ObjectState.TheVariants.{NoInformation}
@@ -42,11 +46,12 @@ use Rattle.flutejoin.specs.declared.walk.object_walk.ObjectState.TheVariants.{Co
 use Rattle.flutejoin.specs.declared.walk.object_walk.ObjectState.TheVariants.{OneInformation}
 use Rattle.flutejoin.specs.Listing.{IsFirstOf}
 use Rattle.flutejoin.specs.Walk.{HasAll, HasOpen, HasScanned, Stands, StateIs, TellsAll, Walks}
+use Rattle.flutejoin.specs.Walk.{conflicts_in}
 use Rattle.flutejoin.proofs.gaps_lemmas.ObjectsListed.{in_nothing, holds-from, rising-back}
 use Rattle.flutejoin.proofs.gaps_lemmas.ObjectsListed.{stands_before}
 use Rattle.flutejoin.proofs.gaps_lemmas.ObjectsListed.{same_object_between, information_first}
 use Rattle.flutejoin.proofs.gaps_lemmas.ObjectsListed.{EndsIn, one_more_told}
-use Rattle.flutejoin.proofs.gaps_lemmas.ObjectsListed.{none_told}
+use Rattle.flutejoin.proofs.gaps_lemmas.ObjectsListed.{none_counted, none_told, one_if}
 
 -- ---- a held symbol as a fact
 
@@ -122,11 +127,12 @@ first_of_others {F = F} key f h r e apart g c k =
 pub none_first : (F : List Fact) (key : Key) → F ≡ [] → IsFirstOf F key
 none_first F key e f c k = in_nothing f (subst (λ l. Contains l f) e c)
 
-pub begun : {F : List Fact} (f : Fact) (objects : List Told) {progress : Option Progress}
+pub begun : {F : List Fact} (f : Fact) {objects : List Told} {progress : Option Progress}
     (object : OpenObject) → AreTold F objects → length objects ≤ length F
     → IsFirstOf F object.key → (address f).key ≡ object.key
-    → StateIs object.key (f ∷ []) progress object.state → HasOpen (F ++ f ∷ []) objects progress object
-begun {F = F} f objects object told few first e state = record {
+    → StateIs object.key (f ∷ []) progress object.state → object.conflicts ≡ conflict_in object.key f
+    → HasOpen (F ++ f ∷ []) objects progress object
+begun {F = F} f object told few first e state count = record {
   before = F;
   mine = f ∷ [];
   all = refl;
@@ -139,6 +145,7 @@ begun {F = F} f objects object told few first e state = record {
   ];
   some = (f, Contains-push [] f);
   state_is = state;
+  counted = omega (arith, count, sum_by-cons (conflict_in object.key) f []);
 }
 
 -- ---- one more fact of the object
@@ -154,8 +161,10 @@ pub one_more_open : {F : List Fact} (f : Fact) {objects : List Told} {progress :
     (progress' : Option Progress) {object : OpenObject} (state : ObjectState)
     (h : HasOpen F objects progress object) → (address f).key ≡ object.key
     → StateIs object.key (h.mine ++ f ∷ []) progress' state
-    → HasOpen (F ++ f ∷ []) objects progress' (record { key = object.key; state = state })
-one_more_open f progress' state h e s = record {
+    → {n : ℕ} → n ≡ object.conflicts + conflict_in object.key f
+    → HasOpen (F ++ f ∷ []) objects progress'
+    (record { key = object.key; state = state; conflicts = n })
+one_more_open f progress' {object = object} state h e s count = record {
   before = h.before;
   mine = h.mine ++ f ∷ [];
   all = ap (λ l. l ++ f ∷ []) h.all ∙ append_assoc h.before h.mine (f ∷ []);
@@ -168,7 +177,61 @@ one_more_open f progress' state h e s = record {
   ];
   some = (h.some.0, Contains-append_left h.mine (f ∷ []) h.some.0 h.some.1);
   state_is = s;
+  counted = omega (arith, count, h.counted, sum_by_push (conflict_in object.key) h.mine f);
 }
+
+-- a symbol that has two values is a conflict
+pub conflict_by : (key k : Key) (n : SymbolId × Option (Bor (List ℕ))) → key ≡ k
+    → conflicts_in n.1 ≡ conflict_in key (next_fact k n)
+conflict_by key k (id, Some bytes) e = refl
+conflict_by key k (id, None) e =
+    sym (ap one_if (ap (λ x. same_key x key) (sym e) ∙ key_itself key))
+
+-- and there are no more of them than facts
+one_at_most : (key : Key) (f : Fact) → conflict_in key f ≤ 1
+one_at_most key (Info k info) = omega arith
+one_at_most key (InfoConflict k) = omega arith
+one_at_most key (Symbol k id b) = omega arith
+one_at_most key (SymbolConflict k id) =
+    let P : Bool → Type 0 = λ b. one_if b ≤ 1 in
+    let cases : (b : Bool) → P b = λ b. elim b as P [ true ↦ omega arith | false ↦ omega arith ]
+    in cases (same_key k key)
+
+-- a held symbol is one at most
+pub one_by : (value : Option (Bor (List ℕ))) → conflicts_in value ≤ 1
+one_by None = omega arith
+one_by (Some bytes) = omega arith
+
+few_conflicts : (F : List Fact) (key : Key) → conflicts_of F key ≤ length F
+few_conflicts [] key = omega arith
+few_conflicts (f ∷ F) key = omega (
+  arith,
+  one_at_most key f,
+  few_conflicts F key,
+  sum_by-cons (conflict_in key) f F,
+)
+
+pub open_few : {F : List Fact} {objects : List Told} {progress : Option Progress}
+    {object : OpenObject} → HasOpen F objects progress object → object.conflicts ≤ length F
+open_few {object = object} h = omega (
+  arith,
+  h.counted,
+  few_conflicts h.mine object.key,
+  ap length h.all,
+  length-append h.before h.mine,
+)
+
+-- those of an object of which all facts came
+pub all_counted : {F : List Fact} {objects : List Told} {progress : Option Progress}
+    {object : OpenObject} → HasOpen F objects progress object
+    → conflicts_of F object.key ≡ object.conflicts
+all_counted {object = object} h = omega (
+  arith,
+  h.counted,
+  ap (λ l. conflicts_of l object.key) h.all,
+  sum_by-append (conflict_in object.key) h.before h.mine,
+  none_counted h.before object.key h.first,
+)
 
 pub on_ok : {T E A B : Type 0} (r : Result T E) → (A → B) → OnOk r A → OnOk r B
 on_ok (Ok x) f h = f h

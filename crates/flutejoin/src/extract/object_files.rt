@@ -68,7 +68,7 @@ impl<D: NewFolder, W: Sink> Visitor for ObjectFiles<'_, D, W> {
         drop_file(self.left.take(), self.folder)
     }
 
-    fn ends(&mut self, key: &Key, status: Status) -> Result<(), DeviceFault> {
+    fn ends(&mut self, key: &Key, status: Status, _conflicts: u64) -> Result<(), DeviceFault> {
         let kept = keep_file(self.left.take(), self.folder)?;
         self.written += kept;
         write_words(self.lines, status_text(key, status))

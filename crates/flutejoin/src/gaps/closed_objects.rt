@@ -10,7 +10,7 @@ ghost use Rattle.flutejoin.specs.Styles.{HasNoStray, shown_gap};
 ghost use Rattle.flutejoin.specs.Told.{Told};
 
 use crate::aside::Aside;
-use crate::gaps::held_lines::status_text;
+use crate::gaps::held_lines::object_text;
 use crate::gaps::session_sums::SessionSums;
 use crate::lines::report_lines::write_words;
 use crate::lines::style::Style;
@@ -20,7 +20,7 @@ use flute_store::Status;
 /// What is remembered of the objects of which all facts came. Their lines were put aside.
 #[derive(Drop)]
 pub struct ClosedObjects {
-    /// Whether all that are listed are whole.
+    /// Whether all that are listed are whole, or, if those with a conflict are, none is.
     pub all_whole: bool,
     /// With a line for each session, the sums of the last one, which may have more objects.
     pub sums: Option<SessionSums>,
@@ -38,11 +38,12 @@ impl ClosedObjects {
         style: Style,
         key: &Key,
         status: Status,
+        conflicts: u64,
         lines: &mut A,
     ) -> Result<(), DeviceFault>
         requires { CanClose self.old.sums }
         ensures added { (known : Bool) (objects : List Told) (bytes : List ℕ) (t : Told)
-            → t.key ≡ key.now → t.status ≡ status → HasNoStray style t
+            → t.key ≡ key.now → t.status ≡ status → t.conflicts ≡ conflicts → HasNoStray style t
             → AreClosed style objects bytes self.old → Knows known (A.written lines.old) bytes
             → OnOk result (ArePut known style (objects ++ t ∷ [])
             (flat_map (shown_gap style) t.gaps) (A.written lines.new) self.new) }
@@ -51,22 +52,22 @@ impl ClosedObjects {
         ensures failures { A.failures lines.new
             ≡ A.failures lines.old + (if is_ok result then 0 else 1) }
     {
-        if !style.tells(status) {
+        if !style.tells(status, conflicts) {
             return Ok(());
         }
-        self.all_whole &= matches!(status, Status::Whole { .. });
+        self.all_whole &= style.is_right(status);
         if !style.summary {
-            return write_words(lines, status_text(key, status));
+            return write_words(lines, object_text(style, key, status, conflicts));
         }
         match &mut self.sums {
             Some(last) if last.session == key.session => {
-                last.add(status);
+                last.add(status, conflicts);
                 Ok(())
             }
             _ => {
                 end_session(&self.sums, lines)?;
                 let mut next = SessionSums::new(key.session);
-                next.add(status);
+                next.add(status, conflicts);
                 self.sums = Some(next);
                 Ok(())
             }

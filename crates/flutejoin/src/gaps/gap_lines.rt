@@ -89,8 +89,9 @@ impl<A: Aside> Visitor for GapLines<'_, A> {
         put_gap(self.style, self.gap_lines, gap)
     }
 
-    fn ends(&mut self, key: &Key, status: Status) -> Result<(), DeviceFault> {
-        self.closed.add(self.style, key, status, self.lines)?;
+    fn ends(&mut self, key: &Key, status: Status, conflicts: u64) -> Result<(), DeviceFault> {
+        self.closed
+            .add(self.style, key, status, conflicts, self.lines)?;
         self.gap_lines.move_to(self.lines)
     }
 }

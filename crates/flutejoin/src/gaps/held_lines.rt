@@ -1,8 +1,10 @@
 //! The words of the lines that say how much is held of an object.
 ghost use Rattle.std.specs.Prelude.{◌≡◌, ◌≤◌, length};
 ghost use Rattle.flutejoin.specs.Lines.{line, status_line, gap_line};
+ghost use Rattle.flutejoin.specs.Styles.{object_line};
 
 use crate::lines::fact_lines::push_key;
+use crate::lines::style::Style;
 use crate::lines::text::Text;
 use flute_parts::Key;
 use flute_store::{Gap, Reason, Status};
@@ -34,6 +36,21 @@ pub fn status_text(key: &Key, status: Status) -> Text
             text.push(" misfit ");
             text.push_number(misfit);
         }
+    }
+    text
+}
+
+/// The words of an object's line, with the number of its symbols in conflict that are in no gap, if
+/// the style tells it.
+pub fn object_text(style: Style, key: &Key, status: Status, conflicts: u64) -> Text
+    ensures line { line result ≡ object_line style key.now status conflicts }
+    ensures len { length result ≤ 511 }
+{
+    let mut text = status_text(key, status);
+    let unplaced = style.unplaced(status, conflicts);
+    if unplaced > 0 {
+        text.push(" unplaced conflicting ");
+        text.push_number(unplaced);
     }
     text
 }

@@ -21,9 +21,9 @@ pub struct SessionSums {
     pub partial: u128,
     /// How many of the wanted symbols of these are not held.
     pub missing: u128,
-    /// How many have two values.
+    /// How many symbols of all of them have two values.
     pub conflicting: u128,
-    /// How many have one value, of a length that does not fit.
+    /// How many of those that are wanted have one value, of a length that does not fit.
     pub misfit: u128,
     /// How many of the objects have no information, or two values of it.
     pub unknown: u128,
@@ -47,23 +47,23 @@ impl SessionSums {
         }
     }
 
-    /// Adds an object of which so much is held.
-    pub fn add(&mut self, status: Status)
+    /// Adds an object of which so much is held, and so many symbols in conflict.
+    pub fn add(&mut self, status: Status, conflicts: u64)
         requires { CanAddObject self.old }
-        ensures added { AddsObject status self.old self.new }
+        ensures added { AddsObject status conflicts self.old self.new }
         ensures within { (n : ℕ) → AreWithin n self.old → AreWithin (n + 1) self.new }
     {
         self.objects += 1;
+        self.conflicting += u128::from(conflicts);
         match status {
             Status::Whole { .. } => self.whole += 1,
             Status::Partial {
                 missing,
-                conflicting,
                 misfit,
+                ..
             } => {
                 self.partial += 1;
                 self.missing += u128::from(missing);
-                self.conflicting += u128::from(conflicting);
                 self.misfit += u128::from(misfit);
             }
             Status::NoInformation | Status::ConflictingInformation => self.unknown += 1,

@@ -13,20 +13,19 @@ ghost use Rattle.flutejoin.specs.Show.{FailsToRead};
 
 use crate::aside::Asides;
 use crate::command_fault::{CommandFault, at_input};
+use crate::join::held_size::{HeldSize, bytes_of};
 use crate::join::joined::Joined;
+use crate::join::reasons::Reasons;
 use crate::join::runs::{MAX_RUNS, add_run, merge_beyond};
 use crate::limits::MAX_ENTRIES;
 use flute_join::JoinRefusal;
 use flute_journal::laws::a_file_is_read_record_by_record;
 use flute_journal::{DatagramReader, write_store};
-use flute_parts::{FactRef, Sender, Source};
+use flute_parts::{Sender, Source};
 use flute_store::Store;
 use flute_streams::{OwnedJournalStream, Scope};
 use flute_wire::read;
 use std::alloc::Global;
-
-/// How many bytes a fact takes beside those of its symbol.
-const FACT: u64 = 128;
 
 /// The facts of datagram files.
 #[derive(Drop)]
@@ -36,6 +35,8 @@ pub(crate) struct HeldFiles<const SESSIONS: u32, const OBJECTS: u32, const SYMBO
     pub(crate) told: Joined<SESSIONS, OBJECTS, SYMBOLS>,
     /// Whether all the facts are held.
     pub(crate) fits: bool,
+    /// How many of the datagrams are refused for each reason.
+    pub(crate) reasons: Reasons,
     /// How many of the datagrams are of other objects.
     pub(crate) others: u64,
     /// The facts that were put aside.
@@ -43,7 +44,7 @@ pub(crate) struct HeldFiles<const SESSIONS: u32, const OBJECTS: u32, const SYMBO
     /// About how many bytes may be in memory.
     memory: u64,
     /// At most about so many are.
-    size: u64,
+    size: HeldSize,
 }
 
 impl<const SESSIONS: u32, const OBJECTS: u32, const SYMBOLS: u32, R: Source + Drop> HeldFiles<
@@ -65,10 +66,11 @@ impl<const SESSIONS: u32, const OBJECTS: u32, const SYMBOLS: u32, R: Source + Dr
                 refused: 0,
             },
             fits: true,
+            reasons: Reasons::new(),
             others: 0,
             runs: Vec::new(alloc),
             memory,
-            size: 0,
+            size: HeldSize::none(),
         }
     }
 
@@ -96,7 +98,9 @@ impl<const SESSIONS: u32, const OBJECTS: u32, const SYMBOLS: u32, R: Source + Dr
         match read(datagram) {
             Ok(packet) if scope.takes(&packet.key(sender)) => {
                 match self.told.store.take_packet(alloc, sender, &packet) {
-                    Ok(_) => {}
+                    Ok(taken) => self
+                        .size
+                        .grow(packet.key(sender), taken.facts, datagram.len()),
                     Err(JoinRefusal::Full) => {
                         self.fits = false;
                         return Ok(());
@@ -105,19 +109,21 @@ impl<const SESSIONS: u32, const OBJECTS: u32, const SYMBOLS: u32, R: Source + Dr
                 }
             }
             Ok(_) => self.others += 1,
-            Err(_) => self.told.refused += 1,
+            Err(why) => {
+                self.told.refused += 1;
+                self.reasons.add(why);
+            }
         }
         self.told.datagrams += 1;
         Ok(())
     }
 
-    // Makes room for the next datagram, after one of so many bytes: if the store may have grown
-    // beyond the memory that is given, and has, it is put aside.
+    // Makes room for the next datagram: if the store may have grown beyond the memory that is given,
+    // and fills half of it, it is put aside.
     fn make_room<A: Asides<Input = R>>(
         &mut self,
         alloc: Global,
         asides: &mut A,
-        taken: usize,
     ) -> Result<(), CommandFault>
         requires countable { IsCountable SESSIONS OBJECTS SYMBOLS }
         requires sound { IsSound R.unread R.buffered R.failures self.old }
@@ -130,19 +136,11 @@ impl<const SESSIONS: u32, const OBJECTS: u32, const SYMBOLS: u32, R: Source + Dr
         ensures same_tells { A.tells asides.new ≡ A.tells asides.old }
         ensures made { Makes (A.made asides.old) (A.made asides.new) result }
     {
-        self.size = self.size.saturating_add(FACT).saturating_add(taken as u64);
-        if self.size <= self.memory || !self.fits {
+        if self.size.bytes <= self.memory || !self.fits {
             return Ok(());
         }
-        let mut size: u64 = 0;
-        for fact in self.told.store.walk() {
-            if let FactRef::Symbol { bytes, .. } = fact {
-                size = size.saturating_add(bytes.len() as u64);
-            }
-            size = size.saturating_add(FACT);
-        }
-        self.size = size;
-        if size <= self.memory / 2 {
+        self.size.bytes = bytes_of(&self.told.store);
+        if self.size.bytes <= self.memory / 2 {
             return Ok(());
         }
         self.put_aside(alloc, asides)
@@ -164,7 +162,7 @@ impl<const SESSIONS: u32, const OBJECTS: u32, const SYMBOLS: u32, R: Source + Dr
         ensures empty { OnOk result (self.new.told.store ≡ []) }
         ensures counts { OnOk result ((self.new.told.datagrams ≡ self.old.told.datagrams)
             × (self.new.told.refused ≡ self.old.told.refused)
-            × (self.new.others ≡ self.old.others)) }
+            × (self.new.reasons ≡ self.old.reasons) × (self.new.others ≡ self.old.others)) }
         ensures fits { OnOk result (self.new.fits ≡ true) }
         ensures few { OnOk result (CountsUpTo R.unread R.buffered R.failures 0 self.old self.new) }
         ensures failed { IfErr result (λ fault. fault ≡ faults.CannotPutAside) }
@@ -182,7 +180,7 @@ impl<const SESSIONS: u32, const OBJECTS: u32, const SYMBOLS: u32, R: Source + Dr
         };
         add_run(asides, aside, entries, &mut self.runs)?;
         self.told.store = Store::new(alloc);
-        self.size = 0;
+        self.size = HeldSize::none();
         Ok(())
     }
 
@@ -225,7 +223,7 @@ impl<const SESSIONS: u32, const OBJECTS: u32, const SYMBOLS: u32, R: Source + Dr
         while let Some(datagram) = at_input(number, reader.next_with(alloc, spare))? {
             self.take(alloc, sender, scope, datagram.as_slice())?;
             spare = datagram.into_vec();
-            self.make_room(alloc, asides, spare.len())?;
+            self.make_room(alloc, asides)?;
         }
         Ok(())
     }
@@ -250,7 +248,7 @@ impl<const SESSIONS: u32, const OBJECTS: u32, const SYMBOLS: u32, R: Source + Dr
         ensures new { IfOk result (λ run. IfSome run (IsNewRun R.unread R.buffered R.failures)) }
         ensures counts { OnOk result ((self.new.told.datagrams ≡ self.old.told.datagrams)
             × (self.new.told.refused ≡ self.old.told.refused)
-            × (self.new.others ≡ self.old.others)) }
+            × (self.new.reasons ≡ self.old.reasons) × (self.new.others ≡ self.old.others)) }
         ensures failed { IfErr result (λ fault. fault ≡ faults.CannotPutAside) }
         ensures some { OnErr result (0 < self.old.told.datagrams) }
         ensures made { Makes (A.made asides.old) (A.made asides.new) result }

@@ -1,5 +1,7 @@
 //! The numbers that a join reports.
 
+use crate::join::reasons::Reasons;
+
 /// What a join has written, in numbers.
 #[derive(Clone, Copy)]
 pub struct JoinCounts {
@@ -7,6 +9,8 @@ pub struct JoinCounts {
     pub datagrams: u64,
     /// How many of these datagrams are refused. They contain no fact.
     pub refused: u64,
+    /// How many for each reason.
+    pub reasons: Reasons,
     /// How many entries and datagrams were passed over, since they are of objects that were not
     /// asked for. What is refused is not among them.
     pub others: u64,

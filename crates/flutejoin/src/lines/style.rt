@@ -1,6 +1,6 @@
 //! What `gaps` prints of the objects of a journal.
 ghost use Rattle.std.specs.Prelude.{◌≡◌};
-ghost use Rattle.flutejoin.specs.Styles.{is_shown, is_told};
+ghost use Rattle.flutejoin.specs.Styles.{is_right, is_shown, is_told, unplaced_in};
 
 use flute_store::{Reason, Status};
 
@@ -12,22 +12,45 @@ pub struct Style {
     pub check: bool,
     /// Whether the objects of a session have one line together, and their gaps none.
     pub summary: bool,
-    /// Whether only objects with a conflict are listed, and their gaps of symbols in conflict.
+    /// Whether only objects with a conflict are listed, and their gaps of symbols in conflict. The
+    /// line of one tells how many of its conflicts are in no gap.
     pub conflicts: bool,
 }
 
 impl Style {
-    /// Whether an object of which so much is held is listed.
-    pub(crate) fn tells(self, status: Status) -> bool
-        ensures { result ≡ is_told self status }
+    /// Whether an object of which so much is held, and so many symbols in conflict, is listed.
+    pub(crate) fn tells(self, status: Status, conflicts: u64) -> bool
+        ensures { result ≡ is_told self status conflicts }
     {
-        if !self.conflicts {
+        if !self.conflicts || conflicts > 0 {
             return true;
         }
         match status {
             Status::ConflictingInformation => true,
             Status::Partial { conflicting, .. } => conflicting > 0,
             Status::NoInformation | Status::Whole { .. } => false,
+        }
+    }
+
+    /// Whether a listed object of which so much is held is as it should be.
+    pub(crate) fn is_right(self, status: Status) -> bool
+        ensures { result ≡ is_right self status }
+    {
+        !self.conflicts && matches!(status, Status::Whole { .. })
+    }
+
+    /// How many of its symbols in conflict, so many in all, the line of an object tells of.
+    pub(crate) fn unplaced(self, status: Status, conflicts: u64) -> u64
+        ensures { result ≡ unplaced_in self status conflicts }
+    {
+        if !self.conflicts {
+            return 0;
+        }
+        match status {
+            Status::Partial { conflicting, .. } => conflicts.saturating_sub(conflicting),
+            Status::NoInformation | Status::ConflictingInformation | Status::Whole { .. } => {
+                conflicts
+            }
         }
     }
 

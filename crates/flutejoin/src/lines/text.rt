@@ -22,8 +22,7 @@ impl Model for Text {
 }
 
 impl Text {
-    ghost use Rattle.std.specs.Prelude.{◌≡◌, ◌+◌, ◌≤◌, [], ◌++◌, length};
-    ghost use Rattle.flutejoin.specs.Lines.{count_line};
+    ghost use Rattle.std.specs.Prelude.{◌≡◌, ◌+◌, ◌≤◌, [], ◌++◌, length, decimal};
 
     /// A text of no bytes.
     pub fn new() -> Text
@@ -62,16 +61,14 @@ impl Text {
         self.push(digits.format(number));
     }
 
-    /// Appends a line of a word of at most 20 bytes and a number.
-    pub fn push_count(&mut self, word: &str, count: u64)
-        requires { (length self.old + 62 ≤ 512) × (length word.now ≤ 20) }
-        ensures text { self.new ≡ self.old ++ count_line word.now count }
-        ensures len { length self.new ≤ length self.old + 62 }
+    /// Appends words and a number of 64 bits.
+    pub fn push_named(&mut self, words: &str, number: u64)
+        requires { length self.old + length words.now + 40 ≤ 512 }
+        ensures text { self.new ≡ self.old ++ (words.now ++ decimal number) }
+        ensures len { length self.new ≤ length self.old + length words.now + 20 }
     {
-        self.push(word);
-        self.push(" ");
-        self.push_number(count);
-        self.push("\n");
+        self.push(words);
+        self.push_number(number);
     }
 
     /// The bytes.

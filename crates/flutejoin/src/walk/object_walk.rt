@@ -12,8 +12,9 @@ ghost use Rattle.flute_store.specs.Held.{HoldsObject};
 ghost use Rattle.flutejoin.specs.Listing.{IsFirstOf};
 ghost use Rattle.flutejoin.specs.Progress.{IsBroken, PassesOn, Progress, progress_of};
 ghost use Rattle.flutejoin.specs.Progress.{value_in, with_value};
-ghost use Rattle.flutejoin.specs.Told.{Told};
+ghost use Rattle.flutejoin.specs.Told.{Told, conflict_in};
 ghost use Rattle.flutejoin.specs.Walk.{CanAdd, HasAll, IsAt, StateIs, Stands, TellsAll};
+ghost use Rattle.flutejoin.specs.Walk.{conflicts_in};
 
 use crate::walk::visitor::Visitor;
 use flute_parts::{DeviceFault, Fact, Info, Key, SymbolId};
@@ -32,6 +33,8 @@ pub struct ObjectWalk {
 pub struct OpenObject {
     pub key: Key,
     pub state: ObjectState,
+    /// How many of its symbols are in conflict.
+    pub conflicts: u64,
 }
 
 /// What is known of an object's information, which comes before its symbols.
@@ -72,7 +75,7 @@ impl ObjectWalk {
             Fact::SymbolConflict { key, id } => self.add_symbol(key, *id, None, visitor),
             Fact::Info { key, info } => self.begin_known(key, info, visitor),
             Fact::InfoConflict { key } => {
-                self.begin(*key, ObjectState::ConflictingInformation, visitor)
+                self.begin(*key, ObjectState::ConflictingInformation, 0, visitor)
             }
         }
     }
@@ -97,11 +100,19 @@ impl ObjectWalk {
             ≡ V.fails visitor.old + (if is_ok result then 0 else 1) }
     {
         match &mut self.open {
-            Some(object) if object.key == *key => match &mut object.state {
-                ObjectState::OneInformation(scan) => pass(scan, Some((id, value)), visitor),
-                ObjectState::NoInformation | ObjectState::ConflictingInformation => Ok(()),
-            },
-            _ => self.begin(*key, ObjectState::NoInformation, visitor),
+            Some(object) if object.key == *key => {
+                object.conflicts += conflicts_by(value);
+                match &mut object.state {
+                    ObjectState::OneInformation(scan) => pass(scan, Some((id, value)), visitor),
+                    ObjectState::NoInformation | ObjectState::ConflictingInformation => Ok(()),
+                }
+            }
+            _ => self.begin(
+                *key,
+                ObjectState::NoInformation,
+                conflicts_by(value),
+                visitor,
+            ),
         }
     }
 
@@ -128,6 +139,7 @@ impl ObjectWalk {
         self.open = Some(OpenObject {
             key: *key,
             state: ObjectState::OneInformation(ObjectScan::new(*key, info)),
+            conflicts: 0,
         });
         Ok(())
     }
@@ -138,19 +150,25 @@ impl ObjectWalk {
         &mut self,
         key: Key,
         state: ObjectState,
+        conflicts: u64,
         visitor: &mut V,
     ) -> Result<(), DeviceFault>
         requires { IsAt V.Has self.old.open visitor.old }
         ensures begun { (at : V.At) (F : List Known) (f : Known) → IsRising (F ++ f ∷ [])
             → Stands V.Has at F self.old.open visitor.old → IsFirstOf F key
             → (address f).key ≡ key → StateIs key (f ∷ []) None state
+            → conflicts ≡ conflict_in key f
             → OnOk result (Stands V.Has at (F ++ f ∷ []) self.new.open visitor.new) }
         ensures kept { V.kept visitor.new ≡ V.kept visitor.old }
         ensures failures { V.fails visitor.new
             ≡ V.fails visitor.old + (if is_ok result then 0 else 1) }
     {
         self.close(visitor)?;
-        self.open = Some(OpenObject { key, state });
+        self.open = Some(OpenObject {
+            key,
+            state,
+            conflicts,
+        });
         Ok(())
     }
 
@@ -172,7 +190,18 @@ impl ObjectWalk {
             return Ok(());
         };
         let status = end_object(object.state, visitor)?;
-        visitor.ends(&object.key, status)
+        visitor.ends(&object.key, status, object.conflicts)
+    }
+}
+
+// How many conflicts the symbol is that has this one value, or None if it has two.
+#[inline(always)]
+fn conflicts_by(value: Option<&[u8]>) -> u64
+    ensures { result ≡ conflicts_in value.entry }
+{
+    match value {
+        Some(_) => 0,
+        None => 1,
     }
 }
 

@@ -60,12 +60,13 @@ pub trait Visitor {
         ensures kept { kept self.new ≡ kept self.old }
         ensures failures { fails self.new ≡ fails self.old + (if is_ok result then 0 else 1) };
 
-    /// An object ends: so much is held of it.
-    fn ends(&mut self, key: &Key, status: Status) -> Result<(), DeviceFault>
+    /// An object ends: so much is held of it, and so many of its symbols are in conflict, whether
+    /// or not its partition has them.
+    fn ends(&mut self, key: &Key, status: Status, conflicts: u64) -> Result<(), DeviceFault>
         requires { (at : At) × (objects : List Told) × (progress : Option Progress)
             × (length objects < MAX_ENTRIES) × Has at objects progress self.old }
         ensures told { (at : At) (objects : List Told) (progress : Option Progress) (t : Told)
-            → t.key ≡ key.now → t.status ≡ status → IsTold t → EndsAs t progress
+            → t.key ≡ key.now → t.status ≡ status → t.conflicts ≡ conflicts → IsTold t → EndsAs t progress
             → Has at objects progress self.old
             → OnOk result (Has at (objects ++ t ∷ []) None self.new) }
         ensures kept { kept self.new ≡ kept self.old }

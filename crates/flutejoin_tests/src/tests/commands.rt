@@ -4,8 +4,9 @@ use super::*;
 use flute_parts::{Info, MemorySink, MemorySource, SymbolId};
 use flute_streams::Selection;
 use flutejoin::{
-    CommandFault, MAX_OBJECTS, MAX_SESSIONS, MAX_SYMBOLS, Style, extract_to, forget_input,
-    forget_to, gaps_from, info_to, merge_to, packet_to, sender_of, show_to,
+    CommandFault, CompareStyle, MAX_OBJECTS, MAX_SESSIONS, MAX_SYMBOLS, Style, compare_from,
+    compare_input, extract_to, forget_input, forget_to, gaps_from, info_to, merge_to, minus_input,
+    minus_to, packet_to, sender_of, show_to,
 };
 use flutejoin_line::{Line, ShowLine, line_of};
 use flutejoin_replicas::{MemoryAside, gaps_to, load, save_to};
@@ -157,6 +158,46 @@ fn journals_are_merged(rt: HostRuntime) -> Result<(), Fail> {
     let mut second = MemorySource::new(&journal);
     let mut sink = MemorySink::new(rt.alloc());
     assert!(rt; merge_to(rt.alloc(), &mut first, &mut second, &mut sink)? == 3);
+    Ok(())
+}
+
+#[test]
+fn what_a_journal_lacks_is_written(rt: HostRuntime) -> Result<(), Fail> {
+    let whole = bytes(rt.alloc(), journals::WHOLE)?;
+    let symbols = bytes(rt.alloc(), journals::SYMBOLS)?;
+    let mut input = minus_input(MemorySource::new(&whole), MemorySource::new(&symbols));
+    let mut sink = MemorySink::new(rt.alloc());
+    assert!(rt; minus_to(rt.alloc(), &mut input, &mut sink)? == 1);
+    Ok(())
+}
+
+#[test]
+fn two_journals_are_compared(rt: HostRuntime) -> Result<(), Fail> {
+    let whole = bytes(rt.alloc(), journals::WHOLE)?;
+    let symbols = bytes(rt.alloc(), journals::SYMBOLS)?;
+    let all = Selection::all();
+    for summary in [false, true] {
+        let mut lines = MemoryAside::new(rt.alloc());
+        let mut sink = MemorySink::new(rt.alloc());
+        let style = CompareStyle {
+            check: true,
+            summary,
+        };
+        let same = compare_from(
+            rt.alloc(),
+            &mut compare_input(MemorySource::new(&whole), all),
+            &mut compare_input(MemorySource::new(&symbols), all),
+            style,
+            &mut lines,
+            &mut sink,
+        )?;
+        let line = if summary {
+            b"session 7 objects 1 same 2 differ 0 first 0 second 0 information same 0".as_slice()
+        } else {
+            b"session 7 object 1 same 2 differ 0 first 0 second 0 information first\n".as_slice()
+        };
+        assert!(rt; same && sink.as_slice().starts_with(line));
+    }
     Ok(())
 }
 

@@ -3,8 +3,10 @@
 use super::*;
 use flute_parts::{MemorySink, MemorySource};
 use flute_streams::Scope;
+use flute_wire::Refusal;
 use flutejoin::{
-    JoinCounts, JoinInput, MAX_INPUTS, MAX_OBJECTS, MAX_SESSIONS, MAX_SYMBOLS, join_to,
+    JoinCounts, JoinInput, MAX_INPUTS, MAX_OBJECTS, MAX_SESSIONS, MAX_SYMBOLS, Reasons, Report,
+    join_to,
 };
 use flutejoin_replicas::{Blob, NoAsides, join_inputs};
 use std::alloc::Global;
@@ -25,6 +27,19 @@ fn inputs_that_are_read_are_joined(rt: HostRuntime) -> Result<(), Fail> {
     let mut sink = MemorySink::new(rt.alloc());
     let counts = join_file(rt.alloc(), file.as_slice(), &mut sink)?;
     assert!(rt; counts.datagrams == 2);
+    Ok(())
+}
+
+#[test]
+fn refused_datagrams_are_counted_for_their_reason(rt: HostRuntime) -> Result<(), Fail> {
+    let mut reasons = Reasons::new();
+    reasons.add(Refusal::Codepoint);
+    assert!(rt; reasons.count(Refusal::Codepoint) == 1);
+    assert!(rt; reasons.count(Refusal::NoToi) == 0);
+    let mut report = Report::new();
+    report.push_count("refused", 1);
+    report.push_reasons(&reasons);
+    assert!(rt; report.as_slice() == b"refused 1\nrefused 1: 8 Codepoint\n".as_slice());
     Ok(())
 }
 

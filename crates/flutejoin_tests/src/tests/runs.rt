@@ -3,7 +3,7 @@
 use super::*;
 use flute_parts::{MemorySink, MemorySource};
 use flute_wire::Datagram;
-use flutejoin::laws::forgetting_leaves_the_rest;
+use flutejoin::laws::{forgetting_leaves_the_rest, minus_is_enough_for_a_join};
 use flutejoin::{MAX_OBJECTS, MAX_SESSIONS, MAX_SYMBOLS};
 use flutejoin_replicas::{Blob, Replicas, Step, journal_after, laws, object_after, run};
 use std::alloc::Global;
@@ -95,4 +95,5 @@ fn laws_stand() {
     laws::runs_leave_what_was_given();
     laws::equal_journals_mean_one_content();
     forgetting_leaves_the_rest();
+    minus_is_enough_for_a_join();
 }

@@ -117,8 +117,10 @@ returns-clause-joined g c = λ told contents inputs. let found = c.in_ok-held.en
       entries = refl;
       datagrams_are = counts.0 ∙ all.count;
       refused = counts.1 ∙ all.refused;
+      reasons = rw counts.2 all.reasons;
+      for_all = rw (counts.1, counts.2) c.in_ok-held.ensures.sound.2;
       of_files = _;
-      of_files_are = counts.2 ∙ found.2.others fits;
+      of_files_are = counts.3 ∙ found.2.others fits;
       others = c.others_of.ensures;
     })
 

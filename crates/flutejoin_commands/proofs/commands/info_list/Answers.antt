@@ -24,8 +24,8 @@ returns-clause-added g c =
     (subst (λ f. OnOk c.leave.result (Leaves (AddsListRead x y) (AddsListRead x y)
     entries_line a.line.target.out.now (outside f (g.O.Sink.written a.output.now)
     (g.E.Sink.written a.errors.now)) new))
-    {x = g.W.Inputs.files c.begin_with_two.new.world} {y = files}
-    c.begin_with_two.ensures.same_files
+    {x = g.W.Inputs.files c.begin_with_list.new.world} {y = files}
+    c.begin_with_list.ensures.same_files
     c.leave.ensures.left)
 
 pub returns-clause-failed : goal.returns-clause-failed
@@ -46,6 +46,6 @@ returns-clause-failed g c =
     (subst (λ f. IfErr c.leave.result (FailsToLeave (AddsListRead x y)
     (AddListReadFails (most_of a.line.limit) x y)
     a.line.target.out.now (outside f (g.O.Sink.written a.output.now) (g.E.Sink.written a.errors.now)) new))
-    {x = g.W.Inputs.files c.begin_with_two.new.world} {y = files}
-    c.begin_with_two.ensures.same_files
+    {x = g.W.Inputs.files c.begin_with_list.new.world} {y = files}
+    c.begin_with_list.ensures.same_files
     c.leave.ensures.failed)

@@ -23,8 +23,8 @@ returns-clause-joined g c =
     (g.E.Sink.written c.leave.new.errors) in
     joined unread tells a.line c.in_ok-inputs.inputs.items files opened told
     a.line.target.out.now (outside files (g.O.Sink.written a.output.now) (g.E.Sink.written a.errors.now)) new
-    (join_lines a.line.scope) c.leave.result
-    (subst (λ f. OnOk c.leave.result (Leaves all all (join_lines a.line.scope)
+    (join_lines a.line.scope a.line.reasons) c.leave.result
+    (subst (λ f. OnOk c.leave.result (Leaves all all (join_lines a.line.scope a.line.reasons)
     a.line.target.out.now (outside f (g.O.Sink.written a.output.now) (g.E.Sink.written a.errors.now)) new))
     {x = now} {y = files} same
     c.leave.ensures.left)

@@ -28,14 +28,18 @@ returns c =
     c.in_ok-subcommand-2.ensures in
     let with_gaps = command_added with_show c.in_ok-gaps_command.ensures
     c.in_ok-subcommand-3.ensures in
-    let with_extract = command_added with_gaps c.in_ok-extract_command.ensures
+    let with_compare = command_added with_gaps c.in_ok-compare_command.ensures
     c.in_ok-subcommand-4.ensures in
-    let with_info = command_added with_extract c.in_ok-info_command.ensures
+    let with_extract = command_added with_compare c.in_ok-extract_command.ensures
     c.in_ok-subcommand-5.ensures in
-    let with_join = command_added with_info c.in_ok-join_command.ensures
+    let with_info = command_added with_extract c.in_ok-info_command.ensures
     c.in_ok-subcommand-6.ensures in
-    let with_merge = command_added with_join c.in_ok-merge_command.ensures
+    let with_join = command_added with_info c.in_ok-join_command.ensures
     c.in_ok-subcommand-7.ensures in
-    let with_forget = command_added with_merge c.in_ok-forget_command.ensures
+    let with_merge = command_added with_join c.in_ok-merge_command.ensures
     c.in_ok-subcommand-8.ensures in
+    let with_minus = command_added with_merge c.in_ok-minus_command.ensures
+    c.in_ok-subcommand-9.ensures in
+    let with_forget = command_added with_minus c.in_ok-forget_command.ensures
+    c.in_ok-subcommand-10.ensures in
     command_added with_forget c.in_ok-carousel_command.ensures c.in_ok-command.ensures

@@ -9,7 +9,7 @@ use Rattle.flutejoin.proofs.extract_lemmas.FilesTold.{few_files, if_written, las
 use Rattle.flutejoin.proofs.extract.object_files.ObjectFilesVisitor.ends.Goals as goal
 
 pub returns-clause-told : goal.returns-clause-told
-returns-clause-told g c = λ at objects progress t key status is end h.
+returns-clause-told g c = λ at objects progress t key status conflicts is end h.
     let kept = c.in_ok-kept.ensures.kept (flat_map object_file objects) (file_so_far progress) at.0
     (ap is_some (c.take.ensures.value ∙ h.left_is) ∙ same_some progress) h.filled in
     let old = g.W.Sink.written c.args.self.now.lines.now in

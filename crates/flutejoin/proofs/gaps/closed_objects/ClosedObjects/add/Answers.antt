@@ -1,107 +1,108 @@
 -- ClosedObjects::add: the lines of one object more, or with a summary its session's sums.
-use Rattle.std.proofs.Common.{rules}
-use Rattle.std.proofs.Common.{◌≡◌, ◌∷◌, ◌++◌, ◌&&◌, [], List, ℕ, Option, Some, Ok, false, refl, sym, ◌∙◌, ap, subst}
+use Rattle.std.proofs.Common.{◌≡◌, ◌∷◌, ◌++◌, ◌&&◌, [], List, ℕ, Bool, Option, Some, Ok, true, false, refl, sym, ◌∙◌, ap, subst}
 use Rattle.std.specs.List.{flat_map}
+use Rattle.std.specs.Prelude.{not}
 use Rattle.flute_parts.specs.Devices.{Writes}
 use Rattle.flute_parts.specs.Session.{Session}
 use Rattle.flute_parts.specs.declared.key.Key.{Key}
 use Rattle.flute_store.specs.declared.status.Status.{Status}
-use Rattle.flute_store.specs.declared.status.Status.TheVariants.{Whole, Partial, NoInformation}
-use Rattle.flute_store.specs.declared.status.Status.TheVariants.{ConflictingInformation}
-use Rattle.flutejoin.specs.Lines.{status_line}
 use Rattle.flutejoin.specs.Listing.{ArePut, AreSummed, BeginsSession}
 use Rattle.flutejoin.specs.Sums.{AddsObject}
 use Rattle.flutejoin.specs.declared.gaps.closed_objects.ClosedObjects.{ClosedObjects}
 use Rattle.flutejoin.specs.declared.gaps.session_sums.SessionSums.{SessionSums}
-use Rattle.flutejoin.specs.Styles.{is_told, is_whole, listed_by, shown_gap}
+use Rattle.flutejoin.specs.Styles.{is_right, is_told, listed_by, object_line, shown_gap}
+use Rattle.flutejoin.specs.declared.lines.style.Style.{Style}
 use Rattle.flutejoin.proofs.gaps_lemmas.Closing.{are_summed, told_lined, told_nothing, told_summed}
 use Rattle.flutejoin.proofs.gaps_lemmas.Keys.{equal_sessions, other_sessions}
 use Rattle.flutejoin.proofs.gaps_lemmas.Sessions.{IsOfOthers, begun_known, more_known}
 use Rattle.flutejoin.proofs.gaps.closed_objects.ClosedObjects.add.Goals as goal
-use Rattle.flutejoin.proofs.gaps.closed_objects.ClosedObjects.add.Goals.{in_default-sums-via-in-Some+else-eq}
-use Rattle.flutejoin.proofs.gaps.closed_objects.ClosedObjects.add.Goals.{in_default-sums-via-in_default-sums}
-use Rattle.flutejoin.proofs.gaps.closed_objects.ClosedObjects.add.Goals.{in-Whole, in_default}
+use Rattle.flutejoin.proofs.gaps.closed_objects.ClosedObjects.add.Goals.{in_default-via-in-Some+else-eq}
+use Rattle.flutejoin.proofs.gaps.closed_objects.ClosedObjects.add.Goals.{in_default-via-in_default}
 
-not_whole : (status : Status) → ((length : ℕ) → status ≡ Whole length → ⊥) → is_whole status ≡ false
-not_whole x0 x1 = search rules
+is_on : (b : Bool) → not b ≡ false → b ≡ true
+is_on true e = refl
+is_on false e = sym e
+
+is_off : (b : Bool) → not b ≡ true → b ≡ false
+is_off true e = sym e
+is_off false e = refl
+
+told_as : (style : Style) {a b : Status} {m n : ℕ} → a ≡ b → m ≡ n
+    → is_told style a m ≡ is_told style b n
+told_as style e count = λ i. is_told style (e i) (count i)
 
 pub returns-then-not-tells-clause-added : goal.returns-then-not-tells-clause-added
-returns-then-not-tells-clause-added g c = λ known objects bytes t e is stray h k. let none : is_told
-    c.args.style t.status ≡ false = ap (is_told c.args.style) is ∙ sym c.tells.ensures ∙
+returns-then-not-tells-clause-added g c = λ known objects bytes t e is count stray h k. let none : is_told
+    c.args.style t.status t.conflicts ≡ false = told_as c.args.style is count ∙ sym c.tells.ensures ∙
     c.if-not-tells.true in told_nothing t none stray h k
 
 pub returns-in-Some-clause-added : goal.returns-in-Some-clause-added
-returns-in-Some-clause-added g c = λ known objects bytes t e is stray h k. let style = c.args.style
+returns-in-Some-clause-added g c = λ known objects bytes t e is count stray h k. let style = c.args.style
     in
     let old = c.in-Some.last in
     let q = subst (λ (o : Option SessionSums). AreSummed (listed_by style objects) bytes o)
-    c.in-Some.is (are_summed c.if-not-style.false h) in
+    c.in-Some.is (are_summed (is_on style.summary c.if-not-style.false) h) in
     let same : old.session ≡ t.key.session = equal_sessions old.session c.args.key.now.session
     c.if-eq.ensures ∙ sym (ap (λ (x : Key). x.session) e) in
-    let a = subst (λ (s : Status). AddsObject s old c.add.new.self) (sym is) c.add.ensures.added in
+    let a = subst (λ (s : Status). AddsObject s t.conflicts old c.add.new.self) (sym is)
+    (subst (λ (n : ℕ). AddsObject c.args.status n old c.add.new.self) (sym count)
+    c.add.ensures.added) in
     told_summed known (Some c.add.new.self) (g.A.Sink.written c.args.lines.now) (Ok tt)
-    c.if-not-style.false (record {
-      told = ap (is_told style) is ∙ sym c.tells.ensures ∙ c.if-not-tells.false;
-      whole_is = elim c.match-matches.branch [
-        | in-Whole w ↦ rw (is, w.in-Whole.is) w.matches-is
-        | in_default w ↦ rw is (w.matches-is ∙ sym (not_whole _ w.in_default.not-Whole))
-      ];
+    (is_on style.summary c.if-not-style.false) (record {
+      told = told_as style is count ∙ sym c.tells.ensures ∙ c.if-not-tells.false;
+      whole_is = c.is_right.ensures ∙ ap (is_right style) (sym is);
     }) h (more_known t q same a k)
 
-pub returns-in_ok-end_session-in_default-sums-clause-added :
-    goal.returns-in_ok-end_session-in_default-sums-clause-added
-returns-in_ok-end_session-in_default-sums-clause-added g c = λ known objects bytes t e is stray h k.
+pub returns-in_ok-end_session-in_default-clause-added :
+    goal.returns-in_ok-end_session-in_default-clause-added
+returns-in_ok-end_session-in_default-clause-added g c = λ known objects bytes t e is count stray h k.
     let style = c.args.style in
     let session = c.args.key.now.session in
     let of : t.key.session ≡ session = ap (λ (x : Key). x.session) e in
-    let q = are_summed c.if-not-style.false h in
-    let all_whole = c.args.self.now.all_whole && c.match-matches.matches in
+    let q = are_summed (is_on style.summary c.if-not-style.false) h in
+    let all_whole = c.args.self.now.all_whole && c.is_right.result in
     let P : ClosedObjects → Type 0 = λ x.
     (AreSummed (listed_by style objects) bytes x.sums × IsOfOthers t.key.session x.sums) ×
     (x.all_whole ≡ all_whole) in
-    let here : P c.in_default-sums.self = elim c.in_default-sums.branch [
-      | in_default-sums-via-in-Some+else-eq w ↦ let last = w.in-Some.last in
+    let here : P c.in_default.self = elim c.in_default.branch [
+      | in_default-via-in-Some+else-eq w ↦ let last = w.in-Some.last in
           let apart = other_sessions last.session session w.if-eq.ensures in
           let others : IsOfOthers t.key.session (Some last) = λ same. apart (same ∙ of) in
           let one = subst (λ (o : Option SessionSums). AreSummed (listed_by style objects) bytes o)
           w.in-Some.is q in subst P (sym w.self-is) ((one, others), refl)
-      | in_default-sums-via-in_default-sums w ↦ let none = subst
-          (λ (o : Option SessionSums). IsOfOthers t.key.session o) (sym w.in_default-sums.is) tt in
+      | in_default-via-in_default w ↦ let none = subst
+          (λ (o : Option SessionSums). IsOfOthers t.key.session o) (sym w.in_default.is) tt in
           subst P (sym w.self-is) ((q, none), refl)
     ] in
-    let new = Some c.add-in_default-sums.new.self in
-    let begun = subst (λ (s : Session). BeginsSession s t.status new) (sym of) (subst
-    (λ (s : Status). BeginsSession session s new) (sym is) (
-      c.add-in_default-sums.ensures.within 0
+    let new = Some c.add-in_default.new.self in
+    let begun = subst (λ (s : Session). BeginsSession s t.status t.conflicts new) (sym of) (subst
+    (λ (s : Status). BeginsSession session s t.conflicts new) (sym is) (subst
+    (λ (n : ℕ). BeginsSession session c.args.status n new) (sym count) (
+      c.add-in_default.ensures.within 0
           c.new-next.ensures.within,
-      (c.new-next.result, c.new-next.ensures.none, c.add-in_default-sums.ensures.added),
-    )) in
+      (c.new-next.result, c.new-next.ensures.none, c.add-in_default.ensures.added),
+    ))) in
     let w = g.A.Sink.written c.end_session.new.lines in
     let gaps = flat_map (shown_gap style) t.gaps in
     subst
     (λ a. ArePut known style (objects ++ t ∷ []) gaps w (record { all_whole = a; sums = new }))
-    (sym here.1) (told_summed known new w (Ok tt) c.if-not-style.false (record {
-      told = ap (is_told style) is ∙ sym c.tells.ensures ∙ c.if-not-tells.false;
-      whole_is = elim c.match-matches.branch [
-        | in-Whole w ↦ rw (is, w.in-Whole.is) w.matches-is
-        | in_default w ↦ rw is (w.matches-is ∙ sym (not_whole _ w.in_default.not-Whole))
-      ];
-    }) h (begun_known (listed_by style objects) t c.in_default-sums.self.sums here.0 k begun
-    c.in_ok-end_session-in_default-sums.ensures.line))
+    (sym here.1) (told_summed known new w (Ok tt) (is_on style.summary c.if-not-style.false) (record {
+      told = told_as style is count ∙ sym c.tells.ensures ∙ c.if-not-tells.false;
+      whole_is = c.is_right.ensures ∙ ap (is_right style) (sym is);
+    }) h (begun_known (listed_by style objects) t c.in_default.self.sums here.0 k begun
+    c.in_ok-end_session-in_default.ensures.line))
 
 pub returns-then-not-style-clause-added : goal.returns-then-not-style-clause-added
-returns-then-not-style-clause-added g c = λ known objects bytes t e is stray h k. let style =
+returns-then-not-style-clause-added g c = λ known objects bytes t e is count stray h k. let style =
     c.args.style in
     let s = g.A.Sink.written c.args.lines.now in
     let s' = g.A.Sink.written c.write_words.new.sink in
     let r = c.write_words.result in
-    let line = subst (λ (x : List ℕ). Writes s s' x r) c.status_text.ensures.line
+    let line = subst (λ (x : List ℕ). Writes s s' x r) c.object_text.ensures.line
     c.write_words.ensures.line in
-    let own : status_line c.args.key.now c.args.status ≡ status_line t.key t.status = λ i.
-    status_line (sym e i) (sym is i) in told_lined s' r c.if-not-style.true (record {
-      told = ap (is_told style) is ∙ sym c.tells.ensures ∙ c.if-not-tells.false;
-      whole_is = elim c.match-matches.branch [
-        | in-Whole w ↦ rw (is, w.in-Whole.is) w.matches-is
-        | in_default w ↦ rw is (w.matches-is ∙ sym (not_whole _ w.in_default.not-Whole))
-      ];
+    let own : object_line style c.args.key.now c.args.status c.args.conflicts
+    ≡ object_line style t.key t.status t.conflicts = λ i.
+    object_line style (sym e i) (sym is i) (sym count i) in told_lined s' r (is_off style.summary c.if-not-style.true) (record {
+      told = told_as style is count ∙ sym c.tells.ensures ∙ c.if-not-tells.false;
+      whole_is = c.is_right.ensures ∙ ap (is_right style) (sym is);
     }) h k (subst (λ (x : List ℕ). Writes s s' x r) own line)

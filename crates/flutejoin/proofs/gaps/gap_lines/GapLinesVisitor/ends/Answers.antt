@@ -4,7 +4,7 @@ use Rattle.flutejoin.proofs.gaps_lemmas.GapsListed.{object_lined, told_no_stray}
 use Rattle.flutejoin.proofs.gaps.gap_lines.GapLinesVisitor.ends.Goals as goal
 
 pub returns-clause-told : goal.returns-clause-told
-returns-clause-told g c = λ known objects progress t key status is end h.
+returns-clause-told g c = λ known objects progress t key status conflicts is end h.
     let old = c.args.self.now in
     object_lined t (record {
       style = old.style;
@@ -12,7 +12,7 @@ returns-clause-told g c = λ known objects progress t key status is end h.
       lines = record old.lines { now = c.move_to.new.sink };
       gap_lines = record old.gap_lines { now = c.move_to.new.self };
     }) c.move_to.result h end.gaps refl (
-      c.in_ok-add.ensures.added known objects h.lines t key status (told_no_stray old.style t is)
+      c.in_ok-add.ensures.added known objects h.lines t key status conflicts (told_no_stray old.style t is)
           h.closed_are h.lines_known,
       c.in_ok-add.ensures.few _ h.few,
     ) c.move_to.ensures.moved

@@ -7,5 +7,5 @@ use Rattle.flutejoin.proofs.join.held_files.HeldFiles.make_room.Goals as goal
 
 pub returns-clause-held : goal.returns-clause-held
 returns-clause-held g c = λ told choice. on_ok c.put_aside.result
-    (holds_after (record { told = refl; fits = refl; others = refl; runs = refl }))
+    (holds_after (record { told = refl; fits = refl; reasons = refl; others = refl; runs = refl }))
     (c.put_aside.ensures.held told choice)

@@ -18,7 +18,7 @@ returns-clause-held g c = λ told choice. let written = g.A.Aside.Sink.written i
     c.in-Ok-write_store.ensures.bytes) in
     let journal = c.in-Ok-write_store.ensures.journal in
     let one = rising_unique store journal.0 c.keeps_order_and_limits.ensures.rising journal.1.rising
-    journal.1.same in holds_aside c.requires.fits c.requires.fits c.new.ensures refl refl refl (λ
+    journal.1.same in holds_aside c.requires.fits c.requires.fits c.new.ensures refl refl refl refl (λ
     facts holds. let runs = c.in_ok-merge_beyond.ensures.held told facts holds in
     let more = c.in_ok-add_run.ensures.held (spelling store) store runs.0 bytes journal
     (c.in-Ok-write_store.ensures.count ∙ ap length one) runs.1 in (

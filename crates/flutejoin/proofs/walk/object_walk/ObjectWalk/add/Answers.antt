@@ -2,6 +2,7 @@
 use Rattle.std.proofs.Common.{None, [], ◌∷◌, ap, sym, subst}
 use Rattle.flute_parts.specs.Addresses.{address}
 use Rattle.flute_parts.specs.declared.fact.Fact.{Fact}
+use Rattle.flutejoin.specs.Told.{conflict_in}
 use Rattle.flutejoin.specs.Walk.{StateIs}
 use Rattle.flutejoin.specs.declared.walk.object_walk.ObjectState.TheVariants.{ConflictingInformation}
 use Rattle.flutejoin.proofs.walk_lemmas.Objects.{first_information, begins_conflict}
@@ -14,4 +15,4 @@ returns-in-InfoConflict-clause-added g c = λ at F r l.
     c.begin.ensures.begun at F c.args.fact.now r l (first_information F c.args.fact.now key r
     (ap address is)) (ap (λ f. (address f).key) is)
     (subst (λ (f : Fact). StateIs key (f ∷ []) None ConflictingInformation) (sym is)
-    (begins_conflict key))
+    (begins_conflict key)) (sym (ap (conflict_in key) is))

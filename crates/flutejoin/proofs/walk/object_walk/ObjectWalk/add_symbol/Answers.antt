@@ -1,5 +1,5 @@
 -- ObjectWalk::add_symbol: a symbol of the progress object, or of a new one without information.
-use Rattle.std.proofs.Common.{◌∙◌, ℕ, List, Bor, Option, Some, sym, subst}
+use Rattle.std.proofs.Common.{◌∙◌, ◌+◌, ℕ, List, Bor, Option, Some, ap, arith, refl, sym, subst}
 use Rattle.flute_parts.specs.declared.symbol_id.SymbolId.{SymbolId}
 use Rattle.flute_store.specs.Scan.{next_fact}
 use Rattle.flutejoin.specs.Listing.{IsFirstOf}
@@ -10,8 +10,8 @@ use Rattle.flutejoin.specs.declared.walk.object_walk.ObjectState.TheVariants.{On
 use Rattle.flutejoin.specs.declared.walk.object_walk.ObjectWalk.{ObjectWalk}
 use Rattle.flutejoin.specs.declared.walk.object_walk.OpenObject.{OpenObject}
 use Rattle.flutejoin.proofs.gaps_lemmas.Keys.{equal_keys, other_keys}
-use Rattle.flutejoin.proofs.walk_lemmas.Objects.{begins_symbol, first_of_others, mine_rising}
-use Rattle.flutejoin.proofs.walk_lemmas.Objects.{none_first, on_ok, one_more_open, passes_over}
+use Rattle.flutejoin.proofs.walk_lemmas.Objects.{begins_symbol, conflict_by, first_of_others, mine_rising}
+use Rattle.flutejoin.proofs.walk_lemmas.Objects.{none_first, on_ok, one_by, one_more_open, open_few, passes_over}
 use Rattle.flutejoin.proofs.walk_lemmas.Objects.{passes_scan, scan_rising, told_key}
 use Rattle.flutejoin.proofs.walk.object_walk.ObjectWalk.add_symbol.Goals as goal
 use Rattle.flutejoin.proofs.walk.object_walk.ObjectWalk.add_symbol.Goals.{in_default-via-in-Some+else-eq}
@@ -50,7 +50,8 @@ returns-in-OneInformation-clause-added g c = λ at F r l.
       progress = Some (progress_of p.0);
       walks = one_more_open (next_fact key n) (Some (progress_of p.0))
           (OneInformation c.pass.new.scan) h (told_key key n ∙ sym same)
-          (passes_scan q key same n p.1 p.2);
+          (passes_scan q key same n p.1 p.2)
+          (ap (λ x. object.conflicts + x) (c.conflicts_by.ensures ∙ conflict_by object.key key n same));
       has = p.3;
     })
     (c.pass.ensures.passed at q.scanned l.objects q.scans
@@ -69,7 +70,9 @@ returns-in-NoInformation-clause-added g c = λ at F r l.
       progress = l.progress;
       walks = one_more_open (next_fact key n) l.progress object.state h
           (told_key key n ∙ sym (equal_keys object.key key c.if-eq.ensures))
-          (passes_over h key n c.in-NoInformation.is);
+          (passes_over h key n c.in-NoInformation.is)
+          (ap (λ x. object.conflicts + x) (c.conflicts_by.ensures
+          ∙ conflict_by object.key key n (equal_keys object.key key c.if-eq.ensures)));
       has = l.has;
     }
 
@@ -84,7 +87,9 @@ returns-in-NoInformation-2-clause-added g c = λ at F r l.
       progress = l.progress;
       walks = one_more_open (next_fact key n) l.progress object.state h
           (told_key key n ∙ sym (equal_keys object.key key c.if-eq.ensures))
-          (passes_over h key n c.in-NoInformation.is);
+          (passes_over h key n c.in-NoInformation.is)
+          (ap (λ x. object.conflicts + x) (c.conflicts_by.ensures
+          ∙ conflict_by object.key key n (equal_keys object.key key c.if-eq.ensures)));
       has = l.has;
     }
 
@@ -120,4 +125,11 @@ returns-in_default-clause-added g c = λ at F r l.
           (none_first F key q.0, subst (λ (x : ObjectWalk). stands x.open) (sym w.self-is) l)
     ] in
     c.begin.ensures.begun at F (next_fact key n) r first.1 first.0 (told_key key n)
-    (begins_symbol key n)
+    (begins_symbol key n) (c.conflicts_by-in_default.ensures ∙ conflict_by key key n refl)
+
+pub overflow_add-object : goal.overflow_add-object
+overflow_add-object g c =
+    let w = c.requires.at in
+    let h = subst (λ (o : Option OpenObject). Walks w.facts w.objects w.progress o) c.in-Some.is
+    w.walks in
+    omega (arith, open_few h, w.few, c.conflicts_by.ensures, one_by c.args.value)

@@ -5,12 +5,15 @@ use Rattle.flutejoin.proofs.walk_lemmas.Objects.{begun}
 use Rattle.flutejoin.proofs.walk.object_walk.ObjectWalk.begin.Goals as goal
 
 pub returns-clause-begun : goal.returns-clause-begun
-returns-clause-begun g c = λ at F f r l first e s.
+returns-clause-begun g c = λ at F f r l first e s n.
     let q = c.in_ok-close.ensures.closed at F (rising-front F (f ∷ []) r) l in
     record {
       objects = q.objects;
       progress = None;
-      walks = begun f q.objects (record { key = c.args.key; state = c.args.state }) q.told
-          q.few first e s;
+      walks = begun f (record {
+        key = c.args.key;
+        state = c.args.state;
+        conflicts = c.args.conflicts;
+      }) q.told q.few first e s n;
       has = q.has;
     }

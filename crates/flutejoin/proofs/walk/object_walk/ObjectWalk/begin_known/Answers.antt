@@ -16,9 +16,9 @@ returns-clause-begun g c = λ at F r l.
     record {
       objects = q.objects;
       progress = Some (at_start key info);
-      walks = begun f q.objects
-          (record { key = key; state = OneInformation c.new.result }) q.told q.few
+      walks = begun f
+          (record { key = key; state = OneInformation c.new.result; conflicts = 0 }) q.told q.few
           (first_information F f key r refl) refl
-          (begins_scan key info c.new.result c.new.ensures);
+          (begins_scan key info c.new.result c.new.ensures) refl;
       has = c.in_ok-begins.ensures.told at q.objects q.has;
     }

@@ -5,7 +5,7 @@ use Rattle.flutejoin.specs.Progress.{Progress}
 use Rattle.flutejoin.specs.Told.{Told, told_of}
 use Rattle.flutejoin.specs.Walk.{Walks}
 use Rattle.flutejoin.specs.declared.walk.object_walk.OpenObject.{OpenObject}
-use Rattle.flutejoin.proofs.walk_lemmas.Objects.{all_has, before_short, heard_open, none_open}
+use Rattle.flutejoin.proofs.walk_lemmas.Objects.{all_counted, all_has, before_short, heard_open, none_open}
 use Rattle.flutejoin.proofs.walk_lemmas.Objects.{one_more_closed}
 use Rattle.flutejoin.proofs.gaps_lemmas.StatusLines.{status_is}
 use Rattle.flutejoin.proofs.walk.object_walk.ObjectWalk.close.Goals as goal
@@ -51,4 +51,4 @@ returns-clause-closed g c = λ at F r l.
     all_has g.V.Visitor.Has at c.ends.new.self (one_more_closed h r)
     (omega (arith, before_short h, h.few, length-append l.objects (t ∷ []))) c.ends.result
     (c.ends.ensures.told at l.objects told.0 t refl (sym (status_is F key status told.1.0))
-    (F, refl) told.1.1 told.2)
+    (all_counted h) (F, refl) told.1.1 told.2)

@@ -1,0 +1,270 @@
+-- compare --summary: the sums of each session (specs/CompareSums).
+use Rattle.std.proofs.Common.{◌≡◌, ℕ, ◌+◌, ◌≤◌, Bool, true, false, cond, List, []}
+use Rattle.std.proofs.Common.{◌∷◌, ◌++◌, length, length-append, Option, Some, None, refl, sym, ap}
+use Rattle.std.proofs.Common.{◌∙◌, subst, inl, inr, append_assoc, append-nil, arith}
+use Rattle.std.specs.Prelude.{if◌then◌else◌}
+use Rattle.std.specs.List.{count_by, flat_map, sum_by}
+use Rattle.std.proofs.lemmas.Bool.{cases_Bool}
+use Rattle.std.proofs.lemmas.Grind.{flat_map-append}
+use Rattle.std.proofs.lemmas.List.{flat_map_more}
+use Rattle.std.proofs.lemmas.List.Sums.{sum_by-append, sum_by-cons, sum_by_push}
+use Rattle.flute_parts.specs.Equality.{session_itself, session_same}
+use Rattle.flute_parts.specs.Order.{same_session}
+use Rattle.flute_parts.specs.Session.{Session}
+use Rattle.flute_streams.specs.Counting.{capped}
+use Rattle.flute_streams.specs.declared.merge.sides.Row.{Row}
+use Rattle.flute_streams.specs.declared.merge.sides.Side.{Side}
+use Rattle.flute_streams.specs.declared.merge.sides.Side.TheVariants.{Same, Differ, First, Second}
+use Rattle.flute_streams.specs.declared.merge.sides.Sides.{Sides}
+use Rattle.flutejoin.specs.CompareLines.{compared, row_line}
+use Rattle.flutejoin.specs.CompareSums.{information_of, is_in_first, is_in_none, is_in_second}
+use Rattle.flutejoin.specs.CompareSums.{is_other_in, is_same_in, last_sums, no_sums, row_session}
+use Rattle.flutejoin.specs.CompareSums.{session_line, sums_after, sums_before, sums_line, sums_of}
+use Rattle.flutejoin.specs.CompareSums.{symbols_of, with_information, with_row}
+use Rattle.flutejoin.specs.Parts.{parts_of}
+use Rattle.flutejoin.specs.RowsTold.{AreFew, AreSummed, AreTheirs, weight}
+use Rattle.flutejoin.specs.declared.compare.compare_sums.CompareSums.{CompareSums}
+use Rattle.flutejoin.specs.declared.lines.compare_style.CompareStyle.{CompareStyle}
+use Rattle.flutejoin.proofs.compare_lemmas.Cuts.{apart_from, of_more, one_part}
+
+-- ---- sums that are few enough
+
+later : (before more : List Row) → AreFew (before ++ more) → AreFew more
+later before more few = omega (arith, sum_by-append weight before more, few)
+
+below : (f : Row → ℕ) → ((row : Row) → f row ≤ weight row) → (rows : List Row)
+    → sum_by f rows ≤ sum_by weight rows
+below f l [] = omega arith
+below f l (row ∷ rows) =
+    omega (arith, sum_by-cons f row rows, sum_by-cons weight row rows, l row, below f l rows)
+
+below_length : (rows : List Row) → length rows ≤ sum_by weight rows
+below_length [] = omega arith
+below_length (row ∷ rows) = omega (arith, sum_by-cons weight row rows, below_length rows)
+
+one_or_none : (b : Bool) (n : ℕ) → 1 ≤ n → cond b 1 0 ≤ n
+one_or_none true n l = l
+one_or_none false n l = omega arith
+
+sides : (s t : Sides) → s.same ≡ t.same → s.differ ≡ t.differ → s.first ≡ t.first
+    → s.second ≡ t.second → s ≡ t
+sides s t a b c d = λ i. record { same = a i; differ = b i; first = c i; second = d i }
+
+sums : (s t : CompareSums) → s.session ≡ t.session → s.objects ≡ t.objects
+    → s.symbols ≡ t.symbols → s.information ≡ t.information → s.unknown ≡ t.unknown → s ≡ t
+sums s t a b c d e = λ i.
+    record { session = a i; objects = b i; symbols = c i; information = d i; unknown = e i }
+
+-- ---- with one row more
+
+module _ (rows : List Row) (row : Row) (few : AreFew (rows ++ row ∷ [])) where
+  abbrev all : List Row
+  all = rows ++ row ∷ []
+
+  more_of : (f : Row → ℕ) → ((row : Row) → f row ≤ weight row)
+      → capped (sum_by f rows + f row) ≡ sum_by f all
+  more_of f l = omega (arith, sum_by_push f rows row, below f l all, few)
+
+  more_rows : capped (length rows + 1) ≡ length all
+  more_rows = omega (arith, length-append rows (row ∷ []), below_length all, few)
+
+  count_on : (p : Option Side → Bool) (i : Option Side) → row.information ≡ i → p i ≡ true
+      → capped (count_by (λ (r : Row). p r.information) rows + 1)
+      ≡ count_by (λ (r : Row). p r.information) all
+  count_on p i e is =
+      let f : Row → ℕ = λ r. cond (p r.information) 1 0 in
+      let one : f row ≡ 1 = ap (λ i. cond (p i) 1 0) e ∙ ap (λ b. cond b 1 0) is in
+      omega (arith, more_of f (λ r. one_or_none (p r.information) (weight r) (omega arith)), one)
+
+  count_off : (p : Option Side → Bool) (i : Option Side) → row.information ≡ i → p i ≡ false
+      → count_by (λ (r : Row). p r.information) rows
+      ≡ count_by (λ (r : Row). p r.information) all
+  count_off p i e is =
+      let f : Row → ℕ = λ r. cond (p r.information) 1 0 in
+      let none : f row ≡ 0 = ap (λ i. cond (p i) 1 0) e ∙ ap (λ b. cond b 1 0) is in
+      omega (arith, sum_by_push f rows row, none)
+
+  module _ (session : Session) where
+    abbrev counted : CompareSums
+    counted = record {
+      session = session;
+      objects = capped (length rows + 1);
+      symbols = record {
+        same = capped (sum_by (λ (r : Row). r.symbols.same) rows + row.symbols.same);
+        differ = capped (sum_by (λ (r : Row). r.symbols.differ) rows + row.symbols.differ);
+        first = capped (sum_by (λ (r : Row). r.symbols.first) rows + row.symbols.first);
+        second = capped (sum_by (λ (r : Row). r.symbols.second) rows + row.symbols.second);
+      };
+      information = information_of rows;
+      unknown = count_by (λ (r : Row). is_in_none r.information) rows;
+    }
+
+    symbols_more : counted.symbols ≡ symbols_of all
+    symbols_more = sides counted.symbols (symbols_of all)
+        (more_of (λ r. r.symbols.same) (λ r. omega arith))
+        (more_of (λ r. r.symbols.differ) (λ r. omega arith))
+        (more_of (λ r. r.symbols.first) (λ r. omega arith))
+        (more_of (λ r. r.symbols.second) (λ r. omega arith))
+
+    with : (i : Option Side) → row.information ≡ i
+        → with_information counted i ≡ sums_of session all
+    with None e = sums (with_information counted None) (sums_of session all) refl more_rows
+        symbols_more
+        (sides (information_of rows) (information_of all)
+        (count_off is_same_in None e refl) (count_off is_other_in None e refl)
+        (count_off is_in_first None e refl) (count_off is_in_second None e refl))
+        (count_on is_in_none None e refl)
+    with (Some Same) e = sums (with_information counted (Some Same)) (sums_of session all) refl
+        more_rows symbols_more
+        (sides (with_information counted (Some Same)).information (information_of all)
+        (count_on is_same_in (Some Same) e refl) (count_off is_other_in (Some Same) e refl)
+        (count_off is_in_first (Some Same) e refl) (count_off is_in_second (Some Same) e refl))
+        (count_off is_in_none (Some Same) e refl)
+    with (Some Differ) e = sums (with_information counted (Some Differ)) (sums_of session all) refl
+        more_rows symbols_more
+        (sides (with_information counted (Some Differ)).information (information_of all)
+        (count_off is_same_in (Some Differ) e refl) (count_on is_other_in (Some Differ) e refl)
+        (count_off is_in_first (Some Differ) e refl) (count_off is_in_second (Some Differ) e refl))
+        (count_off is_in_none (Some Differ) e refl)
+    with (Some First) e = sums (with_information counted (Some First)) (sums_of session all) refl
+        more_rows symbols_more
+        (sides (with_information counted (Some First)).information (information_of all)
+        (count_off is_same_in (Some First) e refl) (count_off is_other_in (Some First) e refl)
+        (count_on is_in_first (Some First) e refl) (count_off is_in_second (Some First) e refl))
+        (count_off is_in_none (Some First) e refl)
+    with (Some Second) e = sums (with_information counted (Some Second)) (sums_of session all) refl
+        more_rows symbols_more
+        (sides (with_information counted (Some Second)).information (information_of all)
+        (count_off is_same_in (Some Second) e refl) (count_off is_other_in (Some Second) e refl)
+        (count_off is_in_first (Some Second) e refl) (count_on is_in_second (Some Second) e refl))
+        (count_off is_in_none (Some Second) e refl)
+
+    with_more : with_row (sums_of session rows) row ≡ sums_of session all
+    with_more = with row.information refl
+
+-- ---- the sums of the last session
+
+first_added : (row : Row) → AreFew (row ∷ [])
+    → AreSummed (row ∷ []) [] (with_row (no_sums (row_session row)) row)
+unfolding parts_of
+first_added row few = record {
+  before = [];
+  first = row;
+  others = [];
+  all = refl;
+  same = tt;
+  apart = λ more. refl;
+  lines_are = refl;
+  sums_are = with_more [] row few (row_session row);
+}
+
+same_added : (rows : List Row) (lines : List ℕ) (old : CompareSums) (row : Row)
+    → AreFew (rows ++ row ∷ []) → AreSummed rows lines old → old.session ≡ row_session row
+    → AreSummed (rows ++ row ∷ []) lines (with_row old row)
+same_added rows lines old row few h e =
+    let mine = h.first ∷ h.others in
+    let is : rows ++ row ∷ [] ≡ h.before ++ (mine ++ row ∷ []) =
+    ap (λ l. l ++ row ∷ []) h.all ∙ append_assoc h.before mine (row ∷ []) in
+    let few_mine = later h.before (mine ++ row ∷ []) (subst AreFew is few) in
+    record {
+      before = h.before;
+      first = h.first;
+      others = h.others ++ row ∷ [];
+      all = is;
+      same = of_more row_session (row_session h.first) h.others row h.same
+          (sym e ∙ ap (λ (s : CompareSums). s.session) h.sums_are);
+      apart = h.apart;
+      lines_are = h.lines_are;
+      sums_are = ap (λ s. with_row s row) h.sums_are
+          ∙ with_more mine row few_mine (row_session h.first);
+    }
+
+-- the lines of all sessions
+pub all_summed : (rows : List Row) (lines : List ℕ) (old : CompareSums) → AreSummed rows lines old
+    → lines ++ sums_line old ≡ flat_map session_line (parts_of row_session rows)
+unfolding parts_of
+all_summed rows lines old h =
+    let mine = parts_of row_session (h.first ∷ h.others) in
+    let last : flat_map session_line mine ≡ sums_line old =
+    ap (flat_map session_line) (one_part row_session h.first h.others h.same)
+    ∙ append-nil (session_line (h.first, h.others)) ∙ ap sums_line (sym h.sums_are) in
+    ap (λ l. l ++ sums_line old) h.lines_are
+    ∙ ap (λ l. flat_map session_line (parts_of row_session h.before) ++ l) (sym last)
+    ∙ sym (flat_map-append session_line (parts_of row_session h.before) mine)
+    ∙ ap (flat_map session_line) (sym (h.apart h.others))
+    ∙ ap (λ l. flat_map session_line (parts_of row_session l)) (sym h.all)
+
+next_added : (rows : List Row) (lines : List ℕ) (old : CompareSums) (row : Row)
+    → AreFew (rows ++ row ∷ []) → AreSummed rows lines old → (old.session ≡ row_session row → ⊥)
+    → AreSummed (rows ++ row ∷ []) (lines ++ sums_line old)
+    (with_row (no_sums (row_session row)) row)
+next_added rows lines old row few h apart = record {
+  before = rows;
+  first = row;
+  others = [];
+  all = refl;
+  same = tt;
+  apart = λ more. subst (λ l. parts_of row_session (l ++ row ∷ more)
+      ≡ parts_of row_session l ++ parts_of row_session (row ∷ more)) (sym h.all)
+      (apart_from row_session h.before h.first h.others row more h.same
+      (λ e. apart (ap (λ (s : CompareSums). s.session) h.sums_are ∙ sym e)));
+  lines_are = all_summed rows lines old h;
+  sums_are = with_more [] row (later rows (row ∷ []) few) (row_session row);
+}
+
+-- ---- one row more
+
+added : (rows : List Row) (lines : List ℕ) (old : Option CompareSums) (row : Row)
+    → AreFew (rows ++ row ∷ []) → AreTheirs true rows lines old
+    → AreTheirs true (rows ++ row ∷ []) (lines ++ sums_before old (row_session row))
+    (Some (with_row (sums_after old (row_session row)) row))
+added rows lines None row few h =
+    subst (λ l. AreSummed (l ++ row ∷ []) (lines ++ [])
+    (with_row (no_sums (row_session row)) row)) (sym h.0)
+    (subst (λ l. AreSummed (row ∷ []) (l ++ []) (with_row (no_sums (row_session row)) row))
+    (sym h.1) (first_added row (later rows (row ∷ []) few)))
+added rows lines (Some old) row few h =
+    elim (cases_Bool (same_session old.session (row_session row))) [
+      | inl t ↦ subst (λ b. AreSummed (rows ++ row ∷ [])
+          (lines ++ (if b then [] else sums_line old))
+          (with_row (if b then old else no_sums (row_session row)) row)) (sym t)
+          (subst (λ l. AreSummed (rows ++ row ∷ []) l (with_row old row))
+          (sym (append-nil lines))
+          (same_added rows lines old row few h (session_same old.session (row_session row) t)))
+      | inr n ↦ subst (λ b. AreSummed (rows ++ row ∷ [])
+          (lines ++ (if b then [] else sums_line old))
+          (with_row (if b then old else no_sums (row_session row)) row)) (sym n)
+          (next_added rows lines old row few h (apart old.session (row_session row) n))
+    ]
+  where
+    apart : (s t : Session) → same_session s t ≡ false → s ≡ t → ⊥
+    apart s t n e = cc_false (sym (subst (λ u. same_session s u ≡ true) e (session_itself s)) ∙ n)
+      where
+        cc_false : true ≡ false → ⊥
+        cc_false e = cc
+
+-- the lines with one row more, as a style has them
+pub added_to : (summary : Bool) (rows : List Row) (lines : List ℕ) (old : Option CompareSums)
+    (row : Row) → AreFew (rows ++ row ∷ []) → AreTheirs summary rows lines old
+    → AreTheirs summary (rows ++ row ∷ [])
+    (lines ++ (if summary then sums_before old (row_session row) else row_line row))
+    (if summary then Some (with_row (sums_after old (row_session row)) row) else old)
+added_to true rows lines old row few h = added rows lines old row few h
+added_to false rows lines old row few h = (
+  ap (λ l. l ++ row_line row) h.0 ∙ flat_map_more row_line [] rows row,
+  h.1,
+)
+
+-- all lines
+pub all_put : (style : CompareStyle) (rows : List Row) (lines : List ℕ) (old : Option CompareSums)
+    → AreTheirs style.summary rows lines old → lines ++ last_sums old ≡ compared style rows
+unfolding compared parts_of
+all_put style rows lines old h = by style.summary old h
+  where
+    by : (b : Bool) (old : Option CompareSums) → AreTheirs b rows lines old
+        → lines ++ last_sums old
+        ≡ (if b then flat_map session_line (parts_of row_session rows) else flat_map row_line rows)
+    by true None h = ap (λ l. l ++ []) h.1
+        ∙ ap (λ l. flat_map session_line (parts_of row_session l)) (sym h.0)
+    by true (Some s) h = all_summed rows lines s h
+    by false old h = ap (λ o. lines ++ last_sums o) h.1 ∙ append-nil lines ∙ h.0

@@ -1,0 +1,129 @@
+-- How two journals differ in the objects of a session together.
+use Rattle.std.specs.Prelude.{ℕ, ◌+◌, Bool, true, false, List, [], ◌∷◌, ◌++◌, length, codes}
+use Rattle.std.specs.Prelude.{Option, Some, None, decimal, if◌then◌else◌}
+use Rattle.std.specs.List.{count_by, sum_by}
+use Rattle.flute_parts.specs.Order.{same_session}
+use Rattle.flute_parts.specs.Session.{Session}
+use Rattle.flute_streams.specs.Counting.{capped, capped_sides, more, no_sides, plus}
+use Rattle.flute_streams.specs.declared.merge.sides.Row.{Row}
+use Rattle.flute_streams.specs.declared.merge.sides.Side.{Side}
+use Rattle.flute_streams.specs.declared.merge.sides.Side.TheVariants.{Same, Differ, First, Second}
+use Rattle.flute_streams.specs.declared.merge.sides.Sides.{Sides}
+use Rattle.flutejoin.specs.Lines.{line, source_words}
+use Rattle.flutejoin.specs.declared.compare.compare_sums.CompareSums.{CompareSums}
+
+-- ---- exactly
+
+abbrev pub is_same_in : Option Side → Bool
+is_same_in (Some Same) = true
+is_same_in side = false
+
+abbrev pub is_other_in : Option Side → Bool
+is_other_in (Some Differ) = true
+is_other_in side = false
+
+abbrev pub is_in_first : Option Side → Bool
+is_in_first (Some First) = true
+is_in_first side = false
+
+abbrev pub is_in_second : Option Side → Bool
+is_in_second (Some Second) = true
+is_in_second side = false
+
+abbrev pub is_in_none : Option Side → Bool
+is_in_none None = true
+is_in_none side = false
+
+-- the symbols of all rows
+abbrev pub symbols_of : List Row → Sides
+symbols_of rows = record {
+  same = sum_by (λ (row : Row). row.symbols.same) rows;
+  differ = sum_by (λ (row : Row). row.symbols.differ) rows;
+  first = sum_by (λ (row : Row). row.symbols.first) rows;
+  second = sum_by (λ (row : Row). row.symbols.second) rows;
+}
+
+-- how many rows have such information
+abbrev pub information_of : List Row → Sides
+information_of rows = record {
+  same = count_by (λ (row : Row). is_same_in row.information) rows;
+  differ = count_by (λ (row : Row). is_other_in row.information) rows;
+  first = count_by (λ (row : Row). is_in_first row.information) rows;
+  second = count_by (λ (row : Row). is_in_second row.information) rows;
+}
+
+-- the sums of rows of a session
+abbrev pub sums_of : Session → List Row → CompareSums
+sums_of session rows = record {
+  session = session;
+  objects = length rows;
+  symbols = symbols_of rows;
+  information = information_of rows;
+  unknown = count_by (λ (row : Row). is_in_none row.information) rows;
+}
+
+-- ---- their lines
+
+abbrev pub sides_words : Sides → List ℕ
+sides_words s =
+    codes " same " ++ decimal s.same ++ (codes " differ " ++ decimal s.differ)
+    ++ (codes " first " ++ decimal s.first) ++ (codes " second " ++ decimal s.second)
+
+unfoldable pub sums_line : CompareSums → List ℕ
+sums_line s =
+    line (source_words s.session.sender ++ codes "session " ++ decimal s.session.tsi
+    ++ (codes " objects " ++ decimal s.objects) ++ sides_words s.symbols
+    ++ codes " information" ++ sides_words s.information
+    ++ (codes " none " ++ decimal s.unknown))
+
+-- rows in the order of their keys, cut into those of each session
+abbrev pub row_session : Row → Session
+row_session row = row.key.session
+
+-- the line of a session
+abbrev pub session_line : Row × List Row → List ℕ
+session_line part = sums_line (sums_of (row_session part.0) (part.0 ∷ part.1))
+
+-- ---- as rows are added: each sum as far as 64 bits go
+
+abbrev pub capped_sums : CompareSums → CompareSums
+capped_sums s = record {
+  session = s.session;
+  objects = capped s.objects;
+  symbols = capped_sides s.symbols;
+  information = capped_sides s.information;
+  unknown = capped s.unknown;
+}
+
+abbrev pub no_sums : Session → CompareSums
+no_sums session = record {
+  session = session;
+  objects = 0;
+  symbols = no_sides;
+  information = no_sides;
+  unknown = 0;
+}
+
+abbrev pub with_information : CompareSums → Option Side → CompareSums
+with_information s None = record s { unknown = capped (s.unknown + 1) }
+with_information s (Some side) = record s { information = more s.information side }
+
+abbrev pub with_row : CompareSums → Row → CompareSums
+with_row s row = with_information (record s {
+  objects = capped (s.objects + 1);
+  symbols = plus s.symbols row.symbols;
+}) row.information
+
+-- the line that is left of the last session
+abbrev pub last_sums : Option CompareSums → List ℕ
+last_sums None = []
+last_sums (Some s) = sums_line s
+
+-- the sums that a row of a session is added to, and the line of those before
+abbrev pub sums_after : Option CompareSums → Session → CompareSums
+sums_after None session = no_sums session
+sums_after (Some s) session = if same_session s.session session then s else no_sums session
+
+abbrev pub sums_before : Option CompareSums → Session → List ℕ
+sums_before None session = []
+sums_before (Some s) session = if same_session s.session session then [] else sums_line s

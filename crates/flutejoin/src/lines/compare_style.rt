@@ -1,0 +1,11 @@
+//! What `compare` prints of two journals.
+
+/// What `compare` prints of two journals, and whether they have to be the same. If nothing is set,
+/// each object has a line.
+#[derive(Clone, Copy)]
+pub struct CompareStyle {
+    /// Whether it is a fault if anything that is listed differs. All is printed before.
+    pub check: bool,
+    /// Whether the objects of a session have one line together.
+    pub summary: bool,
+}

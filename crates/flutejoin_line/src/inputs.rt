@@ -1,0 +1,29 @@
+//! Standard input, among the inputs of a command.
+ghost use Rattle.std.specs.Prelude.{◌≡◌, MatchResult, false, map};
+ghost use Rattle.flutejoin_line.specs.Inputs.{IsTwice, is_standard_twice};
+
+use flutejoin::CommandFault;
+
+/// The word for standard output as an output, and for standard input as an input.
+pub const STANDARD: &str = "-";
+
+/// That standard input is one of these inputs at most, since it can be read once.
+///
+/// # Errors
+///
+/// `StandardInputTwice` if it is more of them.
+pub fn standard_once(inputs: &[&str]) -> Result<(), CommandFault>
+    ensures { let words = map (λ input. input.now) inputs.now in
+        MatchResult result (λ _. is_standard_twice words ≡ false) (IsTwice words) }
+{
+    let mut is_there = false;
+    for input in inputs {
+        if *input == STANDARD {
+            if is_there {
+                return Err(CommandFault::StandardInputTwice);
+            }
+            is_there = true;
+        }
+    }
+    Ok(())
+}

@@ -1,0 +1,50 @@
+//! The two journals of a command.
+ghost use Rattle.std.specs.Prelude.{◌≡◌, MatchResult, false};
+ghost use Rattle.flutejoin_line.specs.CommandLine.{IsPair, is_out_an_input};
+ghost use Rattle.flutejoin_line.specs.LineFaults.{IsOutFault, IsPairFault};
+ghost use Rattle.flutejoin_line.specs.Options.{found_rows};
+
+use crate::inputs::{STANDARD, standard_once};
+use crate::words::text;
+use clap::ArgMatches;
+use flutejoin::CommandFault;
+
+/// Two journals, by their words.
+#[derive(Clone, Copy)]
+pub struct Pair<'a> {
+    pub first: &'a str,
+    pub second: &'a str,
+}
+
+/// Those of A and B.
+///
+/// # Errors
+///
+/// `StandardInputTwice` if both are standard input.
+pub fn pair_of<'a>(matches: &ArgMatches<'a>) -> Result<Pair<'a>, CommandFault>
+    ensures { let rows = found_rows matches.now in
+        MatchResult result (λ pair. IsPair rows pair.first pair.second) (IsPairFault rows) }
+{
+    let first = text(matches, "A");
+    let second = text(matches, "B");
+    standard_once(&[first, second])?;
+    Ok(Pair { first, second })
+}
+
+/// Those of a command that writes OUT.
+///
+/// # Errors
+///
+/// As of `pair_of`; `OutputIsInput` if OUT is one of them.
+pub fn pair_beside_out<'a>(matches: &ArgMatches<'a>) -> Result<Pair<'a>, CommandFault>
+    ensures { let rows = found_rows matches.now in
+        MatchResult result (λ pair. IsPair rows pair.first pair.second
+        × (is_out_an_input rows ≡ false)) (IsOutFault rows) }
+{
+    let pair = pair_of(matches)?;
+    let out = text(matches, "OUT");
+    if out != STANDARD && (out == pair.first || out == pair.second) {
+        return Err(CommandFault::OutputIsInput);
+    }
+    Ok(pair)
+}
