@@ -24,8 +24,8 @@
 PREFIX ?= /usr/local
 PROGRAM ?= bin/flutejoin
 # They find their modules beside themselves, so bin has links to them.
-TOOLS := flutejoin-capture flutejoin-files flutejoin-map flutejoin-mend flutejoin-receive \
-	flutejoin-station flutejoin-values
+TOOLS := flutejoin-capture flutejoin-files flutejoin-gather flutejoin-map flutejoin-mend \
+	flutejoin-receive flutejoin-station flutejoin-values
 
 # What `rt ci` leaves
 BUILT := crates/flutejoin_cli/out/flutejoin_cli
@@ -85,6 +85,7 @@ test-tools:
 	tests/test_adapting.py
 	tests/test_values.py
 	tests/test_fuzz.py
+	tests/test_costs.py
 	tests/files.py "$(FLUTEJOIN)"
 	tests/test_map.py
 	tests/map_cases.py
@@ -96,6 +97,7 @@ test-stations:
 	tests/receiving.py "$(FLUTEJOIN)"
 	tests/station.py "$(FLUTEJOIN)"
 	tests/test_stations.py
+	tests/test_generations.py
 	tests/test_examples.py
 	tests/test_tree.py
 

@@ -21,21 +21,24 @@ _flutejoin_words() {
 _flutejoin_options() {
     case $1 in
         packet) echo '--help' ;;
-        show) echo '--conflicts --source --tsi --toi --fdt --help' ;;
+        show) echo '--any-size --conflicts --source --tsi --toi --fdt --help' ;;
         gaps)
             echo '--any-size --check --summary --conflicts --source --tsi --toi --fdt --help'
             ;;
+        compare) echo '--any-size --check --summary --source --tsi --toi --fdt --help' ;;
         extract) echo '-o --all --any-size --force --source --tsi --toi --fdt --help' ;;
         info)
             echo '-o --any-size --force --list --source --tsi --toi --fdt --length --symbol' \
                 '--block --help'
             ;;
         join)
-            echo '-o --any-size --memory --force --source --tsi --toi --fdt --no-fdt --help'
+            echo '-o --any-size --memory --force --source --tsi --toi --fdt --no-fdt' \
+                '--reasons --help'
             ;;
-        merge) echo '-o --force --help' ;;
+        merge | minus) echo '-o --any-size --force --help' ;;
         forget)
-            echo '-o --force --conflicts --source --tsi --toi --fdt --symbol --info --help'
+            echo '-o --any-size --force --conflicts --source --tsi --toi --fdt --symbol --info' \
+                '--help'
             ;;
         carousel) echo '-o --force --tsi --toi --fdt --symbol --block --help' ;;
         flutejoin) echo '--help --version' ;;
@@ -46,13 +49,14 @@ _flutejoin_options() {
             echo '--list -o --source --tsi --fdt --most --any-size --json --resolve --from' \
                 '--flutejoin --help'
             ;;
+        flutejoin-gather) echo '-o --source --as --flutejoin --help' ;;
         flutejoin-receive)
             echo '--group --port --from --interface -o --senders --split --most --buffer' \
                 '--as-received --status --count --seconds --config --help'
             ;;
         flutejoin-station)
             echo '-o --config --group --port --from --interface --senders --buffer' \
-                '--as-received --tsi --every --window --keep-raw --most --nightly --outbox' \
+                '--as-received --tsi --same --every --window --keep-raw --most --nightly --outbox' \
                 '--status --seconds --flutejoin --help'
             ;;
         flutejoin-map) echo '-o --text --source --tsi --toi --fdt --flutejoin --help' ;;
@@ -68,7 +72,7 @@ _flutejoin_interfaces() {
 
 _flutejoin() {
     local word=${COMP_WORDS[COMP_CWORD]} before=${COMP_WORDS[COMP_CWORD - 1]} tool=${1##*/} command
-    local commands='packet show gaps extract info join merge forget carousel help'
+    local commands='packet show gaps compare extract info join merge minus forget carousel help'
     COMPREPLY=()
     command=$tool
     if [ "$tool" = flutejoin ] && [ "$COMP_CWORD" -gt 1 ]; then
@@ -77,7 +81,8 @@ _flutejoin() {
     case $before in
         -o)
             case $tool in
-                flutejoin-capture | flutejoin-files | flutejoin-receive | flutejoin-station)
+                flutejoin-capture | flutejoin-files | flutejoin-gather | flutejoin-receive | \
+                    flutejoin-station)
                     _flutejoin_folders "$word"
                     ;;
                 *) _flutejoin_files "$word" ;;
@@ -94,7 +99,8 @@ _flutejoin() {
             [ "$tool" != flutejoin-files ] || _flutejoin_files "$word"
             return ;;
         --interface) _flutejoin_words "$word" "$(_flutejoin_interfaces)"; return ;;
-        --source | --tsi | --toi | --length | --symbol | --block | --without | --memory) return ;;
+        --source | --tsi | --toi | --length | --symbol | --block | --without | --memory | --as | --same)
+            return ;;
         --port | --group | --count | --seconds | --senders | --split | --most | --buffer)
             return ;;
         --every | --window | --keep-raw | --nightly) return ;;
@@ -116,11 +122,12 @@ _flutejoin() {
         packet | flutejoin-receive | flutejoin-station)
             _flutejoin_words "$word" "$(_flutejoin_options "$command")"
             ;;
-        show | gaps | extract | info | join | merge | forget | carousel | flutejoin-*)
+        show | gaps | compare | extract | info | join | merge | minus | forget | carousel | \
+            flutejoin-*)
             _flutejoin_files "$word"
             ;;
     esac
 }
 
-complete -F _flutejoin flutejoin flutejoin-capture flutejoin-files flutejoin-map flutejoin-mend \
-    flutejoin-receive flutejoin-station flutejoin-values
+complete -F _flutejoin flutejoin flutejoin-capture flutejoin-files flutejoin-gather flutejoin-map \
+    flutejoin-mend flutejoin-receive flutejoin-station flutejoin-values

@@ -8,6 +8,9 @@
 #   flutejoin join --any-size -o - STORE/*/*[0-9] | flutejoin gaps --any-size -
 #                                                             finds the gaps of all inputs
 #
+# A sender that starts again, or uses a TOI again, is in conflict here: for these see
+# flutejoin-gather, which compares before it joins.
+#
 # A kill may leave journals twice, which changes no result, and a .partial file, which the next run
 # removes: give it the same INPUT again. Two runs in one STORE wait for one another (flock).
 set -eu

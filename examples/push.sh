@@ -3,16 +3,17 @@
 #
 #   push.sh /var/lib/flutejoin/news journals/north ssh centre
 #
-# STATION is the folder of a flutejoin-station with --outbox. TARGET is a folder at the centre, of
-# this station alone; each sender gets a journal there. COMMAND runs a line of commands there, its
-# last word: ssh does, and `sh -c` does on this machine. flutejoin is on the PATH of both.
+# STATION is the folder of a flutejoin-station with --outbox. TARGET is a folder at the centre; each
+# sender gets a journal there, and FDT Instances are in its folder fdt. COMMAND runs a line of
+# commands there, its last word: ssh does, and `sh -c` does on this machine. flutejoin is on the PATH
+# of both, and flutejoin-gather on that of the centre.
 #
 # A journal leaves the outbox once the centre has it on its disk. What a kill or a lost connection
 # leaves is sent again by the next run, and what arrives twice counts once.
 set -eu
 unset CDPATH # with it cd prints where it goes
 LC_ALL=C # so that [a-z] has no other letters
-outbox=$1/outbox target=$2
+outbox=$1/outbox documents=$1/fdt target=$2
 [ -x "$1" ] || [ ! -e "$1" ] || {
     echo "push.sh: $1 is not open to this user" >&2
     exit 3
@@ -53,22 +54,29 @@ senders() {
     done | sort -u
 }
 
-# push SENDER JOURNAL COMMAND..: a join that fails here sends no whole journal, so that there fails
-# too. A journal there that is full stays under another name, and the next run begins another.
+# push JOURNAL COMMAND..: flutejoin-gather there joins what agrees with what is there, and keeps the
+# rest apart. A join that fails here sends no whole journal, so that there fails too.
 push() {
-    # The name of an IPv6 address may begin with a hyphen.
-    name=./$1.journal full="./$1.\$(date +%Y%m%d%H%M%S).journal" new=./$2
-    shift 2
+    new=./$1
+    shift
     (cd "$outbox" && flutejoin join --any-size -o - "$new" 2> /dev/null) |
-        "$@" "mkdir -p $target && cd $target && old= && { [ ! -e $name ] || old=$name; } &&
-            if told=\$(flutejoin join --any-size -o $name \$old - 2>&1); then
-                sync $name .
-            else
-                echo \"\$told\" >&2
-                [ \"\$told\" != full ] || mv $name $full
-                false
-            fi" &&
+        "$@" "mkdir -p $target && flutejoin-gather -o $target - > /dev/null" &&
         (cd "$outbox" && rm -f "$new")
+}
+
+# push_documents COMMAND..: sends the FDT Instances that are new since the last push.
+push_documents() {
+    [ -d "$documents" ] || return 0
+    : > "$documents/.pushing"
+    [ -e "$documents/.pushed" ] && since="-cnewer .pushed" || since=
+    # shellcheck disable=SC2086
+    found=$(cd "$documents" && find . -type f $since \( -name '*.xml' -o -name '*.fldg' -o -name '*.journal' \) |
+        grep -v '[^]A-Za-z0-9.%_/-]' || true)
+    [ -z "$found" ] ||
+        (cd "$documents" && echo "$found" | tar -T - -cf -) |
+        "$@" "mkdir -p $target/fdt && tar -C $target/fdt --keep-newer-files \
+            --warning=no-ignore-newer -xf -" || return 1
+    mv "$documents/.pushing" "$documents/.pushed"
 }
 
 status=0
@@ -82,11 +90,15 @@ done
 for sender in $(senders); do
     for path in "$outbox/$sender".[0-9]*.journal; do
         # The station may have joined it with others meanwhile.
-        [ ! -e "$path" ] || push "$sender" "${path##*/}" "$@" || {
+        [ ! -e "$path" ] || push "${path##*/}" "$@" || {
             echo "push.sh: $sender is not pushed, and stays in $outbox" >&2
             status=1
             break
         }
     done
 done
+push_documents "$@" || {
+    echo "push.sh: the FDT Instances in $documents are not pushed" >&2
+    status=1
+}
 exit $status

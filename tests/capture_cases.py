@@ -24,10 +24,12 @@ TOOLS = os.path.join(os.path.dirname(TESTS), "tools")
 sys.path[:0] = [TESTS, TOOLS]
 import captures
 import datagram_files
+import flutejoin_captures
 import flutejoin_datagrams
-import flutejoin_epochs
+import flutejoin_hints
 import flutejoin_files
 import flutejoin_parts
+import flutejoin_salvage
 
 LONGEST = 600  # seconds; only what hangs takes so long
 SENDER, GROUP = b"\x0a\0\0\1", b"\xef\1\1\1"
@@ -216,7 +218,7 @@ def pcapng_head(options: bytes = b"") -> bytes:
     return section + captures.block("<", 1, struct.pack("<HHI", 1, 0, 262144) + options)
 
 
-class Epochs(Cases):
+class Restarts(Cases):
     """A sender that starts again."""
 
     def files(self, frames: list[bytes], times: list[int] | None = None, *options: str) -> dict:
@@ -228,43 +230,27 @@ class Epochs(Cases):
         names = sorted(os.listdir(folder))
         return {name: list(datagram_files.read(os.path.join(folder, name))) for name in names}
 
-    def test_each_epoch_has_files(self) -> None:
+    def test_a_file_of_both_runs(self) -> None:
         old = [instance(b"old"), packet(b"one", 5), instance(b"old"), instance(b"more", 2)]
         new = [instance(b"new"), packet(b"two", 5), instance(b"new"), instance(b"more", 2)]
-        newest = [instance(b"newest"), packet(b"three", 5)]
-        sent = old + new + newest
-        found = self.files([frame(of) for of in sent])
-        wanted = {"10.0.0.1.fldg": old, "10.0.0.1.e2.fldg": new, "10.0.0.1.e3.fldg": newest}
-        self.assertEqual(found, wanted)
-        again = "flutejoin-capture: 10.0.0.1 starts again: an FDT Instance has other contents"
-        told = [f"{again}; epoch {number} begins" for number in (2, 3)]
-        self.assertEqual(self.ran.stderr.splitlines(), told)
-        stem = self.path("out/10.0.0.1")
-        joins = [line for line in self.ran.stdout.splitlines() if line.startswith("flutejoin join")]
-        join = "flutejoin join --any-size --source 0a000001"
-        lines = [
-            f"{join} -o {stem}{epoch}.journal {stem}{epoch}.fldg"
-            for epoch in ("", ".e2", ".e3")
-        ]
-        self.assertEqual(joins, lines)
+        sent = old + new
+        self.assertEqual(self.files([frame(of) for of in sent]), {"10.0.0.1.fldg": sent})
+        self.assertEqual(self.ran.stderr, f"flutejoin-capture: 10.0.0.1 {flutejoin_hints.TOLD}\n")
+        folder = self.path("out")
+        line = f"flutejoin-gather -o {folder} {folder}/10.0.0.1.fldg"
+        self.assertEqual(self.ran.stdout.splitlines()[-1], line)
 
-    def test_the_parts_of_epochs(self) -> None:
+    def test_the_parts(self) -> None:
         sent = [instance(b"old"), packet(b"1", 5), packet(b"2", 5), instance(b"new")]
-        sent.append(packet(b"3", 5))
         found = self.files([frame(of) for of in sent], None, "--split", "60")
-        wanted = {
-            "10.0.0.1.fldg": sent[:1],
-            "10.0.0.1.2.fldg": sent[1:2],
-            "10.0.0.1.3.fldg": sent[2:3],
-            "10.0.0.1.e2.fldg": sent[3:4],
-            "10.0.0.1.e2.2.fldg": sent[4:],
-        }
-        self.assertEqual(found, wanted)
-        self.assertEqual(self.ran.stdout.count("flutejoin join"), 2)
+        self.assertEqual(list(found.values()), [[sent[1]], [sent[2]], [sent[3]], [sent[0]]])
+        line = self.ran.stdout.splitlines()[-1]
+        self.assertEqual((line.split()[0], line.count(".fldg")), ("flutejoin-gather", 4))
 
-    def test_other_lengths_are_another_epoch(self) -> None:
+    def test_other_lengths_contradict(self) -> None:
         sent = [instance(b"same"), instance(b"same", length=41)]
-        self.assertEqual(len(self.files([frame(of) for of in sent])), 2)
+        self.files([frame(of) for of in sent])
+        self.assertIn("flutejoin-gather -o", self.ran.stdout)
 
     def test_what_is_no_contradiction(self) -> None:
         sent = [
@@ -278,27 +264,6 @@ class Epochs(Cases):
         ]
         self.assertEqual(self.files([frame(of) for of in sent]), {"10.0.0.1.fldg": sent})
         self.assertEqual(self.ran.stderr, "")
-
-    def test_two_senders_of_one_address_make_few_epochs(self) -> None:
-        sent = [instance(b"new" if n % 2 else b"old") for n in range(1000)]
-        found = self.files([frame(of) for of in sent])
-        self.assertEqual(len(found), 5)
-        told = f"left out {1000 - sum(map(len, found.values()))}: {flutejoin_epochs.CONTRADICTING}"
-        self.assertIn(told, self.ran.stdout.splitlines())
-        for name in found:
-            os.remove(self.path("out/" + name))
-        # Another epoch may begin once a minute.
-        sent = [instance(b"%d" % n) for n in range(10)]
-        found = self.files([frame(of) for of in sent], [60 * n for n in range(10)])
-        self.assertEqual(len(found), 10)
-
-    def test_captures_that_are_not_in_the_order_of_their_times(self) -> None:
-        """A week by the names of its days: each day the sender starts again."""
-        times = [86400 * day for day in (4, 0, 5, 6, 3, 1, 2)]
-        sent = [instance(b"of day %d" % (time // 86400)) for time in times]
-        found = self.files([frame(of) for of in sent], times)
-        self.assertEqual(sorted(found.values()), sorted([of] for of in sent))
-        self.assertNotIn("left out", self.ran.stdout)
 
 
 def instance(content: bytes, number: int = 1, tsi: int = 7, length: int = 40) -> bytes:
@@ -516,6 +481,48 @@ def gzip_stored(data: bytes) -> bytes:
     """The start of a gzip file that contains data as one stored block."""
     head = b"\x1f\x8b\x08\0\0\0\0\0\0\xff"
     return head + b"\0" + struct.pack("<HH", len(data), len(data) ^ 0xFFFF) + data
+
+
+class Bounds(Cases):
+    """What a hostile input may cost; tests/test_costs.py runs the tools."""
+
+    def read(self, made: bytes) -> tuple[int, str]:
+        """How many packets are read of a capture, and the fault that ends it."""
+        stop = unittest.mock.Mock(asked=0, wakes=os.open(os.devnull, os.O_RDONLY))
+        taken = unittest.mock.Mock()
+        try:
+            flutejoin_captures.read(self.made(made), stop, lambda: None, taken)
+        except flutejoin_captures.Fault as fault:
+            return taken.call_count, str(fault)
+        finally:
+            os.close(stop.wakes)
+        return taken.call_count, ""
+
+    def test_gzip_makes_no_more_than_is_likely(self) -> None:
+        frames = [frame(packet(bytes([number % 256]) * 1000)) for number in range(3000)]
+        made = gzip.compress(pcap(frames))
+        self.assertEqual(self.read(made), (3000, ""))
+        with unittest.mock.patch.object(flutejoin_captures, "INFLATED", 100_000):
+            count, told = self.read(made)
+            self.assertIn("gzip: more than 100 times as many bytes come out", told)
+            self.assertTrue(90 < count < 3000, count)
+        with unittest.mock.patch.object(flutejoin_captures, "PACKETS", 500):
+            count, told = self.read(gzip.compress(pcap([b""] * 100_000)))
+            self.assertIn("gzip: fewer than 8 bytes for a packet", told)
+            self.assertTrue(500 < count < 5000, count)
+            self.assertEqual(self.read(pcap([b""] * 9000)), (9000, ""))
+
+    def test_a_journal_is_not_searched_for_ever(self) -> None:
+        front = b"\2" + bytes(21) + b"\7\1" + bytes(13)  # of conflicting transmission information
+        held = [front + bytes([toi]) for toi in range(1, 9)]
+        data = b"FLJN\0\2" + held[0] + b"\1" * 5000 + b"".join(held[1:]) + b"\xff" + bytes(8)
+        for tries, count in (10_000, 8), (100, 1):
+            with unittest.mock.patch.object(flutejoin_salvage, "TRIES", tries):
+                with open(self.made(data), "rb") as file:
+                    left = flutejoin_salvage.Salvage(file)
+                    found = [*left.kept()]
+                    left.close()
+            self.assertEqual((len(found), left.tries < 0), (count, count == 1))
 
 
 class Runs(Cases):

@@ -8,7 +8,7 @@ import datagram_files
 import forms_case
 from capture_made import Case, said
 from flute_sender import Shape, packets
-from forms_case import RENEWED, SAID, described, grouped, raptor, renewing, senders, session
+from forms_case import SAID, TOLD, described, grouped, raptor, renewing, senders, session
 
 ETHERNET = b"\x01\0\x5e\1\1\1\2\0\0\0\0\1\x08\0"
 GROUP = ipaddress.ip_address("239.1.1.1").packed
@@ -86,25 +86,15 @@ class Forms(Case, forms_case.Case):
         self.holds("and kept", self.exists("refused.d/10.0.0.1.fldg"))
 
     def test_renewed(self) -> None:
-        """Another Expires alone begins no epoch; another text does."""
+        """A sender that renews Expires: one document, and all files."""
         name = self.captured("renewing", {"10.0.0.1": renewing(range(6))})
         done = self.capture(["--port", captures.PORT, "-o", "renewed", name])
-        self.check("a sender that renews", done, 0, None, None)
-        self.holds("it is told", f"left out 5: {RENEWED}" in done.lines(), done)
-        self.join("one that renews", done)
-        self.holds("one epoch", len(self.lines_to_join(done)) == 1, done)
+        self.check("a sender that renews", done, 0, None, said(f"10.0.0.1 {TOLD}"))
+        line = "flutejoin-gather -o renewed renewed/10.0.0.1.fldg"
+        self.holds("the line", done.lines()[-1] == line, done)
+        self.tool("flutejoin-gather", "-o renewed renewed/10.0.0.1.fldg")
         self.has_files("a sender that renews", "renewed/10.0.0.1.journal")
-        texts = b'<a Expires="1" b="2">', b"<a Expires = '44'>", b"<x:Expires>5</x:Expires>"
-        for number, text in enumerate(texts):
-            other = text.replace(b"1", b"3").replace(b"44", b"7").replace(b">5<", b">1234567890<")
-            self.epochs_of(f"renewed{number}", 1, text, other)
-            self.epochs_of(f"other{number}", 2, text, text + b" ")
-
-    def epochs_of(self, name: str, count: int, *texts: bytes) -> None:
-        parts = [packet for text in texts for packet in packets(7, 0, text, 99, 1, False, 1)]
-        capture = self.captured(name, {"10.0.0.1": parts})
-        done = self.capture(["--port", captures.PORT, "-o", f"{name}.d", capture])
-        self.holds(f"{texts}: epochs", len(self.lines_to_join(done)) == count, done)
+        self.holds("one document", len(list(self.path("renewed/fdt").glob("*.xml"))) == 1)
 
     def test_lost_packets(self) -> None:
         """With every third packet lost, what is there is the same as of one symbol a packet."""

@@ -12,6 +12,7 @@ sys.path.append(str(ROOT / "tools"))
 import captures
 import datagram_files
 
+TOLD = "changes an FDT Instance: flutejoin-gather keeps apart what differs"
 JOIN6 = "flutejoin join --any-size --source 20010db8000000000000000000000001"
 JOIN1 = "flutejoin join --any-size --source 0a000001"
 JOIN99 = "flutejoin join --any-size --source 0a000063"
@@ -171,10 +172,10 @@ class SendingHost(Case):
         self.row("no misfit", "gaps offload.journal", 0, "session 7 object 1 whole 40000")
 
 
-class Epochs(Case):
+class Restarts(Case):
     """A sender that restarts: its FDT Instance 1 has other contents, and its object other bytes."""
 
-    def test_epochs(self) -> None:
+    def test_restart(self) -> None:
         runs = []
         for number in 1, 2:
             file = f'<File TOI="1" Content-MD5="{number}"/>'
@@ -184,21 +185,19 @@ class Epochs(Case):
             runs.append(self.read(f"fdt_sent{number}") + self.read(f"sent{number}")[6:])
         self.write("runs", runs[0] + 2 * runs[1][6:])
         self.rows_made("sending", "again|10.0.0.1=runs")
-        first, second = "again/10.0.0.1", "again/10.0.0.1.e2"
-        wanted = (
-            f"{first}.fldg: 41 datagrams from 10.0.0.1\n{second}.fldg: 82 datagrams from 10.0.0.1\n"
-            f"{JOIN1} -o {first}.journal {first}.fldg\n{JOIN1} -o {second}.journal {second}.fldg\n"
-        )
-        text = "10.0.0.1 starts again: an FDT Instance has other contents; epoch 2 begins"
+        first, second = "again/10.0.0.1", "again/10.0.0.1.g2"
+        line = f"flutejoin-gather -o again {first}.fldg"
+        wanted = f"{first}.fldg: 123 datagrams from 10.0.0.1\n{line}\n"
         words = "--port 4001 -o again sending/again"
-        done = self.capture_row("it starts again", words, 0, wanted, said(text))
-        self.join("it starts again", done)
+        self.capture_row("it starts again", words, 0, wanted, said(f"10.0.0.1 {TOLD}"))
+        done = self.tool("flutejoin-gather", line.partition(" ")[2])
+        self.check("it is gathered", done, 0, None, None)
         for number, name in (1, first), (2, second):
             of = "extract -f -o object --source 0a000001 --tsi 7 --toi"
             self.made(f"{of} 1 {name}.journal")
             self.same(f"the file of run {number}", "object", f"file{number}")
-            self.made(f"{of} 0 --fdt 1 {name}.journal")
-            self.same(f"the FDT Instance of run {number}", "object", f"fdt{number}")
+        documents = sorted(path.read_bytes() for path in self.path("again/fdt").glob("*.xml"))
+        self.holds("the FDT Instances", documents == [self.read("fdt1"), self.read("fdt2")])
 
 
 class Parts(Case):

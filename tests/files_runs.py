@@ -16,6 +16,7 @@ import time
 
 from files_case import LONGEST, PROGRAM, TOOL, Case, text
 from flute_sender import Sent
+from run import slowness
 
 
 def processor_time() -> float:
@@ -254,7 +255,7 @@ class Runs(Case):
             took, used = time.monotonic() - start, processor_time() - used
             print(f"files: {count} files of {size} bytes: {took:.2f} s, {used:.2f} s of processor")
             # This takes about two seconds; a run, or a pass, for each file would take minutes.
-            self.assertLess(used, 30)
+            self.assertLess(used, 30 * slowness())
             self.assertIn(f"written {count}, verified {count};", answer.out)
             self.assertEqual(self.tree(f"files{count}"), {f"h/{it.toi}": it.content for it in sent})
             self.assertEqual(self.runs.read_text().split(), ["gaps", "extract"])

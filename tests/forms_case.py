@@ -10,7 +10,7 @@ from flute_sender import ENCODED, EXPIRES, PLAIN, Sent, Shape, close, fdt, insta
 TSI = 7
 TIMES = "SCT or ERT"
 SEVERAL = "several symbols a packet"
-RENEWED = "of an FDT Instance that came with another Expires"
+TOLD = "changes an FDT Instance: flutejoin-gather keeps apart what differs"
 # What the tools say of each form
 SAID = {
     "FLUTE 1": "sends FLUTE 1: written as FLUTE 2",

@@ -156,7 +156,8 @@ class Fuzzed:
         path = os.path.join(self.folder, f"{self.name}.{self.faults}.input")
         with open(path, "wb") as file:
             file.write(data)
-        text = "".join(traceback.format_exception(fault)[-4:])
+        told = traceback.format_exception(type(fault), fault, fault.__traceback__)
+        text = "".join(told[-4:])
         print(f"fuzz: {self.name}: a fault, by {path} of {len(data)} bytes:\n{text}", flush=True)
 
     def turn(self, count: int) -> None:

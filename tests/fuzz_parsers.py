@@ -1,4 +1,4 @@
-"""The parsers of the tools that tests/fuzz.py calls: what each is given first, and what has to hold.
+"""The parsers of the tools that tests/fuzz.py calls: what each is given, and what has to be so.
 
 Each call takes bytes as a stranger may send them. An input that is refused as the parser's users
 expect is no fault; any other exception is one, and so is an assertion of this file.
@@ -32,7 +32,8 @@ from flute_sender import Sent, Shape
 from flutejoin_datagrams import Datagrams
 from flutejoin_entries import HEADER as JOURNAL
 from flutejoin_entries import Entries, reader_of
-from flutejoin_epochs import Epochs
+from flutejoin_hints import Hint
+from flutejoin_instances import Assembler
 from flutejoin_holdings import Key
 from flutejoin_records import HEADER, LENGTH, Cut, Fault, Records, last_whole, whole_records
 from flutejoin_salvage import Salvage
@@ -134,7 +135,8 @@ def instance(data: bytes) -> None:
 
 
 def entry(kind: int, sender: bytes, toi: int, rest: bytes) -> bytes:
-    return bytes([kind]) + sender + struct.pack(">IHB", 0, 7, 1)[:7] + toi.to_bytes(14, "big") + rest
+    key = sender + struct.pack(">IHB", 0, 7, 1) + toi.to_bytes(14, "big")
+    return bytes([kind]) + key + rest
 
 
 def of_files() -> list[bytes]:
@@ -190,7 +192,7 @@ def of_packets() -> list[bytes]:
 
 def datagrams(data: bytes) -> None:
     """Records of one sender, one after another, without the header of their file."""
-    state, epochs, at = adapting.Adapting(), Epochs(), 0
+    state, hint, assembler, at = adapting.Adapting(), Hint(), Assembler(), 0
     while at + LENGTH.size <= len(data):
         (size,) = LENGTH.unpack_from(data, at)
         datagram, at = data[at + 2 : at + 2 + size], at + 2 + size
@@ -198,8 +200,9 @@ def datagrams(data: bytes) -> None:
             found, refusal = packets.packet_of(it), packets.refusal_of(it)
             assert refusal or found and packets.is_like_flute(it), it
             assert packets.header_of(it) or not found, it
-            epochs.begins(it, at)
-            epochs.is_renewed(it)
+            hint.look(it)
+            list(assembler.take(bytes(it)))
+    list(assembler.finish())
     list(state.lines(at))
 
 
@@ -269,8 +272,8 @@ PARSERS = {
     "capture": Parser(of_captures, capture, (b"\x0a\x0d\x0d\x0a", b"\xff\xff\xff\xff", b"\x81\0")),
     "fdt": Parser(of_fdt, instance, XML),
     "files": Parser(of_files, files, (HEADER, JOURNAL, b"\xff" + bytes(8))),
-    "packets": Parser(of_packets, datagrams, (b"\x10\xa0\4\0", b"\x40\4", b"\xc0\x20\0\1", b"\xc1")),
-    "names": Parser(of_names, locations, (b"../", b"%2e", b"%2F", b"//", b"http:", b".from-1", b"~")),
+    "packets": Parser(of_packets, datagrams, (b"\x10\xa0\4\0", b"\x40\4", b"\xc0\x20\0\1")),
+    "names": Parser(of_names, locations, (b"../", b"%2e", b"%2F", b"//", b"http:", b".from-1")),
     "content": Parser(of_content, objects, (b"\x1f\x8b\x08", b"\x78\x9c")),
 }
 

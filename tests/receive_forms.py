@@ -9,7 +9,7 @@ from signal import SIGINT, SIGTERM, SIG_DFL
 import datagram_files
 import forms_case
 from flute_sender import Sent, Shape, instance, packets
-from forms_case import RENEWED, SAID, TIMES, described, raptor, renewing, senders, session
+from forms_case import SAID, TIMES, TOLD, described, raptor, renewing, senders, session
 from receive_case import Case, said
 from run import until
 
@@ -131,23 +131,22 @@ class Forms(Case, forms_case.Case):
         self.same("twenty symbols", f"kept/{ONE}.fldg", datagram_files.content(file.packets(7)))
 
     def test_renewed(self) -> None:
-        """Another Expires alone begins no epoch, in a later run neither."""
-        out, err = self.received("-o kept", {ONE: renewing(range(3))})
-        left_out = f"left out 2: {RENEWED}"
-        self.holds("it is told", left_out in out.splitlines() and err == said(left_out), (out, err))
-        out, err = self.received("-o kept", {ONE: renewing(range(3, 6))})
-        left_out = f"left out 3: {RENEWED}"
-        self.holds("later too", left_out in out.splitlines() and err == said(left_out), (out, err))
-        self.absent("no epoch", f"kept/{ONE}.e2.fldg")
-        self.made(["join", "-o", f"kept/{ONE}.journal", "--source", ONE, f"kept/{ONE}.fldg"])
+        """A sender that renews Expires; a later run knows it."""
+        for number, rounds in enumerate((range(3), range(3, 6))):
+            out, err = self.received("-o kept", {ONE: renewing(rounds)})
+            told = "" if number else said(f"{ONE} {TOLD}")
+            self.holds(f"run {number} tells it", err == told, err)
+            line = f"flutejoin-gather -o kept kept/{ONE}.fldg"
+            self.holds(f"the line of run {number}", out.splitlines()[-1] == line, out)
+        self.tool("flutejoin-gather", f"-o kept kept/{ONE}.fldg")
         self.has_files("a sender that renews", f"kept/{ONE}.journal")
+        self.holds("one document", len(list(self.path("kept/fdt").glob("*.xml"))) == 1)
 
-    def test_epoch(self) -> None:
-        """An FDT Instance of FLUTE 1 with other contents begins an epoch, after a restart too."""
+    def test_other_contents(self) -> None:
+        """An FDT Instance of FLUTE 1 that has other contents is told, after a restart too."""
         first, second = (instance(7, 1, bytes([at]) * 3000, Shape(version=1)) for at in (1, 2))
         self.received("-o kept", {ONE: first})
-        again = "starts again: an FDT Instance has other contents; epoch 2 begins"
         out, err = self.received("-o kept", {ONE: first + second})
-        self.holds("it is told", f"{ONE} {again}" in err, err)
-        wanted = datagram_files.content(instance(7, 1, b"\2" * 3000))
-        self.same("its second epoch", f"kept/{ONE}.e2.fldg", wanted)
+        self.holds("it is told", f"{ONE} {TOLD}" in err, err)
+        wanted = [*instance(7, 1, b"\1" * 3000) * 2, *instance(7, 1, b"\2" * 3000)]
+        self.same("all is kept", f"kept/{ONE}.fldg", datagram_files.content(wanted))

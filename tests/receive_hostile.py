@@ -191,7 +191,7 @@ class Start(Inside):
         """Another is begun, unless its sender is one of those that sent most."""
         self.path("kept").mkdir()
         for number in range(3):
-            path = str(self.path(f"kept/10.0.0.{number + 1}.e2.3.fldg"))
+            path = str(self.path(f"kept/10.0.0.{number + 1}.3.fldg"))
             datagram_files.write(path, [LARGE] * (1000 + number))
         folder = Folder(str(self.path("kept")))
         senders = Senders(folder, Writer([folder], None, 0), 2, 1 << 30)
@@ -199,9 +199,9 @@ class Start(Inside):
         parts = {}
         for number in range(3):
             growing = senders.admit(ipaddress.ip_address(f"10.0.0.{number + 1}")).growing
-            parts[number] = growing.epoch, growing.part, growing.records
-        wanted = {0: (2, 4, 0), 1: (2, 3, 1001), 2: (2, 3, 1002)}
-        self.holds("epochs, parts and records", parts == wanted, parts)
+            parts[number] = growing.part, growing.records
+        wanted = {0: (4, 0), 1: (3, 1001), 2: (3, 1002)}
+        self.holds("parts and records", parts == wanted, parts)
         os.close(folder.lock)
 
     def test_links_in_names(self) -> None:

@@ -21,7 +21,7 @@ sys.path.append(str(ROOT / "tools"))
 import datagram_files
 import flutejoin_newcomers
 import flutejoin_notes
-from flutejoin_growing import Begin, Block, Growing, Turn
+from flutejoin_growing import Begin, Block, Growing
 from flutejoin_senders import Senders
 from flutejoin_sessions import Session
 from flutejoin_settings import SessionOptions
@@ -78,16 +78,13 @@ class Kept:
 
     def __init__(self) -> None:
         self.datagrams: collections.Counter[str] = collections.Counter()
-        self.files: set[tuple[str, int]] = set()
-        self.epochs: collections.Counter[str] = collections.Counter()
+        self.files: set[str] = set()
 
-    def give(self, growing: Growing, order: Block | Begin | Turn) -> bool:
+    def give(self, growing: Growing, order: Block | Begin) -> bool:
         address = str(growing.address)
         if isinstance(order, Block):
             self.datagrams[address] += order.records
-            self.files.add((address, self.epochs[address]))
-        elif isinstance(order, Turn):
-            self.epochs[address] += 1
+            self.files.add(address)
         return True
 
 
@@ -291,18 +288,3 @@ class Waiting(Case):
         receiver.end()
         count = receiver.kept.datagrams.total() + receiver.left_out()
         self.holds("each datagram is kept or counted", count == 29_990, count)
-
-    def test_few_epochs_of_those_who_send_little(self) -> None:
-        """64 senders begin few epochs together, and one that sends much begins them anyway."""
-        receiver = self.receiver()
-        for number in range(120 * STEP):
-            senders = key(FIRST_MADE_UP + number % 60), key(REAL)
-            instance = packet(struct.pack(">I", number), instance=1)
-            datagrams = [(senders[0], instance), (senders[1], LARGE)]
-            if number % (20 * STEP) == 0:
-                datagrams.append((senders[1], packet(b"run %d" % number, instance=1)))
-            receiver.step(datagrams)
-        receiver.end()
-        epochs = receiver.kept.epochs
-        self.holds("each run of the real one", epochs.pop(REAL) == 5)
-        self.holds("few of all others", 16 <= epochs.total() <= 16 + 32, epochs.total())

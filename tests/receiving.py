@@ -34,6 +34,7 @@ ROOT = os.path.dirname(os.path.dirname(os.path.abspath(__file__)))
 TOOLS = os.path.join(ROOT, "tools")
 sys.path[:0] = [TOOLS, os.path.join(ROOT, "examples")]
 import datagram_files
+import flutejoin_hints
 from ports import free_port, make_way, waiting_at
 
 TOOL = os.path.join(TOOLS, "flutejoin-receive")
@@ -332,11 +333,11 @@ class Telling(Case):
         self.assertEqual(list(last), keys.split())
         keys = "group port interface from folder datagrams bytes dropped left_out last_seen"
         self.assertEqual(list(session), keys.split())
-        keys = "sender folder datagrams bytes left_out adapted refused last_seen epoch file"
+        keys = "sender folder datagrams bytes left_out adapted refused last_seen file"
         keys += " bytes_on_disk"
         self.assertEqual(list(sender), keys.split())
         self.assertEqual(sender["sender"], "127.0.0.1")
-        self.assertEqual((sender["datagrams"], sender["bytes"], sender["epoch"]), (3, 360, 1))
+        self.assertEqual((sender["datagrams"], sender["bytes"]), (3, 360))
         self.assertEqual(sender["bytes_on_disk"], 6 + 3 * 122)
         self.assertEqual((session["port"], session["datagrams"]), (receiver.port, 3))
         unlike = {"of senders from whom nothing like FLUTE came": 2}
@@ -947,90 +948,35 @@ class Strangers(Case):
         self.assertTrue(any("more than 4 senders" in line for line in lines), lines)
 
 
-class Epochs(Case):
+class Restarts(Case):
     """A sender that restarts, with an FDT Instance 1 of other contents."""
+
+    TOLD = f"127.0.0.1 {flutejoin_hints.TOLD}"
 
     def run_of_sender(self, text: bytes, instance: int = 1) -> list[bytes]:
         fdt = [packet(text + bytes([each]), each, instance=instance) for each in range(3)]
         return [*fdt, *self.symbols(5), *fdt]
 
-    def test_each_epoch_has_files_of_its_own(self) -> None:
+    def test_all_is_kept_in_order(self) -> None:
         first, second = self.run_of_sender(b"first"), self.run_of_sender(b"second")
-        receiver = Receiver(self, "-o", "kept", "--count", "38")
-        receiver.send(first + first + self.run_of_sender(b"another", 2)[:3] + second)
-        receiver.send(self.symbols(2))
+        sent = first + first + self.run_of_sender(b"another", 2)[:3] + second + self.symbols(2)
+        receiver = Receiver(self, "-o", "kept", "--count", str(len(sent)))
+        receiver.send(sent)
         status, lines = receiver.ended()
-        self.assertEqual((status, self.names()), (0, ["127.0.0.1.e2.fldg", "127.0.0.1.fldg"]))
-        self.assertEqual(records(self.path("kept/127.0.0.1.e2.fldg"))[:11], second)
-        self.assertEqual(records(self.path("kept/127.0.0.1.fldg"))[:22], first + first)
-        told = "127.0.0.1 starts again: an FDT Instance has other contents; epoch 2 begins"
-        self.assertEqual(receiver.stderr().count(told), 1)
-        join = "flutejoin join --any-size --source 7f000001"
-        self.assertEqual(
-            lines[2:],
-            [
-                f"{join} -o kept/127.0.0.1.journal kept/127.0.0.1.fldg",
-                f"{join} -o kept/127.0.0.1.e2.journal kept/127.0.0.1.e2.fldg",
-            ],
-        )
+        self.assertEqual((status, self.names()), (0, ["127.0.0.1.fldg"]))
+        self.assertEqual(records(self.path("kept/127.0.0.1.fldg")), sent)
+        self.assertEqual(receiver.stderr().count(self.TOLD), 1)
+        self.assertEqual(lines[1:], ["flutejoin-gather -o kept kept/127.0.0.1.fldg"])
 
-    def test_a_journal_of_an_epoch_is_clean(self) -> None:
-        for number, text in enumerate((b"first", b"second")):
-            with open(self.path("file"), "wb") as file:
-                file.write(text * 100)
-            words = "--tsi 7 --toi 0 --fdt 1 --symbol 50 --block 8".split()
-            self.flutejoin("carousel", "-o", f"sent{number}", *words, "file")
-        receiver = Receiver(self, "-o", "kept")
-        for name in ("sent0", "sent1"):
-            receiver.send(records(self.path(name)))
-        receiver.until_kept(12, "kept/127.0.0.1.e2.fldg")
-        _, lines = receiver.end()
-        for line in lines[-2:]:
-            self.flutejoin(*line.split()[1:])
-        for epoch, length in ("", 500), (".e2", 600):
-            told = self.flutejoin("gaps", f"kept/127.0.0.1{epoch}.journal")
-            self.assertRegex(told, f" session 7 object fdt 1 whole {length}\n$")
-
-    def test_a_restart_goes_on_with_the_newest_epoch(self) -> None:
-        runs = [self.run_of_sender(text) for text in (b"first", b"second", b"third")]
-        receiver = Receiver(self, "-o", "kept", "--count", "22", "--split", "400")
-        receiver.send(runs[0] + runs[1])
-        receiver.ended()
-        parts = [name for name in self.names() if ".e2." in name]
-        self.assertGreater(len(parts), 1)
-        # Repeating it begins no epoch; contradicting what an earlier run of the tool received does.
-        receiver = Receiver(self, "-o", "kept", "--count", "22")
-        receiver.send(runs[1] + runs[2])
-        status, lines = receiver.ended()
-        self.assertEqual(status, 0)
-        self.assertEqual(records(self.path("kept/127.0.0.1.e3.fldg")), runs[2])
-        last = f"kept/127.0.0.1.e2.{len(parts)}.fldg"
-        self.assertEqual(records(self.path(last))[-11:], runs[1])
-        self.assertEqual(lines[-1].split()[-2:], [
-            "kept/127.0.0.1.e3.journal",
-            "kept/127.0.0.1.e3.fldg",
-        ])
-
-    def test_a_restart_where_a_file_just_began(self) -> None:
-        """If the last file contains no FDT Instance, the file before is used."""
-        receiver = Receiver(self, "-o", "kept", "--count", "9", "--split", "1000")
-        receiver.send([packet(b"first", instance=1), *self.symbols(8)])
-        receiver.ended()
-        self.assertEqual(len(records(self.path("kept/127.0.0.1.2.fldg"))), 1)
-        receiver = Receiver(self, "-o", "kept", "--count", "1")
-        other = packet(b"second", instance=1)
-        receiver.send([other])
-        self.assertEqual(receiver.ended()[0], 0)
-        self.assertEqual(records(self.path("kept/127.0.0.1.e2.fldg")), [other])
-
-    def test_two_senders_of_one_address_make_few_epochs(self) -> None:
-        receiver = Receiver(self, "-o", "kept")
-        receiver.send(packet(bytes([each]), instance=1) for each in range(20))
-        receiver.until_told("again and again")
-        status, lines = receiver.end()
-        names = [f"127.0.0.1{epoch}.fldg" for epoch in (".e2", ".e3", ".e4", ".e5", "")]
-        self.assertEqual((status, self.names()), (0, names))
-        self.assertTrue(any(line.startswith("left out 15: of an FDT Instance") for line in lines))
+    def test_a_later_run(self) -> None:
+        """It knows what an earlier one received."""
+        runs = [self.run_of_sender(text) for text in (b"first", b"second")]
+        for sent, told in (runs[0], 0), (runs[0], 0), (runs[1], 1):
+            receiver = Receiver(self, "-o", "kept", "--count", "11")
+            receiver.send(sent)
+            _, lines = receiver.ended()
+            self.assertEqual(receiver.stderr().count(self.TOLD), told)
+            self.assertEqual(lines[-1].startswith("flutejoin-gather "), bool(told))
 
 
 class Patched(Case):
@@ -1138,20 +1084,19 @@ class Modules(unittest.TestCase):
         ):
             self.assertIsNone(name_of(name), name)
 
-    def test_an_epoch_remembers_the_newest(self) -> None:
-        import flutejoin_epochs
-
-        epoch = flutejoin_epochs.Epoch()
-        many = flutejoin_epochs.MOST_SYMBOLS
+    def test_a_hint_remembers_the_newest(self) -> None:
+        hint = flutejoin_hints.Hint()
+        many = flutejoin_hints.MOST_SYMBOLS
         for number in range(many + 1):
-            self.assertFalse(epoch.contradicts(packet(b"one", number, instance=1)))
-        self.assertEqual(len(epoch.hashes), many)
-        self.assertTrue(epoch.contradicts(packet(b"other", 1, instance=1)))
-        self.assertFalse(epoch.contradicts(packet(b"other", 0, instance=1)))
-        self.assertFalse(epoch.contradicts(packet(b"other", 2, instance=2)))
-        self.assertFalse(epoch.contradicts(packet(b"other", 2, instance=1, tsi=8)))
-        self.assertFalse(epoch.contradicts(packet(b"a file", 2)))
-        self.assertFalse(epoch.contradicts(b"no packet"))
+            self.assertFalse(hint.look(packet(b"one", number, instance=1)))
+        self.assertEqual(len(hint.hashes), many)
+        self.assertFalse(hint.look(packet(b"other", 0, instance=1)))
+        self.assertFalse(hint.look(packet(b"other", 2, instance=2)))
+        self.assertFalse(hint.look(packet(b"other", 2, instance=1, tsi=8)))
+        self.assertFalse(hint.look(packet(b"a file", 2)))
+        self.assertFalse(hint.look(b"no packet"))
+        self.assertTrue(hint.look(packet(b"other", many, instance=1)))
+        self.assertFalse(hint.look(packet(b"once is told", many, instance=1)))
 
 
 def tests_of(suite: unittest.TestSuite | unittest.TestCase) -> list[unittest.TestCase]:

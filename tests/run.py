@@ -42,6 +42,7 @@ ROOT = TESTS.parent
 sys.path.append(str(ROOT / "examples"))  # for datagram_files
 PROGRAM = pathlib.Path(os.environ.get("FLUTEJOIN", ROOT / "bin" / "flutejoin")).absolute()
 LONGEST = 600.0  # seconds that a run may take, on a machine under load
+STEPS, TAKE = 2_000_000, 0.13  # steps of Python, and the seconds that they usually take
 NOBODY = 65534  # the number of a user without permissions
 SHOWN = 600  # bytes of an output that a failure shows
 
@@ -113,6 +114,14 @@ def until(is_so: Callable[[], object], seconds: float = LONGEST) -> bool:
             return False
         time.sleep(0.005)
     return True
+
+
+def slowness() -> float:
+    """How many times as long as usual steps of Python take the processor here; at least 1."""
+    began, total = time.process_time(), 0
+    for number in range(STEPS):
+        total += number & 7
+    return max(1.0, (time.process_time() - began) / TAKE)
 
 
 def waits(child: subprocess.Popen) -> bool:

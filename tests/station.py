@@ -41,6 +41,7 @@ import datagram_files
 import flute_sender
 import flutejoin_files
 import flutejoin_keeping
+import flutejoin_kept
 from datagram_files import HEADER, record
 from flutejoin_joining import Program
 from flutejoin_keeping import Keeper, Settings
@@ -298,14 +299,14 @@ def carousel_at_three_stations(work: pathlib.Path) -> None:
             check(f"{name}: disk meanwhile", of[0] <= 1.3 * journal + 4 * window, (of, journal))
         told = json.loads((work / f"{name}.json").read_text())
         check(f"{name}: status file", NAME in told["journals"] and told["disk"] > least, told)
-    (work / "all").write_bytes(journal_of(*[path for name in names for path in kept(work / name)]))
     for name in names:
         is_whole = flutejoin(
             "extract", "-o", work / "out", "--source", SOURCE, "--tsi", 7, "--toi", 1,
             *kept(work / name)[:1],
         )
         check(f"{name}: is not whole alone", is_whole.returncode == 1, is_whole)
-    words = "--flutejoin", PROGRAM, "-o", work / "named", work / "all"
+    journals = [path for name in names for path in kept(work / name)]
+    words = "--flutejoin", PROGRAM, "-o", work / "named", *journals
     done = subprocess.run([sys.executable, FILES, *map(str, words)], capture_output=True)
     named = work / "named/example.com/file1"
     is_same = done.returncode == 0 and named.read_bytes() == (work / "file1").read_bytes()
@@ -719,32 +720,32 @@ def many_signals(work: pathlib.Path) -> None:
 
 
 def a_sender_that_starts_again(work: pathlib.Path) -> None:
-    """Each run of the sender gets its own journal, even if the station restarts meanwhile.
+    """Each contents of a TOI gets its own journal, even if the station restarts meanwhile.
 
     It makes no difference whether all is joined before a run of the station ends.
     """
     port, sent = Port(), []
-    words = "--tsi", 7, "--toi", 0, "--fdt", 1, "--symbol", 100, "--block", 8
+    words = "--tsi", 7, "--toi", 1, "--symbol", 100, "--block", 8
     for number in range(2):
-        (work / "fdt").write_bytes(random.Random(number).randbytes(900))
-        path = work / f"sent_fdt{number}"
-        done = flutejoin("carousel", "-o", path, *words, work / "fdt")
+        (work / "file").write_bytes(random.Random(number).randbytes(900))
+        path = work / f"sent{number}"
+        done = flutejoin("carousel", "-o", path, *words, work / "file")
         assert done.returncode == 0, done.stderr
         sent.append(records(path.read_bytes()))
-    epochs = {NAME: sent[0], f"{NAME}.e2": sent[1]}
-    steps = (NAME, 0, None), (f"{NAME}.e2", 0, 5), (f"{NAME}.e2", 5, None)
+    generations = {NAME: sent[0], f"{NAME}.g2": sent[1]}
+    steps = (NAME, 0, None), (f"{NAME}.g2", 0, 5), (f"{NAME}.g2", 5, None)
     for folder, is_joined in (work / "joined", True), (work / "at_once", False):
         for name, begin, end in steps:
             run = Run(folder, port.number, "--every", 0.1)
-            port.send(epochs[name][begin:end], 0.01)
+            port.send(generations[name][begin:end], 0.01)
             if is_joined:
-                until(lambda: has_all(folder, name, epochs[name][:end]), run)
+                until(lambda: has_all(folder, name, generations[name][:end]), run)
             check("a sender that starts again: status", run.end() == 0, run.text())
         told = f"a sender that starts again: {folder.name}"
-        for name, of in epochs.items():
+        for name, of in generations.items():
             check(f"{told}: {name}", has_all(folder, name, of), os.listdir(folder / "journals"))
         files = os.listdir(folder / "in")
-        check(f"{told}: files", files == [f"{NAME}.e2.fldg"], files)
+        check(f"{told}: files", files == [f"{NAME}.fldg"], files)
 
 
 def has_all(folder: pathlib.Path, name: str, of: list[bytes]) -> bool:
@@ -872,6 +873,7 @@ def to_the_centre(work: pathlib.Path) -> None:
     sent, folder = sent_file(work, 300_000, 1000), work / "news"
     (work / "bin").mkdir()
     (work / "bin/flutejoin").symlink_to(PROGRAM)
+    (work / "bin/flutejoin-gather").symlink_to(TOOLS / "flutejoin-gather")
     done = push(work, "sh", "-c")
     check("no outbox: status", done.returncode == 3, done)
     centre = work / f"centre/north/{NAME}.journal"
@@ -911,20 +913,21 @@ def to_the_centre(work: pathlib.Path) -> None:
 
 
 def too_many_at_the_centre(work: pathlib.Path, centre: pathlib.Path) -> None:
-    """A journal there that would get more entries than flutejoin reads stays as it is."""
+    """A journal there that would get more entries than flutejoin reads is kept as it is."""
     before, folder = centre.read_bytes(), work / "news"
     sent = sent_file(work, 20_000, 1000, toi=2)
     datagram_file(folder / f"in/{NAME}.13.fldg", sent)
     keep(folder, has_outbox=True)
     program = work / "bin/flutejoin"
     program.unlink()
-    script = f'case "$*" in *"-o - "*) exec {PROGRAM} "$@" ;; *) echo full >&2; exit 1 ;; esac'
+    others = "*) echo full >&2; exit 1 ;;"
+    script = f'case "$*" in gaps* | *"-o - "*) exec {PROGRAM} "$@" ;; {others} esac'
     program.write_text(f"#!/bin/sh\n{script}\n")
     program.chmod(0o755)
     done = push(work, "sh", "-c")
-    check("too many entries: status", done.returncode == 1, done)
+    check("too many entries: status", done.returncode == 0, done)
     others = [path.read_bytes() for path in centre.parent.iterdir()]
-    check("too many entries: the journal stays", others == [before], done)
+    check("too many entries: the journal stays", before in others, done)
     program.unlink()
     program.symlink_to(PROGRAM)
     done = push(work, "sh", "-c")
@@ -957,7 +960,7 @@ def the_longest_journals(work: pathlib.Path) -> None:
     program = work / "flutejoin"
     program.write_text(f"#!{sys.executable}\n{OF_60_ENTRIES}")
     program.chmod(0o755)
-    most, flutejoin_keeping.MOST = flutejoin_keeping.MOST, 60
+    most, flutejoin_kept.MOST = flutejoin_kept.MOST, 60
     try:
         of_folder = keeper(folder, has_outbox=True, program=str(program))
         for begin in range(0, 150, 10):
@@ -965,15 +968,15 @@ def the_longest_journals(work: pathlib.Path) -> None:
             datagram_file(folder / "in" / name, sent[begin : begin + 10])
             of_folder.work(False)
     finally:
-        flutejoin_keeping.MOST = most
+        flutejoin_kept.MOST = most
     journals = [*folder.glob("journals/*"), *folder.glob("recent/*")]
-    entries = [flutejoin_keeping.entries_of(str(path)) or 0 for path in journals]
+    entries = [flutejoin_kept.entries_of(str(path)) or 0 for path in journals]
     check("the longest journals: entries", max(entries) <= 60 and len(entries) >= 3, entries)
     datagram_file(work / "all.fldg", sent)
     wanted = journal_of(work / "all.fldg")
     check("the longest journals: all is kept", journal_of(*journals) == wanted, journals)
     waiting = [*folder.glob("outbox/*")]
-    entries = [flutejoin_keeping.entries_of(str(path)) or 0 for path in waiting]
+    entries = [flutejoin_kept.entries_of(str(path)) or 0 for path in waiting]
     check("the longest journals: the outbox", max(entries) <= 60 and len(entries) <= 11, entries)
     check("the longest journals: all waits", journal_of(*waiting) == wanted, waiting)
 

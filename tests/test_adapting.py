@@ -16,7 +16,7 @@ import run
 from run import ROOT
 
 sys.path.append(str(ROOT / "tools"))
-from flutejoin_adapting import MOST, Adapting
+from flutejoin_adapting import MOST, SHORT, Adapting
 from flutejoin_packets import refusal_of
 
 # A header with TSI 7 and TOI 1, or TOI 0, in 32 bits; the length is that without extensions
@@ -135,6 +135,16 @@ class Rows(run.Case):
         instance = [packet(INSTANCE, FDT2, FTI, *part) for part in parts]
         first = packet(INSTANCE, FDT1, FTI, "00000000", three)
         self.becomes("of an FDT Instance", [first], *instance)
+
+    def test_many_short_ones(self) -> None:
+        """What would take much more than the packet is left out, and nothing else."""
+        front, each = OBJECT.format(8), "00000000" + "61" * 64
+        for size, count in (1, 0), (4, 16), (64, 1):
+            lengths = struct.pack(">BBHIHHI", 64, 4, 0, 2000, 0, size, 1000).hex()
+            taken = Adapting().take(of(front + lengths + each))
+            told = taken.left_out, len(taken.datagrams)
+            wanted = (None if count else SHORT), count
+            self.holds(f"symbols of {size} bytes", told == wanted, taken)
 
     def test_lengths_of_earlier_packets(self) -> None:
         parts = ("00000000", "61626364"), ("00000001", "65666768")

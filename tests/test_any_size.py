@@ -73,8 +73,14 @@ class AnySize(run.Case):
         whole = journal_of(entries)
         self.write("odd", journal_of([e for t in range(1, count + 1, 2) for e in whole_of(7, t)]))
         self.write("even", journal_of([e for t in range(2, count + 1, 2) for e in whole_of(7, t)]))
-        self.prints(f"entries {len(entries)}\n", "merge", "-o", "all", "odd", "even")
-        self.same("the journal that a merge made", "all", whole)
+        self.write("all", whole)
+        for flag in [], [ANY]:
+            told = f"entries {len(entries)}\n"
+            self.leaves(told, whole, "merge", *flag, "-o", "out", "odd", "even")
+            told = f"forgotten {len(entries)}\nentries 0\n"
+            words = ["forget", *flag, "-o", "out", "--tsi", "7", "all"]
+            self.leaves(told, journal_of([]), *words)
+            self.prints("entries 0\n", "show", *flag, "--conflicts", "all")
         told = joined(0, len(entries))
         for inputs in ["all"], ["odd", "even"]:
             self.is_full("join", "-o", "out", *inputs)

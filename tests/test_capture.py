@@ -12,11 +12,11 @@ import run
 from capture_faults import Damaged, Growing, Inputs
 from capture_forms import Forms
 from capture_mended import EachByte, Mend, MendSignals
-from capture_read import Epochs, Parts, Printed, Rows, SendingHost, There
+from capture_read import Parts, Printed, Restarts, Rows, SendingHost, There
 from capture_spoiled import Names, Spoiled
 
 __all__ = [
-    "Rows", "Printed", "SendingHost", "Epochs", "Parts", "There", "Inputs", "Growing", "Damaged",
+    "Rows", "Printed", "SendingHost", "Restarts", "Parts", "There", "Inputs", "Growing", "Damaged",
     "EachByte", "Mend", "MendSignals", "Names", "Spoiled", "Forms",
 ]
 

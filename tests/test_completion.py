@@ -108,6 +108,7 @@ class Completion(run.Case):
             *((FILES, "flutejoin-files "), ("folder", "flutejoin-files -o f")),
             *((FILES, "flutejoin-files --fdt "), (FILES, "flutejoin-files --from ")),
             *(("", "flutejoin-receive --from "), ("", "flutejoin-files --most ")),
+            *((FILES, "flutejoin-gather "), ("folder", "flutejoin-gather -o f")),
             *((FILES, "flutejoin-map "), (FILES, "flutejoin-map --flutejoin ")),
             (stations, "flutejoin-map -o map.svg --tsi 7 --toi 1 station"),
             *((FILES, "flutejoin-mend -o "), (stations, "flutejoin-mend -o mended station")),

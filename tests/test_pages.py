@@ -50,17 +50,21 @@ class Sessions(Case):
     def test_operating(self) -> None:
         self.short()
         self.session(OPERATING, "Two stations, two senders", "session")
-        # Its first two stations, as a picture
-        self.path("picture").mkdir()
-        for station in "station1", "station2":
-            self.write(f"picture/{station}", self.read(f"session/{station}"))
-        self.session(OPERATING, "What is missing, as a picture", "picture")
+        # Its first two stations, as a picture, and what the one lacks of the other
+        for folder, title in (
+            ("picture", "What is missing, as a picture"),
+            ("outbox", "Only what is missing"),
+        ):
+            self.path(folder).mkdir()
+            for station in "station1", "station2":
+                self.write(f"{folder}/{station}", self.read(f"session/{station}"))
+            self.session(OPERATING, title, folder)
         self.named()
         self.events()
         self.all_run(
             OPERATING,
             *("Two stations, two senders", "What is missing, as a picture"),
-            *("From objects to files", "What poisons a journal"),
+            *("Only what is missing", "From objects to files", "What poisons a journal"),
         )
 
     def named(self) -> None:
@@ -95,10 +99,10 @@ class Sessions(Case):
         self.check("the capture of a week", self.command(words), 0, None)
         title = "What poisons a journal"
         self.session(OPERATING, title, "events")
-        for folder in "files", "checked", "before":
+        for folder in "files", "checked", "both":
             of_folder = f"events/{folder}/example.com/numbers.txt"
             self.same(f"the file in {folder}", "session/file", of_folder)
-        self.same("the file since", "other", "events/since/example.com/more.txt")
+        self.same("the file since", "other", "events/both/example.com/more.txt")
 
 
 class Tutorial(Case):

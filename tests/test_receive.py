@@ -9,6 +9,7 @@ import sys
 sys.dont_write_bytecode = True
 import run
 from receive_faults import Folders, Outputs, Words
+from receive_floods import Floods
 from receive_forms import Forms
 from receive_groups import Groups
 from receive_hostile import Files as HostileFiles
@@ -18,7 +19,7 @@ from receive_runs import Ends, Files, Senders
 
 __all__ = [
     "Senders", "Files", "Ends", "Folders", "Outputs", "Words", "Groups", "Places", "Waiting",
-    "Threads", "HostileFiles", "Start", "Forms",
+    "Threads", "HostileFiles", "Start", "Forms", "Floods",
 ]
 
 if __name__ == "__main__":

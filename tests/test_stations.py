@@ -26,23 +26,16 @@ from flute_sender import header
 from run import ROOT
 
 sys.path.insert(0, str(ROOT / "tools"))
-import flutejoin_files
-import flutejoin_incoming
 import flutejoin_room
 import flutejoin_voice
-from flutejoin_epochs import Epochs
-from flutejoin_growing import Block, Growing, Turn
 from flutejoin_incoming import Part
 from flutejoin_joining import Answer, Program
 from flutejoin_keeping import Keeper, Settings
-from flutejoin_parts import Files
 from flutejoin_room import Room
 from flutejoin_settings import read_config, words_of_station
-from flutejoin_senders import Senders
 from flutejoin_shelves import Shelf
 from flutejoin_status import replace_text
 from flutejoin_voice import Log, status_of
-from flutejoin_writer import Folder, Writer
 
 REAL = "10.0.0.1"
 
@@ -90,9 +83,6 @@ class Faked(Program):
         self.takes()
         pathlib.Path(out).write_bytes(b"FLJN\0\2\xff" + bytes(8))
         return Answer(0, "", b"datagrams 1\nrefused 0\nentries 1\n")
-
-    def conflicts(self, journals: object) -> None:
-        return None
 
 
 class Case(run.Case):
@@ -212,15 +202,6 @@ class Most(Case):
             self.room(1 << 40)
         self.assertEqual(self.left(), sorted(f"11.0.0.{number}" for number in range(30)))
 
-    def test_the_last_epoch_stays(self) -> None:
-        """The number of the next one comes from it."""
-        self.sender(REAL, 100_000, 1)
-        for number in range(2, 20):
-            self.sender(f"{REAL}.e{number}", 40, 100 - number)
-        self.room(250_000)
-        self.assertIn(f"{REAL}.e19", self.left())
-        self.assertNotIn(f"{REAL}.e2", self.left())
-
     def test_a_file_that_a_receiver_has_open(self) -> None:
         """It would write it anew if it were removed at once."""
         self.sender(REAL, 100_000, 1)
@@ -261,8 +242,9 @@ class Order(Case):
         self.incoming(REAL, symbols(100))
         program = Faked()
         self.keeper(program).work(False)
-        self.assertEqual(program.asked[0], f"{REAL}.journal")
-        self.assertEqual(len(set(program.asked)), 51)
+        self.assertEqual(program.asked[0], f"{REAL}.new.partial")
+        joined = {name for name in program.asked if name.endswith(".new.partial")}
+        self.assertEqual(len(joined), 51)
 
     def test_it_is_first_again_before_all_others_were(self) -> None:
         with self.set_clock() as clock:
@@ -279,7 +261,7 @@ class Order(Case):
                 with path.open("ab") as file:
                     file.write(records(symbols(1, first=200 + number))[6:])
                 keeper.work(True)
-            self.assertGreater(program.asked.count(f"{REAL}.journal"), 4)
+            self.assertGreater(program.asked.count(f"{REAL}.new.partial"), 4)
             self.assertGreater(len(set(program.asked)), 10)
 
     def test_many_files_are_seldom_looked_at(self) -> None:
@@ -376,8 +358,8 @@ class Restart(Case):
         keeper = self.keeper()
         keeper.look()
         (sender,) = keeper.incoming.found
-        keeper.set_journal_aside(sender, keeper.large(sender), "damaged")
-        pathlib.Path(keeper.recent(sender)).touch()
+        keeper.set_journal_aside(sender, keeper.large(sender).path_of(1), "damaged")
+        pathlib.Path(keeper.recent(sender).path_of(1)).touch()
         self.assertEqual(self.again(), path.stat().st_size - 6)
 
     def test_a_file_that_was_cut(self) -> None:
@@ -470,12 +452,14 @@ class Voice(Case):
             keeper.work(True)
         told = self.lines("all 3 of 10.0.0.1")
         self.assertEqual(len(told), 1, self.told.printed)
-        self.assertIn("FluteVersion", told[0])
+        self.assertIn("(3: 14 FluteVersion)", told[0])
         status = status_of(keeper)
+        self.assertEqual(status["reasons"], {"14 FluteVersion": 3, "3 LctVersion": 1})
+        self.assertEqual(status["journals"][REAL]["reasons"], {"14 FluteVersion": 3})
         self.assertEqual((status["refused"], status["datagrams"]), (4, 9))
         self.assertEqual(status["journals"][REAL]["refused"], 3)
 
-    def test_symbols_in_conflict(self) -> None:
+    def test_other_values(self) -> None:
         path = self.incoming(REAL, symbols(10))
         others = flute_sender.packets(7, 1, bytes(1_000_000), 1000, 64)
         with self.set_clock() as clock:
@@ -483,12 +467,13 @@ class Voice(Case):
             keeper.work(True)
             for first in 0, 3:
                 with path.open("ab") as file:
-                    file.write(records(others[first : first + 3])[6:])
+                    file.write(records([others[first], *symbols(5, first=first + 1)])[6:])
                 clock.now += 120
                 keeper.work(True)
-        told = [line.partition(" ")[2] for line in self.lines("in conflict")]
-        self.assertEqual([line.split()[0] for line in told], ["3", "6"], self.told.printed)
-        self.assertEqual(status_of(keeper)["in conflict"], 6)
+        self.assertEqual(len(self.lines("1 symbol came with other values")), 2, self.told.printed)
+        self.assertEqual(status_of(keeper)["other values"], 2)
+        aside = (self.news / f"aside/{REAL}.v1.journal").read_bytes()
+        self.assertEqual(aside.count(bytes(1000)), 2)
 
     def test_the_last_fault_and_its_end(self) -> None:
         self.incoming(REAL, symbols(10))
@@ -589,158 +574,21 @@ class OnTheDisk(Case):
         self.assertFalse(self.path("status").is_symlink())
 
 
-class Forged(Case):
-    """FDT Instances with other contents, which begin epochs."""
+class Before(Case):
+    """What versions of before left in a station's folder."""
 
-    ADDRESS = b"\n\0\0\1"
-
-    def setUp(self) -> None:
-        super().setUp()
-        self.sent = flute_sender.packets(7, 1, bytes(60_000), 100, 60)
-        self.fdt = self.instance(0)
-
-    @staticmethod
-    def instance(number: int) -> list[bytes]:
-        name = f"http://example.com/{number}"
-        of = flute_sender.Sent(1, bytes(60_000), name, symbol=100, block=60)
-        return flute_sender.instance(7, 1, flute_sender.fdt([of], flute_sender.EXPIRES))
-
-    def session(self, seconds: int, forged: dict[float, bytes]) -> list[tuple[float, bytes]]:
-        """A carousel of 10 symbols a second, and the FDT Instance every 5 seconds."""
-        came = [(number / 10, self.sent[number % 600]) for number in range(10 * seconds)]
-        for second in range(0, seconds, 5):
-            came += [(second + 0.01, datagram) for datagram in self.fdt]
-        return sorted([*came, *forged.items()], key=lambda it: it[0])
-
-    def captured(self, came: list[tuple[float, bytes]]) -> dict[str, list[bytes]]:
-        """The datagrams of each epoch."""
-        report = mock.Mock()
-        kept = Files(str(self.path("kept")), 1 << 30, report)
-        kept.make_folder()
-        for second, datagram in came:
-            kept.add(self.ADDRESS, datagram, 1_000_000 + int(second))
-        kept.finish()
-        self.said = [call.args[0] for call in report.warn.call_args_list]
-        epochs: dict[str, list[bytes]] = collections.defaultdict(list)
-        for path in sorted(self.path("kept").iterdir()):
-            name = flutejoin_files.name_of(path.name)
-            assert name
-            epochs[str(name.epoch)] += datagram_files.read(str(path))
-        return epochs
-
-    def test_four_a_minute(self) -> None:
-        forged = {2.0 + 15 * number: self.instance(number + 1)[0] for number in range(20)}
-        epochs = self.captured(self.session(300, forged))
-        self.assertLessEqual(set(self.sent), set(epochs["1"]))
-        self.assertFalse(set(epochs["1"]) & set(forged.values()))
-        self.assertLess(max(len(epochs[number]) for number in epochs if number != "1"), 40)
-        real = sum(datagram in self.fdt for datagram in epochs["1"])
-        self.assertGreaterEqual(real, 55)
-        self.assertTrue(any("epoch 1 goes on" in line for line in self.said), self.said)
-
-    def test_one_that_is_repeated(self) -> None:
-        """It begins one epoch, and few files."""
-        one = self.instance(1)[0]
-        epochs = self.captured(self.session(300, {2 + number / 2: one for number in range(590)}))
-        self.assertEqual(sorted(epochs), ["1", "2"])
-        self.assertLess(len(os.listdir(self.path("kept"))), 50)
-
-    def test_a_sender_that_starts_again(self) -> None:
-        """Its FDT Instance has two symbols, the second one as before."""
-        runs = [[text, b"the same"] for text in (b"first", b"second")]
-        came = []
-        for number in range(200):
-            fdt = [
-                header(7, 0, struct.pack(">I", 192 << 24 | 2 << 20 | 1))
-                + struct.pack(">HH", 0, place) + text
-                for place, text in enumerate(runs[number >= 100])
-            ]
-            second = 3.0 * number
-            came += [(second, each) for each in fdt] + [(second + 1, symbols(1, first=number)[0])]
-        epochs = self.captured(came)
-        self.assertEqual(sorted(epochs), ["1", "2"])
-        self.assertEqual(epochs["2"], [datagram for _, datagram in came[300:]])
-
-    def test_what_is_remembered_has_a_bound(self) -> None:
-        epochs = Epochs()
-        front = header(7, 0, struct.pack(">I", 192 << 24 | 2 << 20 | 1))
-        for number in range(20):
-            for place in range(600):
-                datagram = front + struct.pack(">HH", 0, place) + b"%d" % number
-                epochs.begins(datagram, 100 * number)
-        self.assertEqual((epochs.number, len(epochs.epoch.hashes)), (20, 600))
-        held = sum(map(len, epochs.epoch.earlier.values())) + len(epochs.epoch.hashes)
-        self.assertEqual(held, 8 * 512 + 600)
-
-    def test_files_of_a_receiver(self) -> None:
-        """What came behind the forged one is copied to where the sender goes on."""
-        opened = mock.Mock(held=0)
-        opened.open = lambda path, flags: os.open(path, flags, 0o666)
-        address = flutejoin_files.ipaddress.ip_address(REAL)
-        growing = Growing(str(self.news / "in"), address, opened)
-        forged = self.instance(1)[0]
-
-        def give(*orders: object) -> None:
-            growing.orders.extend(orders)  # type: ignore
-            growing.work()
-
-        def block(*datagrams: bytes) -> Block:
-            return Block(bytearray(records(datagrams)[6:]), len(datagrams))
-
-        give(block(self.fdt[0], *self.sent[:3]), Turn(2, False), block(forged, *self.sent[3:6]))
-        taken = growing.taken
-        give(Turn(1, True))
-        self.assertEqual(growing.taken, taken)
-        give(block(self.fdt[0], *self.sent[6:8]), Turn(2, False), block(forged), Turn(1, True))
-        growing.finish()
-        paths = (self.news / "in").iterdir()
-        found = {path.name: list(datagram_files.read(str(path))) for path in paths}
-        self.assertEqual(found[f"{REAL}.e2.fldg"], [forged, *self.sent[3:6]])
-        self.assertEqual(found[f"{REAL}.2.fldg"], self.sent[3:6])
-        self.assertEqual(found[f"{REAL}.3.fldg"], [self.fdt[0], *self.sent[6:8]])
-        self.assertEqual(found[f"{REAL}.e2.2.fldg"], [forged])
-        self.assertEqual(len(found), 5)
-
-    def test_a_receiver_that_starts_again(self) -> None:
-        """It goes on with the file that was written last, and knows the other epochs."""
-        forged = self.instance(1)[0]
-        names = (REAL, self.fdt), (f"{REAL}.e2", [forged]), (f"{REAL}.3", [self.fdt[0]])
-        for age, (name, datagrams) in enumerate(names):
-            path = self.incoming(name, [*datagrams, self.sent[age]])
-            os.utime(path, (1e9 + age, 1e9 + age))
-        folder = Folder(str(self.news / "in"))
-        senders = Senders(folder, Writer([folder], None, 0), 4, 1 << 30)
-        senders.look(None)
-        os.close(folder.lock)
-        (sender,) = senders.known.values()
-        self.assertEqual((sender.growing.epoch, sender.growing.part), (1, 3))
-        for datagram, epoch, begins in (
-            (self.fdt[0], 1, False), (forged, 2, True), (self.fdt[0], 1, True),
-            (self.instance(2)[0], 3, True),
-        ):
-            self.assertEqual(sender.epochs.begins(datagram, 1000), begins)
-            self.assertEqual(sender.epochs.number, epoch)
-
-    def test_files_that_a_station_keeps(self) -> None:
-        """The one that grows may be of an earlier epoch; it is never joined as a whole one."""
-        for name, age in (REAL, 50), (f"{REAL}.2", 1), (f"{REAL}.e2", 30), (f"{REAL}.e3", 20):
-            path = self.incoming(name, symbols(2, first=age))
-            os.utime(path, (1e9 - age, 1e9 - age))
+    def test_datagram_files_of_epochs(self) -> None:
+        """They are joined first, and then removed; the last of the others stays."""
+        for number, name in enumerate((REAL, f"{REAL}.2", f"{REAL}.e2", f"{REAL}.e3.2")):
+            self.incoming(name, symbols(2, first=2 * number))
         keeper = self.keeper()
         with self.set_clock() as clock:
-            keeper.work(True)
-            last = {name: part.is_last for name, part in keeper.incoming.parts.items()}
-            self.assertEqual(sorted(name for name in last if last[name]), [
-                f"{REAL}.2.fldg", f"{REAL}.e2.fldg", f"{REAL}.e3.fldg",
-            ])
-            clock.now += flutejoin_incoming.QUIET + 1
             for _ in range(3):
                 keeper.work(True)
-                clock.now += 1
-        names = sorted(os.listdir(self.news / "in"))
-        self.assertEqual(names, [f"{REAL}.2.fldg", f"{REAL}.e3.fldg"])
+                clock.now += 61
+        self.assertEqual(os.listdir(self.news / "in"), [f"{REAL}.2.fldg"])
         self.assertEqual(keeper.waiting(), 0)
-
+        self.assertEqual({str(it.address) for it in keeper.incoming.found}, {REAL})
 
 
 class Config(Case):
@@ -756,6 +604,7 @@ class Config(Case):
     )
     NO_TOML = "port=1\nport=2", "port=" + "[" * 2000, "x = {y = " * 2000, "\udcff"
     WRONG = (
+        "same = 5", "[[same]]\nsenders = 5", "[[same]]", "[[same]]\nx = 1\nsenders = []",
         "session = 5", "session = [5]", "station = 5", '[station]\n-o = "x"', "most = 5",
         "[station]\nevery = 0x" + "f" * 9000,
     )
@@ -777,6 +626,11 @@ class Config(Case):
         words = list(words_of_station(str(self.path("news.toml"))))
         self.assertEqual(words, ["--most=20G", "--outbox", "--tsi=7", "--tsi=8"])
 
+    def test_uplinks(self) -> None:
+        self.write("news.toml", '[[same]]\nsenders = ["10.0.0.1", "10.0.0.2"]\n')
+        words = list(words_of_station(str(self.path("news.toml"))))
+        self.assertEqual(words, ["--same=10.0.0.1,10.0.0.2"])
+
     def test_a_line_and_a_status(self) -> None:
         for text in self.NUL[0], self.NO_TOML[1]:
             self.write("news.toml", text)
@@ -789,13 +643,22 @@ class Config(Case):
 
 class Push(Case):
     def test_names_are_no_commands(self) -> None:
-        empty = b"FLJN\0\2\xff" + bytes(8)
+        journals = {}
+        for source in "10.0.0.2", "::1":
+            self.write("one.fldg", records(symbols(2)))
+            self.made(["join", "-f", "-o", "one", "--source", source, "one.fldg"])
+            journals[source] = self.read("one")
         names = "x;id>injected;y.1.journal", "$(id>injected).1.journal", "a\n10.0.0.9.1.journal"
         (self.news / "outbox").mkdir()
-        for name in (*names, "10.0.0.2.20260101000000000000.journal", "--1.2.journal"):
-            (self.news / "outbox" / name).write_bytes(empty)
+        for name in names:
+            (self.news / "outbox" / name).write_bytes(journals["::1"])
+        (self.news / "outbox/10.0.0.2.20260101000000000000.journal").write_bytes(
+            journals["10.0.0.2"]
+        )
+        (self.news / "outbox/--1.2.journal").write_bytes(journals["::1"])
         self.path("bin").mkdir()
         self.path("bin/flutejoin").symlink_to(run.PROGRAM)
+        self.path("bin/flutejoin-gather").symlink_to(ROOT / "tools/flutejoin-gather")
         path = f"{self.path('bin')}:{os.environ['PATH']}"
         words = [ROOT / "examples/push.sh", "news", "centre", "sh", "-c"]
         done = self.command(words, env={"PATH": path})

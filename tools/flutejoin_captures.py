@@ -24,8 +24,8 @@ MOST_INTERFACES = 1 << 16  # of a section
 GRACE = 1.0  # seconds after a signal in which a capture in a pipe may send its last packets
 TICK = 1.0  # seconds between two calls of `tick`
 GZIP = b"\x1f\x8b"  # how a gzip member begins
-# What comes out of gzip: bytes, and packets, at first and then for each byte that goes in. A file of
-# a few MB could be that of many GB, of which nothing is worth reading.
+# What may come out of gzip: bytes, and packets, at first and then for each byte that goes in. Of a
+# few MB it could make many GB, of which nothing is worth reading.
 INFLATED, INFLATED_EACH = 1 << 30, 100
 PACKETS, BYTES_OF_EACH = 1 << 20, 8
 SECTION = b"\x0a\x0d\x0d\x0a"  # how pcapng begins

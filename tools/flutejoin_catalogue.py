@@ -10,7 +10,7 @@ import flutejoin_files as files
 import flutejoin_names as names
 from flutejoin_entries import FILE
 from flutejoin_holdings import Held, Key
-from flutejoin_session import Session, address_of
+from flutejoin_session import APART, Session, address_of
 
 MOST_FILES = 1 << 15  # descriptions of files in all
 MOST_TOLD = 20  # lines of one kind that are printed
@@ -163,7 +163,8 @@ class Catalogue:
         claims.sort(key=lambda claim: -claim.worth)
         found, moved = names.assign(claims, owner_of), Told(self.report)
         for claim in claims:
-            path, front = found.of.get(claim.key, claim.path), claim.key.text()
+            key = claim.key._replace(number=claim.key.number % APART)
+            path, front = found.of.get(claim.key, claim.path), key.text()
             owner = found.owners.get(claim.key)
             if owner is not None:
                 self.report.status = max(self.report.status, 1)

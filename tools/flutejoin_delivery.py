@@ -1,6 +1,7 @@
 """Makes named files of journals by a few runs of flutejoin, whatever the number of files."""
 from __future__ import annotations
 
+import collections
 import contextlib
 import itertools
 import os
@@ -56,9 +57,11 @@ class Delivery:
         wanted: Wanted,
         work: Work,
         catalogue: Catalogue,
+        folders: Sequence[str] = (),
     ) -> None:
+        """`folders` have FDT Instances as documents."""
         self.program, self.journals, self.wanted = program, journals, wanted
-        self.work, self.catalogue = work, catalogue
+        self.work, self.catalogue, self.folders = work, catalogue, folders
 
     def read(self, handed_in: Iterable[str], others: Sequence[str]) -> None:
         """Reads what the journals hold, and the FDT Instances.
@@ -89,7 +92,12 @@ class Delivery:
             return
         self.journal, self.name = self.work.at("journal"), JOINED
         words = ["join", "--any-size", *self.wanted.sessions(), "-o", self.journal]
-        self.run([*words, *map(argument, self.journals)], list(map(shown, self.journals)))
+        rest, before = self.journals, []
+        while rest:
+            now, rest = rest[: files.MOST_INPUTS - 1], rest[files.MOST_INPUTS - 1 :]
+            names = [*[JOINED] * len(before), *map(shown, now)]
+            self.run([*words, *before, *map(argument, now)], names)
+            before = [self.journal]
 
     def run(self, words: list[str], names: list[str]) -> None:
         for _ in self.program.lines([(words, names)]):
@@ -111,10 +119,13 @@ class Delivery:
         with contextlib.closing(documents):
             documents.read(self.journal)
             documents.resolve(others, shown)
+            if self.folders:
+                documents.read_folders(self.folders, self.sources(), self.wanted)
             self.catalogue.left += documents.left
             for document, file in documents.newest_first():
                 key = document.key
                 session = self.catalogue.of(key)
+                session.paths[document.name] = document.path
                 self.catalogue.read(session, file, key.number, document.name)
         for key, state in documents.unread.items():
             self.catalogue.of(key).unread[key.number] = state
@@ -128,6 +139,11 @@ class Delivery:
                 raise Fault(2, f"--fdt is of one session, and there are {len(sessions)}: name it")
             with open(path, "rb") as file:
                 self.catalogue.read(self.catalogue.session(*sessions[0]), file, None, shown(path))
+
+    def sources(self) -> set[bytes]:
+        """The senders of which the journal has anything."""
+        with open(self.journal, "rb", buffering=0) as file:
+            return {raw[: holdings.SENDER] for _, raw, _ in holdings.entries(file)}
 
     def sessions(self) -> list[tuple[bytes, int]]:
         """The sessions of which the journal has anything; of many only some."""
@@ -191,7 +207,7 @@ class Delivery:
             (session, toi)
             for session in self.catalogue
             for toi in session.files
-            if session.is_in_doubt(toi)
+            if session.is_in_doubt(toi) or self.may_have_more(session, toi)
         ]
         if not doubtful:
             return set()
@@ -202,18 +218,52 @@ class Delivery:
         resolving = Resolving(self.journals, wanted, budget)
         with self.named_faults():
             resolving.compare(others)
-            found: dict[Key, Way] = {}
+            found: dict[Key, dict[int, Way]] = collections.defaultdict(dict)
             for ways in [resolving.by_journal] + [resolving.by_combination] * bool(others):
                 for key, ends in ways():
-                    right = [(sums.age(), way) for way, sums in ends if sums.is_right()]
-                    if right:
-                        found[key] = min(right, key=lambda each: each[0])[1]
+                    for way, sums in ends:
+                        if sums.is_right():
+                            found[key].setdefault(sums.age(), way)
+                    md5s = self.catalogue.of(key).md5s(key.number)
+                    if len(found[key]) == len(md5s):
                         resolving.done.add(key)
             for session, toi in doubtful:
-                of = wanted[session.key(toi)]
-                if others and of.differs() and session.key(toi) not in found:
+                of, key = wanted[session.key(toi)], session.key(toi)
+                is_found = found[key] or session.is_verified(toi)
+                if others and of.differs() and not is_found:
                     session.unresolved[toi] = of.why_not()
-            return self.complete(found, wanted)
+            return self.complete_all(found, wanted)
+
+    def may_have_more(self, session: Session, toi: int) -> bool:
+        """Whether a TOI may have come with contents that another description has."""
+        has_symbols = session.held.get(toi, holdings.NOTHING).symbols > 0
+        return has_symbols and len(self.journals) > 1 and len(session.md5s(toi)) > 1
+
+    def complete_all(
+        self, found: dict[Key, dict[int, Way]], wanted: dict[Key, Differing]
+    ) -> set[Key]:
+        """Has flutejoin write each object that was found, also several of one TOI."""
+        first: dict[Key, Way] = {}
+        more: list[dict[Key, tuple[int, Way]]] = []  # of each TOI at most one
+        for key, by_age in found.items():
+            session, md5s = self.catalogue.of(key), self.catalogue.of(key).md5s(key.number)
+            rest = sorted(by_age.items())
+            if session.is_verified(key.number):
+                own = session.files[key.number].file.md5
+                rest = [(age, way) for age, way in rest if md5s[age] != own]
+            elif rest:
+                first[key] = rest.pop(0)[1]
+            for number, (age, way) in enumerate(rest):
+                if number == len(more):
+                    more.append({})
+                more[number][key] = session.apart(key.number, md5s[age]), way
+        completed = self.complete(first, wanted)
+        for of in more:
+            self.work.remove("resolved")
+            self.work.remove("resolved.journal")
+            ways = {key: way for key, (_, way) in of.items()}
+            completed |= self.complete(ways, wanted, {key: toi for key, (toi, _) in of.items()})
+        return completed
 
     @staticmethod
     def differing(session: Session, toi: int, budget: Budget) -> Differing:
@@ -223,10 +273,19 @@ class Delivery:
             lambda: Sums(md5s, encodings, MOST_DECODED, budget), session.lengths(toi)
         )
 
-    def complete(self, found: dict[Key, Way], wanted: dict[Key, Differing]) -> set[Key]:
-        """Has flutejoin write the objects that are put together in these ways."""
+    def complete(
+        self,
+        found: dict[Key, Way],
+        wanted: dict[Key, Differing],
+        apart: Optional[dict[Key, int]] = None,
+    ) -> set[Key]:
+        """Has flutejoin write the objects that are put together in these ways.
+
+        `apart` are the numbers of objects in the catalogue, where a TOI has several.
+        """
+        completed = set()
         if not found:
-            return set()
+            return completed
         made = self.work.at("resolved.journal")
         with open(made, "wb") as out:
             copied = holdings.Copy(out)
@@ -240,16 +299,16 @@ class Delivery:
             copied.finish()
         for key, state in list(self.extract(made, "resolved")):
             if state.is_whole():
-                self.take(key, state)
                 session = self.catalogue.of(key)
-                session.proved[key.number] = found[key].partition.numbers
-                session.resolved[key.number] = wanted[key].words()
-                source, place = (
-                    os.path.join(self.work.at(name), key.file_name())
-                    for name in ("resolved", "objects")
-                )
-                os.rename(source, place)
-        return set(found)
+                kept = key._replace(number=(apart or {}).get(key, key.number))
+                self.take(kept, state)
+                session.proved[kept.number] = found[key].partition.numbers
+                if wanted[key].differs():
+                    session.resolved[kept.number] = wanted[key].words()
+                source = os.path.join(self.work.at("resolved"), key.file_name())
+                os.rename(source, os.path.join(self.work.at("objects"), kept.file_name()))
+                completed.add(kept)
+        return completed
 
     def take(self, key: Key, state: State) -> None:
         if key.tag == FILE and self.wanted.has(key):

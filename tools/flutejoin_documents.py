@@ -6,14 +6,29 @@ MD5 of a file decides whether its description counts.
 """
 from __future__ import annotations
 
+import collections
+import contextlib
 import hashlib
 import io
-from typing import Callable, Iterator, NamedTuple, Optional, Sequence
+from typing import (
+    Callable,
+    Container,
+    Dict,
+    Iterator,
+    List,
+    NamedTuple,
+    Optional,
+    Protocol,
+    Sequence,
+    Tuple,
+)
 
 import flutejoin_fdt as fdt
 import flutejoin_gaps as gaps
 from flutejoin_entries import FDT_INSTANCE, information_of
 from flutejoin_holdings import Choice, Key
+from flutejoin_instances import Assembler, digest_of, documents_in, rests_in
+from flutejoin_instances import Document as Whole
 from flutejoin_merged import Found, merged
 from flutejoin_partition import Buffer, Partition, fault_of
 from flutejoin_resolving import Budget, Resolving, Sink, Wanted
@@ -94,6 +109,22 @@ class Document(NamedTuple):
     name: str
     place: int
     size: int
+    path: str  # of a document in a folder; else empty
+
+
+# The texts and paths of documents, by their objects and digests; they differ in Expires alone
+Kept = Dict[Tuple[Key, str], List[Tuple[bytes, str]]]
+
+
+class Wanting(Protocol):
+    """What tells whether a session is wanted."""
+
+    def has(self, key: Key) -> bool: ...
+
+
+def put_document(found: Kept, source: bytes, document: Whole) -> None:
+    key = Key(source, document.tsi, FDT_INSTANCE, document.number)
+    found.setdefault((key, digest_of(document.xml)), []).append((document.xml, ""))
 
 
 class Documents:
@@ -105,6 +136,7 @@ class Documents:
         self.choice: Choice = lambda key: key.tag == FDT_INSTANCE and choice(key)
         self.known: list[Document] = []
         self.unread: dict[Key, State] = {}
+        self.digests: set[tuple[Key, str]] = set()  # of documents that are known
         self.left = 0  # how many there was no room for
 
     def read(self, journal: str) -> None:
@@ -122,17 +154,60 @@ class Documents:
             else:
                 self.left += 1
 
-    def add(self, key: Key, name: str, text: Text) -> None:
+    def add(self, key: Key, name: str, text: Text, path: str = "") -> None:
         place, looked = self.file.seek(0, io.SEEK_END), b""
+        if len(self.digests) < 2 * MOST_DOCUMENTS:
+            self.digests.add((key, digest_of(b"".join(text.parts))))
         for part in text.parts:
             self.file.write(part)
             looked += part[: MOST_LOOKED - len(looked)]
         rank = fdt.likely_rank(looked, key.number)
-        self.known.append(Document(rank, key, name, place, text.size))
+        self.known.append(Document(rank, key, name, place, text.size, path))
         if len(self.known) == 2 * MOST_DOCUMENTS:
             self.known.sort(reverse=True)
             self.left += MOST_DOCUMENTS
             del self.known[MOST_DOCUMENTS:]
+
+    def read_folders(
+        self, folders: Sequence[str], sources: Container[bytes], wanted: Wanting
+    ) -> None:
+        """Takes the documents of these senders in folders, and what is whole of several parts."""
+        found: Kept = {}
+        rests: dict[bytes, Assembler] = {}
+
+        def is_wanted(source: bytes, tsi: int) -> bool:
+            return source in sources and wanted.has(Key(source, tsi, FDT_INSTANCE, 0))
+
+        for folder in folders:
+            for each in documents_in(folder, is_wanted):
+                key = Key(each.source, each.tsi, FDT_INSTANCE, each.number)
+                with contextlib.suppress(OSError), open(each.path, "rb") as file:
+                    found.setdefault((key, each.digest), []).append((file.read(), each.path))
+            for source, datagrams in rests_in(folder):
+                for datagram in datagrams if source in sources else ():
+                    self.take_whole(found, source, rests.setdefault(source, Assembler()), datagram)
+        for source, assembler in rests.items():
+            for document in assembler.finish():
+                put_document(found, source, document)
+        self.add_found(found)
+
+    @staticmethod
+    def take_whole(found: Kept, source: bytes, assembler: Assembler, datagram: bytes) -> None:
+        for document in assembler.take(datagram):
+            put_document(found, source, document)
+
+    def add_found(self, found: Kept) -> None:
+        """Adds documents, each once. Those of one ID that differ are named by their bytes too."""
+        counts = collections.Counter(key for key, _ in found)
+        counts.update(document.key for document in self.known)
+        for (key, digest), texts in found.items():
+            if (key, digest) in self.digests or not self.choice(key):
+                continue
+            self.digests.add((key, digest))
+            xml, path = max(texts, key=lambda of: fdt.likely_rank(of[0][:MOST_LOOKED], key.number))
+            name = str(key.number) if counts[key] == 1 else f"{key.number}-{digest[:8]}"
+            self.add(key, name, Text(fdt.Budget(), [xml], len(xml)), path)
+            self.unread.pop(key, None)
 
     def resolve(self, others: Sequence[str], name_of: Callable[[str], str]) -> None:
         """Puts those in conflict together of what single journals and other files have.

@@ -34,6 +34,9 @@ NAME = re.compile(
     r"(\d+(?:\.\d+){3}|[\da-f-]+(?:%\w+)?)(?:\.e(\d{1,9}))?(?:\.(\d{1,9}))?\.fldg", re.ASCII
 )
 
+# The name of another file of a sender: of an epoch of before, a generation or a time
+KEPT = re.compile(r"(.+?)(?:\.e\d+)?(?:\.[gv]\d+|\.\d{20})?\.[a-z]+", re.ASCII)
+
 
 class Report:
     """Prints the lines and faults of a tool.
@@ -292,10 +295,9 @@ def on_disk(size: int) -> int:
 
 
 def file_name(text: str, part: int, epoch: int = 1) -> str:
-    """The name of a sender's datagram file.
+    """The name of a sender's datagram file: 10.0.0.1.fldg, 10.0.0.1.2.fldg.
 
-    It is made of the address, the epoch, and the number of the file in the epoch: 10.0.0.1.fldg,
-    10.0.0.1.2.fldg, 10.0.0.1.e2.fldg, 10.0.0.1.e2.2.fldg.
+    Versions of before wrote files of a further run of a sender as 10.0.0.1.e2.fldg.
     """
     return stem(text, epoch) + (f".{part}" if part > 1 else "") + ".fldg"
 
@@ -322,6 +324,13 @@ def name_of(name: str) -> Optional[Name]:
     return Name(address, epoch, part) if is_usual else None
 
 
+def address_in(name: str) -> Optional[IPAddress]:
+    """The sender of a file of whatever kind, as 10.0.0.1.g2.journal, by its name, or None."""
+    of = None if name_of(name) else KEPT.fullmatch(name)
+    found = name_of(f"{of[1]}.fldg" if of else name)
+    return found.address if found else None
+
+
 def join_lines(sender: bytes, journal: str, inputs: list[str]) -> Iterator[str]:
     """Yields the commands that join a sender's files, with the journal that an earlier run made.
 
@@ -336,6 +345,12 @@ def join_lines(sender: bytes, journal: str, inputs: list[str]) -> Iterator[str]:
         yield " ".join(map(quoted, words))
         rest = inputs[MOST_INPUTS:]
         inputs = [journal, *rest] if rest else []
+
+
+def gather_lines(folder: str, inputs: list[str]) -> Iterator[str]:
+    """Yields the command that joins a sender's files by what agrees."""
+    paths = [f"./{path}" if path.startswith("-") else path for path in inputs]
+    yield " ".join(map(quoted, ["flutejoin-gather", "-o", folder, *paths]))
 
 
 def address(sender: bytes) -> str:

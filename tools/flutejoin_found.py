@@ -12,8 +12,9 @@ import stat
 import sys
 from typing import Iterable, NamedTuple, Optional, Tuple, Union
 
-from flutejoin_epochs import Epoch, may_tell_of_instance
 from flutejoin_files import IPAddress, Name, file_name
+from flutejoin_hints import Hint
+from flutejoin_instances import may_tell_of_instance
 from flutejoin_notes import Fault, note
 from flutejoin_records import HEADER, LENGTH, PIECE, Looked, ends, last_whole
 
@@ -58,7 +59,7 @@ class Found(NamedTuple):
     identity: Tuple[int, int]  # device and inode number
     size: Optional[int]  # None if it is left as it is, and another file is begun
     records: int
-    epoch: Epoch
+    hint: Hint
 
 
 def look_at(folder: str, name: Name, most: Optional[int] = None) -> Found:
@@ -67,20 +68,18 @@ def look_at(folder: str, name: Name, most: Optional[int] = None) -> Found:
     One of more than `most` bytes, and those before it, are not read, and another is begun. Raises
     Fault if the file can't be read or is no datagram file.
     """
-    path = os.path.join(folder, file_name(str(name.address), name.part, name.epoch))
+    path = os.path.join(folder, file_name(str(name.address), name.part))
     looked: Looked = collections.deque(maxlen=MOST_LOOKED)
     try:
         with open(os.open(path, os.O_RDWR | FLAGS), "r+b", 0) as file:
             found = os.fstat(file.fileno())
             identity = found.st_dev, found.st_ino
             if most is not None and found.st_size > most:
-                return Found(name, identity, None, 0, Epoch())
+                return Found(name, identity, None, 0, Hint())
             size, records = last_of(file, path, found, looked)
-            epoch = epoch_of(file, size, looked)
-            if not epoch.hashes and name.part > 1:
-                epoch = epoch_in(folder, name._replace(part=name.part - 1), most)
+            hint = hint_of(file, size, looked)
             kept = size if mended(file, path, size, found.st_size) else None
-            return Found(name, identity, kept, records, epoch)
+            return Found(name, identity, kept, records, hint)
     except OSError as error:
         if os.path.islink(path):
             raise Fault(1, f"{path}: is a link, and is left as it is") from None
@@ -139,33 +138,16 @@ def keep_beside(path: str, cut: bytes) -> str:
             raise
 
 
-def epoch_in(folder: str, name: Name, most: Optional[int] = None) -> Epoch:
-    """What an earlier file contains of FDT Instances.
-
-    Nothing if it is no longer there, or has more than `most` bytes.
-    """
-    looked: Looked = collections.deque(maxlen=MOST_LOOKED)
-    try:
-        path = os.path.join(folder, file_name(str(name.address), name.part, name.epoch))
-        with open(os.open(path, os.O_RDONLY | FLAGS), "rb", 0) as file:
-            found = os.fstat(file.fileno())
-            if most is not None and found.st_size > most:
-                return Epoch()
-            return epoch_of(file, last_of(file, path, found, looked)[0], looked)
-    except (OSError, Fault):
-        return Epoch()
-
-
-def epoch_of(file: io.FileIO, size: int, looked: Looked) -> Epoch:
+def hint_of(file: io.FileIO, size: int, looked: Looked) -> Hint:
     """What a file contains, near its end, of FDT Instances."""
-    epoch, records = Epoch(), sum(count for _, count in looked)
+    hint, records = Hint(), sum(count for _, count in looked)
     while records > MOST_RECORDS:
         records -= looked.popleft()[1]
     for place, _ in looked:
         file.seek(place)
         for datagram in datagrams_of_instances(file.read(min(PIECE, size - place))):
-            epoch.contradicts(datagram)
-    return epoch
+            hint.look(datagram)
+    return hint
 
 
 def datagrams_of_instances(piece: bytes) -> Iterable[bytes]:

@@ -7,17 +7,14 @@ from __future__ import annotations
 
 import collections
 import contextlib
-import enum
 import errno
 import fcntl
 import os
-from typing import TYPE_CHECKING, Iterable, Iterator, NamedTuple, Optional, Tuple, Union
+from typing import TYPE_CHECKING, NamedTuple, Optional, Tuple, Union
 
-from flutejoin_epochs import may_tell_of_instance
 from flutejoin_files import IPAddress, file_name, on_disk
 from flutejoin_notes import note
-from flutejoin_records import HEADER, LENGTH, PIECE, Buffer, Cut, Fault, Records
-from flutejoin_records import last_whole, whole_records
+from flutejoin_records import HEADER, PIECE, Buffer, last_whole, whole_records
 
 if TYPE_CHECKING:
     from flutejoin_writer import Opened
@@ -35,44 +32,18 @@ class Block(NamedTuple):
     records: int
 
 
-class Begin(enum.Enum):
-    """What begins with the next records."""
-
-    PART = 1
+class Begin(NamedTuple):
+    """Another file begins with the next records."""
 
 
-class Turn(NamedTuple):
-    """The next records are of another epoch, which begins or goes on.
-
-    If the last file may have records of that one too, all but those of FDT Instances are copied.
-    """
-
-    epoch: int
-    is_back: bool
-
-
-Order = Union[Block, Begin, Turn]
-
-
-def blocks_of_files(datagrams: Iterable[bytes]) -> Iterator[Block]:
-    """Yields blocks of those datagrams that are of no FDT Instance."""
-    data, records = bytearray(), 0
-    for datagram in datagrams:
-        if not may_tell_of_instance(datagram):
-            data += LENGTH.pack(len(datagram)) + datagram
-            records += 1
-        if len(data) > PIECE:
-            yield Block(data, records)
-            data, records = bytearray(), 0
-    if records:
-        yield Block(data, records)
+BEGIN = Begin()
+Order = Union[Block, Begin]
 
 
 class Grown(NamedTuple):
     """A file that grew in this run."""
 
     path: str
-    epoch: int
     records: int
     new: int
 
@@ -81,11 +52,10 @@ class Growing:
     """The datagram files of one sender, of which the last grows."""
 
     def __init__(
-        self, folder: str, address: IPAddress, opened: Opened, epoch: int = 1, part: int = 1
+        self, folder: str, address: IPAddress, opened: Opened, part: int = 1
     ) -> None:
         self.folder, self.address, self.opened = folder, address, opened
-        self.epoch, self.part = epoch, part
-        self.parts: dict[int, int] = {}  # of other epochs the number of the last file
+        self.part = part
         self.orders: collections.deque[Order] = collections.deque()
         self.descriptor: Optional[int] = None
         self.identity: Optional[Tuple[int, int]] = None  # of a file that is made: device and number
@@ -97,10 +67,10 @@ class Growing:
         self.copies: list[Copy] = []
 
     def path(self) -> str:
-        return self.path_of(self.part, self.epoch)
+        return self.path_of(self.part)
 
-    def path_of(self, part: int, epoch: int) -> str:
-        return os.path.join(self.folder, file_name(str(self.address), part, epoch))
+    def path_of(self, part: int) -> str:
+        return os.path.join(self.folder, file_name(str(self.address), part))
 
     def go_on(self, identity: Tuple[int, int], size: int, records: int) -> None:
         """Continues a file of an earlier run, once its sender sends again."""
@@ -115,7 +85,7 @@ class Growing:
                 if isinstance(order, Block):
                     self.write(order)
                 else:
-                    self.begin(order)
+                    self.begin()
                 self.orders.popleft()
             for copy in self.copies:
                 copy.step()
@@ -132,31 +102,7 @@ class Growing:
     def has_work(self) -> bool:
         return bool(self.orders or self.copies)
 
-    def begin(self, what: Union[Begin, Turn]) -> None:
-        before = self.path() if self.records > self.before else None
-        self.close()
-        self.end_file()
-        if isinstance(what, Begin):
-            self.part += 1
-            return
-        self.parts[self.epoch] = self.part
-        self.epoch, self.part = what.epoch, self.parts.get(what.epoch, 0) + 1
-        if what.is_back and before:
-            self.take_over(before)
-
-    def take_over(self, path: str) -> None:
-        """Copies the records of files out of a datagram file into one of this epoch.
-
-        They came while a datagram, perhaps forged, had begun another epoch.
-        """
-        taken = self.taken
-        try:
-            with open(os.open(path, os.O_RDONLY | os.O_NONBLOCK | os.O_NOFOLLOW), "rb") as file:
-                for block in blocks_of_files(Records(file)):
-                    self.write(block)
-        except (OSError, Fault, Cut) as fault:
-            note(f"{path}: not all of it could be copied to {self.path()}: {fault}")
-        self.taken = taken  # the blocks that were given
+    def begin(self) -> None:
         self.close()
         self.end_file()
         self.part += 1
@@ -164,7 +110,7 @@ class Growing:
     def end_file(self) -> None:
         if self.records > self.before:
             new = self.records - self.before
-            self.done.append(Grown(self.path(), self.epoch, self.records, new))
+            self.done.append(Grown(self.path(), self.records, new))
         self.identity, self.size, self.records, self.before = None, 0, 0, 0
 
     def write(self, block: Block) -> None:
@@ -200,7 +146,7 @@ class Growing:
         except OSError as fault:
             told = "the record that is cut at its end cannot be taken away"
             note(f"{self.path()}: {told}: {fault.strerror}")
-            self.orders.appendleft(Begin.PART)
+            self.orders.appendleft(BEGIN)
             return
         self.add(whole, end if records else 0, records)
         if records:
@@ -303,13 +249,13 @@ class Copy:
 
     def __init__(self, growing: Growing, source: int) -> None:
         self.growing, self.source = growing, source
-        self.epoch, self.part = growing.epoch, growing.part
+        self.part = growing.part
         self.size, self.records, self.before = growing.size, growing.records, growing.before
         self.copied, self.is_done = 0, False
         self.target: Optional[int] = None
 
     def path(self) -> str:
-        return self.growing.path_of(self.part, self.epoch)
+        return self.growing.path_of(self.part)
 
     def step(self) -> None:
         """Copies a few pieces. After a fault the next call continues there."""
@@ -341,7 +287,7 @@ class Copy:
         self.growing.lost += self.records - records
         if records > self.before:
             new = records - self.before
-            self.growing.done.append(Grown(self.path(), self.epoch, records, new))
+            self.growing.done.append(Grown(self.path(), records, new))
         for descriptor in (self.source, self.target):
             if descriptor is not None:
                 os.close(descriptor)

@@ -9,7 +9,8 @@ import json
 import os
 import stat
 import time
-from typing import Callable, Iterable, NamedTuple, Optional
+from types import MappingProxyType
+from typing import Callable, Iterable, Mapping, NamedTuple, Optional
 
 import flutejoin_files as files
 from flutejoin_files import IPAddress, name_of
@@ -18,27 +19,38 @@ from flutejoin_records import HEADER, last_whole
 from flutejoin_shelves import bring_to_disk
 from flutejoin_status import replace_text
 
-QUIET = 60  # seconds after which the file of an epoch that another one followed grows no more
 SHARE = 20  # a look at the files comes at most in each twentieth part of the time
 MOST_MARKED = 4096  # bytes before the end of what is joined, by which the file is known again
 FIRST_DELAY, LONGEST_DELAY = 10, 300  # seconds until a join that failed is repeated
 REMEMBER_EACH = 10  # seconds between two writes of what is joined
 
 
+class Number(NamedTuple):
+    """The number of a datagram file; files of before had an epoch too."""
+
+    epoch: int
+    part: int
+
+
 class Sender(NamedTuple):
-    """The sender of a journal: an address and an epoch."""
+    """The sender of journals."""
 
     address: IPAddress
-    epoch: int
 
     def stem(self) -> str:
-        return files.stem(str(self.address), self.epoch)
+        return files.stem(str(self.address))
 
 
-def sender_of(name: str) -> Optional[tuple[Sender, int]]:
+def sender_of(name: str) -> Optional[tuple[Sender, Number]]:
     """The sender and the number in the name of a datagram file, or None if it is no such name."""
     found = name_of(name)
-    return (Sender(found.address, found.epoch), found.part) if found else None
+    return (Sender(found.address), Number(found.epoch, found.part)) if found else None
+
+
+def sender_in(name: str) -> Optional[Sender]:
+    """The sender of a file of whatever kind in a station's folder, by its name, or None."""
+    address = files.address_in(name)
+    return Sender(address) if address else None
 
 
 class NoDatagramFile(Exception):
@@ -48,12 +60,13 @@ class NoDatagramFile(Exception):
 class Part:
     """A datagram file, and up to where its facts are in a journal on the disk."""
 
-    def __init__(self, path: str, number: int) -> None:
-        self.path, self.number = path, number
+    def __init__(self, path: str, number: Number, sender: Optional[Sender] = None) -> None:
+        self.path, self.number, self.sender = path, number, sender
+        self.joined_at = float("-inf")
         self.taken = self.end = len(HEADER)
         self.size, self.is_last, self.stays = 0, True, True
         self.inode: Optional[int] = None
-        self.changed, self.grown_at = 0, 0.0  # by the clock of the files, and by one never set
+        self.changed = 0.0  # when it was written last, in seconds since 1970
 
     def name(self) -> str:
         return os.path.basename(self.path)
@@ -71,8 +84,8 @@ class Part:
         if found.st_size > self.size:
             with open(self.path, "rb", buffering=0) as file:
                 self.end, _ = last_whole(file, found.st_size, self.taken)
-            self.size, self.grown_at = found.st_size, time.monotonic()
-        self.changed = found.st_mtime_ns
+            self.size = found.st_size
+        self.changed = found.st_mtime
 
     def check(self, found: os.stat_result) -> None:
         """Raises NoDatagramFile unless the file is one.
@@ -126,10 +139,11 @@ class State:
     """When a sender's datagrams were joined last, and when the next try is due after a failure."""
 
     def __init__(self) -> None:
-        self.joined_at = self.next_try = self.count_at = float("-inf")
+        self.joined_at = self.next_try = float("-inf")
         self.delay = self.wanted = 0  # free bytes that a failed join needed
+        self.reasons: collections.Counter[str] = collections.Counter()  # why datagrams are refused
         self.suspects: set[str] = set()  # paths of datagram files that are joined one by one
-        self.joins = self.refused = self.conflicts = 0  # symbols in conflict at the last count
+        self.joins = self.refused = self.others = 0  # symbols that differed, and are set aside
 
     def is_due(self, part: Part, now: float, every: float) -> bool:
         return part.is_new() and (not part.is_last or now >= self.joined_at + every)
@@ -207,8 +221,13 @@ class Incoming:
     Many files take long to look at, so the next look is due at `look_at`.
     """
 
-    def __init__(self, folder: str, is_kept: Callable[[Sender], bool]) -> None:
-        self.path, self.is_kept = os.path.join(folder, "in"), is_kept
+    def __init__(
+        self,
+        folder: str,
+        is_kept: Callable[[Sender], bool],
+        same: Mapping[IPAddress, IPAddress] = MappingProxyType({}),
+    ) -> None:
+        self.path, self.is_kept, self.same = os.path.join(folder, "in"), is_kept, same
         self.joined = Joined(os.path.join(folder, "joined.json"))
         self.parts: dict[str, Part] = {}
         self.found: dict[Sender, list[Part]] = {}
@@ -226,13 +245,16 @@ class Incoming:
         found: dict[Sender, list[Part]] = collections.defaultdict(list)
         self.faults = []
         for name in os.listdir(self.path):
-            sender, number = sender_of(name) or (None, 0)
-            part = self.parts.get(name) or Part(os.path.join(self.path, name), number)
-            if sender and self.can_be_read(sender, part):
-                found[sender].append(part)
+            sender, number = sender_of(name) or (None, Number(1, 1))
+            part = self.parts.get(name) or Part(os.path.join(self.path, name), number, sender)
+            one = sender and Sender(self.same.get(sender.address, sender.address))
+            if one and self.can_be_read(one, part):
+                found[one].append(part)
         for parts in found.values():
-            parts.sort(key=lambda part: part.number)
-        mark_last(found, began if self.is_receiving else float("inf"))
+            # Those of an epoch of before come first, and of those that grow the one that waits.
+            parts.sort(key=lambda part: (part.number.epoch == 1, part.number))
+            mark_last(parts)
+            parts.sort(key=lambda part: part.joined_at if part.is_last else float("-inf"))
         self.found = found
         self.parts = {part.name(): part for parts in found.values() for part in parts}
         ends = {name: part.end for name, part in self.parts.items()}
@@ -262,20 +284,11 @@ class Incoming:
         return sum(part.end - part.taken for part in self.parts.values())
 
 
-def mark_last(found: dict[Sender, list[Part]], now: float) -> None:
+def mark_last(parts: list[Part]) -> None:
     """Marks the files that may grow, and those that stay for a receiver that starts again.
 
-    Of an address these are the last one in time, and that of the last epoch, whose number counts.
-    A receiver that goes back to an earlier epoch begins another file.
+    Of each address that is the last one. A file of an epoch of before grows no more.
     """
-    newest: dict[files.IPAddress, tuple[int, int]] = {}
-    epochs: dict[files.IPAddress, int] = {}
-    for (address, epoch), parts in found.items():
-        newest[address] = max((parts[-1].changed, epoch), newest.get(address, (0, 0)))
-        epochs[address] = max(epoch, epochs.get(address, 0))
-    for (address, epoch), parts in found.items():
-        for part in parts:
-            is_newest = (part.changed, epoch) == newest[address]
-            is_end = part is parts[-1]
-            part.stays = is_end and (is_newest or epoch == epochs[address])
-            part.is_last = part.stays or is_end and now < part.grown_at + QUIET
+    last = {part.sender: part for part in parts if part.number.epoch == 1}
+    for part in parts:
+        part.is_last = part.stays = last.get(part.sender) is part

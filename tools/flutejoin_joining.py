@@ -9,12 +9,13 @@ import re
 import select
 import signal
 import subprocess
-from typing import IO, Callable, Iterator, NamedTuple, Optional, Sequence, Union
+from typing import IO, Callable, Iterable, Iterator, NamedTuple, Optional, Sequence, TypeVar, Union
 
 from flutejoin_files import PARTIAL
 from flutejoin_packets import header_of
 from flutejoin_records import HEADER, LENGTH, Buffer, ends
 
+T = TypeVar("T")
 PIECE = 1 << 20  # bytes that are handed to a join at once
 NICE = 10
 LOOK = 0.5  # seconds between two calls of `tend` during a join
@@ -23,7 +24,6 @@ MOST_SESSIONS = 64  # that one `flutejoin join` takes by their names
 MOST_COUNTED = 1 << 16  # sessions that are counted at a time
 TEND_EACH = 4096  # datagrams
 FULL = "full"  # the program's message where more came than one join holds
-CONFLICTING = re.compile(rb" conflicting (\d+) ")
 
 
 class Answer(NamedTuple):
@@ -37,6 +37,11 @@ class Answer(NamedTuple):
         """A number that a join printed, as of the datagrams that it `refused`."""
         found = re.search(rf"^{what} (\d+)$".encode(), self.out, re.MULTILINE)
         return int(found[1]) if found else 0
+
+    def reasons(self) -> collections.Counter[str]:
+        """How many datagrams a join refused for each reason."""
+        found = re.findall(rb"^refused (\d+): (.+)$", self.out, re.MULTILINE)
+        return collections.Counter({reason.decode(): int(count) for count, reason in found})
 
 
 class Fed(NamedTuple):
@@ -127,11 +132,12 @@ class Program:
         inputs: Sequence[str],
         fed: Optional[Fed] = None,
         sessions: Sequence[int] = (),
+        without_fdt: bool = False,
     ) -> Answer:
         """Joins inputs, of these sessions alone if there are any, or of those of all joins."""
-        words = ["join", "--source", source.hex(), "--any-size"]
+        words = ["join", "--source", source.hex(), "--any-size", *["--no-fdt"] * without_fdt]
         words += [word for tsi in sessions or self.sessions for word in ("--tsi", str(tsi))]
-        words += ["-o", out, *inputs, *["-"] * bool(fed)]
+        words += ["--reasons", "-o", out, *inputs, *["-"] * bool(fed)]
         try:
             child = self.start(words, subprocess.PIPE if fed else subprocess.DEVNULL)
         except (OSError, subprocess.SubprocessError) as fault:
@@ -144,6 +150,13 @@ class Program:
             except BaseException:
                 child.kill()
                 raise
+
+    def tending(self, items: Iterable[T]) -> Iterator[T]:
+        """Yields these, and tends meanwhile."""
+        for number, item in enumerate(items):
+            if number % TEND_EACH == 0:
+                self.tend()
+            yield item
 
     def start(self, words: Sequence[str], feed: Union[int, IO[bytes]]) -> subprocess.Popen:
         return subprocess.Popen(
@@ -186,15 +199,6 @@ class Program:
             text = os.fsdecode(told).strip() or f"flutejoin ended with status {status}"
             return Answer(status, text, out)
 
-    def conflicts(self, journals: Sequence[str]) -> Optional[int]:
-        """How many symbols are in conflict in one or two journals; None if that cannot be told."""
-        gaps = ["gaps", "--any-size", "--summary"]
-        if len(journals) == 1:
-            answer = self.run([*gaps, *journals])
-        else:
-            answer = self.run(["join", "--any-size", "-o", "-", *journals], [*gaps, "-"])
-        return None if answer.status else sum(map(int, CONFLICTING.findall(answer.out)))
-
     def run(self, *commands: Sequence[str]) -> Answer:
         """Runs commands, of which each reads what the one before it writes.
 
@@ -214,11 +218,6 @@ class Program:
             for child in running:
                 with child:  # which waits for its end
                     child.kill()
-
-    def reason(self, datagram: bytes) -> str:
-        """Why a datagram is refused; empty if it is not, or cannot be told."""
-        answer = self.run(["packet", datagram.hex()])
-        return answer.told if answer.status == 1 else ""
 
     def largest_sessions(self, fed: Fed) -> list[int]:
         """The sessions that have most datagrams, as many as one join takes by their names.

@@ -26,6 +26,9 @@ class Found(NamedTuple):
         """Whether a journal has no value here since two came."""
         return not all(value for _, value in self.values)
 
+    def values_alone(self) -> list[bytes]:
+        return [value for _, value in self.values]
+
     def distinct(self) -> list[bytes]:
         """The values that came, each once."""
         return list(dict.fromkeys(value for _, value in self.values if value))

@@ -1,4 +1,4 @@
-"""The datagram files that flutejoin-capture writes: one or several for each sender and epoch.
+"""The datagram files that flutejoin-capture writes: one or several for each sender.
 
 A file gets its name once it is whole.
 """
@@ -11,8 +11,8 @@ from typing import Iterator
 
 import flutejoin_files as files
 from flutejoin_adapting import Adapting
-from flutejoin_epochs import CONTRADICTING, RENEWED, Epochs, may_tell_of_instance
-from flutejoin_records import HEADER, LENGTH, MOST, Cut, Fault, Records, whole_records
+from flutejoin_hints import TOLD, Hint
+from flutejoin_records import HEADER, LENGTH, MOST, whole_records
 
 MOST_SENDERS = 200  # each has an open file
 MOST_ADAPTED = 4096  # senders of whose datagrams something is remembered
@@ -46,8 +46,8 @@ class Part:
     The bytes that wait to be written begin with a whole record.
     """
 
-    def __init__(self, path: str, epoch: int) -> None:
-        self.path, self.epoch, self.size, self.count = path, epoch, 0, 0
+    def __init__(self, path: str) -> None:
+        self.path, self.size, self.count = path, 0, 0
         if os.path.lexists(path):
             raise FileExistsError(errno.EEXIST, "is there already", path)
         self.file = open(path + files.PARTIAL, "xb", buffering=0)
@@ -94,7 +94,7 @@ class Part:
 
 
 class Files:
-    """The datagram files of a folder: of each sender one, or several parts and epochs."""
+    """The datagram files of a folder: of each sender one, or several."""
 
     def __init__(self, folder: str, split: int, report: files.Report) -> None:
         self.folder, self.split, self.report = folder, split, report
@@ -103,10 +103,9 @@ class Files:
         self.left_out: collections.Counter[str] = collections.Counter()
         # The bytes of senders that have no file, since there are too many
         self.beyond: collections.Counter[bytes] = collections.Counter()
-        self.epochs: dict[bytes, Epochs] = {}  # of each sender
+        self.hints: dict[bytes, Hint] = {}  # of each sender
         self.adapting: dict[bytes, Adapting] = {}
-        # How many files a sender has of an epoch
-        self.parts: collections.Counter[tuple[bytes, int]] = collections.Counter()
+        self.parts: collections.Counter[bytes] = collections.Counter()  # how many files it has
         self.is_made = False
 
     def make_folder(self) -> None:
@@ -124,12 +123,12 @@ class Files:
         if not os.access(self.folder, os.W_OK | os.X_OK):
             raise Unwritable(f"cannot make files in the folder {self.folder}")
 
-    def path(self, sender: bytes, part: int, epoch: int) -> str:
-        return os.path.join(self.folder, files.file_name(files.address(sender), part, epoch))
+    def path(self, sender: bytes, part: int) -> str:
+        return os.path.join(self.folder, files.file_name(files.address(sender), part))
 
     def take(self, sender: bytes, payload: bytes, when: int | None = None) -> None:
         """Adds a datagram in the form that flutejoin reads, or counts it as left out."""
-        if sender not in self.epochs and len(self.epochs) >= MOST_SENDERS:
+        if sender not in self.hints and len(self.hints) >= MOST_SENDERS:
             self.add(sender, payload, when)  # which counts it as left out
             return
         adapting = self.adapting.get(sender) or Adapting()
@@ -152,12 +151,6 @@ class Files:
 
     def add(self, sender: bytes, payload: bytes, when: int | None = None) -> None:
         """Adds a datagram. `when` is the second at which it came, if that is known."""
-        if may_tell_of_instance(payload) and self.is_too_often(sender, payload, when or 0):
-            self.left_out[CONTRADICTING] += 1
-            return
-        if may_tell_of_instance(payload) and self.is_renewed(sender, payload):
-            self.left_out[RENEWED] += 1
-            return
         part = self.open.get(sender)
         size = len(payload) + 2
         is_full = part and (
@@ -171,45 +164,10 @@ class Files:
             part.waiting += LENGTH.pack(size - 2)
             part.waiting += payload
             part.count += 1
+            if self.hints[sender].look(payload):
+                self.report.warn(f"{files.address(sender)} {TOLD}")
             if len(part.waiting) > 65536:
                 self.flush(part)
-
-    def is_too_often(self, sender: bytes, payload: bytes, when: int) -> bool:
-        """Whether a datagram is left out, since too many epochs would begin.
-
-        A datagram of an FDT Instance may begin the sender's next epoch.
-        """
-        epochs = self.epochs.get(sender)
-        if epochs is None and sender not in self.refused and len(self.epochs) < MOST_SENDERS:
-            epochs = self.epochs[sender] = Epochs()
-        if epochs is None:
-            return False
-        begins = epochs.begins(payload, when)
-        if begins:
-            self.report.warn(f"{files.address(sender)} {epochs.told()}")
-            before = self.open.get(sender)
-            if before:
-                self.close(sender)
-                if epochs.is_back:
-                    self.take_over(sender, before.path)
-        return begins is None
-
-    def is_renewed(self, sender: bytes, payload: bytes) -> bool:
-        epochs = self.epochs.get(sender)
-        return epochs is not None and epochs.is_renewed(payload)
-
-    def take_over(self, sender: bytes, path: str) -> None:
-        """Copies the datagrams of files out of a sender's last file into one of its epoch now.
-
-        They came while a datagram, perhaps forged, had begun another epoch.
-        """
-        try:
-            with open(path, "rb") as file:
-                for datagram in Records(file):
-                    if not may_tell_of_instance(datagram):
-                        self.add(sender, datagram)
-        except (OSError, Fault, Cut) as fault:
-            self.report.fault(3, f"{path}: cannot be read again: {fault}")
 
     def count_beyond(self, sender: bytes, size: int) -> None:
         """Counts a datagram of a sender that has no file. Those of fewest bytes are forgotten."""
@@ -231,13 +189,13 @@ class Files:
         if sender in self.refused:
             self.left_out[OCCUPIED] += 1
             return None
-        if sender not in self.epochs and len(self.epochs) >= MOST_SENDERS:
+        if sender not in self.hints and len(self.hints) >= MOST_SENDERS:
             self.count_beyond(sender, size)
             return None
-        epoch = self.epochs.setdefault(sender, Epochs()).number
-        path = self.path(sender, self.parts[sender, epoch] + 1, epoch)
+        self.hints.setdefault(sender, Hint())
+        path = self.path(sender, self.parts[sender] + 1)
         try:
-            self.open[sender] = Part(path, epoch)
+            self.open[sender] = Part(path)
         except FileExistsError as fault:
             hint = ""
             if fault.filename.endswith(files.PARTIAL):
@@ -248,7 +206,7 @@ class Files:
                 f"no other file is written for its sender{hint}",
             )
             self.refused.add(sender)
-            self.epochs.pop(sender)
+            self.hints.pop(sender)
             self.left_out[OCCUPIED] += 1
         except OSError as fault:
             raise Unwritable(f"{path}: cannot be made: {fault.strerror}") from None
@@ -282,7 +240,7 @@ class Files:
             self.refused.add(sender)
             return
         if part.count:
-            self.parts[sender, part.epoch] += 1
+            self.parts[sender] += 1
             self.report.say(f"{part.path}: {part.count} datagrams from {files.address(sender)}")
 
     def finish(self) -> None:
@@ -299,10 +257,12 @@ class Files:
         return any(self.parts.values())
 
     def join_lines(self) -> Iterator[str]:
-        """Yields the commands that join the files of each sender, epoch by epoch."""
-        for (sender, epoch), parts in self.parts.items():
-            if parts:
-                stem = files.stem(files.address(sender), epoch)
+        """Yields the commands that join the files of each sender."""
+        for sender, parts in self.parts.items():
+            paths = [self.path(sender, part + 1) for part in range(parts)]
+            if paths and self.hints[sender].has_changed:
+                yield from files.gather_lines(self.folder, paths)
+            elif paths:
+                stem = files.stem(files.address(sender))
                 journal = os.path.join(self.folder, stem + ".journal")
-                paths = [self.path(sender, part + 1, epoch) for part in range(parts)]
                 yield from files.join_lines(sender, journal, paths)

@@ -26,7 +26,7 @@ MOST_INFORMATION = 32  # kinds of transmission information of an object that are
 MOST_TRIED = 1 << 10  # combinations of the values of an object
 MOST_KEPT = 1 << 24  # bytes of values that are held in memory
 COST = 200  # of them for a symbol
-MOST_LEADS = 16  # journals that are believed first
+MOST_LEADS = 32  # journals that are believed first
 MOST_COMPARED = 1 << 12  # symbols of an object by which journals are compared
 
 Order = Tuple[int, ...]  # the numbers of journals: the first that has a fitting value is believed

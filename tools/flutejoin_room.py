@@ -8,8 +8,9 @@ import time
 from typing import Iterable, Iterator, NamedTuple, Optional
 
 import flutejoin_files as files
-from flutejoin_incoming import SHARE, Sender, sender_of
-from flutejoin_shelves import NAME, Shelf, entries_of, remove
+from flutejoin_incoming import SHARE, sender_in
+from flutejoin_instances import NAME as DOCUMENT
+from flutejoin_shelves import Shelf, entries_of, remove
 
 LOOK_EACH = 10  # seconds between two looks at the disk
 MOST_SENDERS = 1 << 14  # that are kept with a bound, since each file also takes an inode
@@ -53,12 +54,9 @@ def below(value: int, most: int) -> int:
 
 def stem_of(name: str) -> Optional[str]:
     """The stem in a name in any folder of a station; None if it is not of a sender."""
-    found = sender_of(name)
-    if found:
-        return found[0].stem()
-    numbered = NAME.fullmatch(name)
-    stem = numbered[1] if numbered else name.removesuffix(".journal")
-    return stem if sender_of(f"{stem}.fldg") and stem != name else None
+    of = DOCUMENT.fullmatch(name)
+    sender = sender_in(f"{of[1]}.fldg" if of else name)
+    return sender.stem() if sender else None
 
 
 class Room:
@@ -168,20 +166,9 @@ class Room:
     def order(self) -> list[str]:
         """The senders that may go, the first one first."""
         stems = sorted(self.held, key=lambda it: (self.held[it].bytes, self.held[it].seen))
-        last = self.last_epochs()
-        stems = [stem for stem in stems[:-1] if stem not in last]
         return sorted(
-            stems, key=lambda it: (self.held[it].bytes.bit_length(), self.held[it].seen)
+            stems[:-1], key=lambda it: (self.held[it].bytes.bit_length(), self.held[it].seen)
         )
-
-    def last_epochs(self) -> set[str]:
-        """The last epoch of each address that has others too: the next one counts from it."""
-        of: dict[files.IPAddress, list[Sender]] = collections.defaultdict(list)
-        for stem in self.held:
-            sender, _ = sender_of(f"{stem}.fldg") or (None, 0)
-            if sender:
-                of[sender.address].append(sender)
-        return {max(senders).stem() for senders in of.values() if len(senders) > 1}
 
     def let_go(self, path: str) -> None:
         """Removes a file. A receiver may have it open, and would write it anew if it were gone."""

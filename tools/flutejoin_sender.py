@@ -3,11 +3,11 @@ from __future__ import annotations
 
 import collections
 import time
-from typing import TYPE_CHECKING, Optional, Union
+from typing import TYPE_CHECKING, Optional
 
 from flutejoin_adapting import Adapting
-from flutejoin_epochs import CONTRADICTING, RENEWED, Epochs
-from flutejoin_growing import Begin, Block, Growing, Turn
+from flutejoin_growing import BEGIN, Block, Growing
+from flutejoin_hints import TOLD, Hint
 from flutejoin_newcomers import Pace
 from flutejoin_notes import note
 from flutejoin_records import HEADER, LENGTH, MOST, Buffer
@@ -16,7 +16,7 @@ if TYPE_CHECKING:
     from flutejoin_senders import Senders
 
 WRITE_AT = 1 << 18  # bytes that wait for a file before they are handed to the writer in any case
-ENOUGH = 1 << 16  # bytes of a sender after which a file or an epoch of it may begin in any case
+ENOUGH = 1 << 16  # bytes of a sender after which a file of it may begin in any case
 
 UNWRITTEN = "not written, after a fault"
 TOO_SLOW = "not written, since the disk was slower than what came"
@@ -30,9 +30,8 @@ class Sender:
         self.keys: list[tuple[dict, bytes]] = []  # where it is registered under its address
         self.waiting = bytearray()
         self.begin_file()
-        self.epochs = Epochs(self.may_begin)
+        self.hint = Hint()
         self.adapting = Adapting()
-        self.begun_at = 0  # `total` when its last epoch began
         self.datagrams = self.bytes = 0  # of this run
         self.total = 0  # bytes of records that are handed over, those of earlier runs too
         self.pace = Pace(0)
@@ -50,7 +49,7 @@ class Sender:
         """
         split = self.senders.split
         if self.grown + size > split and self.records or self.records >= MOST:
-            self.begin(Begin.PART)
+            self.begin()
         elif len(self.waiting) > WRITE_AT:
             self.hand_over()
         # A record has at least 2 bytes.
@@ -67,9 +66,9 @@ class Sender:
         self.grown += size
         self.records += 1
 
-    def begin(self, what: Union[Begin, Turn]) -> None:
+    def begin(self) -> None:
         self.hand_over()
-        self.writer.give(self.growing, what)
+        self.writer.give(self.growing, BEGIN)
         self.begin_file()
 
     def hand_over(self) -> None:
@@ -93,27 +92,7 @@ class Sender:
         self.left_out[cause] += count
         self.senders.causes[cause] += count
 
-    def contradicts(self, datagram: Buffer, now: float) -> bool:
-        """Looks at a datagram that may be of an FDT Instance, and returns whether it is left out.
-
-        One that contradicts an earlier one begins an epoch, but only a few may begin in a short
-        time.
-        """
-        begins = self.epochs.begins(datagram, now)
-        if begins is None:
-            self.leave_out(CONTRADICTING, 1)
-        elif begins:
-            self.begin(Turn(self.epochs.number, self.epochs.is_back))
-            note(f"{self.growing.address} {self.epochs.told()}")
-        is_renewed = begins is not None and self.epochs.is_renewed(datagram)
-        if is_renewed:
-            self.leave_out(RENEWED, 1)
-        return begins is None or is_renewed
-
-    def may_begin(self, now: float) -> bool:
-        """Whether another epoch may begin: after few bytes, only a few of all senders together."""
-        total = self.sent()
-        if total - self.begun_at < ENOUGH and not self.senders.begun.take(now):
-            return False
-        self.begun_at = total
-        return True
+    def look(self, datagram: Buffer) -> None:
+        """Looks at a datagram that may be of an FDT Instance."""
+        if self.hint.look(datagram):
+            note(f"{self.growing.address} {TOLD}")

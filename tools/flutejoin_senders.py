@@ -12,9 +12,8 @@ import itertools
 import os
 from typing import TYPE_CHECKING, Iterable, Iterator, Optional
 
-from flutejoin_epochs import MOST_EARLIER, Epoch
-from flutejoin_files import IPAddress, Name, file_name, join_lines, name_of, stem
-from flutejoin_found import epoch_in, look_at
+from flutejoin_files import IPAddress, Name, file_name, gather_lines, join_lines, name_of, stem
+from flutejoin_found import look_at
 from flutejoin_growing import Block, Grown, Growing
 from flutejoin_newcomers import Budget, Newcomer, Newcomers, Pace
 from flutejoin_notes import EachMinute, Fault, note
@@ -30,7 +29,6 @@ MOST_SILENT = 4096  # silent senders whose totals are remembered
 # that send alike would change places again and again. Of the sender of most bytes it is more.
 MORE, MUCH_MORE = 1.25, 16
 FILES_A_MINUTE = 16  # of all who sent little
-EPOCHS_A_MINUTE = 16
 
 FEW_CAME = f"of new senders that sent little, beyond {FILES_A_MINUTE} in a minute"
 OUTDONE = "senders of more bytes than one that was kept"
@@ -48,11 +46,10 @@ class Senders:
         self.folder, self.writer, self.most, self.split = folder, writer, most, split
         self.admitted: dict[IPAddress, Sender] = {}
         self.known: dict[IPAddress, Sender] = {}  # others that have files
-        self.found: dict[str, tuple[int, int]] = {}  # of still others the newest: epoch and part
+        self.found: dict[str, int] = {}  # of still others the number of the newest
         self.remembered: collections.deque[Sender] = collections.deque()
         self.newcomers = Newcomers()
         self.files = Budget(most, FILES_A_MINUTE)
-        self.begun = Budget(EPOCHS_A_MINUTE, EPOCHS_A_MINUTE)
         self.forgotten = self.outdone = 0
         self.causes: collections.Counter = collections.Counter()
         self.told = EachMinute()
@@ -68,61 +65,32 @@ class Senders:
         """
         packed = only and {address.packed for address in only}
         sizes: collections.Counter[str] = collections.Counter()
-        same: dict[tuple[int, int], tuple[int, int]] = {}  # each pair once, however many senders
         for entry in self.folder.entries():
             address, epoch, part = entry.name
-            if not packed or address.packed in packed:
+            if epoch == 1 and (not packed or address.packed in packed):
                 text = str(address)
-                number = same.setdefault((epoch, part), (epoch, part))
-                self.found[text] = max(self.found.get(text, number), number)
+                self.found[text] = max(self.found.get(text, part), part)
                 sizes[text] += entry.size
         most = len(sizes) if packed else self.most
         chosen = heapq.nlargest(most, sizes, key=lambda text: sizes[text])
-        of_epochs = self.last_files({text for text in chosen if self.found[text][0] > 1})
         for text in chosen:
-            found = of_epochs.get(text, {})
-            if found:  # the one that was written last goes on
-                epoch = max(found, key=lambda epoch: (found[epoch][1], epoch))
-                self.found[text] = epoch, found[epoch][0]
             sender = self.go_on(ipaddress.ip_address(text))
-            self.remember_epochs(sender, found)
             sender.total = sizes[text]
             self.known[sender.growing.address] = sender
-
-    def last_files(self, texts: set[str]) -> dict[str, dict[int, tuple[int, int]]]:
-        """The number of the last file of each epoch of these senders, and when it was written."""
-        found: dict[str, dict[int, tuple[int, int]]] = {}
-        for entry in self.folder.entries() if texts else ():
-            address, epoch, part = entry.name
-            if str(address) in texts:
-                last = found.setdefault(str(address), {})
-                last[epoch] = max(last.get(epoch, (0, 0)), (part, entry.changed))
-        return found
-
-    def remember_epochs(self, sender: Sender, found: dict[int, tuple[int, int]]) -> None:
-        """Reads what earlier runs received of the FDT Instances of other epochs of a sender."""
-        growing, epochs = sender.growing, sender.epochs
-        others = sorted(found.keys() - {growing.epoch}, key=lambda epoch: found[epoch][1])
-        growing.parts = {epoch: found[epoch][0] for epoch in others}
-        epochs.last = max([growing.epoch, *others])
-        for epoch in others[-MOST_EARLIER:]:
-            name = Name(growing.address, epoch, found[epoch][0])
-            epochs.epoch.add_earlier(epoch, epoch_in(self.folder.path, name).hashes)
 
     def go_on(self, address: IPAddress, most: Optional[int] = None) -> Sender:
         """A sender that has files. The newest is read, unless it has more than `most` bytes."""
         sender = self.sender(address)
-        epoch, part = self.found.pop(str(address))
-        growing, epochs = sender.growing, sender.epochs
-        growing.epoch, growing.part, epochs.number = epoch, part, epoch
+        part, growing = self.found.pop(str(address)), sender.growing
+        growing.part = part
         try:
-            found = look_at(self.folder.path, Name(address, epoch, part), most)
+            found = look_at(self.folder.path, Name(address, 1, part), most)
         except Fault as fault:
             if os.path.lexists(growing.path()):
                 note(f"{fault}; another file is begun for its sender")
             growing.part += 1
             return sender
-        epochs.epoch = found.epoch
+        sender.hint = found.hint
         if found.size is None:
             growing.part += 1
         else:
@@ -134,13 +102,13 @@ class Senders:
 
     def remember(self, sender: Sender) -> None:
         """Keeps what a sender sent of FDT Instances, for as many senders as may send."""
-        if sender.epochs.epoch.hashes:
+        if sender.hint.hashes:
             self.remembered.append(sender)
             if len(self.remembered) > self.most:
                 other = self.remembered.popleft()
                 is_admitted = other.growing.address in self.admitted
                 if not is_admitted and other not in self.remembered:
-                    other.epochs.epoch = Epoch()
+                    other.hint.hashes.clear()
 
     def place(self, address: IPAddress, now: float) -> Optional[Sender]:
         """The sender of this address, if it has a place or gets a free one at once."""
@@ -256,7 +224,7 @@ class Senders:
         self.remember(sender)
         if len(self.known) > MOST_SILENT:
             other = self.known.pop(next(iter(self.known))).growing
-            self.found[str(other.address)] = other.epoch, other.part
+            self.found[str(other.address)] = other.part
             self.forgotten += 1
 
     def admit(self, address: IPAddress) -> Sender:
@@ -317,21 +285,23 @@ class Senders:
 
     def lines(self) -> Iterator[str]:
         for sender, files in self.grew():
-            for path, _, records, new in files:
+            for path, records, new in files:
                 more = f", {new} of them new" if new < records else ""
                 yield f"{path}: {records} datagrams from {sender.growing.address}{more}"
 
     def join_lines(self) -> Iterator[str]:
-        """Yields the commands that join the files of each epoch that grew, old ones too."""
+        """Yields the commands that join the files of each sender that grew, old ones too."""
         parts = collections.defaultdict(list)
         for name in filter(None, map(name_of, self.folder.names())):
-            parts[name.address, name.epoch].append(name.part)
-        for sender, files in self.grew():
+            if name.epoch == 1:
+                parts[name.address].append(name.part)
+        for sender, _ in self.grew():
             address = sender.growing.address
-            for epoch in dict.fromkeys(grown.epoch for grown in files):
-                journal = self.path(stem(str(address), epoch) + ".journal")
-                numbers = sorted(parts[address, epoch])
-                paths = [self.path(file_name(str(address), part, epoch)) for part in numbers]
+            journal = self.path(stem(str(address)) + ".journal")
+            paths = [self.path(file_name(str(address), part)) for part in sorted(parts[address])]
+            if sender.hint.has_changed:
+                yield from gather_lines(self.folder.path, paths)
+            else:
                 yield from join_lines(address.packed, journal, paths)
 
     def path(self, name: str) -> str:

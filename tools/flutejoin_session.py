@@ -11,7 +11,7 @@ import flutejoin_gaps as gaps
 import flutejoin_names as names
 from flutejoin_content import ENCODINGS, Checked, Verdict
 from flutejoin_entries import FDT_INSTANCE, FILE
-from flutejoin_gaps import Numbers
+from flutejoin_gaps import Numbers, shown
 from flutejoin_holdings import NOTHING, Held, Key
 from flutejoin_partition import Partition, fault_of
 
@@ -74,6 +74,10 @@ class Described(NamedTuple):
         return ""
 
 
+BAD = Verdict.WRONG, Verdict.WRONG_MD5, Verdict.LEFT
+APART = 1 << 112  # no TOI is so great: a further file of a TOI has its number and some times this
+
+
 class Outcome(NamedTuple):
     """What became of a whole object."""
 
@@ -102,6 +106,7 @@ class Session:
         self.resolved: dict[int, str] = {}  # what of an object was resolved
         self.unresolved: dict[int, str] = {}  # why symbols in conflict were not resolved
         self.suspects: dict[str, Described] = {}  # FDT Instances that are likely forged
+        self.paths: dict[str, str] = {}  # of documents, by their names
 
     def title(self) -> str:
         return f"sender {address_of(self.source)} session {self.tsi}"
@@ -137,6 +142,15 @@ class Session:
         self.files[toi] = described[0]
         if len(described) > 1:
             self.others[toi] = described[1:]
+
+    def apart(self, toi: int, md5: bytes) -> int:
+        """Gives the descriptions with this MD5 a number of their own, and returns it."""
+        number = max(it for it in self.files if it % APART == toi) + APART
+        every, self.held[number] = self.described(toi), self.held[toi]
+        self.others.pop(toi, None)
+        self.put(toi, [each for each in every if each.file.md5 != md5])
+        self.put(number, [each for each in every if each.file.md5 == md5])
+        return number
 
     def usable(self, toi: int) -> list[Described]:
         """The descriptions by which a file can be made, those of newer FDT Instances first."""
@@ -193,7 +207,7 @@ class Session:
                 numbers = sorted((one, other), key=lambda it: it.rank, reverse=True)
                 names = " and ".join(each.instance for each in numbers)
                 yield (
-                    f"{self.title()} object {toi}: FDT Instances {names} differ in "
+                    f"{self.title()} object {toi % APART}: FDT Instances {names} differ in "
                     f"{attributes}; {one.instance} counts, {self.why(toi, other)}"
                 )
 
@@ -215,11 +229,11 @@ class Session:
         """Yields lines about FDT Instances that are likely forged, and what removes them."""
         source = f" --source {self.source.hex()}" if any(self.source) else ""
         for name, described in sorted(self.suspects.items()):
-            words = (
-                f"{self.title()}: FDT Instance {name} contradicts files whose MD5 is right, and "
-                "none is as it says: it may be forged"
-            )
-            if described.number is not None:
+            words = f"{self.title()}: FDT Instance {name} contradicts files whose MD5 is right, "
+            words += "and none is as it says: it may be forged"
+            if self.paths.get(name):
+                words += f"; its file is {shown(self.paths[name])}"
+            elif described.number is not None:
                 words += f"; flutejoin forget{source} --tsi {self.tsi} --toi 0 "
                 words += f"--fdt {described.number} -o J J removes it"
             yield words
@@ -264,7 +278,7 @@ class Session:
 
     def md5s(self, toi: int) -> list[bytes]:
         """The MD5s of a file by its descriptions, the newest first."""
-        return [*dict.fromkeys(each.file.md5 for each in self.usable(toi) if each.file.md5)]
+        return [*dict.fromkeys(it.file.md5 for it in self.usable(toi) if it.file.md5)]
 
     def disagreements(self) -> Iterator[str]:
         """Yields lines about FEC OTI in the FDT that is not valid or contradicts the packets.
@@ -272,7 +286,7 @@ class Session:
         An object that is left alone gets a line too.
         """
         for toi, described in sorted(self.files.items()):
-            front = f"{self.title()} object {toi}"
+            front = f"{self.title()} object {toi % APART}"
             told, fault = described.file.information(), described.file.fault()
             held = self.held.get(toi, NOTHING).information
             if self.is_left_alone(toi):
@@ -316,8 +330,7 @@ class Session:
         newest, tois = self.newest_and_files()
         if newest is None or any(map(self.may_be_newest(newest), self.unread.items())):
             return False
-        wrong = (Verdict.WRONG, Verdict.WRONG_MD5, Verdict.LEFT)
-        if any(outcome.checked.verdict in wrong for outcome in self.outcomes.values()):
+        if any(outcome.checked.verdict in BAD for outcome in self.outcomes.values()):
             return False
         return all(self.is_here(toi) and not self.has_rival(toi, newest) for toi in tois)
 
@@ -361,21 +374,19 @@ class Session:
 
     def claims(self) -> list[names.Claim]:
         """The paths that the files ask for, those of newer descriptions first."""
-        described = sorted(
-            self.files.values(), key=lambda it: (-it.rank[0], -it.rank[1], it.file.toi)
-        )
+        described = sorted(self.files.items(), key=lambda of: ([-it for it in of[1].rank], of[0]))
         session = self.source, self.tsi
         return [
             names.Claim(
-                self.key(it.file.toi),
+                self.key(toi),
                 names.path_of(it.file.location),
                 session,
                 it.instance,
                 it.rank,
-                self.worth(it.file.toi),
+                self.worth(toi),
                 f"{self.tsi}-{it.file.toi}",
             )
-            for it in described
+            for toi, it in described
         ]
 
 

@@ -3,16 +3,19 @@ from __future__ import annotations
 
 import collections
 import errno
+import heapq
 import ipaddress
+import itertools
 import socket
 import time
-from typing import Optional
+from typing import Iterator, Optional
 
 from flutejoin_adapting import Adapting, Taken
 from flutejoin_batches import Batch
-from flutejoin_epochs import may_tell_of_instance
 from flutejoin_files import IPAddress
+from flutejoin_floods import Flood
 from flutejoin_found import address_of
+from flutejoin_instances import may_tell_of_instance
 from flutejoin_notes import EachMinute, Fault, note
 from flutejoin_packets import TOI_PLACES, ZEROS, is_like_flute
 from flutejoin_records import LENGTH, Buffer
@@ -55,7 +58,7 @@ class Session:
         self.options, self.senders, self.interface = options, senders, interface
         self.where, self.is_lost, self.look_at = "", False, float("-inf")
         self.udp = self.listen(interface)
-        self.batch = Batch(self.udp)
+        self.batch, self.flood = Batch(self.udp), Flood(self.udp)
         self.only = packed_for(self.udp.family, options.sender) if options.sender else None
         self.by_key: dict[bytes, Sender] = {}
         self.newcomers = senders.newcomers.by_key
@@ -140,8 +143,7 @@ class Session:
                     continue
             # Datagrams of FDT Instances have TOI 0.
             if head[TOI_PLACES[(head[0] & 15) << 8 | head[1]]] in ZEROS:
-                if sender.contradicts(view[begin:end], now):
-                    continue
+                sender.look(view[begin:end])
             if length > LONGEST:
                 self.too_long += 1
                 continue
@@ -172,8 +174,8 @@ class Session:
         if taken.left_out:
             sender.leave_out(taken.left_out, 1)
         for written in taken.datagrams:
-            if may_tell_of_instance(written) and sender.contradicts(written, now):
-                continue
+            if may_tell_of_instance(written):
+                sender.look(written)
             sender.add(written)
             is_kept = True
         return is_kept
@@ -188,6 +190,8 @@ class Session:
         if self.only is not None:
             if not key.startswith(self.only):
                 self.others += 1
+                if now >= self.tests_at:
+                    self.begin_tests(now)
                 return None
             return self.register(key, self.senders.admit(address_of(key)))
         newcomer = self.newcomers.get(key)
@@ -227,6 +231,17 @@ class Session:
         self.tests = self.repeats = int(MOST_TESTS * TESTS_EACH)
         self.tests_at = now + TESTS_EACH
         self.once.clear()
+        self.flood.tend(self.known)
+
+    def known(self, most: int) -> Iterator[bytes]:
+        """The senders whose datagrams come in also in a flood: some without a place, that sent
+        most, too."""
+        if self.only is not None:
+            yield self.only
+        yield from itertools.islice(self.by_key, most)
+        left = max(0, most - len(self.by_key))
+        again = (key for key, it in self.newcomers.items() if it.count > 1)
+        yield from heapq.nlargest(left, again, key=lambda key: self.newcomers[key].count)
 
     def is_like_flute(self, datagram: Buffer) -> bool:
         """Whether a datagram of an unknown sender is like FLUTE, in whatever form."""
@@ -268,6 +283,7 @@ class Session:
         return collections.Counter({cause: count for cause, count in causes.items() if count})
 
     def each_second(self, now: float) -> None:
+        self.flood.tend(self.known)
         for cause, count in self.left_out().items():
             self.told.tell(cause, count, now)
         for sender in set(self.by_key.values()):

@@ -173,6 +173,7 @@ def complete(options: argparse.Namespace) -> None:
     """Adds the settings of the file, and the defaults."""
     file = read_config(options.config) if options.config is not None else {}
     file.pop("station", None)  # settings of flutejoin-station
+    file.pop("same", None)
     tables = file.pop("session", [])
     if not isinstance(tables, list) or not all(isinstance(table, dict) for table in tables):
         raise ValueError(f"{shown(options.config)}: session is no [[session]]")
@@ -287,6 +288,8 @@ def words_of_station(path: str) -> Iterator[str]:
     if "most" in settings or any("folder" in each for each in [settings, *tables]):
         told = "a station chooses folder by itself, and most is a setting of [station]"
         raise ValueError(f"{path}: {told}")
+    for senders in same_senders(path, settings.get("same", [])):
+        yield f"--same={senders}"
     for key in table:
         if key not in OF_STATION:
             raise ValueError(f"{path}: [station]: there is no setting {key}")
@@ -297,3 +300,12 @@ def words_of_station(path: str) -> Iterator[str]:
                 raise ValueError(f"{path}: [station]: outbox is true or false")
             elif value:
                 yield "--outbox"
+
+
+def same_senders(path: str, tables: Any) -> Iterator[str]:
+    """Yields the senders of each [[same]], with commas between. Raises ValueError."""
+    for table in tables if isinstance(tables, list) else [None]:
+        senders = table.get("senders") if isinstance(table, dict) and len(table) == 1 else None
+        if not isinstance(senders, list) or not all(isinstance(it, str) for it in senders):
+            raise ValueError(f"{path}: [[same]] has one setting, senders, a list of addresses")
+        yield ",".join(senders)

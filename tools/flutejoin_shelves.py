@@ -8,7 +8,7 @@ import os
 import re
 import shutil
 import time
-from typing import Iterator, Optional
+from typing import BinaryIO, Iterator, Optional
 
 from flutejoin_files import PARTIAL
 from flutejoin_notes import Fault
@@ -69,6 +69,12 @@ def remove(path: str) -> None:
         os.unlink(path)
     except FileNotFoundError:
         pass
+
+
+def begin_file(path: str) -> BinaryIO:
+    """Makes a file anew: one of this name, that a killed run left, may have another name too."""
+    remove(path)
+    return open(path, "xb")
 
 
 def bring_to_disk(path: str) -> None:

@@ -8,9 +8,10 @@ import os
 import socket
 import struct
 import sys
-from typing import Iterable, NamedTuple, Optional, Union
+from typing import Callable, Iterable, NamedTuple, Optional, Union
 
 from flutejoin_files import IPAddress
+from flutejoin_floods import LEFT_OUT
 from flutejoin_notes import Fault, note
 from flutejoin_settings import SessionOptions
 
@@ -256,8 +257,9 @@ class Drops:
     together, and for the socket only if it notices that while a datagram is received.
     """
 
-    def __init__(self, sockets: Iterable[socket.socket]) -> None:
-        self.sockets, self.before = list(sockets), system_errors()
+    def __init__(self, sockets: Iterable[socket.socket], filters: Callable[[], bool]) -> None:
+        """`filters` tells whether the system was asked to leave datagrams out."""
+        self.sockets, self.before, self.filters = list(sockets), system_errors(), filters
 
     def by_cause(self) -> dict[str, int]:
         count = sum(dropped_by_system(udp) or 0 for udp in self.sockets)
@@ -267,5 +269,6 @@ class Drops:
             full, checksum = (now - then for now, then in zip(errors, self.before))
         full = min(full, count)
         rest = max(0, count - full - checksum)
-        causes = {FULL: full, CHECKSUM: checksum, f"{FULL}, or a checksum did not hold": rest}
+        other = LEFT_OUT if self.filters() else f"{FULL}, or a checksum did not hold"
+        causes = {FULL: full, CHECKSUM: checksum, other: rest}
         return {cause: number for cause, number in causes.items() if number}

@@ -65,7 +65,10 @@ class Status:
     ) -> None:
         self.path, self.sessions, self.folders = path, sessions, list(folders)
         self.writer, self.began = writer, time.time()
-        self.drops = Drops(session.udp for session in sessions)
+        self.drops = Drops(
+            (session.udp for session in sessions),
+            lambda: any(session.flood.has_filtered for session in sessions),
+        )
         self.is_failing = False
         # The bytes of all files, and of those of some senders, at the last look
         self.bytes, self.held = 0, collections.Counter()
@@ -117,7 +120,6 @@ class Status:
 
     def of_files(self, folder: str, growing: Growing) -> dict:
         return {
-            "epoch": growing.epoch,
             "file": growing.path() if growing.identity else None,
             "bytes_on_disk": self.held[folder, growing.address],
         }

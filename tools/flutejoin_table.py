@@ -11,7 +11,7 @@ import flutejoin_gaps as gaps
 from flutejoin_catalogue import MOST_TOLD, Catalogue
 from flutejoin_content import Verdict
 from flutejoin_holdings import NOTHING
-from flutejoin_session import Outcome, Session, address_of
+from flutejoin_session import APART, Outcome, Session, address_of
 
 HEAD = ("toi", "bytes", "have", "state", "type", "name")
 RIGHT = 3  # columns that are aligned to the right
@@ -67,7 +67,7 @@ def row(session: Session, toi: int) -> list[str]:
     length = information[0] if information else None
     if described and length is None:
         length = described.file.transfer_length()
-    front = [str(toi), "-" if length is None else f"{length:,}", share(session, toi)]
+    front = [str(toi % APART), "-" if length is None else f"{length:,}", share(session, toi)]
     if not described:
         symbols = session.held[toi].symbols
         several = "" if symbols == 1 else "s"
@@ -159,7 +159,7 @@ def json_lines(session: Session) -> Iterator[str]:
         told = {
             "sender": address_of(session.source),
             "tsi": session.tsi,
-            "toi": toi,
+            "toi": toi % APART,
             "name": location(session, toi),
             "type": file.type,
             "bytes": length,

@@ -1,12 +1,12 @@
 """What a station says: its lines, and what its joins printed of each sender."""
 from __future__ import annotations
 
+import collections
 import time
-from typing import TYPE_CHECKING, Callable, NamedTuple, Optional, Sequence
+from typing import TYPE_CHECKING, Callable, NamedTuple, Optional
 
 import flutejoin_files as files
-from flutejoin_incoming import State
-from flutejoin_joining import Answer, Fed, Program
+from flutejoin_joining import Answer, Program
 from flutejoin_notes import EACH, Notes
 
 if TYPE_CHECKING:
@@ -14,10 +14,7 @@ if TYPE_CHECKING:
 
 MOST_LINES = 100  # that are printed in a minute; whoever can send to the port can cause many
 MOST_NAMED = 8  # senders in one line
-MOST_SAMPLES = 16
-MOST_SAMPLE = 1 << 15  # bytes of a datagram that is given to the program as a word
 HOUR = 3600
-COUNT_EACH, COUNT_SHARE = 60, 100  # seconds between two counts of conflicts, or part of the time
 
 
 def instant() -> str:
@@ -76,15 +73,17 @@ class Log(files.Report):
 
 
 class Refused(NamedTuple):
-    """How many datagrams of a sender came since the last line, and how many were refused."""
+    """How many datagrams of a sender came since the last line, how many were refused, and why."""
 
     datagrams: int
     refused: int
+    reasons: collections.Counter[str]
 
-    def told(self, stem: str, reason: str) -> str:
+    def told(self, stem: str) -> str:
         count = f"all {self.refused}" if self.refused == self.datagrams else str(self.refused)
         of = "" if self.refused == self.datagrams else f" of {self.datagrams}"
-        return f"{count}{of} of {stem}" + (f" ({reason})" if reason else "")
+        reasons = ", ".join(f"{many}: {reason}" for reason, many in self.reasons.most_common())
+        return f"{count}{of} of {stem} ({reasons})"
 
 
 class Counts:
@@ -93,40 +92,23 @@ class Counts:
     def __init__(self, report: files.Report, program: Program) -> None:
         self.report, self.program = report, program
         self.datagrams = self.refused = 0
+        self.reasons: collections.Counter[str] = collections.Counter()
         self.since: dict[str, Refused] = {}
-        self.samples: dict[str, bytes] = {}  # a datagram of each of those that are all refused
         self.told_at = float("-inf")
         self.hour, self.before = time.monotonic() + HOUR, (0, 0)
 
-    def add(self, stem: str, answer: Answer, fed: Fed) -> None:
-        """Adds what a join of these datagrams printed."""
-        datagrams, refused = answer.count("datagrams"), answer.count("refused")
-        self.datagrams += datagrams
-        self.refused += refused
-        before = self.since.get(stem, Refused(0, 0))
-        self.since[stem] = Refused(before.datagrams + datagrams, before.refused + refused)
-        is_wanted = stem not in self.samples and len(self.samples) < MOST_SAMPLES
-        if is_wanted and 0 < datagrams == refused:
-            for datagram in fed.datagrams():
-                self.samples[stem] = datagram[:MOST_SAMPLE]
-                break
-
-    def count_conflicts(self, stem: str, state: State, journals: Sequence[str]) -> None:
-        """Reports symbols in conflict, if there are more, in at most a hundredth of the time.
-
-        A sender that sent once, as many made-up ones, costs nothing.
-        """
-        now = time.monotonic()
-        if state.joins < 2 or now < state.count_at:
-            return
-        conflicts = self.program.conflicts(journals)
-        state.count_at = now + max(COUNT_EACH, COUNT_SHARE * (time.monotonic() - now))
-        if conflicts is None:
-            return
-        if conflicts > state.conflicts:
-            told = f"{conflicts} symbols are in conflict, which flutejoin gaps --conflicts names"
-            self.report.warn(f"{stem}: {told}")
-        state.conflicts = conflicts
+    def add(self, stem: str, answer: Answer) -> None:
+        """Adds what a join of this sender's datagrams printed."""
+        new = Refused(answer.count("datagrams"), answer.count("refused"), answer.reasons())
+        self.datagrams += new.datagrams
+        self.refused += new.refused
+        self.reasons += new.reasons
+        before = self.since.get(stem, Refused(0, 0, collections.Counter()))
+        self.since[stem] = Refused(
+            before.datagrams + new.datagrams,
+            before.refused + new.refused,
+            before.reasons + new.reasons,
+        )
 
     def tell(self) -> None:
         """Reports refused datagrams: at once, and then once a minute while there are more."""
@@ -138,22 +120,17 @@ class Counts:
             return
         self.told_at = now
         order = sorted(refused, key=lambda stem: -refused[stem].refused)
-        named = [refused[stem].told(stem, self.reason_of(stem)) for stem in order[:MOST_NAMED]]
+        named = [refused[stem].told(stem) for stem in order[:MOST_NAMED]]
         others = order[MOST_NAMED:]
         if others:
             count = sum(refused[stem].refused for stem in others)
             named.append(f"{count} of {len(others)} other senders")
-        self.samples = {}
         self.report.warn(f"refused datagrams, which flutejoin does not read: {', '.join(named)}")
 
     def tell_last(self) -> None:
         """At the end of a run: the same, at once."""
         self.told_at = float("-inf")
         self.tell()
-
-    def reason_of(self, stem: str) -> str:
-        sample = self.samples.get(stem)
-        return files.shown(self.program.reason(sample)) if sample is not None else ""
 
     def tell_hourly(self, told: Callable[[], str]) -> None:
         """Reports once an hour what was joined and what is kept, if anything was joined."""
@@ -166,13 +143,13 @@ class Counts:
                 self.report.warn(f"in an hour {came[0]} datagrams, {came[1]} refused; {told()}")
 
 
-def conflicts_of(keeper: Keeper) -> int:
-    return sum(state.conflicts for state in keeper.states.values())
+def others_of(keeper: Keeper) -> int:
+    return sum(state.others for state in keeper.states.values())
 
 
 def line_of(keeper: Keeper) -> str:
     """What a station keeps, for a line."""
-    told = f"{conflicts_of(keeper)} symbols in conflict; {keeper.room.bytes} bytes on the disk"
+    told = f"{others_of(keeper)} other values set aside; {keeper.room.bytes} bytes on the disk"
     if keeper.settings.has_outbox:
         outbox = keeper.room.count("outbox")
         told += f", {outbox.bytes} of them in {outbox.files} journals of the outbox"
@@ -185,15 +162,17 @@ def status_of(keeper: Keeper) -> dict:
     for sender, state in keeper.states.items():
         told = journals.get(sender.stem())
         if told is not None:
-            told.update({"refused": state.refused, "in conflict": state.conflicts})
+            told.update({"refused": state.refused, "other values": state.others})
+            told["reasons"] = dict(state.reasons)
     return {
         "journals": journals,
         "other senders": others,
         "bytes to join": keeper.incoming.waiting(),
         "set aside": keeper.room.count("aside").files,
         "datagrams": keeper.counts.datagrams,
+        "reasons": dict(keeper.counts.reasons),
         "refused": keeper.counts.refused,
-        "in conflict": conflicts_of(keeper),
+        "other values": others_of(keeper),
         "outbox": keeper.room.count("outbox")._asdict() if keeper.settings.has_outbox else None,
         "disk": keeper.room.bytes,
         "free": keeper.free(),

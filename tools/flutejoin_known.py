@@ -1,0 +1,87 @@
+"""Transmission information that only FDT Instances have, as a journal beside the others.
+
+Of an object whose packets lack it nobody can tell what is missing. So who asks joins this journal
+with those that are kept: `flutejoin join -o - */10.0.0.1.journal | flutejoin gaps -`. It is never
+joined into them, so a forged FDT Instance changes nothing that is kept.
+"""
+from __future__ import annotations
+
+import io
+import os
+from typing import Iterable, Optional
+
+import flutejoin_fdt as fdt
+import flutejoin_holdings as holdings
+from flutejoin_entries import FILE, INFORMATION, information_of
+from flutejoin_files import PARTIAL
+from flutejoin_holdings import Copy, Key, key_of
+from flutejoin_partition import fault_of
+from flutejoin_records import Cut, Fault
+
+MOST_KNOWN = 1 << 16  # objects of one sender
+
+
+class Known:
+    """The journal of one sender, in a folder of documents."""
+
+    def __init__(self, path: str, source: bytes) -> None:
+        self.path, self.source = path, source
+        self.numbers: dict[Key, tuple[int, int, int]] = {}
+        self.texts: set[int] = set()  # hashes of the documents that were read
+        self.has_changed = False
+        try:
+            self.read()
+        except (OSError, Fault, Cut):
+            self.numbers.clear()
+
+    def read(self) -> None:
+        with open(self.path, "rb", buffering=0) as file:
+            for kind, raw, more in holdings.entries(file):
+                if kind == INFORMATION:
+                    self.numbers[key_of(raw)] = information_of(more)
+
+    def add(self, tsi: int, xml: bytes) -> None:
+        """Adds what a document has. Of several the one that came last counts."""
+        if hash(xml) in self.texts:
+            return
+        if len(self.texts) >= MOST_KNOWN:
+            self.texts.clear()
+        self.texts.add(hash(xml))
+        for toi, numbers in told_by(xml):
+            key = Key(self.source, tsi, FILE, toi)
+            if self.numbers.get(key) != numbers:
+                self.numbers.pop(key, None)
+                self.numbers[key] = numbers
+                self.has_changed = True
+        while len(self.numbers) > MOST_KNOWN:
+            del self.numbers[next(iter(self.numbers))]
+
+    def leave_out(self, keys: Iterable[Key]) -> None:
+        """Drops objects whose packets have transmission information: these count."""
+        for key in keys:
+            self.has_changed |= self.numbers.pop(key, None) is not None
+
+    def write(self) -> None:
+        """Replaces the journal, if anything changed. It can be made again, so nothing waits."""
+        if not self.has_changed:
+            return
+        self.has_changed = False
+        os.makedirs(os.path.dirname(self.path), exist_ok=True)
+        with open(self.path + PARTIAL, "wb") as out:
+            copy = Copy(out)
+            for key in sorted(self.numbers):
+                copy.inform(key, self.numbers[key])
+            copy.finish()
+        os.rename(self.path + PARTIAL, self.path)
+
+
+def told_by(xml: bytes) -> Iterable[tuple[int, tuple[int, int, int]]]:
+    """The transmission information that a document has, by TOI."""
+    try:
+        instance: Optional[fdt.Instance] = fdt.read_from(io.BytesIO(xml), None, "", fdt.Budget())
+    except (fdt.Refused, fdt.Spent):
+        instance = None
+    for toi, file in instance.files.items() if instance else ():
+        numbers = file.information()
+        if numbers and file.fec == fdt.NO_CODE and not fault_of(*numbers):
+            yield toi, numbers
