@@ -1,7 +1,7 @@
 """Tests of `join`: its inputs, its outputs, and the limits of what it joins."""
 from __future__ import annotations
 
-from program_case import FIELDS, HEADER, KEY, NAME, Case, ended, joined, sessions
+from program_case import FIELDS, HEADER, KEY, NAME, Case, ended, joined, lines, sessions
 
 FULL = {"to": "/dev/full"}
 
