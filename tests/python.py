@@ -79,6 +79,12 @@ def keeps_hints_unread(tree: ast.Module) -> bool:
 
 
 class Sources(unittest.TestCase):
+    def test_executable(self) -> None:
+        """Each file that names its interpreter can be run, in a new clone too."""
+        scripts = [it for it in sources(*FOLDERS) if it.read_bytes().startswith(b"#!")]
+        unfit = [it.name for it in scripts if not os.access(it, os.X_OK)]
+        self.assertEqual(unfit, [])
+
     def test_what_is_imported(self) -> None:
         known: frozenset[str] | None = getattr(sys, "stdlib_module_names", None)
         if known is None:

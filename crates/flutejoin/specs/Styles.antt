@@ -83,4 +83,5 @@ passes_check style objects = not style.check || are_whole style objects
 
 -- an object that is not listed has no gap with a line
 abbrev pub HasNoStray : Style → Told → Type 0
-HasNoStray style t = is_told style t.status t.conflicts ≡ false → flat_map (shown_gap style) t.gaps ≡ []
+HasNoStray style t =
+    is_told style t.status t.conflicts ≡ false → flat_map (shown_gap style) t.gaps ≡ []

@@ -27,8 +27,8 @@ pub fn minus_input<A: Source, B: Source>(first: A, second: B) -> MinusInput<A, B
 
 /// Writes the journal of those entries of the first journal by which a join would change the
 /// second: it has none there, or one other value. Returns the number of these entries. The journals
-/// are what the sources of the input have left, of at most 16,777,216 entries each; both are read to
-/// their ends, and one entry of each is held.
+/// are what the sources of the input have left, of at most 16,777,216 entries each; both are read
+/// to their ends, and one entry of each is held.
 ///
 /// # Errors
 ///

@@ -118,8 +118,8 @@ impl<const SESSIONS: u32, const OBJECTS: u32, const SYMBOLS: u32, R: Source + Dr
         Ok(())
     }
 
-    // Makes room for the next datagram: if the store may have grown beyond the memory that is given,
-    // and fills half of it, it is put aside.
+    // Makes room for the next datagram: if the store may have grown beyond the memory that is
+    // given, and fills half of it, it is put aside.
     fn make_room<A: Asides<Input = R>>(
         &mut self,
         alloc: Global,

@@ -66,8 +66,8 @@ pub trait Visitor {
         requires { (at : At) × (objects : List Told) × (progress : Option Progress)
             × (length objects < MAX_ENTRIES) × Has at objects progress self.old }
         ensures told { (at : At) (objects : List Told) (progress : Option Progress) (t : Told)
-            → t.key ≡ key.now → t.status ≡ status → t.conflicts ≡ conflicts → IsTold t → EndsAs t progress
-            → Has at objects progress self.old
+            → t.key ≡ key.now → t.status ≡ status → t.conflicts ≡ conflicts → IsTold t
+            → EndsAs t progress → Has at objects progress self.old
             → OnOk result (Has at (objects ++ t ∷ []) None self.new) }
         ensures kept { kept self.new ≡ kept self.old }
         ensures failures { fails self.new ≡ fails self.old + (if is_ok result then 0 else 1) };
