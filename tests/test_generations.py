@@ -576,4 +576,4 @@ class Files(Events):
 
 
 if __name__ == "__main__":
-    run.main("generations")
+    unittest.main()
