@@ -31,6 +31,14 @@ runpy.run_path(sys.argv[0], run_name="__main__")
 
 
 class Floods(Case):
+    def setUp(self) -> None:
+        super().setUp()
+        with socket.socket(socket.AF_INET, socket.SOCK_DGRAM) as udp:
+            flood = Flood(udp, lambda _: 1.0)
+            flood.tend(lambda most: ())
+        if not flood.has_filtered:
+            self.skipTest("the system has no filters of sockets")
+
     def filtered(self, family: int, host: str, *known: str) -> tuple[socket.socket, Flood]:
         """A socket that listens, and its flood, of which it passes these senders."""
         udp = socket.socket(family, socket.SOCK_DGRAM)
