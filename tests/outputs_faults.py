@@ -6,10 +6,11 @@ import resource
 from signal import SIG_IGN, SIGXFSZ
 from typing import Any
 
-from outputs_case import CREATE, FIRST, LINES_OF_BOTH, SECOND, THIRD, WRITE, Case
+from outputs_case import CREATE, FIRST, LINES_OF_BOTH, LINES_OF_TWO, SECOND, THIRD, WRITE, Case
 from run import Run
 
 TARGETS = "all", "fresh"
+LARGE = "--tsi 7 --toi 3 --symbol 1400 --block 64"
 
 
 class Stays(Case):
@@ -58,21 +59,100 @@ class Inputs(Stays):
 
 
 class Limits(Stays):
+    """No file becomes longer than `ulimit -f` allows, and no signal ends the program for it."""
+
+    LIMIT = 300_000
+
     def setUp(self) -> None:
         super().setUp()
-        self.write("large", os.urandom(3_000_000))
-        self.made("carousel -o sent3 --tsi 7 --toi 3 --symbol 1400 --block 64 large")
+        self.write("large", os.urandom(1_000_000))
+        self.made(f"carousel -o sent3 {LARGE} large")
         self.made("join -o three sent3")
+
+    def limited(self, words: str, most: int = LIMIT, **how: Any) -> Run:
+        return self.program(words, limits={resource.RLIMIT_FSIZE: most}, **how)
 
     def test_file_that_may_not_grow(self) -> None:
         """A write fails after some bytes."""
-        limits = {resource.RLIMIT_FSIZE: 512_000}
         for target in TARGETS:
-            for command in "join", "merge", "minus":
+            for words in (
+                "join -o {} three one",
+                "merge -o {} three one",
+                "minus -o {} three one",
+                "forget --conflicts -o {} three",
+                f"info -o {{}} {THIRD} three",
+                "extract -f --tsi 7 --toi 3 -o {} three",
+                f"carousel -f -o {{}} {LARGE} large",
+            ):
                 self.copy("one", "all")
-                words = f"{command} -o {target} three one"
-                done = self.program(words, limits=limits, signals={SIGXFSZ: SIG_IGN})
-                self.stays(f"a limit, {command}", done, target, "one", 3, "", WRITE)
+                done = self.limited(words.format(target))
+                self.stays(f"a limit, {words}", done, target, "one", 3, "", WRITE)
+        self.copy("one", "all")
+        done = self.limited("join -o all three one", signals={SIGXFSZ: SIG_IGN})
+        self.stays("without the signal", done, "all", "one", 3, "", WRITE)
+
+    def test_every_length(self) -> None:
+        """A file may become just as long as the limit."""
+        for words, wanted in (
+            ("extract --tsi 7 --toi 3 -o {} three", "large"),
+            ("join -o {} three", "three"),
+            ("extract --tsi 7 --toi 2 -o {} two", "other"),
+        ):
+            most = len(self.read(wanted))
+            for less in 1, most // 2, most:
+                done = self.limited(words.format("got"), most - less)
+                self.check(f"{less} bytes too long, {words}", done, 3, "", WRITE)
+                self.absent("nothing is left", "got", "got.partial")
+            self.check(f"a limit that is met, {words}", self.limited(words.format("got"), most),
+                       0, None)
+            self.same(f"all of it, {words}", "got", wanted)
+            self.remove("got")
+
+    def test_folder(self) -> None:
+        self.made("merge -o each three two")
+        done = self.limited("extract --all -o found each")
+        self.check("one object is too long", done, 3, None, WRITE)
+        self.absent("no folder", "found", "found.partial")
+        done = self.limited("extract --all -o found each", 1_000_000)
+        self.check("each is short enough", done, 0, None)
+
+    def test_put_aside(self) -> None:
+        """What is put aside, in files without names, has the limit too."""
+        for target in TARGETS:
+            self.copy("one", "all")
+            done = self.limited(f"join --memory 1K -o {target} sent3 one", 150_000)
+            self.stays("facts", done, target, "one", 3, "", f"{WRITE} what is put aside")
+        words = f"carousel -o got {LARGE} -"
+        done = self.limited(words, stdin=self.read("large"))
+        self.check("a content", done, 3, "", WRITE)
+        self.absent("nothing is left of it", "got", "got.partial", "got.aside.0")
+        self.check("a content that is no longer",
+                   self.limited(words, 1_100_000, stdin=self.read("large")), 0, None)
+
+    def test_standard_output(self) -> None:
+        for out in "-", "/dev/stdout":
+            done = self.limited(f"join -o {out} three", to="got")
+            self.check(f"a journal to {out}", done, 3, None, WRITE)
+            got = self.read("got")
+            is_begin = len(got) <= self.LIMIT and self.read("three").startswith(got)
+            self.holds(f"it has at most the first bytes, {out}", is_begin)
+        self.write("got", bytes(self.LIMIT - 5))
+        for most, status, behind in (self.LIMIT - 1, 3, b""), (self.LIMIT, 0, b"hello"):
+            with self.path("got").open("ab") as got:
+                done = self.limited(f"extract -o - {SECOND} two", most, to=got)
+            self.check(f"behind what is there, {most}", done, status, None, None)
+            self.same(f"what is behind it, {most}", self.read("got")[self.LIMIT - 5:], behind)
+        self.check("lines", self.limited("show three", 4096, to="got"), 3, None, WRITE)
+        self.check("help", self.limited("--help", 100, to="got"), 3, None, WRITE)
+        self.same("nothing of the help", "got", b"")
+        self.check("a pipe has no limit", self.limited("join -o - two", 0), 0, self.read("two"),
+                   LINES_OF_TWO)
+
+    def test_standard_error(self) -> None:
+        """A fault that can't be told is the status all the same."""
+        for words, status in ("show nowhere", 3), ("show", 2), ("join -o /dev/full two", 3):
+            self.check(words, self.limited(words, 5, err="told"), status, "", "")
+            self.same(f"nothing is told, {words}", "told", b"")
 
 
 class Mounted(Case):
@@ -88,7 +168,7 @@ class Mounted(Case):
 class SmallDisk(Mounted):
     def test_full_disk(self) -> None:
         self.write("large", os.urandom(3_000_000))
-        self.made("carousel -o sent3 --tsi 7 --toi 3 --symbol 1400 --block 64 large")
+        self.made(f"carousel -o sent3 {LARGE} large")
         self.made("join -o three sent3")
         self.mount("small", "-o", "size=1m")
         self.copy("one", "small/all")

@@ -1,6 +1,7 @@
 //! A file that is opened later, and the bytes that wait for it.
 ghost use Rattle.std.specs.Prelude.{◌≡◌, ◌+◌, None, if◌then◌else◌, is_ok};
 
+use crate::file_limit::FileLimit;
 use flute_parts::{DeviceFault, Failures, Sink};
 use std::alloc::Global;
 use std::fs::File;
@@ -14,6 +15,9 @@ const BUFFER: usize = 131_072;
 pub struct BufferedFile {
     /// The file, if it is open.
     pub file: Option<File>,
+    /// How long the file is, without the bytes that wait, and may become.
+    length: u64,
+    limit: FileLimit,
     waiting: Vec<u8>,
     /// Whether a flush has failed. Then each later one does, so that no bytes are left out.
     is_broken: bool,
@@ -29,16 +33,23 @@ impl BufferedFile {
     pub fn closed(alloc: Global) -> io::Result<BufferedFile> {
         Ok(BufferedFile {
             file: None,
+            length: 0,
+            limit: FileLimit::NONE,
             waiting: Vec::with_capacity(alloc, BUFFER)?,
             is_broken: false,
             failures: Failures::none(),
         })
     }
 
-    /// It is this file from now on. Bytes that wait for another are dropped.
+    /// It is this file from now on, an empty one. Bytes that wait for another are dropped.
     pub fn open(&mut self, file: File)
         ensures { self.new.failures ≡ self.old.failures }
     {
+        self.limit = match file.metadata() {
+            Ok(found) => FileLimit::of(&found),
+            Err(_) => FileLimit::NONE,
+        };
+        self.length = 0;
         self.file = Some(file);
         self.waiting.clear();
         self.is_broken = false;
@@ -62,16 +73,22 @@ impl BufferedFile {
     ///
     /// # Errors
     ///
-    /// `DeviceFault` if the file failed, or is not open. Which of them it has is then not known,
-    /// and each later flush fails.
+    /// `DeviceFault` if the file failed, is not open, or would be longer than the process may make
+    /// it. Which of them it has is then not known, and each later flush fails.
     pub fn flush(&mut self) -> Result<(), DeviceFault>
         ensures { self.new.failures.count
             ≡ self.old.failures.count + (if is_ok result then 0 else 1) }
     {
         let flushed = match &mut self.file {
-            Some(file) if !self.is_broken => file.write_all(&self.waiting),
+            Some(file) if !self.is_broken => {
+                match self.limit.check(self.length, self.waiting.len()) {
+                    Ok(()) => file.write_all(&self.waiting),
+                    too_long => too_long,
+                }
+            }
             _ => Err(ErrorKind::NotConnected.into()),
         };
+        self.length = self.length.saturating_add(self.waiting.len() as u64);
         self.is_broken = flushed.is_err();
         self.waiting.clear();
         self.count(flushed)
@@ -83,6 +100,8 @@ impl Drop for BufferedFile {
         let _ = self.flush();
         let BufferedFile {
             file: _,
+            length: _,
+            limit: _,
             waiting: _,
             is_broken: _,
             failures: _,

@@ -1,7 +1,7 @@
 //! Each public call of `flute_output` once, over a folder in memory.
 
 use flute_memory::MemoryFolder;
-use flute_output::{FinishFault, Folder, Output};
+use flute_output::{FileLimit, FinishFault, Folder, Output};
 use flute_parts::{DeviceFault, Sink};
 use std::test::Fail;
 
@@ -46,5 +46,12 @@ fn a_folder_in_memory(rt: HostRuntime) -> Result<(), Fail> {
     folder.put_in_place()?;
     folder.sync_names()?;
     folder.remove()?;
+    Ok(())
+}
+
+#[test]
+fn a_file_without_a_limit(_rt: HostRuntime) -> Result<(), Fail> {
+    FileLimit::NONE.check(0, NEW.len())?;
+    FileLimit::NONE.check(u64::MAX - 1, 1)?;
     Ok(())
 }

@@ -3,6 +3,7 @@ ghost use Rattle.std.specs.Prelude.{◌≡◌, ◌+◌, None, IfErr, if◌then�
 ghost use Rattle.flutejoin.specs.declared.command_fault.CommandFault.TheVariants.{OutOfMemory};
 
 use crate::input::Reader;
+use flute_output::FileLimit;
 use flute_parts::{DeviceFault, Failures, Sink};
 use flutejoin::{Aside, CommandFault};
 use itoa::Buffer;
@@ -28,8 +29,9 @@ pub struct FileAside<'a> {
     prefix: String,
     held: Vec<u8>,
     file: Option<File>,
-    /// How many bytes the file has.
+    /// How many bytes the file has, and how many it may have.
     spilled: u64,
+    limit: FileLimit,
     failures: Failures,
 }
 
@@ -48,6 +50,7 @@ impl<'a> FileAside<'a> {
             held: Vec::with_capacity(rt.alloc(), HELD)?,
             file: None,
             spilled: 0,
+            limit: FileLimit::of_process(),
             failures: Failures::none(),
         })
     }
@@ -81,6 +84,7 @@ impl<'a> FileAside<'a> {
             self.file = Some(unnamed(self.rt, &self.prefix)?);
         }
         if let Some(file) = &mut self.file {
+            self.limit.check(self.spilled, self.held.len())?;
             file.write_all(&self.held)?;
             self.spilled = self.spilled.saturating_add(self.held.len() as u64);
         }

@@ -12,24 +12,31 @@ mod input;
 mod system;
 
 use crate::system::System;
-use flute_output::take_standard_streams;
+use flute_output::{LimitedStream, take_standard_streams};
 use flute_parts::StdSink;
 use flutejoin::CommandFault;
 use flutejoin_run::run;
 use std::env;
 use std::io::{self, BufWriter, ErrorKind};
 use std::process::ExitCode;
+use std::rt::{Stderr, Stdout};
 
 /// How many bytes of standard output are written at once.
 const BUFFER: usize = 131_072;
 
+type Output<'a> = LimitedStream<'a, HostRuntime, Stdout>;
+
+type Errors<'a> = LimitedStream<'a, HostRuntime, Stderr>;
+
 fn main(rt: HostRuntime) -> ExitCode {
     take_standard_streams(&rt);
-    end(&rt, run_words(&rt))
+    let output = LimitedStream::output(&rt, rt.stdout());
+    let errors = LimitedStream::errors(&rt, rt.stderr());
+    end(&output, &errors, run_words(&rt, &output, &errors))
 }
 
 /// The status that the program ends with.
-fn end(rt: &HostRuntime, done: Result<(), CommandFault>) -> ExitCode
+fn end(output: &Output<'_>, errors: &Errors<'_>, done: Result<(), CommandFault>) -> ExitCode
     ensures success { OnOk done (exit_status result ≡ 0) }
     ensures failed { IfErr done (λ fault. (exit_status result ≡ status_of fault)
         ⊎ ((error : _) × (fault ≡ CommandLine error))) }
@@ -37,15 +44,23 @@ fn end(rt: &HostRuntime, done: Result<(), CommandFault>) -> ExitCode
     match done {
         Ok(()) => ExitCode::SUCCESS,
         // A refusal goes to standard error, and help and the version to standard output.
-        Err(CommandFault::CommandLine(error)) => match error.print(rt) {
-            Err(_) if !error.use_stderr() => fail(rt, &CommandFault::CannotWrite),
-            _ => ExitCode::from(error.exit_code() as u8),
-        },
-        Err(fault) => fail(rt, &fault),
+        Err(CommandFault::CommandLine(error)) => {
+            if error.use_stderr() {
+                let _ = errors.print(&error);
+            } else if output.print(&error).is_err() {
+                return fail(errors, &CommandFault::CannotWrite);
+            }
+            ExitCode::from(error.exit_code() as u8)
+        }
+        Err(fault) => fail(errors, &fault),
     }
 }
 
-fn run_words(rt: &HostRuntime) -> Result<(), CommandFault> {
+fn run_words(
+    rt: &HostRuntime,
+    output: &Output<'_>,
+    errors: &Errors<'_>,
+) -> Result<(), CommandFault> {
     let words = match words_of(rt) {
         Ok(words) => words,
         Err(error) if error.kind() == ErrorKind::OutOfMemory => {
@@ -54,11 +69,11 @@ fn run_words(rt: &HostRuntime) -> Result<(), CommandFault> {
         Err(_) => return Err(CommandFault::NotText),
     };
     // Nothing that is printed asks for memory.
-    let Ok(writer) = BufWriter::with_capacity(rt.alloc(), BUFFER, io::writer(rt)) else {
+    let Ok(writer) = BufWriter::with_capacity(rt.alloc(), BUFFER, io::writer(output)) else {
         return Err(CommandFault::OutOfMemory);
     };
     let mut output = StdSink::new(writer);
-    let mut errors = StdSink::new(rt.stderr());
+    let mut errors = StdSink::new(io::writer(errors));
     run(
         &mut System::new(rt),
         rt.alloc(),
@@ -76,9 +91,9 @@ fn words_of(rt: &HostRuntime) -> io::Result<Vec<String>> {
 }
 
 /// Prints the fault on standard error, and returns its status.
-fn fail(rt: &HostRuntime, fault: &CommandFault) -> ExitCode
+fn fail(errors: &Errors<'_>, fault: &CommandFault) -> ExitCode
     ensures { exit_status result ≡ status_of fault.now }
 {
-    let _ = rt.eprintln(fault);
+    let _ = errors.println(fault);
     ExitCode::from(fault.status())
 }
