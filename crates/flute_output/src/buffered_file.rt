@@ -17,6 +17,8 @@ pub struct BufferedFile {
     pub file: Option<File>,
     /// How long the file is, without the bytes that wait, and may become.
     length: u64,
+    most: FileLimit,
+    /// How long a regular file may become.
     limit: FileLimit,
     waiting: Vec<u8>,
     /// Whether a flush has failed. Then each later one does, so that no bytes are left out.
@@ -25,16 +27,18 @@ pub struct BufferedFile {
 }
 
 impl BufferedFile {
-    /// Not open yet. No later call asks for memory.
+    /// Not open yet. A regular file may become as long as this limit says. No later call asks for
+    /// memory.
     ///
     /// # Errors
     ///
     /// `OutOfMemory`.
-    pub fn closed(alloc: Global) -> io::Result<BufferedFile> {
+    pub fn closed(alloc: Global, limit: FileLimit) -> io::Result<BufferedFile> {
         Ok(BufferedFile {
             file: None,
             length: 0,
-            limit: FileLimit::NONE,
+            most: FileLimit::NONE,
+            limit,
             waiting: Vec::with_capacity(alloc, BUFFER)?,
             is_broken: false,
             failures: Failures::none(),
@@ -45,8 +49,8 @@ impl BufferedFile {
     pub fn open(&mut self, file: File)
         ensures { self.new.failures ≡ self.old.failures }
     {
-        self.limit = match file.metadata() {
-            Ok(found) => FileLimit::of(&found),
+        self.most = match file.metadata() {
+            Ok(found) => self.limit.of(&found),
             Err(_) => FileLimit::NONE,
         };
         self.length = 0;
@@ -81,7 +85,7 @@ impl BufferedFile {
     {
         let flushed = match &mut self.file {
             Some(file) if !self.is_broken => {
-                match self.limit.check(self.length, self.waiting.len()) {
+                match self.most.check(self.length, self.waiting.len()) {
                     Ok(()) => file.write_all(&self.waiting),
                     too_long => too_long,
                 }
@@ -101,6 +105,7 @@ impl Drop for BufferedFile {
         let BufferedFile {
             file: _,
             length: _,
+            most: _,
             limit: _,
             waiting: _,
             is_broken: _,

@@ -2,6 +2,7 @@
 ghost use Rattle.std.specs.Prelude.{◌≡◌, ◌+◌, None, if◌then◌else◌, is_ok};
 
 use crate::buffered_file::BufferedFile;
+use crate::file_limit::FileLimit;
 use flute_parts::{DeviceFault, Sink};
 use std::alloc::Global;
 use std::fs::{self, File};
@@ -27,7 +28,7 @@ impl<'a, R: Files<File = File>> DeviceFile<'a, R> {
         Ok(DeviceFile {
             rt,
             path: String::from_str(alloc, path)?,
-            file: BufferedFile::closed(alloc)?,
+            file: BufferedFile::closed(alloc, FileLimit::of_process(rt))?,
         })
     }
 

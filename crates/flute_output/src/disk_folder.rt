@@ -4,6 +4,7 @@ ghost use Rattle.flute_output.specs.Modes.{mode_of};
 
 use crate::buffered_file::BufferedFile;
 use crate::file_id::FileId;
+use crate::file_limit::FileLimit;
 use crate::folder::Folder;
 use crate::name_pair::{ATTEMPTS, NamePair, found_at, lock, sync_folder};
 use flute_parts::{DeviceFault, Sink};
@@ -56,7 +57,7 @@ impl<'a, R: Files<File = File>> DiskFolder<'a, R> {
             found,
             before,
             inputs,
-            beside: BufferedFile::closed(alloc)?,
+            beside: BufferedFile::closed(alloc, FileLimit::of_process(rt))?,
             folder: None,
         })
     }

@@ -2,6 +2,7 @@
 ghost use Rattle.std.specs.Prelude.{None};
 
 use crate::buffered_file::BufferedFile;
+use crate::file_limit::FileLimit;
 use crate::name_pair::{ATTEMPTS, NamePair, found_at, sync_folder};
 use crate::new_folder::NewFolder;
 use flute_parts::{DeviceFault, Sink};
@@ -44,7 +45,7 @@ impl<'a, R: Files<File = File> + Alloc + Clone + Drop> DiskNewFolder<'a, R> {
             names: NamePair::new(alloc, out)?,
             beside: None,
             parent: None,
-            writer: BufferedFile::closed(alloc)?,
+            writer: BufferedFile::closed(alloc, FileLimit::of_process(rt))?,
             path: PathBuf::new(alloc),
         })
     }

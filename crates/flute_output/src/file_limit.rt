@@ -1,12 +1,13 @@
 //! How long a file may become.
 ghost use Rattle.std.specs.Prelude.{◌≡◌, ◌+◌, ◌-◌, ◌^◌, ◌==◌, ◌<◌, ◌≤◌, OnOk, OnErr};
 
-use std::fs::Metadata;
-use std::io::{self, ErrorKind};
+use std::fs::{File, Metadata};
+use std::io::{self, ErrorKind, Read};
 use std::marker::Model;
+use std::rt::Files;
 
-/// What getrlimit is asked for the length of files, RLIMIT_FSIZE.
-const FILE_LENGTH: i32 = 1;
+/// Where the system says what a process may do, and how long it may make a file.
+const LIMITS: (&str, &str) = ("/proc/self/limits", "Max file size");
 
 /// How many bytes the process may make a file long, as `ulimit -f` sets it. The system ends one
 /// that writes behind that by a signal, SIGXFSZ, so it is checked before a write.
@@ -29,25 +30,20 @@ impl FileLimit {
     /// More bytes than any file has.
     pub const NONE: FileLimit = FileLimit { most: u64::MAX };
 
-    /// That of the process, for a regular file, as it is now. It is `NONE` if there is none.
-    pub fn of_process() -> FileLimit {
-        let mut limit = libc::types::rlimit {
-            rlim_cur: u64::MAX,
-            rlim_max: u64::MAX,
-        };
-        match libc::getrlimit(FILE_LENGTH, &mut limit) {
-            // Without a limit it is u64::MAX, RLIM_INFINITY.
-            0 => FileLimit {
-                most: limit.rlim_cur,
-            },
-            _ => FileLimit::NONE,
+    /// That of the process, as it is now. It is `NONE` if there is none, or the system has no
+    /// `/proc` that says it.
+    pub fn of_process<R: Files<File = File>>(rt: &R) -> FileLimit {
+        let (path, words) = LIMITS;
+        match number_in(rt, path, words) {
+            Some(most) => FileLimit { most },
+            None => FileLimit::NONE,
         }
     }
 
-    /// That of the process for what was found: `NONE` for all but a regular file.
-    pub fn of(found: &Metadata) -> FileLimit {
+    /// This one for what was found: `NONE` for all but a regular file.
+    pub fn of(&self, found: &Metadata) -> FileLimit {
         if found.is_file() {
-            FileLimit::of_process()
+            FileLimit { most: self.most }
         } else {
             FileLimit::NONE
         }
@@ -75,4 +71,14 @@ impl FileLimit {
             Err(ErrorKind::FileTooLarge.into())
         }
     }
+}
+
+/// The number behind these words in the first bytes of a file of the system, if there is one.
+pub(crate) fn number_in<R: Files<File = File>>(rt: &R, path: &str, words: &str) -> Option<u64> {
+    let mut bytes = [0; 512];
+    let mut file = File::open(rt, path).ok()?;
+    let count = file.read(&mut bytes).ok()?;
+    let text = str::from_utf8(bytes.get(..count)?).ok()?;
+    let (_, rest) = text.split_once(words)?;
+    rest.split_ascii_whitespace().next()?.parse().ok()
 }

@@ -1,49 +1,37 @@
 //! A standard stream that may be a file of limited length.
 
-use crate::file_limit::FileLimit;
+use crate::file_limit::{FileLimit, number_in};
 use std::fmt::Display;
-use std::fs;
+use std::fs::{self, File};
 use std::io::{self, Print, Write};
 use std::os::fd::AsRawFd;
-use std::rt::{Files, Stderr, Stdout};
+use std::rt::Files;
+
+/// What standard output is, whatever the program was started with, and where the system says its
+/// position.
+const STANDARD_OUTPUT: (&str, &str) = ("/proc/self/fd/1", "/proc/self/fdinfo/1");
+
+/// The same of standard error.
+const STANDARD_ERROR: (&str, &str) = ("/proc/self/fd/2", "/proc/self/fdinfo/2");
 
 /// Standard output or standard error. If it is a regular file, and the process may not make it as
 /// long as it would be with some bytes (`ulimit -f`), these are refused as `FileTooLarge`.
 #[derive(Drop)]
-pub struct LimitedStream<'a, R, S> {
-    rt: &'a R,
+pub struct LimitedStream<R, S> {
+    rt: R,
     stream: S,
-    /// Where it is found, whatever the program was started with.
-    path: &'static str,
     limit: FileLimit,
 }
 
-impl<'a, R: Files> LimitedStream<'a, R, Stdout> {
-    /// Standard output, with the limit that is found now.
-    pub fn output(rt: &'a R, stream: Stdout) -> LimitedStream<'a, R, Stdout> {
-        LimitedStream::new(rt, stream, "/proc/self/fd/1")
-    }
-}
-
-impl<'a, R: Files> LimitedStream<'a, R, Stderr> {
-    /// Standard error, with the limit that is found now.
-    pub fn errors(rt: &'a R, stream: Stderr) -> LimitedStream<'a, R, Stderr> {
-        LimitedStream::new(rt, stream, "/proc/self/fd/2")
-    }
-}
-
-impl<'a, R: Files, S: AsRawFd> LimitedStream<'a, R, S> {
-    fn new(rt: &'a R, stream: S, path: &'static str) -> LimitedStream<'a, R, S> {
-        let limit = match fs::metadata(rt, path) {
-            Ok(found) => FileLimit::of(&found),
+impl<R: Files<File = File>, S: AsRawFd> LimitedStream<R, S> {
+    /// The stream, with the limit that it has now.
+    pub fn new(rt: R, stream: S) -> LimitedStream<R, S> {
+        let (path, _) = paths_of(&stream);
+        let limit = match fs::metadata(&rt, path) {
+            Ok(found) => FileLimit::of_process(&rt).of(&found),
             Err(_) => FileLimit::NONE,
         };
-        LimitedStream {
-            rt,
-            stream,
-            path,
-            limit,
-        }
+        LimitedStream { rt, stream, limit }
     }
 
     // Checks that it may get so many bytes: at its position, or, if they are appended, at its end.
@@ -51,13 +39,14 @@ impl<'a, R: Files, S: AsRawFd> LimitedStream<'a, R, S> {
         if self.limit.is_none() {
             return Ok(());
         }
-        let position = libc::lseek(self.stream.as_raw_fd(), 0, libc::SEEK_CUR).max(0) as u64;
-        let length = fs::metadata(self.rt, self.path)?.len();
+        let (path, information) = paths_of(&self.stream);
+        let position = number_in(&self.rt, information, "pos:").unwrap_or(0);
+        let length = fs::metadata(&self.rt, path)?.len();
         self.limit.check(position.max(length), count)
     }
 }
 
-impl<R: Files, S: Print + AsRawFd> Print for LimitedStream<'_, R, S> {
+impl<R: Files<File = File>, S: Print + AsRawFd> Print for LimitedStream<R, S> {
     fn print<D: Display + Drop>(&self, value: D) -> io::Result<()> {
         let mut count = Count(0);
         write!(count, "{value}")?;
@@ -80,6 +69,14 @@ impl<R: Files, S: Print + AsRawFd> Print for LimitedStream<'_, R, S> {
     fn write_some(&self, bytes: &[u8]) -> io::Result<usize> {
         self.check(bytes.len())?;
         self.stream.write_some(bytes)
+    }
+}
+
+fn paths_of<S: AsRawFd>(stream: &S) -> (&'static str, &'static str) {
+    if stream.as_raw_fd() == 1 {
+        STANDARD_OUTPUT
+    } else {
+        STANDARD_ERROR
     }
 }
 

@@ -50,7 +50,7 @@ impl<'a> FileAside<'a> {
             held: Vec::with_capacity(rt.alloc(), HELD)?,
             file: None,
             spilled: 0,
-            limit: FileLimit::of_process(),
+            limit: FileLimit::of_process(rt),
             failures: Failures::none(),
         })
     }

@@ -24,19 +24,19 @@ use std::rt::{Stderr, Stdout};
 /// How many bytes of standard output are written at once.
 const BUFFER: usize = 131_072;
 
-type Output<'a> = LimitedStream<'a, HostRuntime, Stdout>;
+type Output = LimitedStream<HostRuntime, Stdout>;
 
-type Errors<'a> = LimitedStream<'a, HostRuntime, Stderr>;
+type Errors = LimitedStream<HostRuntime, Stderr>;
 
 fn main(rt: HostRuntime) -> ExitCode {
     take_standard_streams(&rt);
-    let output = LimitedStream::output(&rt, rt.stdout());
-    let errors = LimitedStream::errors(&rt, rt.stderr());
+    let output = LimitedStream::new(rt, rt.stdout());
+    let errors = LimitedStream::new(rt, rt.stderr());
     end(&output, &errors, run_words(&rt, &output, &errors))
 }
 
 /// The status that the program ends with.
-fn end(output: &Output<'_>, errors: &Errors<'_>, done: Result<(), CommandFault>) -> ExitCode
+fn end(output: &Output, errors: &Errors, done: Result<(), CommandFault>) -> ExitCode
     ensures success { OnOk done (exit_status result ≡ 0) }
     ensures failed { IfErr done (λ fault. (exit_status result ≡ status_of fault)
         ⊎ ((error : _) × (fault ≡ CommandLine error))) }
@@ -56,11 +56,7 @@ fn end(output: &Output<'_>, errors: &Errors<'_>, done: Result<(), CommandFault>)
     }
 }
 
-fn run_words(
-    rt: &HostRuntime,
-    output: &Output<'_>,
-    errors: &Errors<'_>,
-) -> Result<(), CommandFault> {
+fn run_words(rt: &HostRuntime, output: &Output, errors: &Errors) -> Result<(), CommandFault> {
     let words = match words_of(rt) {
         Ok(words) => words,
         Err(error) if error.kind() == ErrorKind::OutOfMemory => {
@@ -91,7 +87,7 @@ fn words_of(rt: &HostRuntime) -> io::Result<Vec<String>> {
 }
 
 /// Prints the fault on standard error, and returns its status.
-fn fail(errors: &Errors<'_>, fault: &CommandFault) -> ExitCode
+fn fail(errors: &Errors, fault: &CommandFault) -> ExitCode
     ensures { exit_status result ≡ status_of fault.now }
 {
     let _ = errors.println(fault);
