@@ -98,6 +98,7 @@ test-stations:
 	tests/station.py "$(FLUTEJOIN)"
 	tests/test_stations.py
 	tests/test_generations.py
+	tests/test_agreeing.py
 	tests/test_examples.py
 	tests/test_tree.py
 

@@ -46,10 +46,10 @@ _flutejoin_options() {
             echo '--port --group --from -o --split --any-checksum --as-received --help'
             ;;
         flutejoin-files)
-            echo '--list -o --source --tsi --fdt --most --any-size --json --resolve --from' \
-                '--flutejoin --help'
+            echo '--list -o --source --tsi --fdt --most --any-size --json --delivered --resolve' \
+                '--from --flutejoin --help'
             ;;
-        flutejoin-gather) echo '-o --source --as --flutejoin --help' ;;
+        flutejoin-gather) echo '-o --source --as --delivered --flutejoin --help' ;;
         flutejoin-receive)
             echo '--group --port --from --interface -o --senders --split --most --buffer' \
                 '--as-received --status --count --seconds --config --help'
@@ -88,7 +88,7 @@ _flutejoin() {
                 *) _flutejoin_files "$word" ;;
             esac
             return ;;
-        --flutejoin | --config | --status) _flutejoin_files "$word"; return ;;
+        --delivered | --flutejoin | --config | --status) _flutejoin_files "$word"; return ;;
         --list)
             # Of flutejoin-files it has no value.
             if [ "$tool" = flutejoin ]; then

@@ -129,7 +129,7 @@ class Levels(Stations):
         """What would be a journal that flutejoin doesn't read stays in several."""
         self.grow(*self.names[:7])
         more = f'echo full >&2; exit 1 ;; *) exec "{run.PROGRAM}" "$@" ;; esac'
-        self.write("more", f'#!/bin/sh\ncase "$*" in *"-o store/1/"*) {more}\n')
+        self.write("more", f'#!/bin/sh\ncase "$*" in *"-o store/"*" store/0/"*) {more}\n')
         self.path("more").chmod(0o755)
         environment = {"FLUTEJOIN": str(self.path("more"))}
         done = self.command([EXAMPLES / "levels.sh", "store", self.names[7]], env=environment)

@@ -9,10 +9,13 @@ from __future__ import annotations
 
 import gzip
 import ipaddress
+import json
 import os
 import pathlib
 import random
+import re
 import shutil
+import struct
 import subprocess
 import sys
 import unittest
@@ -23,14 +26,23 @@ from xml.etree import ElementTree
 sys.dont_write_bytecode = True
 import run  # before datagram_files, which it puts on the path
 import datagram_files
-from flute_sender import EXPIRES, Sent, fdt, header, instance
+from flute_sender import EXPIRES, Sent, Shape, fdt, header, instance
 from run import ROOT
 
 sys.path.insert(0, str(ROOT / "tools"))
+import flutejoin_holdings as holdings
 import flutejoin_instances
+from flutejoin_adapting import Adapting
+from flutejoin_agreeing import Held, Wants
+from flutejoin_entries import SYMBOL
+from flutejoin_generations import Generations, generation
+from flutejoin_holdings import Copy, key_of
 from flutejoin_instances import Folder
-from flutejoin_joining import Program
+from flutejoin_joining import Answer, Program
 from flutejoin_keeping import Keeper, Settings
+from flutejoin_others import Others
+from flutejoin_shelves import entries_of
+from flutejoin_sums import sums_of
 from flutejoin_voice import Log
 
 SENDER = "10.9.0.1"
@@ -44,6 +56,7 @@ class Station:
     def __init__(self, folder: pathlib.Path, draw: random.Random) -> None:
         self.folder, self.draw = folder, draw
         self.is_away = False
+        self.adapting: Optional[Adapting] = None
         self.said: list[str] = []
         self.begin()
 
@@ -59,6 +72,8 @@ class Station:
 
     def hear(self, sent: Iterable[bytes], sender: str = SENDER) -> None:
         heard = [it for it in sent if self.draw.random() >= LOSS]
+        if self.adapting:
+            heard = [it for datagram in heard for it in self.adapting.take(datagram).datagrams]
         if self.is_away or not heard:
             return
         path = self.folder / "in" / f"{sender}.fldg"
@@ -264,7 +279,8 @@ class Renewing(Events):
 
 
 class Forged(Events):
-    def sent(self, files: list[Sent], forged: float, draw: random.Random) -> list[bytes]:
+    @staticmethod
+    def sent(files: list[Sent], forged: float, draw: random.Random) -> list[bytes]:
         """A carousel, in which datagrams of somebody else come: some for each file."""
         sent = rounds(files, 1, EXPIRES, 4)
         for file in files:
@@ -292,6 +308,39 @@ class Forged(Events):
                 sent.insert(at + draw.randrange(300), bytes(packet))
         self.send(sent, 300)
         self.compare(files, status=None)
+        self.assertEqual(self.conflicts(), 0)
+
+
+class Shapes(Events):
+    """Senders of other forms of FLUTE, which a receiver writes as FLUTE 2, and that start again."""
+
+    shapes = (
+        Shape(version=1),
+        Shape(encoding=3),
+        Shape(together=4),
+        Shape(version=1, times=3),
+        Shape(version=1, encoding=3, together=5, times=1),
+    )
+
+    def setUp(self) -> None:
+        super().setUp()
+        for station in self.stations:
+            station.adapting = Adapting()
+
+    def test_two_runs_of_each(self) -> None:
+        every = []
+        for tsi, shape in enumerate(self.shapes, 7):
+            for turn in (1, 2):
+                files = files_of(turn, range(1, 6), of=f"shape{tsi}")
+                for file in files[:2]:
+                    file.object = gzip.compress(file.content, mtime=0)
+                    file.more["Content-Encoding"] = "gzip"
+                xml = fdt(files, EXPIRES + turn)
+                told = instance(tsi, 1, gzip.compress(xml) if shape.encoding else xml, shape)
+                sent = [packet for file in files for packet in file.packets(tsi, shape)]
+                self.send((told + sent + told) * 8)
+                every += files
+        self.compare(every)
         self.assertEqual(self.conflicts(), 0)
 
 
@@ -377,6 +426,47 @@ class Gathered(Events):
         self.gather("-o", "centre/all", *names)
         self.compare(sum(sent, []))
 
+    def test_more_than_eight_generations(self) -> None:
+        """The one that was delivered first goes, and is told; without a list the values go aside."""
+        versions = [files_of(turn, [1, 2], 3) for turn in range(1, 12)]
+        listed = self.folder / "centre/all/delivered.jsonl"
+        for turn, files in enumerate(versions, 1):
+            sent = rounds(files, turn, EXPIRES + turn, 1)
+            done = self.gather("-o", "centre/all", self.datagrams(f"{turn}/{SENDER}.fldg", sent))
+            told = "session 7 object 1, session 7 object 2"
+            is_full, has_gone = turn == 9, turn > 9
+            self.assertEqual(f"ever other contents, kept aside ({told})" in done.stderr, is_full)
+            self.assertEqual(f"delivered first of them goes ({told})" in done.stderr, has_gone)
+            if turn == 9:
+                self.compare(sum(versions[:9], []), "--delivered", listed)
+                lines = listed.read_text().splitlines(keepends=True)
+                self.assertEqual(len(lines), 18)
+                ours = [it for it in lines if "run2/" in it]
+                rest = [it for it in lines if it not in ours and "run9/" not in it]
+                listed.write_text("".join(ours + rest) + '{"sender": "10.9')
+        self.assertEqual(self.conflicts(), 0)
+        journal = self.centre / f"all/{SENDER}.g2.journal"
+        done = self.command("join", "-o", "ten", "--no-fdt", "--source", SENDER, f"10/{SENDER}.fldg")
+        self.assertEqual(journal.read_bytes(), (self.folder / "ten").read_bytes(), done)
+        shutil.rmtree(self.folder / "files")
+        # The first of the others went for the last one; what is aside is still found by its MD5.
+        gone = [self.gone_by(lines) for lines in (ours, rest)]
+        left = [it for it in sum(versions, []) if it.location not in sum(gone, [])]
+        self.compare(left, "--delivered", listed, status=None)
+        self.assertEqual(len(left), 18)
+        self.assertEqual(len(listed.read_text().splitlines()), 18 - 2 + 1 + 6)
+
+    @staticmethod
+    def gone_by(lines: list[str]) -> list[str]:
+        """The names of the files of each TOI that a list has first."""
+        every = [json.loads(line) for line in lines]
+        first = {of["toi"]: of["name"] for of in reversed(every)}
+        return [*first.values()]
+
+    def command(self, *words: object) -> subprocess.CompletedProcess:
+        command = [str(run.PROGRAM), *map(str, words)]
+        return subprocess.run(command, cwd=self.folder, check=True, capture_output=True)
+
     def test_what_a_killed_run_left(self) -> None:
         """Its temporary files may be other names of journals, which stay as they are."""
         first, second = files_of(1, range(1, 11)), files_of(2, range(1, 11))
@@ -409,6 +499,152 @@ class Gathered(Events):
         done = self.gather("-o", "centre/all", "missing", status=3)
         self.assertIn("missing: No such file", done.stderr)
         self.assertEqual([*self.centre.rglob("*.partial")], [])
+
+
+class Asked(Events):
+    """A centre that is told sums, and asks for symbols, instead of being sent all that came."""
+
+    def setUp(self) -> None:
+        super().setUp()
+        self.held, self.symbols = Held(), 0
+        self.program = Program(str(run.PROGRAM), lambda: None)
+        self.all = self.centre / "all"
+        (self.all / "fdt").mkdir(parents=True)
+        self.generations = Generations(
+            lambda number: str(self.all / generation(SENDER, number)),
+            self.put_aside,
+            self.program.compare,
+        )
+
+    def put_aside(self, path: str) -> None:
+        folder = self.all / "aside"
+        folder.mkdir(exist_ok=True)
+        Others(lambda number: str(folder / f"{SENDER}.v{number}.journal")).put(path)
+
+    def join(self, out: str, part: str) -> Answer:
+        journals = [*filter(os.path.exists, [out]), part]
+        return self.program.join(ipaddress.ip_address(SENDER).packed, out, journals)
+
+    def minute(self) -> None:
+        for station in self.stations:
+            station.minute()
+            for folder in "journals", "recent", "aside":
+                for journal in sorted((station.folder / folder).glob(f"{SENDER}*.journal")):
+                    wants_of = Wants.of_aside if folder == "aside" else Wants.of
+                    self.ask(wants_of(self.held, sums_of(str(journal))), str(journal))
+            for document in (station.folder / "fdt").glob("*.xml"):
+                shutil.copy2(document, self.all / "fdt")
+
+    def ask(self, wants: Wants, journal: str) -> None:
+        lines, answer = "".join(wants.lines()), str(self.folder / "answer")
+        if not wants.by_raw:
+            return
+        self.fill(lines, journal, answer)
+        before = entries_of(answer)
+        taken = wants.take(answer, self.generations, self.join)
+        self.assertEqual((taken.answer.status, wants.strange), (0, 0))
+        self.symbols += before or 0
+
+    def fill(self, lines: str, journal: str, answer: str) -> None:
+        """Writes the symbols of a journal that lines name."""
+        picked, name = set(), ""
+        for line in lines.splitlines():
+            gap = re.fullmatch(r"gap (\d+)/(\d+)-(\d+) missing", line)
+            name = name if gap else line.partition(" partial ")[0]
+            numbers = [*map(int, gap.groups())] if gap else [0, 1, 0]
+            for number in range(numbers[1], numbers[2] + 1):
+                picked.add((name, struct.pack(">HH", numbers[0], number)))
+        with open(answer, "wb") as out, open(journal, "rb", buffering=0) as file:
+            copy = Copy(out)
+            for kind, raw, more in holdings.entries(file):
+                if kind == SYMBOL and (key_of(raw).text(), bytes(more[:4])) in picked:
+                    copy.add(kind, raw, more)
+            copy.finish()
+
+    def held_symbols(self) -> int:
+        return sum(sums.count() for of in self.held.sums.values() for sums in of.values())
+
+    def test_two_runs(self) -> None:
+        """One station is set up anew and one is away; each symbol is sent once, by one of them."""
+        first, second = files_of(1, range(1, 16)), files_of(2, range(1, 16))
+        self.send(rounds(first, 1, EXPIRES, 4))
+        once = sum(len(file.packets(7)) for file in first)
+        self.assertEqual((self.symbols, self.held_symbols()), (once, once))
+        self.stations[1].set_up_anew()
+        self.stations[2].is_away = True
+        sent = rounds(second, 1, EXPIRES + 60, 5)
+        self.send(sent[: len(sent) // 3])
+        self.stations[2].is_away = False
+        self.send(sent[len(sent) // 3 :])
+        once += sum(len(file.packets(7)) for file in second)
+        self.assertEqual((self.symbols, self.held_symbols()), (once, once))
+        self.compare([*first, *second])
+        self.assertEqual(self.conflicts(), 0)
+
+    def test_forged_datagrams(self) -> None:
+        """Wrong values are asked for once, and kept aside."""
+        files = files_of(1, range(1, 16), 15)
+        sent = Forged.sent(files, 1, random.Random(5))
+        self.send(sent)
+        self.compare(files)
+        self.assertEqual(self.conflicts(), 0)
+        before = self.symbols
+        self.minute()
+        self.assertEqual(self.symbols, before)
+
+    def test_what_was_let_go(self) -> None:
+        """A carousel that goes on brings nothing back, and another file of a TOI is seen."""
+        first, second = files_of(1, range(1, 6)), files_of(2, range(1, 6))
+        self.send(rounds(first, 1, EXPIRES, 5))
+        self.compare(first)
+        keys = set(self.held.sums)
+        for key in keys:
+            self.held.let_go(key, 1)
+        self.generations.forget(1, keys)
+        before = self.symbols
+        self.send(rounds(first, 1, EXPIRES, 2))
+        self.assertEqual((self.symbols, entries_of(self.generations.path_of(1))), (before, 0))
+        self.send(rounds(second, 1, EXPIRES + 9, 5))
+        self.compare([*first, *second], status=None)
+
+
+class Levels(Events):
+    """examples/levels.sh, which joins many inputs."""
+
+    stations_of = 0
+
+    def level(self, sent: list[bytes], status: int = 0) -> None:
+        path = self.folder / "hour"
+        path.write_bytes(datagram_files.content(sent))
+        words = [ROOT / "examples/levels.sh", "centre", "hour", "--source", SENDER]
+        path = f"{self.folder / 'bin'}:{os.environ['PATH']}"
+        done = subprocess.run(
+            [*map(str, words)],
+            cwd=self.folder,
+            env={**os.environ, "PATH": path, "FLUTEJOIN": "flutejoin"},
+            capture_output=True,
+            text=True,
+        )
+        self.assertEqual(done.returncode, status, done)
+        self.assertEqual("is kept apart in" in done.stderr, status == 1, done)
+
+    def test_a_sender_that_starts_again(self) -> None:
+        """What differs is kept apart, and all files come out of both."""
+        draw = random.Random(3)
+        runs = [files_of(turn, range(1, 6)) for turn in (1, 2, 3)]
+        sent = [rounds(files, 1, EXPIRES + at, 1) for at, files in enumerate(runs)]
+        for hour in range(16):
+            of = sent[hour >= 4]
+            self.level([it for it in of if draw.random() >= LOSS], int(hour == 7))
+        self.level(sent[0] + sent[2], 1)
+        self.assertEqual(self.conflicts(), 0)
+        self.assertEqual(len([*self.centre.glob("1/*")]), 1)
+        words = [TOOLS / "flutejoin-files", "--flutejoin", run.PROGRAM, "-o", "files"]
+        words += [self.centre / f"apart/{SENDER}.journal", *self.centre.glob("1/*")]
+        subprocess.run([sys.executable, *map(str, words)], cwd=self.folder, capture_output=True)
+        for file in sum(runs, []):
+            path = self.folder / "files" / file.location.removeprefix("http://")
+            self.assertEqual(path.read_bytes(), file.content)
 
 
 class Instances(unittest.TestCase):
@@ -551,6 +787,75 @@ class Files(Events):
         self.send(rounds(files, 1, EXPIRES + 9, 1))
         self.assertEqual(self.gaps(large, known), asked)
         self.compare(files[1:3] + files[3:], known, status=1)
+
+    def test_a_list_of_generations(self) -> None:
+        """Each file of a TOI has a line, whole or not, and its state is that of its generation."""
+        runs = [files_of(turn, range(1, 6)) for turn in (1, 2)]
+        sent = rounds(runs[0], 1, EXPIRES, 1) + instance(7, 1, fdt(runs[1], EXPIRES + 1))
+        sent += [it for file in runs[1] for it in file.packets(7)[:-1]] + runs[1][0].packets(7)
+        name = self.folder / f"{SENDER}.fldg"
+        name.write_bytes(datagram_files.content(sent))
+        words = TOOLS / "flutejoin-gather", "--flutejoin", run.PROGRAM, "-o", "centre/all", name
+        subprocess.run([*map(str, words)], cwd=self.folder, check=True, capture_output=True)
+        words = "--flutejoin", run.PROGRAM, f"centre/all/{SENDER}.journal"
+        for more, whole in (("--list",), "whole"), (("--list", "-o", "files"), "verified"):
+            command = TOOLS / "flutejoin-files", *more, *words
+            done = subprocess.run(
+                [*map(str, command)], cwd=self.folder, capture_output=True, text=True
+            )
+            self.assertEqual(done.returncode, 1, done)
+            lines = [re.split(r"  +", line.strip()) for line in done.stdout.splitlines()]
+            found = {of[5].split()[0]: of[3] for of in lines if len(of) > 5}
+            wanted = {file.location: whole for file in [*runs[0], runs[1][0]]}
+            wanted.update((file.location, "partial 1") for file in runs[1][1:])
+            self.assertEqual({name: of for name, of in found.items() if name in wanted}, wanted)
+            self.assertEqual([line[0] for line in lines[2:12]], [*"1122334455"])
+            self.assertNotIn("in conflict", done.stdout)
+        self.assertIn("written 6, verified 6; partial 4 (4 symbols, 4,000 bytes)", done.stdout)
+        # What is missing comes, and is written.
+        name.write_bytes(datagram_files.content([it.packets(7)[-1] for it in runs[1]]))
+        words = TOOLS / "flutejoin-gather", "--flutejoin", run.PROGRAM, "-o", "centre/all", name
+        subprocess.run([*map(str, words)], cwd=self.folder, check=True, capture_output=True)
+        self.compare(sum(runs, []))
+
+    def map_of(self, *journals: object) -> list[str]:
+        command = [TOOLS / "flutejoin-map", "--flutejoin", run.PROGRAM, "--text", *journals]
+        words = [sys.executable, *map(str, command)]
+        done = subprocess.run(words, capture_output=True, text=True, cwd=self.folder)
+        self.assertEqual((done.returncode, done.stderr), (0, ""))
+        return [line for line in done.stdout.splitlines() if ": held " in line]
+
+    def test_a_map_with_the_fdt(self) -> None:
+        """It finds what the FDT tells by itself, also of objects of which nothing came."""
+        files = [*files_of(1, range(1, 4)), files_of(2, [9])[0]]
+        for file in files[:2]:
+            file.is_in_packets = False
+        files[2].more["FEC-OTI-Encoding-Symbol-Length"] = 999  # the packets' own counts
+        folder, other = self.folder / "centre/all", self.folder / "other"
+        sent = [files[0].packets(7), files[1].packets(7)[1:], files[2].packets(7)[2:]]
+        name = self.folder / f"{SENDER}.fldg"
+        packets = [it for of in sent for it in of]
+        name.write_bytes(datagram_files.content(packets + instance(7, 1, fdt(files))))
+        words = TOOLS / "flutejoin-gather", "--flutejoin", run.PROGRAM, "-o", folder, name
+        subprocess.run([*map(str, words)], check=True, capture_output=True)
+        held = [*map(len, sent), 0]
+        missing = [0, 1, 2, len(files[3].packets(7))]
+        told = [f"held {one}, missing {two}," for one, two in zip(held, missing)]
+        journal = folder / f"{SENDER}.journal"
+        for journals in (journal,), (journal, folder / f"fdt/{SENDER}.journal"):
+            lines = self.map_of(*journals)
+            self.assertEqual([all(of) for of in zip(map(str.__contains__, lines, told))], [True] * 4)
+            self.assertEqual(["of the FDT" in line for line in lines], [True, True, False, False])
+            self.assertIn("nothing of this object", lines[3])
+        # Of two journals each is drawn by what the FDT tells, and both joined.
+        other.mkdir()
+        shutil.copy(journal, other / "half")
+        self.assertEqual(len(self.map_of(journal, other / "half")), 12)
+        self.assertEqual(self.map_of("--source", SENDER, "--tsi", 7, "--toi", 1, journal), lines[:1])
+        # Beside another sender's journal it tells nothing, nor alone.
+        one = [run.PROGRAM, "join", "--source", "10.9.0.2", "--no-fdt", "-o", folder / "one", name]
+        subprocess.run([*map(str, one)], check=True, capture_output=True)
+        self.assertEqual(len(self.map_of(folder / "one")), 1)
 
     def test_a_forged_document(self) -> None:
         """It contradicts files that are right, and is named."""

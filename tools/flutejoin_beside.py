@@ -9,7 +9,9 @@ import os
 from typing import Iterable, Iterator, NamedTuple
 
 import flutejoin_files as files
-from flutejoin_generations import MOST_GENERATIONS, MOST_OTHERS, generation
+from flutejoin_generations import generation
+from flutejoin_others import MOST_OTHERS
+from flutejoin_rows import MOST_GENERATIONS
 
 ASIDE, DOCUMENTS = "aside", "fdt"
 
@@ -35,6 +37,19 @@ def beside(journals: Iterable[str]) -> Beside:
                 known.add(os.path.realpath(each))
                 found.folders.append(each)
     return found
+
+
+def known_beside(journals: Iterable[str]) -> Iterator[str]:
+    """The journals of transmission information in folders of documents, of all senders."""
+    for folder in beside(journals).folders:
+        for name in sorted(os.listdir(folder)):
+            if name.endswith(".journal") and files.address_in(name):
+                yield os.path.join(folder, name)
+
+
+def is_aside(path: str) -> bool:
+    """Whether a journal has values that differ from what is kept."""
+    return os.path.basename(os.path.dirname(os.path.abspath(path))) == ASIDE
 
 
 def is_of_documents(path: str) -> bool:

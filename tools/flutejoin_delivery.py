@@ -1,7 +1,6 @@
 """Makes named files of journals by a few runs of flutejoin, whatever the number of files."""
 from __future__ import annotations
 
-import collections
 import contextlib
 import itertools
 import os
@@ -11,7 +10,6 @@ import flutejoin_files as files
 import flutejoin_gaps as gaps
 import flutejoin_holdings as holdings
 from flutejoin_catalogue import Catalogue
-from flutejoin_content import Sums
 from flutejoin_documents import Documents
 from flutejoin_entries import FILE, SYMBOL
 from flutejoin_gaps import GAPS, Fault, argument, shown
@@ -20,13 +18,13 @@ from flutejoin_merged import merged
 from flutejoin_places import Work
 from flutejoin_records import Cut
 from flutejoin_records import Fault as RecordFault
-from flutejoin_resolving import Budget, Resolving, Wanted as Differing, Way
-from flutejoin_session import Session, State, key_of
+from flutejoin_resolving import Way
+from flutejoin_session import Session
+from flutejoin_states import State, key_of
+from flutejoin_ways import Ways
 
 JOINED = "the journals joined"
 MOST_GAPS = 1 << 20  # of objects that nothing describes, if only a list is wanted
-MOST_HASHED = 1 << 31  # bytes of all ways to put objects together, or some times those of journals
-MOST_DECODED = 1 << 26  # bytes of an object that is decoded in several ways
 
 
 class Wanted(NamedTuple):
@@ -197,114 +195,73 @@ class Delivery:
             if not line.startswith(b"written "):
                 yield self.told(line)
 
+    def look_apart(self, others: Sequence[str]) -> None:
+        """For a list: as `resolve`, and writes no object."""
+        ways = self.ways(others)
+        with self.named_faults():
+            for key, number, way in ways.numbered():
+                ways.note(key, number, way)
+                self.catalogue.of(key).states[number] = State(gaps.WHOLE)
+            ways.share()
+
     def resolve(self, others: Sequence[str]) -> set[Key]:
         """Completes objects about which journals differ, where the MD5 shows what was sent.
 
         These datagram files and journals may contain values of symbols in conflict. Returns which
-        objects were completed.
+        objects were completed. Of the others it is noted what the journals that agree have.
         """
-        doubtful = [
-            (session, toi)
-            for session in self.catalogue
-            for toi in session.files
-            if session.is_in_doubt(toi) or self.may_have_more(session, toi)
-        ]
-        if not doubtful:
-            return set()
-        budget = Budget(max(MOST_HASHED, 4 * sum(map(os.path.getsize, self.journals))))
-        wanted = {
-            session.key(toi): self.differing(session, toi, budget) for session, toi in doubtful
-        }
-        resolving = Resolving(self.journals, wanted, budget)
+        ways = self.ways(others)
         with self.named_faults():
-            resolving.compare(others)
-            found: dict[Key, dict[int, Way]] = collections.defaultdict(dict)
-            for ways in [resolving.by_journal] + [resolving.by_combination] * bool(others):
-                for key, ends in ways():
-                    for way, sums in ends:
-                        if sums.is_right():
-                            found[key].setdefault(sums.age(), way)
-                    md5s = self.catalogue.of(key).md5s(key.number)
-                    if len(found[key]) == len(md5s):
-                        resolving.done.add(key)
-            for session, toi in doubtful:
-                of, key = wanted[session.key(toi)], session.key(toi)
-                is_found = found[key] or session.is_verified(toi)
-                if others and of.differs() and not is_found:
-                    session.unresolved[toi] = of.why_not()
-            return self.complete_all(found, wanted)
-
-    def may_have_more(self, session: Session, toi: int) -> bool:
-        """Whether a TOI may have come with contents that another description has."""
-        has_symbols = session.held.get(toi, holdings.NOTHING).symbols > 0
-        return has_symbols and len(self.journals) > 1 and len(session.md5s(toi)) > 1
-
-    def complete_all(
-        self, found: dict[Key, dict[int, Way]], wanted: dict[Key, Differing]
-    ) -> set[Key]:
-        """Has flutejoin write each object that was found, also several of one TOI."""
-        first: dict[Key, Way] = {}
-        more: list[dict[Key, tuple[int, Way]]] = []  # of each TOI at most one
-        for key, by_age in found.items():
-            session, md5s = self.catalogue.of(key), self.catalogue.of(key).md5s(key.number)
-            rest = sorted(by_age.items())
-            if session.is_verified(key.number):
-                own = session.files[key.number].file.md5
-                rest = [(age, way) for age, way in rest if md5s[age] != own]
-            elif rest:
-                first[key] = rest.pop(0)[1]
-            for number, (age, way) in enumerate(rest):
-                if number == len(more):
-                    more.append({})
-                more[number][key] = session.apart(key.number, md5s[age]), way
-        completed = self.complete(first, wanted)
-        for of in more:
-            self.work.remove("resolved")
-            self.work.remove("resolved.journal")
-            ways = {key: way for key, (_, way) in of.items()}
-            completed |= self.complete(ways, wanted, {key: toi for key, (toi, _) in of.items()})
+            completed = self.complete_all(ways)
+            ways.share()
         return completed
 
-    @staticmethod
-    def differing(session: Session, toi: int, budget: Budget) -> Differing:
-        md5s, described = session.md5s(toi), session.usable(toi)
-        encodings = sorted({each.file.encoding for each in described if each.file.encoding})
-        return Differing(
-            lambda: Sums(md5s, encodings, MOST_DECODED, budget), session.lengths(toi)
-        )
+    def ways(self, others: Sequence[str]) -> Ways:
+        ways = Ways(self.catalogue, self.journals)
+        with self.named_faults():
+            ways.look(others)
+        return ways
 
-    def complete(
-        self,
-        found: dict[Key, Way],
-        wanted: dict[Key, Differing],
-        apart: Optional[dict[Key, int]] = None,
-    ) -> set[Key]:
+    def complete_all(self, ways: Ways) -> set[Key]:
+        """Has flutejoin write each object that was found, also several of one TOI."""
+        rounds: list[dict[Key, tuple[int, Way]]] = []  # in each at most one of a TOI
+        for key, number, way in ways.numbered():
+            free = next((each for each in rounds if key not in each), None)
+            if free is None:
+                free = {}
+                rounds.append(free)
+            free[key] = number, way
+        completed: set[Key] = set()
+        for at, found in enumerate(rounds):
+            if at:
+                self.work.remove("resolved")
+                self.work.remove("resolved.journal")
+            completed |= self.complete(found, ways)
+        return completed
+
+    def complete(self, found: dict[Key, tuple[int, Way]], ways: Ways) -> set[Key]:
         """Has flutejoin write the objects that are put together in these ways.
 
-        `apart` are the numbers of objects in the catalogue, where a TOI has several.
+        The numbers are those of the objects in the catalogue.
         """
         completed = set()
-        if not found:
-            return completed
         made = self.work.at("resolved.journal")
         with open(made, "wb") as out:
             copied = holdings.Copy(out)
             for key, raw, entries in merged(self.journals, found.__contains__):
-                copied.inform(key, found[key].partition.numbers)
+                _, way = found[key]
+                copied.inform(key, way.partition.numbers)
                 for each in entries:
-                    value = found[key].value(each) if each.symbol else b""
+                    value = way.value(each) if each.symbol else b""
                     if value:
                         size = len(value).to_bytes(2, "big")
                         copied.add(SYMBOL, raw, each.symbol + size + value)
             copied.finish()
         for key, state in list(self.extract(made, "resolved")):
             if state.is_whole():
-                session = self.catalogue.of(key)
-                kept = key._replace(number=(apart or {}).get(key, key.number))
+                kept = key._replace(number=found[key][0])
                 self.take(kept, state)
-                session.proved[kept.number] = found[key].partition.numbers
-                if wanted[key].differs():
-                    session.resolved[kept.number] = wanted[key].words()
+                ways.note(key, *found[key])
                 source = os.path.join(self.work.at("resolved"), key.file_name())
                 os.rename(source, os.path.join(self.work.at("objects"), kept.file_name()))
                 completed.add(kept)

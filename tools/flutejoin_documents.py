@@ -32,7 +32,7 @@ from flutejoin_instances import Document as Whole
 from flutejoin_merged import Found, merged
 from flutejoin_partition import Buffer, Partition, fault_of
 from flutejoin_resolving import Budget, Resolving, Sink, Wanted
-from flutejoin_session import State
+from flutejoin_states import State
 
 MOST_DOCUMENTS = 1 << 16  # whose places are kept
 MOST_UNREAD = 1 << 16  # states of Instances that are not whole

@@ -11,6 +11,7 @@ import shutil
 import signal
 import subprocess
 import sys
+import tempfile
 from typing import (
     IO,
     Callable,
@@ -106,6 +107,16 @@ class Program:
     def __init__(self, path: str) -> None:
         self.path = path
         self.kept: tuple[int, ...] = ()  # open files that the program inherits
+        self.known: Optional[IO[bytes]] = None  # lines of `know`
+
+    def know(self, information: Iterable[Tuple[str, Numbers]]) -> None:
+        """Adds transmission information to what `states` and `gaps` read: `(object, numbers)`."""
+        self.known = tempfile.TemporaryFile()
+        for key, (length, symbol, block) in information:
+            line = f"{key} info length {length} symbol {symbol} block {block}\n"
+            self.known.write(line.encode())
+        self.known.flush()
+        self.kept += (self.known.fileno(),)
 
     def states(self, journals: list[str]) -> Iterator[tuple[str, State]]:
         """Yields each object in these journals together, and its state.
@@ -128,15 +139,20 @@ class Program:
         """Passes the gaps of these journals together to what `begin` returns for each object."""
         self.read_gaps(self.commands(journals), begin)
 
-    @staticmethod
-    def commands(journals: list[str]) -> list[Command]:
+    def commands(self, journals: list[str]) -> list[Command]:
         """The commands that print the gaps of these journals together."""
         paths = [argument(path) for path in journals]
         names = [shown(path) for path in journals]
-        if len(paths) == 1:
-            return [([*GAPS, *paths], names)]
-        joined = (["join", "--any-size", "-o", "-", *paths], names)
-        return [joined, ([*GAPS, "-"], ["the journals joined"])]
+        found: list[Command] = []
+        if len(paths) > 1:
+            found.append((["join", "--any-size", "-o", "-", *paths], names))
+            paths, names = ["-"], ["the journals joined"]
+        if self.known:
+            lines = f"/dev/fd/{self.known.fileno()}"
+            words = ["info", "--any-size", "-o", "-", "--list", lines, *paths]
+            found.append((words, [*names, "what the FDT tells"]))
+            paths = ["-"]
+        return [*found, ([*GAPS, *paths], names)]
 
     def gaps_with(
         self, journal: str, information: Iterable[Tuple[str, Numbers]], begin: Begin

@@ -9,16 +9,20 @@ from typing import Iterator, Optional
 
 import flutejoin_files as files
 import flutejoin_holdings as holdings
+from flutejoin_delivered import NAME, Delivered
 from flutejoin_documents import Assembly
 from flutejoin_entries import FILE
-from flutejoin_generations import MOST_GENERATIONS, Generations, Others, Taken, generation
+from flutejoin_generations import Generations, Taken, generation
 from flutejoin_holdings import SENDER, TAG, Copy, Key
-from flutejoin_instances import NAME, Document, Folder, source_of, xml_of
-from flutejoin_joining import FULL, Answer, Fed, Program
-from flutejoin_layers import Failed, pieces_of
+from flutejoin_instances import NAME as DOCUMENT
+from flutejoin_instances import Document, Folder, source_of, xml_of
+from flutejoin_joining import FULL, Answer, Failed, Fed, Program
+from flutejoin_layers import pieces_of
 from flutejoin_merged import merged
 from flutejoin_names import stem_of
+from flutejoin_others import Others
 from flutejoin_records import HEADER, Fault, Records
+from flutejoin_rows import MOST_GENERATIONS
 from flutejoin_shelves import Shelf, begin_file, entries_of, remove
 
 IPV4 = bytes(10) + b"\xff\xff"  # in front of the address of an IPv4 sender
@@ -32,6 +36,7 @@ def told_of(taken: Taken, stem: str) -> Iterator[str]:
     for of, told in (
         (taken.begun, "came with other contents, kept apart"),
         (taken.full, "came with ever other contents, kept aside"),
+        (taken.gone, "came with ever other contents: what was delivered first of them goes"),
     ):
         if of.count:
             several = "s" if of.count > 1 else ""
@@ -50,9 +55,11 @@ class Gathering:
         report: files.Report,
         source: Optional[bytes] = None,
         one: Optional[bytes] = None,
+        delivered: Optional[str] = None,
     ) -> None:
         self.folder, self.program, self.report = folder, program, report
         self.source, self.one = source, one
+        self.delivered = Delivered(delivered or os.path.join(folder, NAME), program)
         self.documents = Folder(os.path.join(folder, "fdt"))
         self.made: set[str] = set()  # temporary files
         self.stems: set[str] = set()
@@ -73,6 +80,8 @@ class Gathering:
         return Generations(
             lambda number: os.path.join(self.folder, generation(stem, number)),
             lambda path: self.put_aside(stem, path),
+            self.program.compare,
+            self.delivered.generations,
         )
 
     def put_aside(self, stem: str, path: str) -> None:
@@ -86,7 +95,7 @@ class Gathering:
 
     def take(self, path: str) -> None:
         """Takes an input. Raises Failed, OSError, and records.Fault or Cut."""
-        of = NAME.fullmatch(os.path.basename(path))
+        of = DOCUMENT.fullmatch(os.path.basename(path))
         if of:
             self.take_document(path, of[1], Document(int(of[2]), int(of[3]), b""))
             return

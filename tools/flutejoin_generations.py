@@ -12,115 +12,29 @@ from __future__ import annotations
 import collections
 import contextlib
 import os
-from typing import Callable, Container, Iterator, NamedTuple, Optional, Sequence
+from typing import Callable, Container, Iterable, Iterator, Mapping, NamedTuple
 
 import flutejoin_holdings as holdings
+import flutejoin_records as records
 from flutejoin_entries import INFORMATION, INFORMATION_CONFLICT, SYMBOL, SYMBOL_CONFLICT
 from flutejoin_files import PARTIAL
 from flutejoin_holdings import Copy, Key, key_of
-from flutejoin_joining import Answer
-from flutejoin_merged import Found, merged
+from flutejoin_joining import Answer, Failed
+from flutejoin_merged import merged
+from flutejoin_rows import ASIDE, MOST_GENERATIONS, Chosen, Row, choose, compared
 from flutejoin_shelves import begin_file, bring_to_disk
 
-MOST_GENERATIONS = 8  # of an object
-MOST_OTHERS = 8  # values of a symbol that are kept aside
-MOST_OTHER_BYTES = 1 << 26  # of one journal of these
-
-ASIDE = 0  # the number of what goes aside
 MOST_NAMED = 3  # objects of a kind
 
-# How the transmission information of two journals compares
-SAME, DIFFER, FIRST, SECOND, NONE = "same", "differ", "first", "second", "none"
+# Yields the lines of `flutejoin compare` of two journals; raises Failed
+Compare = Callable[[str, str], Iterator[bytes]]
+# The generations of an object, of these journals by their numbers, whose file was delivered: the
+# first one first
+Delivered = Callable[[Key, Mapping[int, str]], Iterable[int]]
 
 
-class Row(NamedTuple):
-    """How two journals compare in an object: in how many symbols they agree or differ, and how
-    many one of them has alone."""
-
-    key: Key
-    same: int
-    differ: int
-    first: int
-    second: int
-    information: str
-
-    def is_in_first(self) -> bool:
-        of_first = self.same + self.differ + self.first
-        return of_first > 0 or self.information in (SAME, DIFFER, FIRST)
-
-    def agrees(self) -> bool:
-        """Whether the second may be joined into the first, without the symbols that differ."""
-        if self.information == DIFFER:
-            return False
-        return not self.differ or self.same > self.differ
-
-
-class Tally:
-    """How what is new of an object compares with each of several journals."""
-
-    def __init__(self, count: int) -> None:
-        self.same, self.differ, self.first = [0] * count, [0] * count, [0] * count
-        self.second, self.information = 0, [NONE] * count
-        self.is_new = False
-
-    def take(self, found: Found, new: int) -> None:
-        """Adds what the journals have at an address; the last of them is new. A conflict is a value
-        of its own."""
-        *others, (last, mine) = found.values
-        if last != new:
-            for number, _ in found.values:
-                self.add(found.symbol, number, FIRST)
-            return
-        self.is_new = True
-        if found.symbol:
-            self.second += 1
-        for number, value in others:
-            self.add(found.symbol, number, SAME if value == mine else DIFFER)
-
-    def add(self, symbol: bytes, number: int, how: str) -> None:
-        if not symbol:
-            self.information[number] = how
-        elif how == SAME:
-            self.same[number] += 1
-        elif how == DIFFER:
-            self.differ[number] += 1
-        else:
-            self.first[number] += 1
-
-    def rows(self, key: Key) -> list[Row]:
-        return [
-            Row(key, same, differ, first, self.second - same - differ, information)
-            for same, differ, first, information in zip(
-                self.same, self.differ, self.first, self.information
-            )
-        ]
-
-
-def compare(kept: Sequence[str], new: str, without: Container[Key]) -> Iterator[list[Row]]:
-    """Yields of each object of a journal how it compares with each of those that are kept.
-
-    It reads all of them once, and holds one object at a time.
-    """
-    for key, _, found in merged([*kept, new], lambda key: key not in without):
-        tally = Tally(len(kept))
-        for each in found:
-            tally.take(each, len(kept))
-        if tally.is_new:
-            yield tally.rows(key) if kept else [Row(key, 0, 0, 0, tally.second, NONE)]
-
-
-class Plan:
-    """Where the objects of a journal go, and of which some symbols go aside."""
-
-    def __init__(self) -> None:
-        self.to: dict[bytes, int] = {}  # the number of the generation, unless it is the first
-        self.with_others: dict[int, set[Key]] = collections.defaultdict(set)
-        self.others = 0  # how many symbols go aside
-        self.full, self.begun = Named(), Named()
-
-    def is_plain(self) -> bool:
-        """Whether all goes to the first generation."""
-        return not (self.with_others or self.to)
+def nothing_delivered(_key: Key, _kept: Mapping[int, str]) -> Iterable[int]:
+    return ()
 
 
 class Named:
@@ -135,34 +49,52 @@ class Named:
             self.some.append(key)
 
 
-def plan_of(kept: dict[int, str], new: str, without: Container[Key]) -> Plan:
-    """Decides by the generations that are kept, by their numbers, where a journal's objects go."""
-    plan, numbers = Plan(), [*kept]
-    for rows in compare([*kept.values()], new, without):
-        of = dict(zip(numbers, rows))
-        number, key = choose(of), rows[0].key
-        if number is None:
-            plan.full.add(key)
-        row = of.get(number or ASIDE)
+class Plan:
+    """Where the objects of a journal go, and of which some symbols go aside."""
+
+    def __init__(self) -> None:
+        self.to: dict[bytes, int] = {}  # the number of the generation, unless it is the first
+        self.with_others: dict[int, set[Key]] = collections.defaultdict(set)
+        self.others = 0  # how many symbols go aside
+        self.replaced: dict[int, set[Key]] = collections.defaultdict(set)
+        self.full, self.begun, self.gone = Named(), Named(), Named()
+
+    def is_plain(self) -> bool:
+        """Whether all goes to the first generation."""
+        return not (self.with_others or self.to or self.replaced)
+
+    def add(self, chosen: Chosen, rows: dict[int, Row]) -> None:
+        """Adds where an object goes, by its rows."""
+        number, row = chosen.number, rows.get(chosen.number)
+        key = next(iter(rows.values())).key
         if number != 1:
-            plan.to[key.raw()] = number or ASIDE
-        if row and row.differ:
-            plan.with_others[number or ASIDE].add(key)
-            plan.others += row.differ
-        if number and any(it.is_in_first() for it in rows) and not (row and row.is_in_first()):
-            plan.begun.add(key)
+            self.to[key.raw()] = number
+        if number == ASIDE:
+            self.full.add(key)
+        elif chosen.replaces:
+            self.replaced[number].add(key)
+            self.gone.add(key)
+        elif row and row.is_in_first():
+            self.others += row.differ
+            if row.differ:
+                self.with_others[number].add(key)
+        elif any(it.is_in_first() for it in rows.values()):
+            self.begun.add(key)
+
+
+def plan_of(
+    kept: dict[int, str],
+    new: str,
+    compare: Compare,
+    without: Container[Key] = (),
+    delivered: Delivered = nothing_delivered,
+) -> Plan:
+    """Decides by the generations that are kept, by their numbers, where a journal's objects go."""
+    plan = Plan()
+    for rows in compared([compare(path, new) for path in kept.values()], without):
+        of = dict(zip(kept, rows))
+        plan.add(choose(of, delivered(rows[0].key, kept)), of)
     return plan
-
-
-def choose(rows: dict[int, Row]) -> Optional[int]:
-    """The generation with which most symbols of an object agree; else the first that has none of
-    it. None if there is none."""
-    held = {number: row for number, row in rows.items() if row.is_in_first()}
-    fitting = [(-row.same, number) for number, row in held.items() if row.agrees()]
-    if fitting:
-        return min(fitting)[1]
-    free = (number for number in range(1, MOST_GENERATIONS + 1) if number not in held)
-    return next(free, None)
 
 
 def differing(kept: str, new: str, keys: set[Key]) -> dict[bytes, set[bytes]]:
@@ -182,11 +114,11 @@ class Split:
         self.copies: dict[int, Copy] = {}
         self.stack = contextlib.ExitStack()
 
-    def add(self, number: int, kind: int, raw: bytes, more: memoryview) -> None:
+    def copy_of(self, number: int) -> Copy:
         if number not in self.copies:
             self.paths[number] = path = f"{self.front}.{number}{PARTIAL}"
             self.copies[number] = Copy(self.stack.enter_context(begin_file(path)))
-        self.copies[number].add(kind, raw, more)
+        return self.copies[number]
 
     def finish(self) -> None:
         with self.stack:
@@ -221,7 +153,7 @@ def split(
                 number = plan.to.get(raw, 1)
                 if kind == SYMBOL and bytes(more[:4]) in others.get(raw, ()):
                     number = ASIDE
-                found.add(number, kind, raw, more)
+                found.copy_of(number).add(kind, raw, more)
         found.finish()
     except BaseException:
         found.remove()
@@ -262,10 +194,11 @@ class Taken(NamedTuple):
     """What became of a journal that was taken: how a join of it failed, if one did."""
 
     answer: Answer
-    path: str  # of the generation at which it failed
+    path: str = ""  # of the generation at which it failed
     others: int = 0  # symbols that went aside
     begun: Named = Named()  # objects of which another generation began
     full: Named = Named()  # objects of which there are too many
+    gone: Named = Named()  # objects of which one that was delivered went
     informed: frozenset[Key] = frozenset()  # known objects that have transmission information
 
 
@@ -276,8 +209,15 @@ Join = Callable[[str, str], Answer]
 class Generations:
     """The journals of a sender in a folder, one for each generation."""
 
-    def __init__(self, path_of: Callable[[int], str], put_aside: Callable[[str], None]) -> None:
+    def __init__(
+        self,
+        path_of: Callable[[int], str],
+        put_aside: Callable[[str], None],
+        compare: Compare,
+        delivered: Delivered = nothing_delivered,
+    ) -> None:
         self.path_of, self.put_aside = path_of, put_aside
+        self.compare, self.delivered = compare, delivered
 
     def kept(self) -> dict[int, str]:
         """The paths of those that are there, by their numbers."""
@@ -298,13 +238,37 @@ class Generations:
         """
         kept = self.kept()
         found = contents_of(new, known)
-        plan = plan_of(kept, new, without)
-        told = plan.others, plan.begun, plan.full, frozenset(found.informed)
+        try:
+            plan = plan_of(kept, new, self.compare, without, self.delivered)
+        except Failed as fault:
+            if fault.answer.status == 1:
+                raise records.Fault(fault.answer.told) from None
+            return Taken(fault.answer)
+        told = Taken(
+            Answer(0, ""),
+            "",
+            plan.others,
+            plan.begun,
+            plan.full,
+            plan.gone,
+            frozenset(found.informed),
+        )
         if plan.is_plain() and not found.disputed:
             path = self.path_of(1)
-            return Taken(self.bring(new, path, join), path, *told)
+            return told._replace(answer=self.bring(new, path, join), path=path)
         parts = split(new, plan, kept, self.path_of(1), without)
+        return self.bring_parts(parts, plan.replaced, join, told)
+
+    def bring_parts(
+        self, parts: Split, replaced: Mapping[int, Container[Key]], join: Join, told: Taken
+    ) -> Taken:
+        """Joins parts, each into its generation, which forgets the objects that are replaced.
+
+        Returns what is `told` of them, or at which generation a join failed.
+        """
         try:
+            for number, keys in replaced.items():
+                self.forget(number, keys)
             if ASIDE in parts.paths:
                 self.put_aside(parts.paths[ASIDE])
             for number in sorted(parts.paths.keys() - {ASIDE}):
@@ -312,9 +276,17 @@ class Generations:
                 answer = self.bring(parts.paths[number], path, join)
                 if answer.status:
                     return Taken(answer, path)
-            return Taken(Answer(0, ""), "", *told)
+            return told
         finally:
             parts.remove()
+
+    def forget(self, number: int, keys: Container[Key]) -> None:
+        """Takes these objects out of a generation."""
+        path = self.path_of(number)
+        with open(path, "rb", buffering=0) as file, begin_file(path + PARTIAL) as out:
+            holdings.copy(file, lambda key: key not in keys, out, ())
+        os.rename(path + PARTIAL, path)
+        bring_to_disk(path)
 
     @staticmethod
     def bring(new: str, path: str, join: Join) -> Answer:
@@ -333,56 +305,3 @@ def has_linked(new: str, path: str) -> bool:
     except OSError:  # a file system without hard links
         return False
     return True
-
-
-class Others:
-    """Values that differ from what is kept: journals of a sender, each with another value of a
-    symbol."""
-
-    def __init__(self, path_of: Callable[[int], str]) -> None:
-        self.path_of = path_of
-        self.dropped = 0  # values for which there was no room
-
-    def put(self, new: str) -> None:
-        """Adds the values of a journal, each to the first journal that has no other one."""
-        rest = new
-        for number in range(1, MOST_OTHERS + 1):
-            path = self.path_of(number)
-            if os.path.exists(path) and os.path.getsize(path) > MOST_OTHER_BYTES:
-                break
-            left, count = self.add(path, rest)
-            if rest != new:
-                os.unlink(rest)
-            rest = left
-            if not count:
-                os.unlink(rest)
-                return
-        with open(rest, "rb", buffering=0) as file:
-            self.dropped += sum(1 for _ in holdings.entries(file))
-        if rest != new:
-            os.unlink(rest)
-
-    @staticmethod
-    def add(path: str, new: str) -> tuple[str, int]:
-        """Joins what does not differ. Returns a journal of the rest, and its entries."""
-        left = f"{path}.left{PARTIAL}"
-        journals = [*filter(os.path.exists, (path,)), new]
-        with begin_file(path + PARTIAL) as out, begin_file(left) as others:
-            kept, rest = Copy(out), Copy(others)
-            for _, raw, of in merged(journals, lambda _: True):
-                for each in of:
-                    values = each.distinct()
-                    for copy, value in zip((kept, rest), values):
-                        put(copy, raw, each.symbol, value)
-            kept.finish()
-            rest.finish()
-        os.rename(path + PARTIAL, path)
-        bring_to_disk(path)
-        return left, rest.count
-
-
-def put(copy: Copy, raw: bytes, symbol: bytes, value: bytes) -> None:
-    if symbol:
-        copy.add(SYMBOL, raw, symbol + len(value).to_bytes(2, "big") + value)
-    else:
-        copy.add(INFORMATION, raw, value)

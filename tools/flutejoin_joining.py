@@ -44,6 +44,14 @@ class Answer(NamedTuple):
         return collections.Counter({reason.decode(): int(count) for count, reason in found})
 
 
+class Failed(Exception):
+    """A run of flutejoin failed; the answer says how."""
+
+    def __init__(self, answer: Answer) -> None:
+        super().__init__(answer.told)
+        self.answer = answer
+
+
 class Fed(NamedTuple):
     """Whole records of a datagram file that a join reads from standard input."""
 
@@ -150,6 +158,43 @@ class Program:
             except BaseException:
                 child.kill()
                 raise
+
+    def compare(self, kept: str, new: str) -> Iterator[bytes]:
+        """Yields the lines that say how two journals compare in each object. Raises Failed."""
+        return self.lines(["compare", "--any-size", kept, new])
+
+    def lines(self, words: Sequence[str]) -> Iterator[bytes]:
+        """Yields the lines that a command prints. Raises Failed if it fails."""
+        rest = b""
+        for piece in self.pieces(words):
+            *lines, rest = (rest + piece).split(b"\n")
+            yield from lines
+
+    def pieces(self, words: Sequence[str]) -> Iterator[bytes]:
+        """Yields what a command prints. Raises Failed if it fails."""
+        try:
+            child = self.start(words, subprocess.DEVNULL)
+        except (OSError, subprocess.SubprocessError) as fault:
+            raise Failed(Answer(3, f"{self.path} cannot be run: {fault}")) from None
+        with child:
+            try:
+                yield from self.pieces_of(child)
+                answer = self.answer(child)
+            finally:
+                child.kill()
+        if answer.status:
+            raise Failed(answer)
+
+    def pieces_of(self, child: subprocess.Popen) -> Iterator[bytes]:
+        assert child.stdout
+        out = child.stdout.fileno()
+        while True:
+            if select.select([out], [], [], LOOK)[0]:
+                piece = os.read(out, PIECE)
+                if not piece:
+                    return
+                yield piece
+            self.tend()
 
     def tending(self, items: Iterable[T]) -> Iterator[T]:
         """Yields these, and tends meanwhile."""

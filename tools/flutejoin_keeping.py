@@ -12,9 +12,9 @@ from typing import Iterator, Sequence
 
 import flutejoin_files as files
 from flutejoin_incoming import Part, Sender, State
-from flutejoin_joining import FULL, Answer, Program
+from flutejoin_joining import FULL, Answer, Failed, Program
 from flutejoin_kept import Kept, Settings
-from flutejoin_layers import Failed, pieces_of
+from flutejoin_layers import pieces_of
 from flutejoin_shelves import bring_to_disk, move, remove, size_of
 from flutejoin_voice import Counts, Log, line_of
 

@@ -14,12 +14,14 @@ import time
 from typing import Callable, Container, Iterable, NamedTuple, Optional, Sequence, Tuple
 
 import flutejoin_files as files
+from flutejoin_delivered import NAME, Delivered
 from flutejoin_gathering import told_of
-from flutejoin_generations import Generations, Others, Taken, generation
+from flutejoin_generations import Generations, Taken, generation
 from flutejoin_holdings import Key
 from flutejoin_incoming import Incoming, Part, Sender, State, sender_in, sender_of
 from flutejoin_instances import Folder
 from flutejoin_joining import Answer, Program
+from flutejoin_others import Others
 from flutejoin_records import HEADER, MOST, Cut
 from flutejoin_records import Fault as RecordFault
 from flutejoin_room import Room
@@ -65,7 +67,12 @@ class Kept:
         def path_of(number: int) -> str:
             return os.path.join(shelf.path, generation(sender.stem(), number))
 
-        return Generations(path_of, lambda path: self.put_aside(sender, path))
+        return Generations(
+            path_of,
+            lambda path: self.put_aside(sender, path),
+            self.program.compare,
+            Delivered(os.path.join(self.folder, NAME), self.program).generations,
+        )
 
     def put_aside(self, sender: Sender, path: str) -> None:
         """Keeps values that differ from what is kept."""
@@ -183,7 +190,7 @@ class Kept:
         def path_of(number: int) -> str:
             return f"{front}{number}{files.PARTIAL}"
 
-        together = Generations(path_of, put_apart)
+        together = Generations(path_of, put_apart, self.program.compare)
         try:
             for path in waiting[::-1]:
                 taken = self.taken(sender, together, path)

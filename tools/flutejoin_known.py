@@ -14,6 +14,7 @@ import flutejoin_fdt as fdt
 import flutejoin_holdings as holdings
 from flutejoin_entries import FILE, INFORMATION, information_of
 from flutejoin_files import PARTIAL
+from flutejoin_gaps import Numbers
 from flutejoin_holdings import Copy, Key, key_of
 from flutejoin_partition import fault_of
 from flutejoin_records import Cut, Fault
@@ -26,7 +27,7 @@ class Known:
 
     def __init__(self, path: str, source: bytes) -> None:
         self.path, self.source = path, source
-        self.numbers: dict[Key, tuple[int, int, int]] = {}
+        self.numbers: dict[Key, Numbers] = {}
         self.texts: set[int] = set()  # hashes of the documents that were read
         self.has_changed = False
         try:
@@ -75,7 +76,19 @@ class Known:
         os.rename(self.path + PARTIAL, self.path)
 
 
-def told_by(xml: bytes) -> Iterable[tuple[int, tuple[int, int, int]]]:
+def told_in(journals: Iterable[str]) -> dict[str, Numbers]:
+    """What such journals have, by objects as flutejoin names them; of several the first counts.
+
+    One that is damaged counts for nothing: it is made again.
+    """
+    found: dict[str, Numbers] = {}
+    for path in journals:
+        for key, numbers in Known(path, b"").numbers.items():
+            found.setdefault(key.text(), numbers)
+    return found
+
+
+def told_by(xml: bytes) -> Iterable[tuple[int, Numbers]]:
     """The transmission information that a document has, by TOI."""
     try:
         instance: Optional[fdt.Instance] = fdt.read_from(io.BytesIO(xml), None, "", fdt.Budget())

@@ -9,7 +9,7 @@ from flutejoin_entries import FILE
 from flutejoin_files import PARTIAL
 from flutejoin_generations import contents_of
 from flutejoin_holdings import Key
-from flutejoin_joining import Answer
+from flutejoin_joining import Answer, Failed
 from flutejoin_packets import packet_of
 from flutejoin_records import HEADER, LENGTH
 from flutejoin_shelves import begin_file, remove
@@ -89,14 +89,6 @@ class Layers:
         for path in self.finish():
             with contextlib.suppress(FileNotFoundError):
                 os.unlink(path)
-
-
-class Failed(Exception):
-    """A join failed; the answer says how."""
-
-    def __init__(self, answer: Answer) -> None:
-        super().__init__(answer.told)
-        self.answer = answer
 
 
 def pieces_of(

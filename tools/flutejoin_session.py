@@ -3,58 +3,20 @@ from __future__ import annotations
 
 import collections
 import ipaddress
-import re
 from typing import Callable, Iterator, NamedTuple, Optional
 
 import flutejoin_fdt as fdt
-import flutejoin_gaps as gaps
 import flutejoin_names as names
 from flutejoin_content import ENCODINGS, Checked, Verdict
-from flutejoin_entries import FDT_INSTANCE, FILE
+from flutejoin_entries import FILE
 from flutejoin_gaps import Numbers, shown
 from flutejoin_holdings import NOTHING, Held, Key
 from flutejoin_partition import Partition, fault_of
+from flutejoin_states import MISSING, State
 
 MOST_TOPS = 16  # FDT Instances of a session of which it is kept which files they describe
 NUMBERS = 1 << 20  # of FDT Instances; after the last comes 0 (RFC 6726, section 3.4.1)
 NO_NOTES: collections.Counter = collections.Counter()
-KEY = re.compile(r"(?:source ([0-9a-f]{32}) )?session (\d+) object (fdt )?(\d+)")
-
-
-class State(NamedTuple):
-    """What flutejoin reports about an object."""
-
-    words: str
-    wanted: int = 0  # symbols that are missing, in conflict or misfits
-    disputed: int = 0  # those of them that are in conflict
-    is_disputed: bool = False  # whether some of them are in conflict or misfits
-
-    @classmethod
-    def of(cls, line: re.Match) -> State:
-        if line[5]:
-            missing, disputed, misfits = (int(line[at]) for at in (6, 7, 8))
-            wanted = missing + disputed + misfits
-            return cls(gaps.PARTIAL, wanted, disputed, disputed + misfits > 0)
-        words = (line[2] or line[3] or line[4]).decode()
-        return cls(words, 0, 0, words == gaps.CONFLICTING_INFORMATION)
-
-    def is_whole(self) -> bool:
-        return self.words == gaps.WHOLE
-
-    def __str__(self) -> str:
-        return f"{self.words} {self.wanted}" if self.words == gaps.PARTIAL else self.words
-
-
-MISSING = State("missing")
-
-
-def key_of(text: str) -> Key:
-    """The object that a line of flutejoin names."""
-    found = KEY.fullmatch(text)
-    assert found, text
-    source, tsi, is_instance, number = found.groups()
-    tag = FDT_INSTANCE if is_instance else FILE
-    return Key(bytes.fromhex(source) if source else bytes(16), int(tsi), tag, int(number))
 
 
 class Described(NamedTuple):
@@ -143,13 +105,13 @@ class Session:
         if len(described) > 1:
             self.others[toi] = described[1:]
 
-    def apart(self, toi: int, md5: bytes) -> int:
-        """Gives the descriptions with this MD5 a number of their own, and returns it."""
+    def apart(self, toi: int, is_one: Callable[[Described], bool]) -> int:
+        """Gives some of the descriptions a number of their own, and returns it."""
         number = max(it for it in self.files if it % APART == toi) + APART
         every, self.held[number] = self.described(toi), self.held[toi]
         self.others.pop(toi, None)
-        self.put(toi, [each for each in every if each.file.md5 != md5])
-        self.put(number, [each for each in every if each.file.md5 == md5])
+        self.put(toi, [each for each in every if not is_one(each)])
+        self.put(number, [*filter(is_one, every)])
         return number
 
     def usable(self, toi: int) -> list[Described]:
@@ -240,7 +202,8 @@ class Session:
 
     def tois(self) -> list[int]:
         """The objects that are described, or that are held in part, in order."""
-        return sorted(self.files.keys() | self.held.keys())
+        every = self.files.keys() | self.held.keys()
+        return sorted(every, key=lambda number: (number % APART, number))
 
     def state(self, toi: int) -> State:
         return self.states.get(toi, MISSING)
@@ -268,13 +231,14 @@ class Session:
         return [*dict.fromkeys(([held] if held else []) + self.told(toi))]
 
     def is_in_doubt(self, toi: int) -> bool:
-        """Whether something differs about an object that is not verified, and its MD5 is known."""
-        if self.is_verified(toi) or not self.md5s(toi):
+        """Whether something differs about an object that is not verified."""
+        if self.is_verified(toi):
             return False
         held, state = self.held.get(toi, NOTHING), self.state(toi)
         if not held.symbols:
             return False
-        return held.is_disputed or state.is_disputed or len(self.lengths(toi)) > 1
+        is_disputed = held.is_disputed or state.is_disputed
+        return is_disputed or bool(self.md5s(toi)) and len(self.lengths(toi)) > 1
 
     def md5s(self, toi: int) -> list[bytes]:
         """The MD5s of a file by its descriptions, the newest first."""
@@ -332,7 +296,10 @@ class Session:
             return False
         if any(outcome.checked.verdict in BAD for outcome in self.outcomes.values()):
             return False
-        return all(self.is_here(toi) and not self.has_rival(toi, newest) for toi in tois)
+        described = [toi for toi in self.files if toi % APART in tois and toi >= APART]
+        others = [toi for toi in described if self.files[toi].instance == newest.name]
+        is_all = all(self.is_here(toi) and not self.has_rival(toi, newest) for toi in tois)
+        return is_all and all(map(self.is_here, others))
 
     def may_be_newest(self, newest: fdt.Instance) -> Callable[[tuple[int, State]], bool]:
         """Whether an FDT Instance that is not whole may be newer than the newest one.

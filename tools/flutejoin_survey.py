@@ -2,11 +2,12 @@
 from __future__ import annotations
 
 import ipaddress
-from typing import Iterator, NamedTuple
+from typing import Iterator, Mapping, NamedTuple
 
 import flutejoin_gaps as gaps
 import flutejoin_pictures as pictures
 from flutejoin_files import shown
+from flutejoin_gaps import MISSING, Numbers
 from flutejoin_grids import Grid, Overview, partition_words
 from flutejoin_partition import Partition
 
@@ -14,6 +15,8 @@ MOST_PANELS = 520
 MOST_GAPS = 2000000  # of all objects that are drawn, unless it is one: a datagram can make 65,536
 ADDED_AT_ONCE = 16  # objects whose information is added in one run, each by a program of its own
 NOTHING = "nothing of this object"
+OF_OTHERS = ", with the transmission information of other journals"
+OF_FDT = ", with the transmission information of the FDT"
 
 
 class Waiting(NamedTuple):
@@ -32,23 +35,45 @@ class Survey:
     """
 
     def __init__(
-        self, program: gaps.Program, journals: list[str], wanted: str | None, is_text: bool
+        self,
+        program: gaps.Program,
+        journals: list[str],
+        told: Mapping[str, Numbers],
+        wanted: str | None,
+        is_text: bool,
     ) -> None:
+        """`told` is what FDT Instances tell; it counts where no journal has it from packets."""
         self.program, self.journals, self.is_text = program, journals, is_text
         self.count = len(journals) + (len(journals) > 1)
         self.objects = self.whole = 0  # how many there are
+        self.known = self.lacking(told) if told else {}
+        if self.known:
+            program.know(self.known.items())
         self.all = self.read(wanted)
         if wanted is not None and not self.all:
             raise gaps.Fault(1, "no object")
         self.keys = self.chosen()
         drawn = sum(self.all[key].words == gaps.WHOLE for key in self.keys)
         self.left = pictures.Left(self.objects - len(self.keys), self.whole - drawn)
-        self.partitions: dict[str, Partition] = {}  # of objects about which all journals agree
+        # Of objects about which all journals agree
+        self.partitions = {
+            key: Partition(*self.known[key]) for key in self.keys if key in self.known
+        }
         self.panels: dict[str, list[pictures.Panel]] = {key: [] for key in self.keys}
         for journal, waiting in [(journal, self.look(journal)) for journal in journals]:
             self.complete(journal, waiting)
         if len(journals) > 1:
             self.look_at_all()
+
+    def lacking(self, told: Mapping[str, Numbers]) -> dict[str, Numbers]:
+        """What is told of the objects of which no journal has transmission information, of the
+        senders that the journals have."""
+        known, senders = {**told}, set()
+        for key, state in self.program.states(self.journals):
+            senders.add(sender_of(key))
+            if state.words != gaps.NO_INFORMATION:
+                known.pop(key, None)
+        return {key: numbers for key, numbers in known.items() if sender_of(key) in senders}
 
     def read(self, wanted: str | None) -> dict[str, gaps.State]:
         """The states of all objects; if they are too many, of those not whole, up to a number.
@@ -93,18 +118,30 @@ class Survey:
         name, waiting = shown(journal), []
         grids = self.grids([journal], name, states, self.partitions_of(journal, states))
         for key in self.keys:
-            words = states[key].words if key in states else NOTHING
-            if words in (NOTHING, gaps.NO_INFORMATION):
+            words = self.words_of(key, states, grids.get(key))
+            if key not in grids and words in (NOTHING, gaps.NO_INFORMATION):
                 waiting.append(Waiting(key, len(self.panels[key]), key in states))
             self.panels[key].append(pictures.Panel(name, words, grids.get(key), False))
         return waiting
+
+    def words_of(self, key: str, states: dict[str, gaps.State], grid: Grid | None) -> str:
+        """What a journal has of an object."""
+        if key not in states:
+            return NOTHING
+        if key not in self.known:
+            return states[key].words
+        is_whole = states[key].words == gaps.WHOLE
+        if grid and not is_whole and grid.counts[MISSING] == grid.partition.symbols:
+            return NOTHING
+        return states[key].words + OF_FDT
 
     def look_at_all(self) -> None:
         """Draws all journals joined: as the first panel, if the panels do not fit in one line."""
         name = self.name_of_all()
         grids = self.grids(self.journals, name, self.all, self.partitions)
         for key in self.keys:
-            panel = pictures.Panel(name, self.all[key].words, grids.get(key), True)
+            words = self.all[key].words + OF_FDT * (key in self.known)
+            panel = pictures.Panel(name, words, grids.get(key), True)
             is_last = self.count <= pictures.per_line(self.count)
             self.panels[key].insert(len(self.panels[key]) if is_last else 0, panel)
 
@@ -166,7 +203,7 @@ class Survey:
         for key, place, _ in waiting:
             grid = filling.grid_of(key)
             words = gaps.WHOLE if grid.counts[0] == grid.partition.symbols else gaps.PARTIAL
-            words += ", with the transmission information of other journals"
+            words += OF_OTHERS
             self.panels[key][place] = pictures.Panel(name, words, grid, False)
 
     def grid(self, partition: Partition) -> Grid:
@@ -232,6 +269,11 @@ class Filling:
 
     def changed(self) -> gaps.Fault:
         return gaps.Fault(3, f"{self.name}: changed while it was read")
+
+
+def sender_of(key: str) -> str:
+    """The words of a key that name its sender; none if that is 0."""
+    return key.partition("session ")[0]
 
 
 def title_of(key: str) -> str:

@@ -105,7 +105,7 @@ def notes(session: Session, toi: int, outcome: Outcome | None) -> str:
     if told and described.file.length is not None:
         told.append(f"{described.file.length:,}")
     if toi in session.resolved:
-        told.append(f"{session.resolved[toi]}, by its MD5")
+        told.append(session.resolved[toi])
     elif session.state(toi).disputed:
         told.append(f"{session.state(toi).disputed} in conflict")
     if outcome and outcome.checked.told:
@@ -178,7 +178,7 @@ def outcome_lines(session: Session) -> Iterator[str]:
         verdict = outcome.checked.verdict
         told = f" ({outcome.checked.told})" if outcome.checked.told else ""
         if toi in session.resolved:
-            yield f"resolved: {outcome.path} ({session.resolved[toi]}, by its MD5)"
+            yield f"resolved: {outcome.path} ({session.resolved[toi]})"
         if verdict is Verdict.LEFT:
             yield f"not written: {outcome.path}{told}"
         elif verdict is not Verdict.VERIFIED:

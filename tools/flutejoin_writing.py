@@ -16,7 +16,8 @@ from flutejoin_holdings import Key
 from flutejoin_names import UNVERIFIED
 from flutejoin_owners import Owners
 from flutejoin_places import Place, Work, bring_to_disk
-from flutejoin_session import Outcome, Session, State
+from flutejoin_session import Outcome, Session
+from flutejoin_states import State
 
 WRONG = (Verdict.WRONG, Verdict.WRONG_MD5)
 
