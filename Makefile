@@ -11,10 +11,11 @@
 #                    written
 # make install       copies the program to $(PREFIX)/bin, and the tools of the network and of
 #                    pictures beside it; man pages, the completion for bash and the examples of the
-#                    tutorial and of many stations to $(PREFIX)/share; and the unit of a station
+#                    tutorial and of many stations to $(PREFIX)/share; and the units of a station
+#                    and of a centre
 # make uninstall     takes away what `make install` copies
 # make deb           makes bin/flutejoin_VERSION_ARCHITECTURE.deb of it, for Debian
-# make soak          runs stations for longer than the gate does
+# make soak          runs stations, and the month of a centre, for longer than the gate does
 # make fuzz          gives the parsers of the tools inputs that are made up, for SECONDS (600), by
 #                    SEED (1); what one at fault is given is left here
 # make scale         runs what docs/SCALE.md has for several machines, where its engines are here
@@ -24,8 +25,8 @@
 PREFIX ?= /usr/local
 PROGRAM ?= bin/flutejoin
 # They find their modules beside themselves, so bin has links to them.
-TOOLS := flutejoin-capture flutejoin-files flutejoin-gather flutejoin-map flutejoin-mend \
-	flutejoin-receive flutejoin-station flutejoin-values
+TOOLS := flutejoin-capture flutejoin-centre flutejoin-files flutejoin-gather flutejoin-map \
+	flutejoin-mend flutejoin-receive flutejoin-station flutejoin-values
 
 # What `rt ci` leaves
 BUILT := crates/flutejoin_cli/out/flutejoin_cli
@@ -38,7 +39,7 @@ EXAMPLES = $(DESTDIR)$(PREFIX)/share/flutejoin/examples
 SCRIPTS := $(addprefix examples/,tree_steps.sh stations.py levels.sh push.sh reduce.sh slurm.sh \
 	join_on_dask.py)
 UNITS = $(DESTDIR)$(PREFIX)/lib/systemd/system
-UNIT := flutejoin-station@.service
+STARTED := flutejoin-station@.service flutejoin-centre.service
 
 SOURCES := crates.txt $(shell find crates -name out -prune -o -name README.md -o -type f -print)
 
@@ -99,6 +100,7 @@ test-stations:
 	tests/test_stations.py
 	tests/test_generations.py
 	tests/test_agreeing.py
+	tests/test_centre.py
 	tests/test_examples.py
 	tests/test_tree.py
 
@@ -107,6 +109,7 @@ wrong-bodies:
 
 soak: $(PROGRAM)
 	tests/station.py "$(PROGRAM)" --soak
+	WINDOWS=700 FLUTEJOIN="$(abspath $(PROGRAM))" tests/test_centre.py Month
 
 fuzz:
 	tests/fuzz.py --seconds "$(or $(SECONDS),600)" --seed "$(or $(SEED),1)"
@@ -135,13 +138,16 @@ install: $(PROGRAM)
 		"$(EXAMPLES)"
 	install -m 644 packaging/example.toml "$(EXAMPLES)"
 	install -m 755 $(SCRIPTS) "$(EXAMPLES)"
-	sed 's|/usr/bin/|$(PREFIX)/bin/|' "packaging/$(UNIT)" > "$(UNITS)/$(UNIT)"
-	chmod 644 "$(UNITS)/$(UNIT)"
+	install -m 644 packaging/centre.toml "$(EXAMPLES)"
+	for unit in $(STARTED); do \
+		sed 's|/usr/bin/|$(PREFIX)/bin/|' "packaging/$$unit" > "$(UNITS)/$$unit" && \
+		chmod 644 "$(UNITS)/$$unit" || exit 1; \
+	done
 
 uninstall:
 	rm -f "$(BIN)/flutejoin" $(TOOLS:%="$(BIN)/%")
 	rm -f "$(COMPLETIONS)/flutejoin" $(TOOLS:%="$(COMPLETIONS)/%")
-	rm -f $(patsubst man/%,"$(MAN)/%",$(wildcard man/*.1)) "$(UNITS)/$(UNIT)"
+	rm -f $(patsubst man/%,"$(MAN)/%",$(wildcard man/*.1)) $(STARTED:%="$(UNITS)/%")
 	rm -rf "$(LIB)" "$(DESTDIR)$(PREFIX)/share/flutejoin"
 
 deb: $(PROGRAM)

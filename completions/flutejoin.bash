@@ -45,6 +45,10 @@ _flutejoin_options() {
         flutejoin-capture)
             echo '--port --group --from -o --split --any-checksum --as-received --help'
             ;;
+        flutejoin-centre)
+            echo '--config --once --page-only --check --stations --missing --shares --file --json' \
+                '--help'
+            ;;
         flutejoin-files)
             echo '--list -o --source --tsi --fdt --most --any-size --json --delivered --resolve' \
                 '--from --flutejoin --help'
@@ -57,7 +61,7 @@ _flutejoin_options() {
         flutejoin-station)
             echo '-o --config --group --port --from --interface --senders --buffer' \
                 '--as-received --tsi --same --every --window --keep-raw --most --nightly --outbox' \
-                '--status --seconds --flutejoin --help'
+                '--deliver --on-file --status --seconds --flutejoin --help'
             ;;
         flutejoin-map) echo '-o --text --source --tsi --toi --fdt --flutejoin --help' ;;
         flutejoin-mend) echo '-o --help' ;;
@@ -88,7 +92,8 @@ _flutejoin() {
                 *) _flutejoin_files "$word" ;;
             esac
             return ;;
-        --delivered | --flutejoin | --config | --status) _flutejoin_files "$word"; return ;;
+        --deliver) _flutejoin_folders "$word"; return ;;
+        --delivered | --flutejoin | --config | --status | --on-file) _flutejoin_files "$word"; return ;;
         --list)
             # Of flutejoin-files it has no value.
             if [ "$tool" = flutejoin ]; then
@@ -103,7 +108,7 @@ _flutejoin() {
             return ;;
         --port | --group | --count | --seconds | --senders | --split | --most | --buffer)
             return ;;
-        --every | --window | --keep-raw | --nightly) return ;;
+        --every | --window | --keep-raw | --nightly | --file) return ;;
     esac
     case $command in
         help) [ "$COMP_CWORD" -gt 2 ] || _flutejoin_words "$word" "$commands"; return ;;
@@ -119,7 +124,7 @@ _flutejoin() {
         -) _flutejoin_words "$word" "- $(_flutejoin_options "$command")"; return ;;
     esac
     case $command in
-        packet | flutejoin-receive | flutejoin-station)
+        packet | flutejoin-centre | flutejoin-receive | flutejoin-station)
             _flutejoin_words "$word" "$(_flutejoin_options "$command")"
             ;;
         show | gaps | compare | extract | info | join | merge | minus | forget | carousel | \
@@ -129,5 +134,5 @@ _flutejoin() {
     esac
 }
 
-complete -F _flutejoin flutejoin flutejoin-capture flutejoin-files flutejoin-gather flutejoin-map \
-    flutejoin-mend flutejoin-receive flutejoin-station flutejoin-values
+complete -F _flutejoin flutejoin flutejoin-capture flutejoin-centre flutejoin-files \
+    flutejoin-gather flutejoin-map flutejoin-mend flutejoin-receive flutejoin-station flutejoin-values

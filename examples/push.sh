@@ -8,6 +8,9 @@
 # commands there, its last word: ssh does, and `sh -c` does on this machine. flutejoin is on the PATH
 # of both, and flutejoin-gather on that of the centre.
 #
+# STATUS in the environment is the file that the station's --status writes: it is sent too, as
+# status.json in TARGET.
+#
 # A journal leaves the outbox once the centre has it on its disk. What a kill or a lost connection
 # leaves is sent again by the next run, and what arrives twice counts once.
 set -eu
@@ -79,6 +82,13 @@ push_documents() {
     mv "$documents/.pushing" "$documents/.pushed"
 }
 
+# push_status COMMAND..: sends the station's status, which appears there in one step.
+push_status() {
+    [ -n "${STATUS:-}" ] && [ -e "$STATUS" ] || return 0
+    "$@" "mkdir -p $target && cat > $target/status.json.partial &&
+        mv $target/status.json.partial $target/status.json" < "$STATUS"
+}
+
 status=0
 for path in "$outbox"/*.journal; do
     [ ! -e "$path" ] || is_name "${path##*/}" || {
@@ -99,6 +109,10 @@ for sender in $(senders); do
 done
 push_documents "$@" || {
     echo "push.sh: the FDT Instances in $documents are not pushed" >&2
+    status=1
+}
+push_status "$@" || {
+    echo "push.sh: $STATUS is not pushed" >&2
     status=1
 }
 exit $status

@@ -13,9 +13,11 @@ version=$("$program" --version | sed -n 's/^flutejoin //p')
 architecture=$(dpkg --print-architecture)
 make --no-print-directory -s install PROGRAM="$program" DESTDIR="$root" PREFIX=/usr
 gzip -9n "$root"/usr/share/man/man1/*.1
-install -d "$root/etc/flutejoin" "$root/usr/lib/sysctl.d" "$root/DEBIAN"
+install -d "$root/etc/flutejoin" "$root/usr/lib/sysctl.d" "$root/usr/lib/sysusers.d" \
+    "$root/DEBIAN"
 install -m 644 packaging/example.toml "$root/etc/flutejoin/example.toml"
 install -m 644 packaging/sysctl.conf "$root/usr/lib/sysctl.d/50-flutejoin.conf"
+install -m 644 packaging/sysusers.conf "$root/usr/lib/sysusers.d/flutejoin.conf"
 echo /etc/flutejoin/example.toml > "$root/DEBIAN/conffiles"
 install -m 755 packaging/postinst packaging/postrm packaging/prerm "$root/DEBIAN"
 (cd "$root" && find etc usr -type f -print0 | sort -z | xargs -0 md5sum) > "$root/DEBIAN/md5sums"

@@ -17,12 +17,13 @@ import run
 from run import ROOT, Run
 
 COMMANDS = ("flutejoin", *sorted(path.name for path in (ROOT / "tools").glob("flutejoin-*")))
-UNIT = "flutejoin-station@.service"
+UNITS = "flutejoin-station@.service", "flutejoin-centre.service"
 IN_PACKAGE = (
     *("./usr/bin/flutejoin-station", "./usr/lib/flutejoin/flutejoin_keeping.py"),
     *("./usr/share/man/man1/flutejoin-station.1.gz", "./etc/flutejoin/example.toml"),
     "./usr/share/bash-completion/completions/flutejoin",
-    *("./usr/share/flutejoin/examples/push.sh", f"./usr/lib/systemd/system/{UNIT}"),
+    *("./usr/share/flutejoin/examples/push.sh", "./usr/lib/sysusers.d/flutejoin.conf"),
+    *(f"./usr/lib/systemd/system/{unit}" for unit in UNITS),
 )
 # Mounts this system below a scratch root, in a mount namespace; status 3 if that is not possible.
 SCRATCH = """
@@ -69,9 +70,11 @@ class Installed(run.Case):
             self.holds(f"{name} has a man page", page.is_file())
         hidden = [path for path in local.rglob("*") if path.stat().st_mode & 0o444 != 0o444]
         self.holds("all may read what is installed, whoever installs it", not hidden, hidden)
-        unit = (local / "lib" / "systemd" / "system" / UNIT).read_text()
-        is_installed = "\nExecStart=/usr/local/bin/flutejoin-station" in unit
-        self.holds("the unit runs what is installed", is_installed, unit)
+        for name in UNITS:
+            unit = (local / "lib" / "systemd" / "system" / name).read_text()
+            tool = re.split("[@.]", name)[0]
+            is_installed = f"\nExecStart=/usr/local/bin/{tool} " in unit
+            self.holds(f"{name} runs what is installed", is_installed, unit)
         self.check("make uninstall", self.make("uninstall"), 0, None, None)
         left = [path for path in self.path("by_make").rglob("*") if not path.is_dir()]
         self.holds("nothing is left", not left, left)
@@ -79,13 +82,14 @@ class Installed(run.Case):
     @needs("systemd-analyze")
     def test_unit(self) -> None:
         # Systemd looks for the program at its installed path.
-        unit = (ROOT / "packaging" / UNIT).read_text()
-        self.write(UNIT, unit.replace("/usr/bin/", f"{ROOT}/tools/"))
-        done = self.command(["systemd-analyze", "verify", "--man=no", self.path(UNIT)])
-        self.check("the unit", done, None)
-        words = ["systemd-analyze", "security", "--offline=yes", self.path(UNIT)]
-        told = re.search(r"exposure level.*: (\d)\.\d", self.command(words).out.decode())
-        self.holds("the sandbox of the unit", told and int(told[1]) <= 1, told)
+        for name in UNITS:
+            unit = (ROOT / "packaging" / name).read_text()
+            self.write(name, unit.replace("/usr/bin/", f"{ROOT}/tools/"))
+            done = self.command(["systemd-analyze", "verify", "--man=no", self.path(name)])
+            self.check(f"the unit {name}", done, None)
+            words = ["systemd-analyze", "security", "--offline=yes", self.path(name)]
+            told = re.search(r"exposure level.*: (\d)\.\d", self.command(words).out.decode())
+            self.holds(f"the sandbox of {name}", told and int(told[1]) <= 1, told)
 
 
 @needs("dpkg-deb")

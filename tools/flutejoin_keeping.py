@@ -15,7 +15,7 @@ from flutejoin_incoming import Part, Sender, State
 from flutejoin_joining import FULL, Answer, Failed, Program
 from flutejoin_kept import Kept, Settings
 from flutejoin_layers import pieces_of
-from flutejoin_shelves import bring_to_disk, move, remove, size_of
+from flutejoin_shelves import bring_to_disk, copy, move, remove, size_of
 from flutejoin_voice import Counts, Log, line_of
 
 SHARE = 10  # a small journal is joined once the large one has at most so many times its bytes
@@ -32,7 +32,7 @@ class Keeper(Kept):
         self.has_more = False  # since the last look
         self.is_adopted = False  # what versions of before left
         self.make_folders()
-        for shelf in self.small, self.journals, self.outbox, self.raw, self.aside:
+        for shelf in self.small, self.journals, self.outbox, self.raw, self.aside, self.fresh:
             shelf.clear_partial()
         self.raw.trim(settings.keep_raw)
         self.room.look()
@@ -43,6 +43,8 @@ class Keeper(Kept):
             os.makedirs(path, exist_ok=True)
         if self.settings.has_outbox:
             os.makedirs(self.outbox.path, exist_ok=True)
+        if self.settings.delivers:
+            os.makedirs(self.fresh.path, exist_ok=True)
 
     def work(self, is_receiving: bool, has_patience: bool = True) -> bool:
         """Joins what is due, for some time, and returns whether anything was.
@@ -178,6 +180,8 @@ class Keeper(Kept):
             for path, without in pieces_of(new, join, datagrams):
                 if not self.take_one(sender, path, without):
                     return False
+                if self.settings.delivers:
+                    copy(path, self.fresh.next(sender.stem(), ".journal"))
                 if self.settings.has_outbox:
                     kept = self.outbox.next(sender.stem(), ".journal")
                     move(path, kept)

@@ -39,6 +39,7 @@ class Settings(NamedTuple):
     most: Optional[int] = None  # bytes of the disk
     # Addresses of senders that are kept as another one
     same: Tuple[Tuple[files.IPAddress, files.IPAddress], ...] = ()
+    delivers: bool = False  # whether what came is kept for who delivers it
 
 
 class Kept:
@@ -47,9 +48,9 @@ class Kept:
     def __init__(self, folder: str, program: Program, settings: Settings, report: Log) -> None:
         self.folder, self.program, self.settings, self.report = folder, program, settings, report
         self.states: dict[Sender, State] = collections.defaultdict(State)
-        self.small, self.journals, self.outbox, self.raw, self.aside = (
+        self.small, self.journals, self.outbox, self.raw, self.aside, self.fresh = (
             Shelf(os.path.join(folder, name))
-            for name in ("recent", "journals", "outbox", "raw", "aside")
+            for name in ("recent", "journals", "outbox", "raw", "aside", "deliver")
         )
         same = dict(settings.same)
         self.incoming = Incoming(folder, lambda sender: bool(self.kept(sender)), same)

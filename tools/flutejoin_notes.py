@@ -18,6 +18,7 @@ from flutejoin_files import shown
 MOST_WAITING = 200  # lines
 PIECE = 4096  # bytes that a pipe accepts at once
 EACH = 60  # seconds between two lines about one cause
+ERROR, WARNING, INFORMATION = 3, 4, 6  # priorities of lines (RFC 5424, section 6.2.1)
 
 
 class Fault(Exception):
@@ -29,7 +30,8 @@ class Fault(Exception):
 
 
 class Notes:
-    """Writes lines to standard error, with the time unless that is a terminal."""
+    """Writes lines to standard error, with the time unless that is a terminal, or the journal of
+    systemd, which has times itself and gets a priority in its place."""
 
     def __init__(self, tool: str) -> None:
         self.tool = tool
@@ -37,6 +39,8 @@ class Notes:
         self.waiting: collections.deque[bytes] = collections.deque()
         self.missed = 0
         self.terminal: Optional[int] = None
+        self.priority = INFORMATION  # of the lines that are added, in the journal of systemd
+        self.is_in_journal = is_in_journal()
 
     def add(self, text: str) -> None:
         with self.lock:
@@ -48,7 +52,9 @@ class Notes:
 
     def line(self, text: str) -> bytes:
         stamp = ""
-        if sys.stderr is None or not sys.stderr.isatty():
+        if self.is_in_journal:
+            stamp = f"<{self.priority}>"
+        elif sys.stderr is None or not sys.stderr.isatty():
             stamp = time.strftime("%Y-%m-%dT%H:%M:%SZ ", time.gmtime())
         lines = "\n".join(map(shown, text.split("\n")))
         return os.fsencode(f"{stamp}{self.tool}: {lines}\n")
@@ -97,6 +103,16 @@ class Notes:
             if not self.waiting:
                 return
             time.sleep(0.1)
+
+
+def is_in_journal() -> bool:
+    """Whether standard error goes to the journal of systemd (systemd.exec(5))."""
+    try:
+        device, _, inode = os.environ.get("JOURNAL_STREAM", "").partition(":")
+        found = os.fstat(sys.stderr.fileno())
+        return (int(device), int(inode)) == (found.st_dev, found.st_ino)
+    except (ValueError, OSError, AttributeError):
+        return False
 
 
 def is_writable(descriptor: int) -> bool:

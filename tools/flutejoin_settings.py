@@ -11,7 +11,8 @@ from flutejoin_found import address_of
 
 OF_SESSION = "group", "port", "from", "interface", "folder"
 OF_STATION = (
-    "every", "window", "keep-raw", "most", "nightly", "outbox", "tsi", "status", "flutejoin"
+    *("every", "window", "keep-raw", "most", "nightly", "outbox", "tsi", "status", "flutejoin"),
+    *("deliver", "on-file"),
 )
 
 

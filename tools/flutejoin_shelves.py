@@ -105,6 +105,20 @@ def move(path: str, to: str) -> None:
     remove(path)
 
 
+def copy(path: str, to: str) -> None:
+    """Gives a file a second name, or copies it where the file system has none; it is on the disk."""
+    try:
+        os.link(path, to)
+    except OSError:
+        try:
+            shutil.copyfile(path, to + PARTIAL)
+            os.rename(to + PARTIAL, to)
+        except BaseException:
+            remove(to + PARTIAL)
+            raise
+    bring_to_disk(to)
+
+
 class Shelf:
     """A folder of such files. Their numbers are times, so that no number is used twice."""
 

@@ -7,7 +7,7 @@ from typing import TYPE_CHECKING, Callable, NamedTuple, Optional
 
 import flutejoin_files as files
 from flutejoin_joining import Answer, Program
-from flutejoin_notes import EACH, Notes
+from flutejoin_notes import EACH, ERROR, INFORMATION, WARNING, Notes
 
 if TYPE_CHECKING:
     from flutejoin_keeping import Keeper
@@ -31,7 +31,8 @@ class Log(files.Report):
         self.last: Optional[dict] = None  # the last fault: what, when, and when it ended
         self.minute, self.lines, self.missed = float("-inf"), 0, 0
 
-    def warn(self, text: str) -> None:
+    def warn(self, text: str, priority: int = INFORMATION) -> None:
+        self.notes.priority = priority
         now = time.monotonic()
         if now >= self.minute + EACH:
             missed, self.missed = self.missed, 0
@@ -45,7 +46,8 @@ class Log(files.Report):
             self.missed += 1
 
     def fault(self, status: int, text: str) -> None:
-        super().fault(status, text)
+        self.status = max(self.status, status)
+        self.warn(text, WARNING if status < 2 else ERROR)
         self.begin_fault(text, text)
         self.end_fault(text)
 
@@ -53,7 +55,7 @@ class Log(files.Report):
         """Reports a failure of what is repeated every few seconds, unless it was the last one."""
         if self.failing.get(what) != told:
             self.failing[what] = told
-            self.warn(f"{told}; it is tried again")
+            self.warn(f"{told}; it is tried again", WARNING)
             self.begin_fault(what, told)
 
     def works(self, what: str) -> None:

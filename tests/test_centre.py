@@ -1,0 +1,19 @@
+#!/usr/bin/env python3
+"""Tests what a centre delivers of what stations push, tells, and lets go.
+
+usage: tests/test_centre.py [CLASS[.TEST]..], with the program's path in FLUTEJOIN
+"""
+from __future__ import annotations
+
+import sys
+
+sys.dont_write_bytecode = True
+import run
+from centre_delivers import Delivers, OneStation, Service
+from centre_lets_go import LetsGo, Month
+from centre_tells import Asks, Tells
+
+TESTS = Delivers, OneStation, Service, LetsGo, Month, Asks, Tells
+
+if __name__ == "__main__":
+    run.main("centre")

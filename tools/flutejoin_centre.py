@@ -1,0 +1,111 @@
+"""The file of settings of flutejoin-centre."""
+from __future__ import annotations
+
+import os
+import re
+from typing import Any, NamedTuple, Optional
+
+from flutejoin_files import shown
+from flutejoin_inbox import Station
+from flutejoin_settings import read_config
+
+DAY = 86400
+UNITS = {"": 1, "s": 1, "m": 60, "h": 3600, "d": DAY, "w": 7 * DAY}
+NAME = re.compile(r"[A-Za-z0-9][A-Za-z0-9_.-]{0,62}", re.ASCII)
+MOST_STATIONS = 64
+
+
+class Settings(NamedTuple):
+    """What a centre does. Times are in seconds."""
+
+    folder: str  # where all is kept
+    files: str  # which gets the files
+    stations: tuple[Station, ...]
+    status: dict[str, str]  # of each station the path of its status
+    every: float = 10
+    keep: float = 7 * DAY
+    keep_partial: float = 30 * DAY
+    silent: float = 600  # after which a station of which nothing comes is told
+    on_file: Optional[str] = None
+    flutejoin: Optional[str] = None
+    listen: Optional[str] = None
+
+
+def duration(text: str) -> float:
+    """A time, as 90, 45s, 10m, 12h, 7d or 4w, in seconds. Raises ValueError."""
+    found = re.fullmatch(r"(\d{1,9})([smhdw]?)", text, re.ASCII)
+    if not found:
+        raise ValueError(f"{text!r} is no time, as 45s, 10m, 12h or 7d")
+    return float(int(found[1]) * UNITS[found[2]])
+
+
+TIMES = {"every": "every", "keep": "keep", "keep-partial": "keep_partial", "silent": "silent"}
+TEXTS = {"on-file": "on_file", "flutejoin": "flutejoin", "listen": "listen"}
+PATHS = "folder", "files"
+OF_STATION = "name", "folder", "outbox", "status"
+
+
+def settings_of(path: str) -> Settings:
+    """The settings in a file of TOML. Raises ValueError."""
+    given = read_config(path)
+    front = f"argument --config: {shown(path)}: "
+    try:
+        unknown = given.keys() - {"centre", "station"}
+        if unknown:
+            raise ValueError(f"there is no setting {min(unknown)}")
+        return settings_in(given.get("centre", {}), given.get("station", []))
+    except ValueError as fault:
+        raise ValueError(front + str(fault)) from None
+
+
+def settings_in(table: Any, tables: Any) -> Settings:
+    if not isinstance(table, dict):
+        raise ValueError("centre is no [centre]")
+    if not isinstance(tables, list) or not all(isinstance(each, dict) for each in tables):
+        raise ValueError("station is no [[station]]")
+    values: dict[str, Any] = {}
+    for key, value in table.items():
+        if key in TIMES:
+            values[TIMES[key]] = duration(str(value))
+        elif key not in TEXTS and key not in PATHS:
+            raise ValueError(f"[centre]: there is no setting {key}")
+        else:
+            values[TEXTS.get(key, key)] = text(f"[centre]: {key}", value)
+    if "folder" not in values:
+        raise ValueError("[centre] has no folder, where all is kept")
+    values["folder"] = os.path.abspath(values["folder"])
+    files = values.get("files") or os.path.join(values["folder"], "files")
+    values["files"] = os.path.abspath(files)
+    stations = [station_of(each) for each in tables]
+    names = [station.name for station, _ in stations]
+    if not names:
+        raise ValueError("there is no [[station]]")
+    if len(names) > MOST_STATIONS:
+        raise ValueError(f"there are more than {MOST_STATIONS} [[station]]")
+    if len(set(names)) < len(names):
+        raise ValueError("two [[station]] have one name")
+    status = {station.name: path for station, path in stations}
+    return Settings(stations=tuple(it for it, _ in stations), status=status, **values)
+
+
+def text(what: str, value: Any) -> str:
+    if not isinstance(value, str) or not value:
+        raise ValueError(f"{what} is no text")
+    return value
+
+
+def station_of(table: dict) -> tuple[Station, str]:
+    """A station, and the path of its status."""
+    unknown = table.keys() - {*OF_STATION}
+    if unknown:
+        raise ValueError(f"[[station]]: there is no setting {min(unknown)}")
+    name, folder = (text(f"[[station]]: {key}", table.get(key)) for key in ("name", "folder"))
+    if not NAME.fullmatch(name):
+        told = "is no name of letters, digits and _ . -, of at most 63"
+        raise ValueError(f"[[station]]: {name!r} {told}")
+    is_own = table.get("outbox", False)
+    if not isinstance(is_own, bool):
+        raise ValueError("[[station]]: outbox is true or false")
+    folder = os.path.abspath(folder)
+    status = text("[[station]]: status", table.get("status", os.path.join(folder, "status.json")))
+    return Station(name, folder, is_own, "outbox" if is_own else ""), os.path.abspath(status)

@@ -1,0 +1,344 @@
+"""Delivers the files of stations: takes what came, and makes a file of each object that is whole.
+
+What is in the folder:
+  files/            the files, by their names
+  delivered.jsonl   a line for each file that was delivered
+  pending/STATION   journals of what is not delivered yet
+  kept/             journals of what was delivered, until --keep is over
+  fdt/              FDT Instances, of all stations
+  aside/            journals at fault
+  ledger.db         which files were delivered, and with which bytes
+  taken, ready, round, work   what is on its way
+"""
+from __future__ import annotations
+
+import contextlib
+import errno
+import os
+import shutil
+import time
+from typing import Callable, Container, Iterable, Iterator, Optional
+
+import flutejoin_gaps as gaps
+from flutejoin_centre import Settings
+from flutejoin_described import Described
+from flutejoin_entries import FILE, HEADER
+from flutejoin_files import MOST_INPUTS
+from flutejoin_gathering import Gathering
+from flutejoin_holdings import Copy, Key
+from flutejoin_inbox import Inbox, Station
+from flutejoin_joining import Program
+from flutejoin_layers import Failed
+from flutejoin_ledger import Ledger
+from flutejoin_partition import Partition
+from flutejoin_pending import ENDING, Pending, chosen, share_of
+from flutejoin_places import Work
+from flutejoin_records import Cut, Fault
+from flutejoin_rounds import Made, Once, Outcome, make
+from flutejoin_session import APART
+from flutejoin_shelves import begin_file, remove
+from flutejoin_shipping import Shipping
+from flutejoin_symbols import Symbols
+from flutejoin_voice import Log
+
+MOST_AT_ONCE = 1 << 12  # objects that a round looks at
+
+
+class Arrival:
+    """A station's inbox, and what it brought that is not delivered."""
+
+    def __init__(self, station: Station, inbox: Inbox, pending: Pending) -> None:
+        self.station, self.inbox, self.pending = station, inbox, pending
+        self.came_at: Optional[float] = None  # when something of it came last
+
+
+class Deliverer:
+    """Delivers what stations bring, to one folder."""
+
+    def __init__(
+        self,
+        settings: Settings,
+        program: str,
+        report: Log,
+        clock: Callable[[], float] = time.time,
+        tend: Callable[[], None] = lambda: None,
+    ) -> None:
+        """Opens the folder of the settings, which is there. Raises OSError."""
+        self.settings, self.folder = settings, settings.folder
+        self.report, self.clock = report, clock
+        self.program, self.gaps = Program(program, tend), gaps.Program(program)
+        self.ledger = Ledger(self.at("ledger.db"))
+        self.shipping = Shipping(self.folder, settings.files, self.ledger, report)
+        self.described = Described(self.at("fdt"))
+        self.documents = Gathering(self.folder, self.program, report)
+        self.arrivals = [self.arrival(station) for station in settings.stations]
+        self.once = Once(report)
+        self.touched: set[Key] = set()  # objects that may have become whole
+        self.dirty: set[Key] = set()  # objects of which something changed, for who shows them
+        self.union: dict[Key, Symbols] = {}  # the symbols that any station has
+        self.done: dict[Key, set[Optional[str]]] = {}  # the described MD5s that were delivered
+        self.wrong: dict[Key, str] = {}  # why a whole object is not delivered
+        self.is_begun = False
+
+    def at(self, *names: str) -> str:
+        return os.path.join(self.folder, *names)
+
+    def arrival(self, station: Station) -> Arrival:
+        inbox = Inbox(station, self.at("taken", station.name))
+        pending = Pending(self.at("pending", station.name), self.program, self.report)
+        return Arrival(station, inbox, pending)
+
+    def begin(self) -> None:
+        """Takes up what a run before left. What waits is looked at once more."""
+        self.shipping.resume()
+        for name in "round", "work":
+            shutil.rmtree(self.at(name), ignore_errors=True)
+        self.read_done()
+        self.touched |= self.described.look()
+        for each in self.arrivals:
+            each.came_at = self.ledger.came_at(each.station.name)
+            each.pending.read()
+            delivered = each.pending.objects.keys() & self.done.keys()
+            if delivered:  # a kill may have come before they were taken away
+                each.pending.remove(delivered, self.ledger.contents)
+            self.touched |= each.pending.objects.keys()
+            for key, symbols in each.pending.objects.items():
+                self.union.setdefault(key, Symbols()).unite(symbols)
+        self.dirty |= self.touched
+        self.is_begun = True
+
+    def read_done(self) -> None:
+        """Reads which files were delivered."""
+        self.done.clear()
+        for key, described in self.ledger.described():
+            self.done.setdefault(key, set()).add(described)
+
+    def work(self) -> int:
+        """Takes what came, delivers what is whole, and returns how many files.
+
+        A journal of what waits that is damaged is set aside, and the others are delivered. Raises
+        OSError and gaps.Fault.
+        """
+        try:
+            return self.work_once()
+        except (Fault, Cut, gaps.Fault) as fault:
+            if isinstance(fault, gaps.Fault) and fault.status != 1:
+                raise
+            if not self.set_damaged_aside():
+                raise gaps.Fault(3, named(fault)) from None
+        return self.work_once()
+
+    def set_damaged_aside(self) -> bool:
+        """Sets journals of what waits aside that flutejoin refuses. Returns whether any was."""
+        found = False
+        for each in self.arrivals:
+            for path in each.pending.journals():
+                answer = self.program.run(["gaps", "--any-size", "--summary", path])
+                if answer.status == 1:
+                    kept = each.inbox.put_aside(path, self.at("aside"))
+                    told = f"{path} is damaged: {answer.told}; it is kept as {kept}"
+                    self.report.fault(1, told)
+                    found = True
+        if found:
+            self.union.clear()
+            self.is_begun = False
+        return found
+
+    def work_once(self) -> int:
+        if not self.is_begun:
+            self.begin()
+        self.shipping.place()
+        self.shipping.tell()
+        for each in self.arrivals:
+            self.take(each)
+        new = self.described.look()
+        self.touched |= new
+        self.dirty |= new
+        return self.deliver()
+
+    def take(self, arrival: Arrival) -> None:
+        """Takes what came of a station. If its folder can't be read, that is told."""
+        what = f"station {arrival.station.name}"
+        try:
+            paths = arrival.inbox.take()
+            count = arrival.inbox.take_documents(self.documents.documents)
+        except OSError as fault:
+            self.report.fails(what, f"{what}: {fault.filename}: {fault.strerror}")
+            return
+        self.report.works(what)
+        for path in arrival.inbox.left:
+            self.once.warn(f"{path}: is no FDT Instance, and is left as it is")
+        arrival.inbox.left.clear()
+        if paths or count:
+            arrival.came_at = self.clock()
+            self.ledger.come(arrival.station.name, arrival.came_at)
+        for path in paths:
+            self.take_journal(arrival, path)
+
+    def take_journal(self, arrival: Arrival, path: str) -> None:
+        """Joins a journal with what waits. One at fault is set aside."""
+        name = arrival.station.name
+        try:
+            self.documents.take_instances(path)
+            came = arrival.pending.take(path, self.ledger.contents)
+        except (Fault, Cut, Failed) as fault:
+            if isinstance(fault, Failed) and fault.answer.status != 1:
+                raise OSError(errno.EIO, str(fault), path) from None
+            kept = arrival.inbox.put_aside(path, self.at("aside"))
+            self.report.fault(1, f"station {name}: {named(fault)}; it is kept as {kept}")
+            return
+        now = self.clock()
+        self.ledger.wait(came.objects, now)
+        self.ledger.see_again(now, {it: {name: share} for it, share in came.again.items()})
+        self.touched |= came.objects.keys()
+        self.dirty |= came.objects.keys()
+        for key, symbols in came.objects.items():
+            self.union.setdefault(key, Symbols()).unite(symbols)
+        remove(path)
+
+    def deliver(self) -> int:
+        """Makes files of what may be whole."""
+        ready = [key for key in sorted(self.touched) if self.may_be_whole(key)]
+        count = 0
+        for begin in range(0, len(ready), MOST_AT_ONCE):
+            count += self.round(frozenset(ready[begin : begin + MOST_AT_ONCE]))
+        self.touched.clear()
+        return count
+
+    def may_be_whole(self, key: Key) -> bool:
+        """Whether an object is described, not delivered yet, and no symbol of it lacks."""
+        if key not in self.described.of or self.is_done(key):
+            return False
+        return self.union.get(key, Symbols()).may_be_whole(self.described.numbers(key))
+
+    def is_done(self, key: Key) -> bool:
+        """Whether there is nothing to make of an object, and nothing to take away."""
+        return not self.is_open(key) and (key not in self.union or self.ledger.has_sums(key))
+
+    def is_open(self, key: Key) -> bool:
+        """Whether a file of this object may still be delivered."""
+        if key not in self.done:
+            return True
+        described = self.described.of.get(key, ())
+        md5s = {each.file.md5.hex() if each.file.md5 else None for each in described}
+        if key not in self.union:
+            md5s.discard(None)
+        return None in md5s or bool(md5s - self.done[key])
+
+    def round(self, keys: frozenset[Key]) -> int:
+        """Delivers those of some objects that are whole, and returns how many files."""
+        folder = self.at("round")
+        shutil.rmtree(folder, ignore_errors=True)
+        os.makedirs(folder)
+        journals = [it for each in self.arrivals for it in each.pending.copy(keys, folder)]
+        journals = journals or [empty_in(folder)]
+        documents = [*self.described.documents_of(set(keys))]
+        with self.work_folder() as work:
+            self.gaps.kept = (work.folder,)
+            outcome = make(self.gaps, journals, work, documents, self.once)
+            self.note_wrong(keys, outcome)
+            count = self.shipping.ship(outcome, self.shares, self.clock())
+        self.let_go_of(keys, outcome, journals)
+        shutil.rmtree(folder, ignore_errors=True)
+        return count
+
+    @contextlib.contextmanager
+    def work_folder(self) -> Iterator[Work]:
+        work = Work(self.at("work"))
+        try:
+            yield work
+        finally:
+            work.end()
+
+    def note_wrong(self, keys: Container[Key], outcome: Outcome) -> None:
+        for key in [it for it in self.wrong if it in keys]:
+            del self.wrong[key]
+        for (source, tsi, toi), told in outcome.wrong.items():
+            key = Key(source, tsi, FILE, toi)
+            self.wrong[key] = told
+            file = self.described.file(key)
+            self.once.warn(f"{file.location if file else key.text()}: not delivered: {told}")
+
+    def shares(self, key: Key, made: Made) -> dict[str, float]:
+        """How much of an object each station has, in percent."""
+        if made.contents is None:
+            return {}
+        partition = Partition(*made.contents.numbers)
+        of = key._replace(number=key.number % APART)
+        return {
+            each.station.name: share_of(each.pending.objects[of], partition)
+            for each in self.arrivals
+            if of in each.pending.objects
+        }
+
+    def let_go_of(self, keys: Container[Key], outcome: Outcome, journals: list[str]) -> None:
+        """Takes what was delivered out of what waits, and keeps it apart."""
+        made = {key_of(it) for it in outcome.made}
+        self.dirty |= {it for it in self.union if it in keys}
+        for it in outcome.made:
+            md5 = it.described()
+            self.done.setdefault(key_of(it), set()).add(md5.hex() if md5 else None)
+        if not made:
+            return
+        self.keep(made, journals)
+        for each in self.arrivals:
+            if any(key in each.pending.objects for key in made):
+                each.pending.remove(made, self.ledger.contents)
+        self.unite(made)
+        self.ledger.end_waiting(made - self.union.keys())
+
+    def unite(self, keys: Iterable[Key]) -> None:
+        """Puts together anew which symbols any station has of some objects."""
+        for key in keys:
+            self.dirty.add(key)
+            self.union.pop(key, None)
+            for each in self.arrivals:
+                if key in each.pending.objects:
+                    self.union.setdefault(key, Symbols()).unite(each.pending.objects[key])
+
+    def keep(self, keys: set[Key], journals: list[str]) -> None:
+        """Keeps the entries of what was delivered in a journal, whose name says how long."""
+        now, keep = self.clock(), self.settings.keep
+        expires = [self.described.expires(key) for key in keys]
+        over = [now + keep if it is None else it for it in expires]
+        until = int(min(now + keep, max(over, default=now)))
+        if until <= now:
+            return
+        os.makedirs(self.at("kept"), exist_ok=True)
+        number = len(os.listdir(self.at("kept")))
+        while os.path.lexists(path := self.at("kept", f"{until}.{number}{ENDING}")):
+            number += 1
+        parts = [part for part in (only(journal, keys) for journal in journals) if part]
+        for begin in range(0, len(parts), MOST_INPUTS - 1):
+            some = parts[begin : begin + MOST_INPUTS - 1] + [path] * (begin > 0)
+            answer = self.program.run(["join", "--any-size", "-o", path, *some])
+            if answer.status:
+                raise OSError(errno.EIO, answer.told, path)
+
+
+def only(journal: str, keys: Container[Key]) -> Optional[str]:
+    """Writes beside a journal what it has of some objects; None if it has nothing."""
+    path = f"{journal}.kept"
+    with open(journal, "rb", buffering=0) as file, begin_file(path) as out:
+        copy = Copy(out)
+        for kind, raw, more in chosen(file, keys):
+            copy.add(kind, raw, more)
+        copy.finish()
+    return path if copy.count else None
+
+
+def key_of(made: Made) -> Key:
+    key = made.ready.session.key(made.ready.toi)
+    return key._replace(number=key.number % APART)
+
+
+def named(fault: Exception) -> str:
+    return "a journal is cut" if isinstance(fault, Cut) else f"a journal is at fault: {fault}"
+
+
+def empty_in(folder: str) -> str:
+    """Makes a journal with nothing in it: of objects of no byte there may be no packet."""
+    path = os.path.join(folder, "empty.journal")
+    with open(path, "wb") as file:
+        file.write(HEADER + b"\xff" + bytes(8))
+    return path

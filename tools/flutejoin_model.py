@@ -1,0 +1,251 @@
+"""What a centre knows of files and stations: rows that are made anew where something changed."""
+from __future__ import annotations
+
+import calendar
+import json
+import shutil
+import time
+from typing import Iterable, NamedTuple, Optional
+
+from flutejoin_delivering import Arrival, Deliverer
+from flutejoin_files import shown
+from flutejoin_holdings import Key
+from flutejoin_ledger import Delivery
+from flutejoin_partition import Partition, fault_of
+from flutejoin_pending import share_of
+from flutejoin_session import address_of
+from flutejoin_status import instant
+from flutejoin_symbols import Symbols, ranges
+
+MOST_RANGES = 6  # of missing bytes, that are told of a file
+MOST_STATUS = 1 << 20  # bytes of a station's status that are read
+WAITING, UNDESCRIBED, UNKNOWN, WRONG, EXPIRED = (
+    "waiting",
+    "no description",
+    "length unknown",
+    "wrong",
+    "expired",
+)
+
+
+class Row(NamedTuple):
+    """A file that is not delivered."""
+
+    key: Key
+    name: Optional[str]
+    bytes: Optional[int]
+    state: str
+    why: str  # of what is wrong
+    percent: float  # of its symbols, that any station has
+    missing: int  # symbols that none has
+    missing_bytes: int
+    ranges: list[tuple[int, int]]  # the first ones of the missing bytes
+    shares: dict[str, float]  # in percent, of the stations that have any
+    only: dict[str, int]  # symbols that one station alone has
+    since: Optional[float]
+    seen: Optional[float]
+    whole_at: Optional[float]  # when it will likely be whole, if it goes on so
+
+    def told(self) -> dict:
+        return {
+            "name": self.name,
+            "sender": address_of(self.key.source),
+            "tsi": self.key.tsi,
+            "toi": self.key.number,
+            "bytes": self.bytes,
+            "state": self.state,
+            "why": self.why or None,
+            "percent": self.percent,
+            "missing_symbols": self.missing,
+            "missing_bytes": self.missing_bytes,
+            "ranges": self.ranges,
+            "stations": self.shares,
+            "only": self.only,
+            "since": instant(self.since),
+            "last_seen": instant(self.seen),
+            "whole_at": instant(self.whole_at),
+        }
+
+
+class StationRow(NamedTuple):
+    """A station, by what it pushes and by its own status."""
+
+    name: str
+    seen: Optional[float]  # when it received or pushed something last
+    is_silent: bool
+    told: Optional[str]  # when its status was written
+    datagrams: Optional[int]
+    dropped: Optional[int]
+    refused: Optional[int]
+    aside: Optional[int]
+    free: Optional[int]
+    fault: Optional[str]  # its last fault, unless that ended
+    had: Optional[float]  # of what was delivered lately, in percent
+    whole: int  # of the files delivered lately, how many it had whole
+
+
+class Model:
+    """The rows of a centre."""
+
+    def __init__(self, deliverer: Deliverer, began: float) -> None:
+        self.of, self.began = deliverer, began
+        self.rows: dict[Key, Row] = {}
+        self.first: dict[Key, tuple[float, int]] = {}  # when a file was seen first, and its symbols
+
+    def update(self) -> None:
+        """Makes the rows anew of which something changed since the last call."""
+        dirty, self.of.dirty = self.of.dirty, set()
+        for key in dirty:
+            row = self.row(key)
+            if row is None:
+                self.rows.pop(key, None)
+                self.first.pop(key, None)
+            else:
+                self.rows[key] = row
+
+    def row(self, key: Key) -> Optional[Row]:
+        """The row of an object; None if it is delivered, or nothing waits."""
+        if not self.of.is_open(key):
+            return None
+        now = self.of.clock()
+        symbols, file = self.of.union.get(key, Symbols()), self.of.described.file(key)
+        expires, waited = self.of.described.expires(key), self.of.ledger.waited(key)
+        is_over = expires is not None and expires < now
+        if not symbols.blocks and is_over:
+            return None
+        partition = self.partition(key, symbols)
+        missing = [*symbols.missing(partition)] if partition else []
+        count = sum(last - first + 1 for first, last in missing)
+        every = [*ranges(missing, partition)] if partition else []
+        state = UNDESCRIBED if file is None else WAITING if partition else UNKNOWN
+        state = WRONG if key in self.of.wrong else EXPIRED if is_over else state
+        shares, only = self.shares(key, partition)
+        return Row(
+            *(key, file.location if file else None, partition and partition.numbers[0], state),
+            *(self.of.wrong.get(key, ""), share_of(symbols, partition) if partition else 0.0),
+            *(count, sum(end - begin for begin, end in every), every[:MOST_RANGES], shares, only),
+            *(waited and waited.since, waited and waited.seen, self.whole_at(key, count, now)),
+        )
+
+    def partition(self, key: Key, symbols: Symbols) -> Optional[Partition]:
+        """How an object is cut, by the transmission information that fits best; None if unknown."""
+        known = {*symbols.numbers, *self.of.described.numbers(key)}
+        usable = [Partition(*it) for it in known if not fault_of(*it)]
+        if len(usable) < 2:
+            return usable[0] if usable else None
+        return min(usable, key=lambda it: it.symbols - symbols.held(it))
+
+    def shares(
+        self, key: Key, partition: Optional[Partition]
+    ) -> tuple[dict[str, float], dict[str, int]]:
+        """How much each station has, and how many symbols one of them alone."""
+        held = {
+            each.station.name: each.pending.objects[key].blocks
+            for each in self.of.arrivals
+            if key in each.pending.objects
+        }
+        counts, only = dict.fromkeys(held, 0), dict.fromkeys(held, 0)
+        for block in {block for blocks in held.values() for block in blocks}:
+            size = partition.size(block) if partition and block < partition.blocks else 0
+            count_block({name: of.get(block, 0) for name, of in held.items()}, size, counts, only)
+        symbols = partition.symbols if partition else 0
+        shares = {name: 1000 * count // symbols / 10 for name, count in counts.items() if symbols}
+        return shares, {name: count for name, count in only.items() if count}
+
+    def whole_at(self, key: Key, missing: int, now: float) -> Optional[float]:
+        """When an object will be whole, if its symbols go on to come as they did."""
+        begun, before = self.first.setdefault(key, (now, missing))
+        if not missing or missing >= before or now <= begun:
+            return None
+        return now + missing * (now - begun) / (before - missing)
+
+    def stations(self, newest: Iterable[Delivery]) -> list[StationRow]:
+        """The stations, by the files that were delivered lately and by their own status."""
+        files = [*newest]
+        return [self.station(each, files) for each in self.of.arrivals]
+
+    def station(self, arrival: Arrival, files: list[Delivery]) -> StationRow:
+        name, now = arrival.station.name, self.of.clock()
+        told = read_status(self.of.settings.status.get(name, ""))
+        receiver = told.get("receiver") if isinstance(told.get("receiver"), dict) else {}
+        senders = [it for it in listed(receiver.get("senders")) if isinstance(it, dict)]
+        heard = [it.get("last_seen") for it in senders]
+        times = [seconds_of(it) for it in heard if isinstance(it, str)]
+        times.append(arrival.came_at)
+        seen = max((it for it in times if it is not None), default=None)
+        is_silent = now - (self.began if seen is None else seen) > self.of.settings.silent
+        shares = [it.shares.get(name, 0.0) for it in files if it.shares]
+        dropped = receiver.get("dropped")
+        counts = sum_of(it.get("datagrams") for it in senders)
+        return StationRow(
+            *(name, seen, is_silent, text_of(told.get("time"))),
+            counts if senders else number_of(told.get("datagrams")),
+            sum_of(dropped.values()) if isinstance(dropped, dict) else None,
+            *(number_of(told.get(it)) for it in ("refused", "set aside", "free")),
+            fault_in(told.get("last fault")),
+            int(10 * sum(shares) / len(shares)) / 10 if shares else None,
+            sum(it >= 100 for it in shares),
+        )
+
+    def free(self) -> int:
+        return shutil.disk_usage(self.of.folder).free
+
+
+def count_block(
+    held: dict[str, int], size: int, counts: dict[str, int], only: dict[str, int]
+) -> None:
+    """Adds how many symbols of a block each station has, and how many it has alone."""
+    once = more = 0
+    mask = (1 << size) - 1
+    for name, bits in held.items():
+        more |= once & bits
+        once |= bits
+        counts[name] += (bits & mask).bit_count()
+    alone = once & ~more
+    for name, bits in held.items() if alone else ():
+        only[name] += (bits & alone).bit_count()
+
+
+def listed(value: object) -> list:
+    return value if isinstance(value, list) else []
+
+
+def number_of(value: object) -> Optional[int]:
+    return value if isinstance(value, int) and not isinstance(value, bool) else None
+
+
+def sum_of(values: Iterable[object]) -> int:
+    return sum(number_of(it) or 0 for it in values)
+
+
+def text_of(value: object) -> Optional[str]:
+    return shown(value)[:200] if isinstance(value, str) else None
+
+
+def fault_in(value: object) -> Optional[str]:
+    """The last fault that a status tells of, unless it ended."""
+    if not isinstance(value, dict) or value.get("ended"):
+        return None
+    return text_of(value.get("fault"))
+
+
+def seconds_of(text: str) -> Optional[float]:
+    try:
+        return float(calendar.timegm(time.strptime(text, "%Y-%m-%dT%H:%M:%SZ")))
+    except ValueError:
+        return None
+
+
+def read_status(path: str) -> dict:
+    """A station's status; nothing if there is none, or it is no JSON object."""
+    return read_file(path, MOST_STATUS)
+
+
+def read_file(path: str, most: int) -> dict:
+    """The JSON object in a file of at most so many bytes; nothing if there is none."""
+    try:
+        with open(path, "rb") as file:
+            told = json.loads(file.read(most))
+        return told if isinstance(told, dict) else {}
+    except (OSError, ValueError, RecursionError):
+        return {}

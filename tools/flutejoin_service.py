@@ -1,0 +1,88 @@
+"""What delivers as long as it runs, of a centre or of a single station: rounds, commands, what is
+told and what is let go. What fails is told, and tried again."""
+from __future__ import annotations
+
+import os
+import time
+from typing import Callable, Optional
+
+import flutejoin_gaps as gaps
+from flutejoin_centre import Settings
+from flutejoin_delivering import Deliverer
+from flutejoin_hooks import Hooks
+from flutejoin_house import House
+from flutejoin_inbox import Station
+from flutejoin_shelves import take_lock
+from flutejoin_telling import Telling
+from flutejoin_voice import Log
+
+FIRST_DELAY, LONGEST_DELAY = 5, 300  # seconds until what failed is tried again
+EACH = 5  # seconds between two rounds of a single station
+FRESH = "deliver"  # the folder of a station that has what is to be delivered
+
+
+class Service:
+    """Delivers by these settings. Raises notes.Fault, gaps.Fault and OSError when it is made."""
+
+    def __init__(self, settings: Settings, report: Log, tend: Callable[[], None]) -> None:
+        self.settings, self.report = settings, report
+        self.lock = take_lock(settings.folder)
+        program = gaps.find(settings.flutejoin)
+        self.deliverer = Deliverer(settings, program, report, tend=tend)
+        self.hooks = Hooks(settings.on_file, settings.files, self.deliverer.ledger, report)
+        self.telling = Telling(self.deliverer, report)
+        self.house = House(self.deliverer, self.telling.model, report)
+        self.delay, self.next = 0.0, float("-inf")
+
+    def work(self) -> bool:
+        """Delivers what came. Returns whether it could; if not, it is due again after a delay."""
+        return self.attempt(self.round) is not None
+
+    def round(self) -> bool:
+        self.deliverer.work()
+        self.house.keep_at_times()
+        self.report.works("delivering")
+        self.delay = 0
+        return True
+
+    def work_at_times(self, each: float = EACH) -> None:
+        """The same, if it is due, and what else is to be done."""
+        now = time.monotonic()
+        if now >= self.next:
+            self.work()
+            self.next = time.monotonic() + max(each, self.delay)
+        self.attempt(self.hooks.tend)
+        self.telling.tell()
+
+    def attempt(self, step: Callable[[], bool]) -> Optional[bool]:
+        """Takes a step. None if the system or the program refuses it, which is told."""
+        try:
+            return step()
+        except gaps.Fault as fault:
+            self.fail(str(fault))
+        except OSError as fault:
+            self.fail(f"{fault.filename or self.settings.folder}: {fault.strerror}")
+        return None
+
+    def fail(self, told: str) -> None:
+        self.delay = min(max(2 * self.delay, FIRST_DELAY), LONGEST_DELAY)
+        self.report.fails("delivering", told)
+
+    def finish(self) -> bool:
+        """Delivers what is there, and waits for the commands. Returns whether it could."""
+        has_worked = self.work()
+        self.telling.tell(at_once=True)
+        while self.attempt(self.hooks.tend) and not (self.hooks.tries and not self.hooks.child):
+            time.sleep(0.02)
+        self.hooks.stop()
+        return has_worked
+
+
+def of_station(folder: str, station: str, on_file: Optional[str], program: str) -> Settings:
+    """The settings by which a station delivers its own files to a folder."""
+    place = os.path.abspath(folder)
+    name = os.path.basename(os.path.abspath(station)) or "station"
+    one = Station("".join(it if it.isalnum() else "-" for it in name), station, True, FRESH)
+    return Settings(
+        place, os.path.join(place, "files"), (one,), {}, on_file=on_file, flutejoin=program
+    )

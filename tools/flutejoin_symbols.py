@@ -1,0 +1,131 @@
+"""Which symbols of objects are there: as bits, and as sums of those that were delivered."""
+from __future__ import annotations
+
+import hashlib
+from typing import Iterable, Iterator, NamedTuple, Optional, Tuple
+
+from flutejoin_entries import INFORMATION, SYMBOL, information_of
+from flutejoin_gaps import Numbers
+from flutejoin_partition import Partition, fault_of
+
+SUM = 8  # bytes of a symbol's sum
+# An entry of an object in a journal: its kind, and the bytes after the object's number
+Entry = Tuple[int, bytes]
+
+
+def sum_of(piece: bytes) -> bytes:
+    return hashlib.blake2b(piece, digest_size=SUM).digest()
+
+
+class Symbols:
+    """The symbols of an object, a bit for each, by their source blocks; and what is told of its
+    transmission information."""
+
+    __slots__ = "blocks", "numbers"
+
+    def __init__(self) -> None:
+        self.blocks: dict[int, int] = {}
+        self.numbers: set[Numbers] = set()
+
+    def add(self, kind: int, more: bytes) -> None:
+        """Adds an entry. One in conflict counts: one of its values may be right."""
+        if kind == INFORMATION:
+            self.numbers.add(information_of(more))
+        elif len(more) >= 4:
+            block = more[0] << 8 | more[1]
+            self.blocks[block] = self.blocks.get(block, 0) | 1 << (more[2] << 8 | more[3])
+
+    def unite(self, other: Symbols) -> None:
+        self.numbers |= other.numbers
+        for block, bits in other.blocks.items():
+            self.blocks[block] = self.blocks.get(block, 0) | bits
+
+    def without(self, other: Symbols) -> Symbols:
+        """Those that another has not."""
+        found = Symbols()
+        for block, bits in self.blocks.items():
+            left = bits & ~other.blocks.get(block, 0)
+            if left:
+                found.blocks[block] = left
+        return found
+
+    def count(self) -> int:
+        return sum(bits.bit_count() for bits in self.blocks.values())
+
+    def held(self, partition: Partition) -> int:
+        """How many of the symbols of an object that is cut so are there."""
+        return partition.symbols - sum(
+            last - first + 1 for first, last in self.missing(partition)
+        )
+
+    def missing(self, partition: Partition) -> Iterator[tuple[int, int]]:
+        """Yields the runs of symbols that lack, by the places of the first and the last."""
+        for block in range(partition.blocks):
+            size = partition.size(block)
+            lacking = ~self.blocks.get(block, 0) & (1 << size) - 1
+            for first, last in runs(lacking):
+                yield partition.start(block) + first, partition.start(block) + last
+
+    def may_be_whole(self, numbers: Iterable[Numbers]) -> bool:
+        """Whether no symbol lacks, by any transmission information that is told."""
+        return any(
+            not fault_of(*each) and next(self.missing(Partition(*each)), None) is None
+            for each in self.numbers.union(numbers)
+        )
+
+
+def runs(bits: int) -> Iterator[tuple[int, int]]:
+    """Yields the runs of ones in a number, the lowest first, by their first and last places."""
+    place = 0
+    while bits:
+        zeros = (bits & -bits).bit_length() - 1
+        bits >>= zeros
+        ones = (~bits & bits + 1).bit_length() - 1
+        yield place + zeros, place + zeros + ones - 1
+        bits >>= ones
+        place += zeros + ones
+
+
+def ranges(missing: Iterable[tuple[int, int]], partition: Partition) -> Iterator[tuple[int, int]]:
+    """Yields the bytes of runs of symbols: the first, and the one after the last."""
+    length, size, _ = partition.numbers
+    begin = end = -1
+    for first, last in missing:
+        if first * size != end and end >= 0:
+            yield begin, end
+        begin = first * size if first * size != end else begin
+        end = min(length, (last + 1) * size)
+    if end >= 0:
+        yield begin, end
+
+
+class Contents(NamedTuple):
+    """What was delivered of an object: its transmission information, and a sum of each symbol."""
+
+    numbers: Numbers
+    sums: bytes
+
+    def has(self, entries: Iterable[Entry]) -> bool:
+        """Whether these entries of the same object are all of these contents."""
+        partition = Partition(*self.numbers)
+        return all(self.has_one(partition, kind, more) for kind, more in entries)
+
+    def has_one(self, partition: Partition, kind: int, more: bytes) -> bool:
+        if kind == INFORMATION:
+            return information_of(more) == self.numbers
+        if kind != SYMBOL:
+            return False
+        place = partition.place(more[:4])
+        piece = None if place is None else partition.piece(place, more[6:])
+        if place is None or piece is None:
+            return False
+        return self.sums[SUM * place : SUM * (place + 1)] == sum_of(bytes(piece))
+
+
+def contents_of(path: str, numbers: Optional[Numbers]) -> Optional[Contents]:
+    """The sums of an object in a file; None if its transmission information is unknown."""
+    if numbers is None or fault_of(*numbers):
+        return None
+    with open(path, "rb") as file:
+        pieces = iter(lambda: file.read(numbers[1]), b"")
+        return Contents(numbers, b"".join(map(sum_of, pieces) if numbers[0] else []))
