@@ -18,6 +18,7 @@ from flutejoin_floods import LEFT_OUT, Flood
 from ports import make_way, waiting_at
 
 COUNT = 2000  # datagrams, of which a share of 1/256 is never none or all
+SMALL, LARGE = b"x", bytes(600)
 ONE = "127.0.0.1"
 # The receive buffer is full as long as there is a file.
 FULL = """
@@ -53,7 +54,9 @@ class Floods(Case):
             flood.tend(lambda most: keys[:most])
         return udp, flood
 
-    def came(self, udp: socket.socket, to: str, *senders: str) -> collections.Counter[str]:
+    def came(
+        self, udp: socket.socket, to: str, *senders: str, datagram: bytes = SMALL
+    ) -> collections.Counter[str]:
         """How many datagrams of these senders come, of COUNT each."""
         came: collections.Counter[str] = collections.Counter()
         for sender in senders:
@@ -61,7 +64,7 @@ class Floods(Case):
             with socket.socket(family, socket.SOCK_DGRAM) as sending:
                 sending.bind((sender, 0))
                 for _ in range(COUNT):
-                    sending.sendto(b"x", (to, udp.getsockname()[1]))
+                    sending.sendto(datagram, (to, udp.getsockname()[1]))
                     for _, address in iter(lambda: self.received(udp), None):
                         came[address[0]] += 1
         return came
@@ -95,6 +98,25 @@ class Floods(Case):
         self.holds("another", came["::ffff:127.0.0.3"] < COUNT // 4, came)
         flood.tend(lambda most: ())
         self.holds("no longer known", self.came(udp, "::1", "::1").total() < COUNT // 4)
+
+    def test_large_datagrams(self) -> None:
+        """In a flood of small ones those of a file come in, also of an unknown sender."""
+        for family, host, sender in ((socket.AF_INET, ONE, ONE), (socket.AF_INET6, "::", "::1")):
+            try:
+                udp, flood = self.filtered(family, host)
+            except OSError:
+                continue  # there is no IPv6 here
+            flood.full, flood.share = (lambda _: 0.2), 1 / flutejoin_floods.OF_LARGE
+            flood.tend(lambda most: ())
+            small, large = (
+                self.came(udp, sender, sender, datagram=of).total() for of in (SMALL, LARGE)
+            )
+            self.holds(f"{host}: few small ones", small < COUNT // 16, small)
+            self.holds(f"{host}: all large ones", large == COUNT, large)
+            flood.share /= 16
+            flood.tend(lambda most: ())
+            large = self.came(udp, sender, sender, datagram=LARGE).total()
+            self.holds(f"{host}: a share of a flood of large ones", 0 < large < COUNT // 4, large)
 
     def test_the_share(self) -> None:
         """It falls while the buffer fills, and rises once that is nearly empty."""

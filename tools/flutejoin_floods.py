@@ -19,14 +19,19 @@ except ImportError:  # a Python without it filters nothing
 
 SO_ATTACH_FILTER, SO_DETACH_FILTER, SO_MEMINFO = 26, 27, 55
 MOST_KNOWN = 250  # senders that a filter passes: each costs the system a step for each datagram
-FULL, EMPTY = 1 / 4, 1 / 32  # parts of the receive buffer beyond which the share falls, or rises
-FALLS, RISES, LEAST = 0.5, 1.25, 1 / 256
+# Parts of the receive buffer beyond which the share falls, if it fills further, or in any case; and
+# below which it rises. The system tells what was taken from it only later.
+FULL, TOO_FULL, FURTHER, EMPTY = 1 / 4, 3 / 4, 1 / 64, 1 / 32
+FALLS, RISES, LEAST = 0.5, 1.25, 1 / 16384
+# Of datagrams of so many bytes, with UDP's header, the share is larger: most of a file are, and a
+# flood of these costs its sender more.
+LARGE, OF_LARGE = 512, 256
 LEFT_OUT = "of senders that are not kept, in a flood"
 
 # Instructions of a filter: what they do, where they go on, and a number (linux/filter.h)
 STEP = struct.Struct("@HBBI")
-LOAD, LOAD_BYTE, SHIFT, XOR, XOR_X, KEEP, GO, IS, AT_LEAST, RETURN = (
-    *(0x20, 0x30, 0x74, 0xA4, 0xAC, 0x07, 0x05, 0x15, 0x35, 0x06),
+LOAD, LOAD_BYTE, LOAD_LENGTH, SHIFT, XOR, XOR_X, KEEP, GO, IS, AT_LEAST, RETURN = (
+    *(0x20, 0x30, 0x80, 0x74, 0xA4, 0xAC, 0x07, 0x05, 0x15, 0x35, 0x06),
 )
 IP, RANDOM = 0xFFF00000, 0xFFFFF000 + 56  # places: of the IP header, and of a random number
 ALL, NONE = 0xFFFFFFFF, 0
@@ -56,8 +61,14 @@ def program(family: int, known: Iterable[bytes], share: float) -> bytes:
     steps = list(OF_IPV6 if family == socket.AF_INET6 else OF_IPV4)
     for key in known:
         steps += [(IS, 0, 1, word_of(key)), (RETURN, 0, 0, ALL)]
-    steps += [(LOAD, 0, 0, RANDOM), (AT_LEAST, 1, 0, int(share * ALL)), (RETURN, 0, 0, ALL)]
-    return b"".join(STEP.pack(*step) for step in [*steps, (RETURN, 0, 0, NONE)])
+    of_large = int(min(1, share * OF_LARGE) * ALL)
+    steps += [
+        (LOAD_LENGTH, 0, 0, 0), (AT_LEAST, 3, 0, LARGE),
+        (LOAD, 0, 0, RANDOM), (AT_LEAST, 4, 0, int(share * ALL)), (RETURN, 0, 0, ALL),
+        (LOAD, 0, 0, RANDOM), (AT_LEAST, 1, 0, of_large), (RETURN, 0, 0, ALL),
+        (RETURN, 0, 0, NONE),
+    ]
+    return b"".join(STEP.pack(*step) for step in steps)
 
 
 def fullness(udp: socket.socket) -> float:
@@ -84,7 +95,7 @@ class Flood:
         if not CAN_FILTER:
             return
         before, full = self.share, self.full(self.udp)
-        if full > FULL and full >= self.before:  # else less comes than is taken
+        if full > TOO_FULL or full > FULL and full > self.before + FURTHER:
             self.share = max(LEAST, self.share * FALLS)
         elif full < EMPTY:
             self.share = min(1.0, self.share * RISES)
