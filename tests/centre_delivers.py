@@ -270,6 +270,25 @@ class Service(CentreCase):
         self.check("nothing new", self.tool_run("--once"), 0, "", "")
         self.holds("the command ran once", len(self.read("told").splitlines()) == 1)
 
+    def test_command_fails(self) -> None:
+        """A command that fails, or that a signal ends, is run again by the next run."""
+        file = file_of(1)
+        self.push("north", announced([file]) + packets([file]))
+        self.more = {"on-file": f"{self.path('told.sh')}"}
+        self.check("there is none", self.tool_run("--once"), 0, "", None)
+        self.write("told.sh", "#!/bin/sh\necho $$ >> told\nexec sleep 600\n")
+        self.path("told.sh").chmod(0o755)
+        words = [sys.executable, run.ROOT / "tools/flutejoin-centre", "--once"]
+        child = self.start([*words, "--config", self.write_settings()], to="out", err="err")
+        self.holds("it runs", run.until(lambda: self.exists("told")))
+        child.send_signal(signal.SIGTERM)
+        self.holds("a signal ends the run", child.wait(run.LONGEST) == 0, self.read("err"))
+        self.write("told.sh", '#!/bin/sh\necho "$1" >> told\n')
+        self.check("a third run", self.tool_run("--once"), 0, "", None)
+        lines = self.read("told").decode().splitlines()
+        self.holds("it ran again", len(lines) == 2 and lines[1].endswith("00001.bin"), lines)
+        self.holds("the file was delivered once", len(self.lines()) == 1)
+
     def test_settings(self) -> None:
         for table, told in (
             ("[centre]\n", "has no folder"),

@@ -68,11 +68,14 @@ class Service:
         self.delay = min(max(2 * self.delay, FIRST_DELAY), LONGEST_DELAY)
         self.report.fails("delivering", told)
 
-    def finish(self) -> bool:
-        """Delivers what is there, and waits for the commands. Returns whether it could."""
+    def finish(self, is_stopped: Callable[[], bool]) -> bool:
+        """Delivers what is there, and waits for the commands until one fails or the run is stopped:
+        the next run goes on with them. Returns whether it could deliver."""
         has_worked = self.work()
         self.telling.tell(at_once=True)
-        while self.attempt(self.hooks.tend) and not (self.hooks.tries and not self.hooks.child):
+        while not is_stopped() and self.attempt(self.hooks.tend):
+            if self.hooks.tries and not self.hooks.child:
+                break
             time.sleep(0.02)
         self.hooks.stop()
         return has_worked

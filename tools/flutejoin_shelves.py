@@ -106,7 +106,7 @@ def move(path: str, to: str) -> None:
 
 
 def copy(path: str, to: str) -> None:
-    """Gives a file a second name, or copies it where the file system has none; it is on the disk."""
+    """Gives a file a second name, or copies it where the file system has none, to the disk."""
     try:
         os.link(path, to)
     except OSError:
