@@ -84,6 +84,9 @@ class Faked(Program):
         pathlib.Path(out).write_bytes(b"FLJN\0\2\xff" + bytes(8))
         return Answer(0, "", b"datagrams 1\nrefused 0\nentries 1\n")
 
+    def compare(self, kept: str, new: str) -> Iterator[bytes]:
+        return iter(())
+
 
 class Case(run.Case):
     def setUp(self) -> None:
