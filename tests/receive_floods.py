@@ -18,7 +18,7 @@ from flutejoin_floods import LEFT_OUT, Flood
 from ports import make_way, waiting_at
 
 COUNT = 2000  # datagrams, of which a share of 1/256 is never none or all
-SMALL, LARGE = b"x", bytes(600)
+SMALL, LONG = b"x", bytes(600)
 ONE = "127.0.0.1"
 # The receive buffer is full as long as there is a file.
 FULL = """
@@ -99,24 +99,24 @@ class Floods(Case):
         flood.tend(lambda most: ())
         self.holds("no longer known", self.came(udp, "::1", "::1").total() < COUNT // 4)
 
-    def test_large_datagrams(self) -> None:
-        """In a flood of small ones those of a file come in, also of an unknown sender."""
+    def test_long_datagrams(self) -> None:
+        """In a flood of short ones those of a file come in, also of an unknown sender."""
         for family, host, sender in ((socket.AF_INET, ONE, ONE), (socket.AF_INET6, "::", "::1")):
             try:
                 udp, flood = self.filtered(family, host)
             except OSError:
                 continue  # there is no IPv6 here
-            flood.full, flood.share = (lambda _: 0.2), 1 / flutejoin_floods.OF_LARGE
+            flood.full, flood.of_long = (lambda _: 0.2), 1.0
             flood.tend(lambda most: ())
-            small, large = (
-                self.came(udp, sender, sender, datagram=of).total() for of in (SMALL, LARGE)
+            small, long = (
+                self.came(udp, sender, sender, datagram=of).total() for of in (SMALL, LONG)
             )
-            self.holds(f"{host}: few small ones", small < COUNT // 16, small)
-            self.holds(f"{host}: all large ones", large == COUNT, large)
-            flood.share /= 16
+            self.holds(f"{host}: few short ones", small < COUNT // 16, small)
+            self.holds(f"{host}: all long ones", long == COUNT, long)
+            flood.of_long = 1 / 16
             flood.tend(lambda most: ())
-            large = self.came(udp, sender, sender, datagram=LARGE).total()
-            self.holds(f"{host}: a share of a flood of large ones", 0 < large < COUNT // 4, large)
+            long = self.came(udp, sender, sender, datagram=LONG).total()
+            self.holds(f"{host}: a share of a flood of long ones", 0 < long < COUNT // 4, long)
 
     def test_the_share(self) -> None:
         """It falls while the buffer fills, and rises once that is nearly empty."""
@@ -129,6 +129,11 @@ class Floods(Case):
             shares.append(flood.share * 4)
         first, last = [1, 1.25, 1.5625], [0.78125, 0.78125, 0.390625, 0.1953125, 0.1953125]
         self.holds("shares", shares == first + last, shares)
+        flood.of_long = 1.0
+        for full, wanted in ((0.0, 1), (0.4, 1), (0.7, 1), (0.8, 0.5), (0.7, 0.5), (0.8, 0.25)):
+            flood.full = lambda _, full=full: full
+            flood.tend(lambda most: ())
+            self.holds(f"of long ones at {full}", flood.of_long == wanted, flood.of_long)
 
     def test_a_run(self) -> None:
         """A sender that has a place loses nothing, and what is left out is told."""

@@ -19,13 +19,14 @@ except ImportError:  # a Python without it filters nothing
 
 SO_ATTACH_FILTER, SO_DETACH_FILTER, SO_MEMINFO = 26, 27, 55
 MOST_KNOWN = 250  # senders that a filter passes: each costs the system a step for each datagram
-# Parts of the receive buffer beyond which the share falls, if it fills further, or in any case; and
-# below which it rises. The system tells what was taken from it only later.
+# Parts of the receive buffer beyond which the share of short datagrams falls, if it fills further;
+# beyond which that of long ones falls too, in any case; and below which both rise. The system tells
+# what was taken from it only later.
 FULL, TOO_FULL, FURTHER, EMPTY = 1 / 4, 3 / 4, 1 / 64, 1 / 32
-FALLS, RISES, LEAST = 0.5, 1.25, 1 / 16384
-# Of datagrams of so many bytes, with UDP's header, the share is larger: most of a file are, and a
-# flood of these costs its sender more.
-LARGE, OF_LARGE = 512, 256
+FALLS, RISES, LEAST, LEAST_OF_LONG = 0.5, 1.25, 1 / 16384, 1 / 256
+# Bytes of a long datagram, with UDP's header: most of a file are, and a flood of these costs its
+# sender more.
+LONG = 512
 LEFT_OUT = "of senders that are not kept, in a flood"
 
 # Instructions of a filter: what they do, where they go on, and a number (linux/filter.h)
@@ -56,16 +57,15 @@ def word_of(key: bytes) -> int:
     return word
 
 
-def program(family: int, known: Iterable[bytes], share: float) -> bytes:
+def program(family: int, known: Iterable[bytes], share: float, of_long: float) -> bytes:
     """A filter that passes these senders' datagrams, and a share of all others."""
     steps = list(OF_IPV6 if family == socket.AF_INET6 else OF_IPV4)
     for key in known:
         steps += [(IS, 0, 1, word_of(key)), (RETURN, 0, 0, ALL)]
-    of_large = int(min(1, share * OF_LARGE) * ALL)
     steps += [
-        (LOAD_LENGTH, 0, 0, 0), (AT_LEAST, 3, 0, LARGE),
+        (LOAD_LENGTH, 0, 0, 0), (AT_LEAST, 3, 0, LONG),
         (LOAD, 0, 0, RANDOM), (AT_LEAST, 4, 0, int(share * ALL)), (RETURN, 0, 0, ALL),
-        (LOAD, 0, 0, RANDOM), (AT_LEAST, 1, 0, of_large), (RETURN, 0, 0, ALL),
+        (LOAD, 0, 0, RANDOM), (AT_LEAST, 1, 0, int(of_long * ALL)), (RETURN, 0, 0, ALL),
         (RETURN, 0, 0, NONE),
     ]
     return b"".join(STEP.pack(*step) for step in steps)
@@ -87,22 +87,27 @@ class Flood:
         self, udp: socket.socket, full: Callable[[socket.socket], float] = fullness
     ) -> None:
         self.udp, self.full = udp, full
-        self.share, self.before = 1.0, 0.0  # what is passed of the unknown; and how full it was
+        self.share = self.of_long = 1.0  # what is passed of the unknown, of short ones and of long
+        self.before = 0.0  # how full it was
         self.has_filtered = False
 
     def tend(self, known: Callable[[int], Iterable[bytes]]) -> None:
-        """Adapts the share. `known` yields the senders to be passed, at most so many."""
+        """Adapts the shares. `known` yields the senders to be passed, at most so many."""
         if not CAN_FILTER:
             return
-        before, full = self.share, self.full(self.udp)
+        was_less = self.share < 1 or self.of_long < 1
+        full = self.full(self.udp)
+        if full > TOO_FULL:
+            self.of_long = max(LEAST_OF_LONG, self.of_long * FALLS)
         if full > TOO_FULL or full > FULL and full > self.before + FURTHER:
             self.share = max(LEAST, self.share * FALLS)
         elif full < EMPTY:
             self.share = min(1.0, self.share * RISES)
+            self.of_long = min(1.0, self.of_long * RISES)
         self.before = full
-        if self.share < 1:
-            self.attach(program(self.udp.family, known(MOST_KNOWN), self.share))
-        elif before < 1:
+        if self.share < 1 or self.of_long < 1:
+            self.attach(program(self.udp.family, known(MOST_KNOWN), self.share, self.of_long))
+        elif was_less:
             self.detach()
 
     def attach(self, steps: bytes) -> None:
@@ -112,7 +117,7 @@ class Flood:
             self.udp.setsockopt(socket.SOL_SOCKET, SO_ATTACH_FILTER, told)
             self.has_filtered = True
         except OSError:  # a system without filters
-            self.share = 1.0
+            self.share = self.of_long = 1.0
 
     def detach(self) -> None:
         try:
