@@ -9,6 +9,7 @@ mod Firsts
 mod extract_lemmas
 mod Forgotten
 mod Subtracted
+mod fill_lemmas
 mod Lefts
 mod info_lemmas
 mod carousel_lemmas

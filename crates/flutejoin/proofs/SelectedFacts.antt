@@ -12,9 +12,9 @@ use Rattle.flute_parts.specs.declared.address.Address.{Address}
 use Rattle.flute_parts.specs.declared.fact.Fact.{Fact}
 use Rattle.flute_streams.specs.Selections.{selects}
 use Rattle.flute_streams.specs.declared.choice.selection.Selection.{Selection}
-use Rattle.flutejoin.specs.Lines.{fact_line}
 use Rattle.flutejoin.specs.Selected.{selected}
-use Rattle.flutejoin.specs.Show.{entry_lines}
+use Rattle.flutejoin.specs.Show.{entry_line, entry_lines}
+use Rattle.flutejoin.specs.declared.lines.show_style.ShowStyle.{ShowStyle}
 
 after_picked : (p : Fact → Bool) (a : Address) (facts : List Fact) → StandAfter a facts →
     StandAfter a (filter p facts)
@@ -37,8 +37,9 @@ module _ (s : Selection) where
     pub just_none : selects s f ≡ false → selected s (f ∷ []) ≡ []
     just_none e = rw e refl
 
-    pub just_line : selects s f ≡ true → entry_lines (selected s (f ∷ [])) ≡ fact_line f
-    just_line e = search rules
+    pub just_line : (style : ShowStyle) → selects s f ≡ true
+        → entry_lines style (selected s (f ∷ [])) ≡ entry_line style f
+    just_line style e = search rules
 
     module _ (F : List Fact) where
       pub selected_more : selected s (F ++ f ∷ []) ≡ selected s F ++ selected s (f ∷ [])

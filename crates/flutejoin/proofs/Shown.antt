@@ -23,14 +23,14 @@ use Rattle.flute_journal.proofs.Public.{whole-at, open_after, read_some, side-fr
 use Rattle.flute_journal.proofs.Public.{sofar-next, sofar-stops}
 use Rattle.flute_streams.specs.Selections.{selects}
 use Rattle.flute_streams.specs.declared.choice.selection.Selection.{Selection}
-use Rattle.flutejoin.specs.Lines.{fact_line, entries_line}
 use Rattle.flutejoin.specs.Selected.{selected}
-use Rattle.flutejoin.specs.Show.{entry_lines, FailsToRead, ShowsAll, ShowsUntil, ShowsPart}
+use Rattle.flutejoin.specs.Show.{entry_line, entry_lines, number_line, FailsToRead, ShowsAll, ShowsUntil, ShowsPart}
 use Rattle.flutejoin.specs.Show.{of_entries, of_journal, ShowFails}
 use Rattle.flutejoin.specs.Objects.{FailsToWrite}
 use Rattle.flutejoin.specs.declared.command_fault.CommandFault.{CommandFault}
 use Rattle.flutejoin.specs.declared.command_fault.CommandFault.TheVariants.{CannotWrite, Input}
 use Rattle.flutejoin.specs.declared.limits.TheConstants.{MAX_ENTRIES}
+use Rattle.flutejoin.specs.declared.lines.show_style.ShowStyle.{ShowStyle}
 use Rattle.flutejoin.proofs.SelectedFacts.{few_selected, just_line, none_selected, one_selected}
 use Rattle.flutejoin.proofs.SelectedFacts.{selected_more}
 
@@ -43,27 +43,28 @@ whole {u = u} {w = w} {to = to} {es = es} h g =
     whole-at journal_sound MAX_ENTRIES u w es (side-from journal_sound w to None h g)
 
 -- these entries were read, and the lines of those that are selected written, and nothing else
-pub record Shown (choice : Selection) (first now : Option (List ℕ)) (state : ReaderState Before)
+pub record Shown (style : ShowStyle) (choice : Selection) (first now : Option (List ℕ)) (state : ReaderState Before)
     (old new : Option (List ℕ)) (count : ℕ) : Type 0 where
   pub entries : List Fact
   pub sofar : Sofar journal_framing MAX_ENTRIES first now state entries
   pub counted : count ≡ length (selected choice entries)
-  pub written : Appends old new (entry_lines (selected choice entries))
+  pub written : Appends old new (entry_lines style (selected choice entries))
 
-lines_more : (choice : Selection) (es : List Fact) (f : Fact) → entry_lines (selected choice es) ++
-    entry_lines (selected choice (f ∷ [])) ≡ entry_lines (selected choice (es ++ f ∷ []))
-lines_more choice es f = search (rules, selected_more, flat_map-append)
+lines_more : (style : ShowStyle) (choice : Selection) (es : List Fact) (f : Fact)
+    → entry_lines style (selected choice es) ++ entry_lines style (selected choice (f ∷ []))
+    ≡ entry_lines style (selected choice (es ++ f ∷ []))
+lines_more style choice es f = search (rules, selected_more, flat_map-append)
 
-module _ {choice : Selection} {u v : Option (List ℕ)} {from : ReaderState Before}
+module _ {style : ShowStyle} {choice : Selection} {u v : Option (List ℕ)} {from : ReaderState Before}
     {s t : Option (List ℕ)} {count : ℕ}
-    (h : Shown choice u v from s t count) where
+    (h : Shown style choice u v from s t count) where
   -- no more lines than entries
   pub few_shown : count ≤ 16777216
   few_shown = search (rules, few_selected)
 
   module _ {w : Option (List ℕ)} {to : ReaderState Before} {f : Fact}
       (g : GivesItem journal_framing MAX_ENTRIES from to v w f) where
-    pub shown-other : selects choice f ≡ false → Shown choice u w to s t count
+    pub shown-other : selects choice f ≡ false → Shown style choice u w to s t count
     shown-other other =
         let same = sym (none_selected choice f h.entries other) in
         record {
@@ -75,8 +76,8 @@ module _ {choice : Selection} {u v : Option (List ℕ)} {from : ReaderState Befo
 
   module _ {w : Option (List ℕ)} {to : ReaderState Before} {f : Fact}
       (g : GivesItem journal_framing MAX_ENTRIES from to v w f) {t' : Option (List ℕ)} where
-    pub shown-line : selects choice f ≡ true → Appends t t' (fact_line f)
-        → Shown choice u w to s t' (count + 1)
+    pub shown-line : selects choice f ≡ true → Appends t t' (entry_line style f)
+        → Shown style choice u w to s t' (count + 1)
     shown-line chosen line = record {
       entries = h.entries ++ f ∷ [];
       sofar = sofar-next journal_sound h.sofar g;
@@ -85,26 +86,26 @@ module _ {choice : Selection} {u v : Option (List ℕ)} {from : ReaderState Befo
           let all = length-append (selected choice h.entries) (f ∷ []) in
           omega (arith, h.counted, more, all);
       written =
-          subst (λ (x : List ℕ). Appends s t' x) (lines_more choice h.entries f)
-          (Appends-trans s t t' (entry_lines (selected choice h.entries))
-          (entry_lines (selected choice (f ∷ []))) h.written
-          (subst (λ (x : List ℕ). Appends t t' x) (sym (just_line choice f chosen)) line));
+          subst (λ (x : List ℕ). Appends s t' x) (lines_more style choice h.entries f)
+          (Appends-trans s t t' (entry_lines style (selected choice h.entries))
+          (entry_lines style (selected choice (f ∷ []))) h.written
+          (subst (λ (x : List ℕ). Appends t t' x) (sym (just_line choice f style chosen)) line));
     }
 
     -- a line was written in part
-    pub shown-part : AppendsPart t t' (entry_lines (selected choice (f ∷ [])))
-        → ShowsPart choice u w s t'
+    pub shown-part : AppendsPart t t' (entry_lines style (selected choice (f ∷ [])))
+        → ShowsPart style choice u w s t'
     shown-part part =
         let all = sofar-next journal_sound h.sofar g in
         of_entries (h.entries ++ f ∷ []) all.are_items
         (subst (Consumes u w) (read_some journal_framing all.are_items.told h.entries f) all.read)
-        (subst (λ (x : List ℕ). AppendsPart s t' x) (lines_more choice h.entries f)
-        (AppendsPart-second s t t' (entry_lines (selected choice h.entries))
-        (entry_lines (selected choice (f ∷ []))) h.written part))
+        (subst (λ (x : List ℕ). AppendsPart s t' x) (lines_more style choice h.entries f)
+        (AppendsPart-second s t t' (entry_lines style (selected choice h.entries))
+        (entry_lines style (selected choice (f ∷ []))) h.written part))
 
   -- A fault after the entries.
   pub shown-fault : {w : Option (List ℕ)} {to : ReaderState Before} {f : ReadFault}
-      → GivesFault journal_framing MAX_ENTRIES from to v w f → ShowsUntil choice u w s t f
+      → GivesFault journal_framing MAX_ENTRIES from to v w f → ShowsUntil style choice u w s t f
   shown-fault {w = w} {to = to} {f = f} g = record {
     entries = h.entries;
     are_items = h.sofar.are_items;
@@ -114,22 +115,22 @@ module _ {choice : Selection} {u v : Option (List ℕ)} {from : ReaderState Befo
 
   module _ {w : Option (List ℕ)} {to : ReaderState Before}
       (g : GivesEnd journal_framing from to v w) {t' : Option (List ℕ)} where
-    pub shown-all : Appends t t' (entries_line count) → ShowsAll choice u s t'
+    pub shown-all : Appends t t' (number_line style.form count) → ShowsAll style choice u s t'
     shown-all line =
         let chosen = selected choice h.entries in
         record {
           entries = h.entries;
           journal = whole h.sofar g;
-          written = Appends-trans s t t' (entry_lines chosen) (entries_line (length chosen))
-              h.written (subst (λ n. Appends t t' (entries_line n)) h.counted line);
+          written = Appends-trans s t t' (entry_lines style chosen) (number_line style.form (length chosen))
+              h.written (subst (λ n. Appends t t' (number_line style.form n)) h.counted line);
         }
 
-    pub shown-cut : AppendsPart t t' (entries_line count) → ShowsPart choice u w s t'
+    pub shown-cut : AppendsPart t t' (number_line style.form count) → ShowsPart style choice u w s t'
     shown-cut part =
         let chosen = selected choice h.entries in
         of_journal h.entries (whole h.sofar g)
-        (AppendsPart-second s t t' (entry_lines chosen) (entries_line (length chosen)) h.written
-        (subst (λ n. AppendsPart t t' (entries_line n)) h.counted part))
+        (AppendsPart-second s t t' (entry_lines style chosen) (number_line style.form (length chosen)) h.written
+        (subst (λ n. AppendsPart t t' (number_line style.form n)) h.counted part))
 
 -- What a call of the reader gave, and a write did.
 
@@ -175,12 +176,12 @@ read_failures T {u = u} {v = v} {state = state} {es = es} {r = r} {f = f} number
 pub if_done : {A B : Type 0} (r : Result (Unit {0}) CommandFault) → (A → B) → OnOk r A → OnOk r B
 if_done x0 x1 x2 = search rules
 
-pub cut_short : {A : Type 0} (choice : Selection) (u v s t : Option (List ℕ))
-    (r : Result (Unit {0}) CommandFault) → (A → ShowsPart choice u v s t)
-    → IfErr r (FailsToWrite A) → IfErr r (ShowFails choice u v s t)
-cut_short choice u v s t (Ok x) f a = tt
-cut_short choice u v s t (Err CannotWrite) f a = f a
-cut_short choice u v s t (Err x) f a = absurd a
+pub cut_short : {A : Type 0} (style : ShowStyle) (choice : Selection) (u v s t : Option (List ℕ))
+    (r : Result (Unit {0}) CommandFault) → (A → ShowsPart style choice u v s t)
+    → IfErr r (FailsToWrite A) → IfErr r (ShowFails style choice u v s t)
+cut_short style choice u v s t (Ok x) f a = tt
+cut_short style choice u v s t (Err CannotWrite) f a = f a
+cut_short style choice u v s t (Err x) f a = absurd a
 
 pub only_written : (A : Type 0) (old new : ℕ) (r : Result (Unit {0}) CommandFault)
     → IfErr r (FailsToWrite A) → new ≡ old → FailsToRead old new r

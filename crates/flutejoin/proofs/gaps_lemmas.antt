@@ -5,4 +5,6 @@ pub mod MovedAside
 pub mod ObjectsListed
 pub mod Keys
 pub mod StatusLines
+pub mod LongestRanges
+pub mod GapsOpen
 pub mod GapsListed

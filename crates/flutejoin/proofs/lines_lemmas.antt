@@ -1,5 +1,6 @@
 -- Lemmas on lines that are printed.
 pub mod Encoded
+pub mod JsonPieces
 pub mod Senders
 pub mod WrittenPieces
 pub mod Written

@@ -9,8 +9,12 @@ use Rattle.flute_streams.specs.declared.merge.sides.Row.{Row}
 use Rattle.flute_streams.specs.declared.merge.sides.Side.{Side}
 use Rattle.flute_streams.specs.declared.merge.sides.Side.TheVariants.{Same, Differ, First, Second}
 use Rattle.flute_streams.specs.declared.merge.sides.Sides.{Sides}
+use Rattle.flutejoin.specs.Json.{json_line}
+use Rattle.flutejoin.specs.JsonGaps.{json_session}
 use Rattle.flutejoin.specs.Lines.{line, source_words}
 use Rattle.flutejoin.specs.declared.compare.compare_sums.CompareSums.{CompareSums}
+use Rattle.flutejoin.specs.declared.lines.form.Form.{Form}
+use Rattle.flutejoin.specs.declared.lines.form.Form.TheVariants.{Plain, Json}
 
 -- ---- exactly
 
@@ -69,20 +73,30 @@ sides_words s =
     codes " same " ++ decimal s.same ++ (codes " differ " ++ decimal s.differ)
     ++ (codes " first " ++ decimal s.first) ++ (codes " second " ++ decimal s.second)
 
-unfoldable pub sums_line : CompareSums → List ℕ
-sums_line s =
+-- the same as members of an object of JSON
+abbrev pub json_sides : Sides → List ℕ
+json_sides s =
+    codes "\"same\":" ++ decimal s.same ++ (codes ",\"differ\":" ++ decimal s.differ)
+    ++ (codes ",\"first\":" ++ decimal s.first) ++ (codes ",\"second\":" ++ decimal s.second)
+
+unfoldable pub sums_line : Form → CompareSums → List ℕ
+sums_line Plain s =
     line (source_words s.session.sender ++ codes "session " ++ decimal s.session.tsi
     ++ (codes " objects " ++ decimal s.objects) ++ sides_words s.symbols
     ++ codes " information" ++ sides_words s.information
     ++ (codes " none " ++ decimal s.unknown))
+sums_line Json s =
+    json_line (json_session s.session ++ (codes ",\"objects\":" ++ decimal s.objects) ++ codes ","
+    ++ json_sides s.symbols ++ codes ",\"information\":{" ++ json_sides s.information
+    ++ (codes ",\"none\":" ++ decimal s.unknown) ++ codes "}")
 
 -- rows in the order of their keys, cut into those of each session
 abbrev pub row_session : Row → Session
 row_session row = row.key.session
 
 -- the line of a session
-abbrev pub session_line : Row × List Row → List ℕ
-session_line part = sums_line (sums_of (row_session part.0) (part.0 ∷ part.1))
+abbrev pub session_line : Form → Row × List Row → List ℕ
+session_line form part = sums_line form (sums_of (row_session part.0) (part.0 ∷ part.1))
 
 -- ---- as rows are added: each sum as far as 64 bits go
 
@@ -115,15 +129,16 @@ with_row s row = with_information (record s {
 }) row.information
 
 -- the line that is left of the last session
-abbrev pub last_sums : Option CompareSums → List ℕ
-last_sums None = []
-last_sums (Some s) = sums_line s
+abbrev pub last_sums : Form → Option CompareSums → List ℕ
+last_sums form None = []
+last_sums form (Some s) = sums_line form s
 
 -- the sums that a row of a session is added to, and the line of those before
 abbrev pub sums_after : Option CompareSums → Session → CompareSums
 sums_after None session = no_sums session
 sums_after (Some s) session = if same_session s.session session then s else no_sums session
 
-abbrev pub sums_before : Option CompareSums → Session → List ℕ
-sums_before None session = []
-sums_before (Some s) session = if same_session s.session session then [] else sums_line s
+abbrev pub sums_before : Form → Option CompareSums → Session → List ℕ
+sums_before form None session = []
+sums_before form (Some s) session =
+    if same_session s.session session then [] else sums_line form s

@@ -1,5 +1,8 @@
 pub mod Sender
 pub mod Lines
+pub mod SymbolSums
+pub mod Json
+pub mod JsonExamples
 pub mod Pieces
 pub mod Status
 pub mod Packet
@@ -9,8 +12,12 @@ pub mod Objects
 pub mod Limits
 pub mod Told
 pub mod Sums
+pub mod JsonGaps
+pub mod Ranges
 pub mod Styles
 pub mod StyleExamples
+pub mod JsonStyleExamples
+pub mod RangeExamples
 pub mod Load
 pub mod Extract
 pub mod ObjectWriters
@@ -22,6 +29,9 @@ pub mod Digits
 pub mod Examples
 pub mod Merge
 pub mod Minus
+pub mod FillLists
+pub mod FillStreams
+pub mod Fill
 pub mod Parts
 pub mod CompareSums
 pub mod CompareLines

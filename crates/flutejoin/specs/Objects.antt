@@ -38,6 +38,11 @@ status_at F key None = NoInformation
 status_at F key (Some (Info k info)) = status_wanting info (wants F key info)
 status_at F key (Some f) = ConflictingInformation
 
+-- its one information
+abbrev pub info_at : Option Fact → Option Information
+info_at (Some (Info k info)) = Some info
+info_at o = None
+
 -- its gaps, which only an object with one information has
 abbrev pub gaps_at : List Fact → Key → Option Fact → List Gap
 gaps_at F key (Some (Info k info)) = gaps F key info

@@ -6,6 +6,7 @@ use Rattle.flute_wire.specs.Facts.{object_named}
 use Rattle.flute_parts.specs.declared.fact.Fact.{Fact}
 use Rattle.flute_parts.specs.declared.fact.Fact.TheVariants.{Info, InfoConflict, Symbol}
 use Rattle.flute_parts.specs.declared.fact.Fact.TheVariants.{SymbolConflict}
+use Rattle.flutejoin.specs.Json.{json_info_or_null, json_object}
 use Rattle.flutejoin.specs.Lines.{object_words, info_or_none, key_words, information_words}
 use Rattle.flutejoin.specs.Lines.{id_words, symbol_words}
 
@@ -22,6 +23,13 @@ unfoldable pub packet_head : Content → List ℕ
 packet_head c =
     codes "session " ++ decimal c.tsi ++ codes "\n" ++ object_words (object_named c.toi c.instance)
     ++ codes "\n" ++ info_or_none c.info ++ codes "\n" ++ symbol_head c.symbol
+
+-- and in JSON, all before the line of the symbol
+unfoldable pub json_packet_head : Content → List ℕ
+json_packet_head c =
+    codes "{\"tsi\":" ++ decimal c.tsi ++ codes "}\n{"
+    ++ json_object (object_named c.toi c.instance) ++ codes "}\n{" ++ json_info_or_null c.info
+    ++ codes "}\n"
 
 -- the words of a fact's line, and the bytes after them
 unfoldable pub fact_head : Fact → List ℕ

@@ -45,6 +45,10 @@ progress_of s = record { key = s.key; info = s.info; given = s.given; bytes = s.
 
 -- ---- of an object that may have no information, or two values of it
 
+abbrev pub info_so_far : Option Progress → Option Information
+info_so_far None = None
+info_so_far (Some p) = Some p.info
+
 abbrev pub gaps_so_far : Option Progress → List Gap
 gaps_so_far None = []
 gaps_so_far (Some p) = p.given
@@ -57,6 +61,7 @@ bytes_so_far (Some p) = option_map (λ bytes. take p.info.transfer_length bytes)
 -- all that is reported of the object was told
 pub record EndsAs (t : Told) (progress : Option Progress) : Type 0 where
   pub key : IfSome progress (λ p. t.key ≡ p.key)
+  pub info : t.info ≡ info_so_far progress
   pub gaps : t.gaps ≡ gaps_so_far progress
   pub bytes : t.bytes ≡ bytes_so_far progress
 

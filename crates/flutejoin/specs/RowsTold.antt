@@ -9,9 +9,10 @@ use Rattle.flutejoin.specs.Listing.{Knows}
 use Rattle.flutejoin.specs.Parts.{parts_of}
 use Rattle.flutejoin.specs.declared.compare.compare_lines.CompareLines.{CompareLines}
 use Rattle.flutejoin.specs.declared.compare.compare_sums.CompareSums.{CompareSums}
+use Rattle.flutejoin.specs.declared.lines.form.Form.{Form}
 
 -- the lines of all sessions but the last, which has these sums
-pub record AreSummed (rows : List Row) (lines : List ℕ) (sums : CompareSums) : Type 0 where
+pub record AreSummed (form : Form) (rows : List Row) (lines : List ℕ) (sums : CompareSums) : Type 0 where
   pub before : List Row
   pub first : Row
   pub others : List Row
@@ -19,14 +20,14 @@ pub record AreSummed (rows : List Row) (lines : List ℕ) (sums : CompareSums) :
   pub same : AllByRecursion (λ (row : Row). row_session row ≡ row_session first) others
   pub apart : (more : List Row) → parts_of row_session (before ++ first ∷ more)
       ≡ parts_of row_session before ++ parts_of row_session (first ∷ more)
-  pub lines_are : lines ≡ flat_map session_line (parts_of row_session before)
+  pub lines_are : lines ≡ flat_map (session_line form) (parts_of row_session before)
   pub sums_are : sums ≡ sums_of (row_session first) (first ∷ others)
 
 -- lines of rows: of each, or of their sessions
-abbrev pub AreTheirs : Bool → List Row → List ℕ → Option CompareSums → Type 0
-AreTheirs false rows lines sums = (lines ≡ flat_map row_line rows) × (sums ≡ None)
-AreTheirs true rows lines None = (rows ≡ []) × (lines ≡ [])
-AreTheirs true rows lines (Some sums) = AreSummed rows lines sums
+abbrev pub AreTheirs : Form → Bool → List Row → List ℕ → Option CompareSums → Type 0
+AreTheirs form false rows lines sums = (lines ≡ flat_map (row_line form) rows) × (sums ≡ None)
+AreTheirs form true rows lines None = (rows ≡ []) × (lines ≡ [])
+AreTheirs form true rows lines (Some sums) = AreSummed form rows lines sums
 
 -- so much is counted of a row
 abbrev pub weight : Row → ℕ
@@ -42,7 +43,7 @@ module _ {A : Type 0} (written : A → Option (List ℕ)) where
   pub record HasRows (known : Bool) (rows : List Row) (v : CompareLines A) : Type 0 where
     pub lines : List ℕ
     pub same : v.same ≡ are_same rows
-    pub theirs : AreTheirs v.style.summary rows lines v.sums
+    pub theirs : AreTheirs v.style.form v.style.summary rows lines v.sums
     pub lines_known : Knows known (written v.lines.now) lines
 
 module _ {A : Type 0} (written : A → Option (List ℕ)) (failures : A → ℕ) where

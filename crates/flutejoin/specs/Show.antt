@@ -1,5 +1,6 @@
 -- What the command `show` returns and writes.
-use Rattle.std.specs.Prelude.{◌≡◌, ℕ, List, ◌++◌, length, Option, Result, Err, IfSome}
+use Rattle.std.specs.Prelude.{◌≡◌, ℕ, Bool, true, false, List, ◌++◌, length, codes}
+use Rattle.std.specs.Prelude.{Option, Result, Err, IfSome}
 use Rattle.std.specs.List.{flat_map}
 use Rattle.std.specs.Io.KnownBytes.{Appends, Consumes}
 use Rattle.flute_parts.specs.Devices.{AppendsPart}
@@ -12,51 +13,73 @@ use Rattle.flute_journal.specs.Journal.{IsJournalWithin, journal_frame}
 use Rattle.flute_journal.specs.Whole.{StopsAfter}
 use Rattle.flute_streams.specs.declared.choice.selection.Selection.{Selection}
 use Rattle.flutejoin.specs.declared.limits.TheConstants.{MAX_ENTRIES}
+use Rattle.flutejoin.specs.declared.lines.form.Form.{Form}
+use Rattle.flutejoin.specs.declared.lines.form.Form.TheVariants.{Plain, Json}
+use Rattle.flutejoin.specs.declared.lines.show_style.ShowStyle.{ShowStyle}
+use Rattle.flutejoin.specs.Json.{json_count_line, json_fact_line}
 use Rattle.flutejoin.specs.Lines.{fact_line, entries_line}
 use Rattle.flutejoin.specs.Selected.{selected}
+use Rattle.flutejoin.specs.SymbolSums.{summed_line}
 use Rattle.flutejoin.specs.declared.command_fault.CommandFault.{CommandFault}
 use Rattle.flutejoin.specs.declared.command_fault.CommandFault.TheVariants.{Input, CannotWrite}
 
+-- the line of an entry, in a form, and with sums or without
+abbrev pub line_of : Form → Bool → Fact → List ℕ
+line_of Plain false fact = fact_line fact
+line_of Plain true fact = summed_line fact
+line_of Json sums fact = json_fact_line sums fact
+
+abbrev pub entry_line : ShowStyle → Fact → List ℕ
+entry_line style fact = line_of style.form style.sums fact
+
+-- the line of how many there are
+abbrev pub number_line : Form → ℕ → List ℕ
+number_line Plain n = entries_line n
+number_line Json n = json_count_line (codes "entries") n
+
 -- a line for each entry
-abbrev pub entry_lines : List Fact → List ℕ
-entry_lines entries = flat_map fact_line entries
+abbrev pub entry_lines : ShowStyle → List Fact → List ℕ
+entry_lines style entries = flat_map (entry_line style) entries
 
 -- and then their number
-abbrev pub shown_lines : List Fact → List ℕ
-shown_lines entries = entry_lines entries ++ entries_line (length entries)
+abbrev pub shown_lines : ShowStyle → List Fact → List ℕ
+shown_lines style entries = entry_lines style entries ++ number_line style.form (length entries)
 
 -- a journal of these entries was read, and all lines of those that are selected were written
-pub record ShowsAll (s : Selection) (input old new : Option (List ℕ)) : Type 0 where
+pub record ShowsAll (style : ShowStyle) (s : Selection) (input old new : Option (List ℕ))
+    : Type 0 where
   pub entries : List Fact
   pub journal : IfSome input (λ bytes. IsJournalWithin MAX_ENTRIES bytes entries)
-  pub written : Appends old new (shown_lines (selected s entries))
+  pub written : Appends old new (shown_lines style (selected s entries))
 
 -- the lines of the selected entries that were read before a fault were written, and no more
-pub record ShowsUntil (s : Selection) (input left old new : Option (List ℕ)) (fault : ReadFault)
-    : Type 0 where
+pub record ShowsUntil (style : ShowStyle) (s : Selection) (input left old new : Option (List ℕ))
+    (fault : ReadFault) : Type 0 where
   pub entries : List Fact
   pub are_items : AreItems journal_frame MAX_ENTRIES entries
   pub stops : StopsAfter MAX_ENTRIES entries input left fault
-  pub written : Appends old new (entry_lines (selected s entries))
+  pub written : Appends old new (entry_lines style (selected s entries))
 
 -- a proper prefix of the lines was written: of the selected entries that were read, or of those
 -- of a whole journal
-pub data ShowsPart (s : Selection) (input left old new : Option (List ℕ)) : Type 0 where
+pub data ShowsPart (style : ShowStyle) (s : Selection) (input left old new : Option (List ℕ))
+    : Type 0 where
   of_entries : (entries : List Fact) → (a : AreItems journal_frame MAX_ENTRIES entries)
       → Consumes input left (without_end_in a.told entries)
-      → AppendsPart old new (entry_lines (selected s entries))
-      → ShowsPart s input left old new
+      → AppendsPart old new (entry_lines style (selected s entries))
+      → ShowsPart style s input left old new
   of_journal : (entries : List Fact)
       → IfSome input (λ bytes. IsJournalWithin MAX_ENTRIES bytes entries)
-      → AppendsPart old new (shown_lines (selected s entries)) → ShowsPart s input left old new
+      → AppendsPart old new (shown_lines style (selected s entries))
+      → ShowsPart style s input left old new
 
 -- why it failed, and what was written
-abbrev pub ShowFails : Selection → Option (List ℕ) → Option (List ℕ) → Option (List ℕ)
-    → Option (List ℕ) → CommandFault → Type 0
-ShowFails s input left old new (Input number fault) =
-    (number ≡ 1) × ShowsUntil s input left old new fault
-ShowFails s input left old new CannotWrite = ShowsPart s input left old new
-ShowFails s input left old new _ = ⊥
+abbrev pub ShowFails : ShowStyle → Selection → Option (List ℕ) → Option (List ℕ)
+    → Option (List ℕ) → Option (List ℕ) → CommandFault → Type 0
+ShowFails style s input left old new (Input number fault) =
+    (number ≡ 1) × ShowsUntil style s input left old new fault
+ShowFails style s input left old new CannotWrite = ShowsPart style s input left old new
+ShowFails style s input left old new _ = ⊥
 
 -- how often the source failed in a command that gave this: only if an input was at fault
 abbrev pub FailsToRead : {T : Type 0} → ℕ → ℕ → Result T CommandFault → Type 0

@@ -23,7 +23,7 @@ use Rattle.flutejoin.specs.declared.command_fault.CommandFault.TheVariants.{NotW
 use Rattle.flutejoin.specs.declared.command_fault.CommandFault.TheVariants.{CannotCreate}
 use Rattle.flutejoin.specs.declared.command_fault.CommandFault.TheVariants.{CannotWrite, NotOnDisk}
 use Rattle.flutejoin.specs.declared.command_fault.CommandFault.TheVariants.{NotAllWhole, ValuesDiffer}
-use Rattle.flutejoin.specs.declared.command_fault.CommandFault.TheVariants.{CannotPutAside}
+use Rattle.flutejoin.specs.declared.command_fault.CommandFault.TheVariants.{CannotPutAside, BadLine}
 use Rattle.flute_journal.specs.declared.fault.ReadFault.{ReadFault}
 use Rattle.flute_journal.specs.declared.fault.ReadFault.TheVariants as faults
 use Rattle.flute_journal.specs.declared.fault.LoadFault.{LoadFault}
@@ -55,6 +55,7 @@ exit_status (CannotSend fault) = 1
 exit_status (TooLarge number) = 1
 exit_status (ListLine number) = 1
 exit_status (ListInformation number fault) = 1
+exit_status (BadLine number) = 1
 exit_status BadHex = 1
 exit_status (Refused refusal) = 1
 exit_status (CannotOpen number) = 3

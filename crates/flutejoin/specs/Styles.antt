@@ -1,7 +1,8 @@
 -- What `gaps` prints of objects, by its options.
 use Rattle.std.specs.Prelude.{◌≡◌, ℕ, ◌-◌, ◌&&◌, ◌||◌, Bool, true, false, not, List, [], ◌++◌, filter}
-use Rattle.std.specs.Prelude.{if◌then◌else◌, nat_lt}
+use Rattle.std.specs.Prelude.{Option, Some, None, if◌then◌else◌, nat_lt}
 use Rattle.std.specs.List.{flat_map, list_all}
+use Rattle.flute_parts.specs.Information.{Information}
 use Rattle.flute_parts.specs.declared.key.Key.{Key}
 use Rattle.flute_store.specs.declared.gap.Reason.{Reason}
 use Rattle.flute_store.specs.declared.gap.Reason.TheVariants.{Conflicting}
@@ -10,9 +11,14 @@ use Rattle.flute_store.specs.declared.status.Status.{Status}
 use Rattle.flute_store.specs.declared.status.Status.TheVariants.{ConflictingInformation}
 use Rattle.flute_store.specs.declared.status.Status.TheVariants.{Partial, Whole}
 use Rattle.flute_store.specs.Objects.{same_reason}
+use Rattle.flutejoin.specs.JsonGaps.{json_gap_line, json_object_line}
 use Rattle.flutejoin.specs.Lines.{gap_line, status_line, unplaced_line}
+use Rattle.flutejoin.specs.Ranges.{range_line, ranges}
 use Rattle.flutejoin.specs.Sums.{by_session, session_line}
 use Rattle.flutejoin.specs.Told.{Told}
+use Rattle.flutejoin.specs.declared.gaps.byte_range.ByteRange.{ByteRange}
+use Rattle.flutejoin.specs.declared.lines.form.Form.{Form}
+use Rattle.flutejoin.specs.declared.lines.form.Form.TheVariants.{Plain, Json}
 use Rattle.flutejoin.specs.declared.lines.style.Style.{Style}
 
 abbrev pub is_whole : Status → Bool
@@ -34,8 +40,23 @@ is_told style status conflicts =
 abbrev pub is_shown : Style → Reason → Bool
 is_shown style reason = not style.summary && (not style.conflicts || same_reason Conflicting reason)
 
-abbrev pub shown_gap : Style → Gap → List ℕ
-shown_gap style gap = if is_shown style gap.reason then gap_line gap else []
+abbrev pub shown : Style → List Gap → List Gap
+shown style gaps = filter (λ (gap : Gap). is_shown style gap.reason) gaps
+
+-- the byte ranges of gaps of an object with this information, if it has one
+abbrev pub ranges_of : Option Information → List Gap → List ByteRange
+ranges_of None gaps = []
+ranges_of (Some info) gaps = ranges info gaps
+
+abbrev pub gap_line_in : Form → Gap → List ℕ
+gap_line_in Plain gap = gap_line gap
+gap_line_in Json gap = json_gap_line gap
+
+-- a line for each gap that is shown, or with `--ranges` for each byte range of these
+abbrev pub gap_lines : Style → Option Information → List Gap → List ℕ
+gap_lines style info gaps =
+    if style.ranges then flat_map (range_line style.form) (ranges_of info (shown style gaps))
+    else flat_map (gap_line_in style.form) (shown style gaps)
 
 -- how many symbols of its partition are in conflict
 abbrev pub conflicting_in : Status → ℕ
@@ -48,15 +69,20 @@ abbrev pub unplaced_in : Style → Status → ℕ → ℕ
 unplaced_in style status conflicts =
     if style.conflicts then conflicts - conflicting_in status else 0
 
-unfoldable pub object_line : Style → Key → Status → ℕ → List ℕ
+-- the line of an object, which tells of so many conflicts
+unfoldable pub object_line_in : Form → Key → Status → ℕ → List ℕ
+object_line_in Plain key status n =
+    if nat_lt 0 n then unplaced_line key status n else status_line key status
+object_line_in Json key status n = json_object_line key status n
+
+abbrev pub object_line : Style → Key → Status → ℕ → List ℕ
 object_line style key status conflicts =
-    if nat_lt 0 (unplaced_in style status conflicts)
-    then unplaced_line key status (unplaced_in style status conflicts) else status_line key status
+    object_line_in style.form key status (unplaced_in style status conflicts)
 
 -- the line of an object, and those of its gaps
 unfoldable pub told_lines : Style → Told → List ℕ
 told_lines style t =
-    object_line style t.key t.status t.conflicts ++ flat_map (shown_gap style) t.gaps
+    object_line style t.key t.status t.conflicts ++ gap_lines style t.info t.gaps
 
 -- the objects that are listed
 abbrev pub listed_by : Style → List Told → List Told
@@ -65,7 +91,7 @@ listed_by style objects = filter (λ (t : Told). is_told style t.status t.confli
 -- their lines, or with `--summary` a line for each of their sessions
 unfoldable pub printed : Style → List Told → List ℕ
 printed style objects =
-    if style.summary then flat_map session_line (by_session (listed_by style objects))
+    if style.summary then flat_map (session_line style.form) (by_session (listed_by style objects))
     else flat_map (told_lines style) (listed_by style objects)
 
 -- a whole object is right, but not if it is listed since it has a conflict
@@ -84,4 +110,4 @@ passes_check style objects = not style.check || are_whole style objects
 -- an object that is not listed has no gap with a line
 abbrev pub HasNoStray : Style → Told → Type 0
 HasNoStray style t =
-    is_told style t.status t.conflicts ≡ false → flat_map (shown_gap style) t.gaps ≡ []
+    is_told style t.status t.conflicts ≡ false → gap_lines style t.info t.gaps ≡ []

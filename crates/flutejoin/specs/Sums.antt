@@ -8,8 +8,12 @@ use Rattle.flute_parts.specs.Order.{same_session}
 use Rattle.flute_store.specs.declared.status.Status.{Status}
 use Rattle.flute_store.specs.declared.status.Status.TheVariants.{NoInformation, Partial, Whole}
 use Rattle.flute_store.specs.declared.status.Status.TheVariants.{ConflictingInformation}
+use Rattle.flutejoin.specs.Json.{json_line}
+use Rattle.flutejoin.specs.JsonGaps.{json_session}
 use Rattle.flutejoin.specs.Lines.{line, source_words}
 use Rattle.flutejoin.specs.Told.{Told}
+use Rattle.flutejoin.specs.declared.lines.form.Form.{Form}
+use Rattle.flutejoin.specs.declared.lines.form.Form.TheVariants.{Plain, Json}
 use Rattle.flutejoin.specs.declared.limits.TheConstants.{MAX_ENTRIES}
 use Rattle.flutejoin.specs.declared.gaps.session_sums.SessionSums.{SessionSums}
 
@@ -52,13 +56,19 @@ sums_of t ts = record {
   unknown = sum_by (λ (u : Told). unknown_in u.status) (t ∷ ts);
 }
 
-unfoldable pub sums_line : SessionSums → List ℕ
-sums_line s =
+unfoldable pub sums_line : Form → SessionSums → List ℕ
+sums_line Plain s =
     line (source_words s.session.sender ++ codes "session " ++ decimal s.session.tsi
     ++ (codes " objects " ++ decimal s.objects) ++ (codes " whole " ++ decimal s.whole)
     ++ (codes " partial " ++ decimal s.partial) ++ (codes " missing " ++ decimal s.missing)
     ++ (codes " conflicting " ++ decimal s.conflicting) ++ (codes " misfit " ++ decimal s.misfit)
     ++ (codes " unknown " ++ decimal s.unknown))
+sums_line Json s =
+    json_line (json_session s.session ++ (codes ",\"objects\":" ++ decimal s.objects)
+    ++ (codes ",\"whole\":" ++ decimal s.whole) ++ (codes ",\"partial\":" ++ decimal s.partial)
+    ++ (codes ",\"missing\":" ++ decimal s.missing)
+    ++ (codes ",\"conflicting\":" ++ decimal s.conflicting)
+    ++ (codes ",\"misfit\":" ++ decimal s.misfit) ++ (codes ",\"unknown\":" ++ decimal s.unknown))
 
 -- an object in front of others that are cut by their sessions
 abbrev pub in_front : Told → List (Told × List Told) → List (Told × List Told)
@@ -73,8 +83,8 @@ by_session [] = []
 by_session (t ∷ ts) = in_front t (by_session ts)
 
 -- the line of a session
-abbrev pub session_line : Told × List Told → List ℕ
-session_line part = sums_line (sums_of part.0 part.1)
+abbrev pub session_line : Form → Told × List Told → List ℕ
+session_line form part = sums_line form (sums_of part.0 part.1)
 
 -- ---- sums as objects are added
 

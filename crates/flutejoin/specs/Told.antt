@@ -2,6 +2,7 @@
 use Rattle.std.specs.Prelude.{◌≡◌, ℕ, List, map, Contains, ◌↔◌, Option, if◌then◌else◌}
 use Rattle.std.specs.List.{sum_by}
 use Rattle.std.specs.List.Sorted.{IsStrictlySortedBy}
+use Rattle.flute_parts.specs.Information.{Information}
 use Rattle.flute_parts.specs.Addresses.{info_address}
 use Rattle.flute_parts.specs.Facts.{fact_at}
 use Rattle.flute_parts.specs.Order.{key_cmp, same_key}
@@ -11,11 +12,13 @@ use Rattle.flute_parts.specs.declared.fact.Fact.TheVariants.{SymbolConflict}
 use Rattle.flute_store.specs.declared.gap.Gap.{Gap}
 use Rattle.flute_store.specs.declared.status.Status.{Status}
 use Rattle.flute_store.specs.Held.{HoldsObject}
-use Rattle.flutejoin.specs.Objects.{bytes_at, gaps_at, status_at}
+use Rattle.flutejoin.specs.Objects.{bytes_at, gaps_at, info_at, status_at}
 
 pub record Told : Type 0 where
   pub key : Key
   pub status : Status
+  -- its one information
+  pub info : Option Information
   pub gaps : List Gap
   -- its bytes, if it is whole
   pub bytes : Option (List ℕ)
@@ -36,6 +39,7 @@ abbrev pub told_of : List Fact → Key → Told
 told_of F key = record {
   key = key;
   status = status_at F key (fact_at F (info_address key));
+  info = info_at (fact_at F (info_address key));
   gaps = gaps_at F key (fact_at F (info_address key));
   bytes = bytes_at F key (fact_at F (info_address key));
   conflicts = conflicts_of F key;

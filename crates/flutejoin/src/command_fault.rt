@@ -84,6 +84,10 @@ pub enum CommandFault {
     /// transmission information.
     #[error("list: line {0}: {1}")]
     ListInformation(u64, InfoFault),
+    /// The line with this number, from 1, of what `fill` is asked for is none that `gaps` prints
+    /// there.
+    #[error("bad line {0}")]
+    BadLine(u64),
     /// A journal, or all inputs together, have more sessions, objects or symbols than a store
     /// holds, or a command would leave a file of more entries or datagrams than the commands read.
     #[error("full")]
@@ -138,6 +142,7 @@ impl CommandFault {
             CommandFault::BadInformation(_) | CommandFault::CannotSend(_) => 1,
             CommandFault::TooLarge(_) => 1,
             CommandFault::ListLine(_) | CommandFault::ListInformation(..) => 1,
+            CommandFault::BadLine(_) => 1,
             CommandFault::NoObject | CommandFault::NoInformation | CommandFault::NotAllWhole => 1,
             CommandFault::ValuesDiffer => 1,
             CommandFault::ConflictingInformation | CommandFault::NotWhole { .. } => 1,

@@ -9,15 +9,19 @@ ghost use Rattle.flutejoin.specs.Styles.{are_whole, printed};
 ghost use Rattle.flutejoin.specs.Show.{FailsToRead};
 ghost use Rattle.flutejoin.specs.Packet.{write_failures};
 
+pub(crate) mod byte_range;
 pub(crate) mod closed_objects;
 pub(crate) mod gap_lines;
 pub(crate) mod held_lines;
+pub(crate) mod json_texts;
+pub(crate) mod open_ranges;
 pub(crate) mod session_sums;
 
 use crate::aside::Aside;
 use crate::command_fault::CommandFault;
 use crate::gaps::closed_objects::ClosedObjects;
 use crate::gaps::gap_lines::GapLines;
+use crate::gaps::open_ranges::OpenRanges;
 use crate::lines::style::Style;
 use crate::walk::walk_objects;
 use flute_parts::{Sink, Source};
@@ -83,6 +87,7 @@ pub fn gaps_from<
             all_whole: true,
             sums: None,
         },
+        ranges: OpenRanges::new(),
         lines,
         gap_lines,
     };

@@ -1,14 +1,17 @@
 //! Laws of journals, each the contract of a function that does nothing.
-ghost use Rattle.std.specs.Prelude.{◌≡◌, ℕ, List, [], ◌∷◌, flat_map, true};
+ghost use Rattle.std.specs.Prelude.{◌≡◌, ℕ, List, [], ◌∷◌, ◌++◌, flat_map, true};
 ghost use Rattle.flute_parts.specs.Facts.{Below, Same};
 ghost use Rattle.flute_parts.specs.declared.fact.Fact.{Fact as Known};
 ghost use Rattle.flute_parts.specs.declared.key.Key.{Key};
 ghost use Rattle.flute_journal.specs.Journal.{Journal, IsJournal};
 ghost use Rattle.flute_journal.specs.Stores.{IsJournalOf};
-ghost use Rattle.flutejoin.specs.Laws.{IsMinus, Leaves};
+ghost use Rattle.flutejoin.specs.FillLists.{IsListing, asked};
+ghost use Rattle.flutejoin.specs.Laws.{HaveTheRest, IsAnswer, IsMinus, Leaves};
 ghost use Rattle.flutejoin.specs.Joined.{Choice, InputContent, TellAll, content_facts};
 ghost use Rattle.flutejoin.specs.JoinTrees.{Joined, Inputs, AreMade, bytes_of, leaf_facts};
 ghost use Rattle.flute_streams.specs.declared.choice.selection.Selection.{Selection as Selecting};
+ghost use Rattle.flutejoin.specs.declared.fill.asking.Asking.{Asking as AskingValue};
+ghost use Rattle.flutejoin.specs.declared.fill.listed_line.ListedLine.{ListedLine as LineValue};
 ghost use Rattle.flutejoin.specs.declared.forget.ForgetCounts.{ForgetCounts as Counts};
 ghost use Rattle.flutejoin.specs.declared.limits.TheConstants.{MAX_ENTRIES};
 
@@ -80,4 +83,26 @@ pub fn minus_is_enough_for_a_join()
     // By this the proof knows that a datagram file contains one list of datagrams.
     bytes_are_a_file_or_stop();
     minus_is_what_a_join_needs();
+}
+
+/// What `fill` writes of a journal is all that a join of the asker's journal with it needs, if that
+/// has the value of each fact that was not asked for.
+///
+/// - `facts`: facts with what is asked for of others have the value of both at each address.
+/// - `enough`: in a join after the asker's journal the answer stands for the journal: whatever
+///   objects are taken, and whatever else is joined, the bytes are equal.
+pub fn an_answer_is_enough_for_a_join()
+    ensures facts { (asking : AskingValue) (listed : List LineValue) (facts held : List Known)
+        → HaveTheRest asking listed facts held
+        → Same (held ++ asked asking listed facts) (held ++ facts) }
+    ensures enough { (choice : Choice) (asking : AskingValue)
+        (asker journal lines answer bs cs : List ℕ) (count : ℕ) (others : List (List ℕ))
+        (held : List Known) → IsJournal asker held → IsAnswer asking journal lines answer count
+        → ((listed : List LineValue) (facts : List Known) → IsListing lines listed
+        → IsJournal journal facts → HaveTheRest asking listed facts held)
+        → Joined choice (asker ∷ answer ∷ others) bs
+        → Joined choice (asker ∷ journal ∷ others) cs → bs ≡ cs }
+{
+    // By this the proof knows that a datagram file contains one list of datagrams.
+    bytes_are_a_file_or_stop();
 }

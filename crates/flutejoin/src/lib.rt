@@ -24,6 +24,7 @@ mod carousel;
 mod command_fault;
 mod compare;
 mod extract;
+mod fill;
 mod forget;
 mod gaps;
 mod info;
@@ -50,6 +51,8 @@ pub use extract::extract_all::extract_all_to;
 pub use extract::extract_to;
 pub use extract::file_names::{different_objects_have_different_names, file_name};
 pub use extract::picked::Picked;
+pub use fill::asking::Asking;
+pub use fill::{FillInput, fill_input, fill_to};
 pub use forget::{ForgetCounts, ForgetInput, forget_input, forget_to};
 pub use gaps::gaps_from;
 pub use gaps::held_lines::{gap_text, status_text};
@@ -67,8 +70,10 @@ pub use limits::{
     MAX_OBJECTS, MAX_SESSIONS, MAX_SYMBOLS,
 };
 pub use lines::compare_style::CompareStyle;
+pub use lines::form::Form;
 pub use lines::report::Report;
 pub use lines::report_lines::{count_to, write_words};
+pub use lines::show_style::ShowStyle;
 pub use lines::style::Style;
 pub use lines::text::Text;
 pub use merge::merge_to;

@@ -2,8 +2,12 @@
 
 pub(crate) mod compare_style;
 pub(crate) mod fact_lines;
+pub(crate) mod form;
 pub(crate) mod hex_digits;
+pub(crate) mod json_lines;
 pub(crate) mod report;
 pub(crate) mod report_lines;
+pub(crate) mod show_style;
 pub(crate) mod style;
+pub(crate) mod symbol_sum;
 pub(crate) mod text;

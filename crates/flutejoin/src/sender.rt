@@ -1,5 +1,7 @@
 //! Senders on the command line, and in the lines that are printed.
 ghost use Rattle.std.specs.Prelude.{◌≡◌, ◌+◌, ◌≤◌, ◌++◌, ℕ, MatchOption, length};
+ghost use Rattle.std.specs.Int.{bytes_high_first};
+ghost use Rattle.hex.specs.Hex.{encode_lower};
 ghost use Rattle.flutejoin.specs.Lines.{source_words};
 ghost use Rattle.flutejoin.specs.Sender.{NamesSender, sender_named};
 
@@ -47,12 +49,21 @@ pub fn push_source(text: &mut Text, sender: Sender)
     ensures text { text.new ≡ text.old ++ source_words sender }
     ensures len { length text.new ≤ length text.old + 40 }
 {
-    let address = sender.number();
-    if address != 0 {
-        let mut digits = [0; 32];
-        hex::encode_to_slice(address.to_be_bytes().as_slice(), &mut digits).unwrap();
+    if sender.number() != 0 {
         text.push("source ");
-        text.push_bytes(&digits);
+        push_address(text, sender);
         text.push(" ");
     }
+}
+
+/// Appends the 32 digits of the sender's address.
+pub fn push_address(text: &mut Text, sender: Sender)
+    requires { length text.old + 32 ≤ 512 }
+    ensures text { text.new ≡ text.old ++ encode_lower (bytes_high_first 16 sender) }
+    ensures len { length text.new ≡ length text.old + 32 }
+{
+    let mut digits = [0; 32];
+    let address = sender.number().to_be_bytes();
+    hex::encode_to_slice(address.as_slice(), &mut digits).unwrap();
+    text.push_bytes(&digits);
 }

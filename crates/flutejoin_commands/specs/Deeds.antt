@@ -8,6 +8,7 @@ use Rattle.flutejoin.specs.declared.join.join_counts.JoinCounts.{JoinCounts}
 use Rattle.flutejoin_commands.specs.Files.{Files}
 use Rattle.flutejoin_commands.specs.Named.{AddListOfNamesFails, AddToNameFails}
 use Rattle.flutejoin_commands.specs.Named.{AddsListOfNames, AddsToName, ExtractOfNameFails}
+use Rattle.flutejoin_commands.specs.Named.{FillOfNamesFails, FillsOfNames}
 use Rattle.flutejoin_commands.specs.Named.{ForgetsInName, ForgetInNameFails}
 use Rattle.flutejoin_commands.specs.Named.{HoldsOfName, JoinsNames, JoinNamesFails}
 use Rattle.flutejoin_commands.specs.Named.{MergesNames, MergeNamesFails, MinusOfNames}
@@ -24,6 +25,7 @@ use Rattle.flutejoin_line.specs.declared.carousel_line.CarouselLine.{CarouselLin
 use Rattle.flutejoin_line.specs.declared.compare_line.CompareLine.{CompareLine}
 use Rattle.flutejoin_line.specs.declared.extract_line.ExtractAllLine.{ExtractAllLine}
 use Rattle.flutejoin_line.specs.declared.extract_line.ExtractLine.{ExtractLine}
+use Rattle.flutejoin_line.specs.declared.fill_line.FillLine.{FillLine}
 use Rattle.flutejoin_line.specs.declared.forget_line.ForgetLine.{ForgetLine}
 use Rattle.flutejoin_line.specs.declared.gaps_line.GapsLine.{GapsLine}
 use Rattle.flutejoin_line.specs.declared.info_line.InfoLine.{InfoLine}
@@ -31,6 +33,7 @@ use Rattle.flutejoin_line.specs.declared.info_line.InfoListLine.{InfoListLine}
 use Rattle.flutejoin_line.specs.declared.join_line.JoinLine.{JoinLine}
 use Rattle.flutejoin_line.specs.declared.merge_line.MergeLine.{MergeLine}
 use Rattle.flutejoin_line.specs.declared.minus_line.MinusLine.{MinusLine}
+use Rattle.flutejoin_line.specs.declared.packet_line.PacketLine.{PacketLine}
 use Rattle.flutejoin_line.specs.declared.show_line.ShowLine.{ShowLine}
 use Rattle.flutejoin_line.specs.declared.target.Target.{Target}
 
@@ -80,6 +83,11 @@ abbrev pub subtracts : MinusLine → Deed
 subtracts line = plain {A = ℕ} (λ files. MinusOfNames files line.first.now line.second.now)
     (λ files. MinusOfNamesFails files line.first.now line.second.now) entries_line
 
+abbrev pub fills : FillLine → Deed
+fills line = plain {A = ℕ}
+    (λ files. FillsOfNames files line.asking line.j.now line.gaps.now)
+    (λ files. FillOfNamesFails files line.j.now line.gaps.now) entries_line
+
 abbrev pub adds : InfoLine → Deed
 adds line = plain {A = ℕ} (λ files. AddsToName files line.j.now line.key line.info)
     (λ files. AddToNameFails files (most_of line.limit) line.j.now line.key line.info) entries_line
@@ -114,16 +122,16 @@ pub record Printing : Type 1 where
   pub fails : (List ℕ → Option Places) → Option Files → Option (List ℕ) → Option (List ℕ)
       → CommandFault → Type 0
 
-abbrev pub prints_packet : List ℕ → Printing
-prints_packet hex = record {
-  done = λ folders files. PrintsPacket hex;
-  fails = λ folders files. PacketFails hex;
+abbrev pub prints_packet : PacketLine → Printing
+prints_packet line = record {
+  done = λ folders files. PrintsPacket line.hex.now line.form;
+  fails = λ folders files. PacketFails line.hex.now line.form;
 }
 
 abbrev pub shows : ShowLine → Printing
 shows line = record {
-  done = λ folders files. ShowsName files line.j.now line.selection;
-  fails = λ folders files. ShowNameFails files line.j.now line.selection;
+  done = λ folders files. ShowsName files line.j.now line.style line.selection;
+  fails = λ folders files. ShowNameFails files line.j.now line.style line.selection;
 }
 
 abbrev pub lists : GapsLine → Printing

@@ -6,8 +6,10 @@ use Rattle.flute_journal.specs.declared.fault.ReadFault.TheVariants.{Read}
 use Rattle.flute_streams.specs.declared.choice.selection.Selection.{Selection}
 use Rattle.flute_parts.specs.Information.{Information}
 use Rattle.flute_parts.specs.declared.key.Key.{Key}
+use Rattle.flutejoin.specs.Fill.{FillFails, WritesFill}
 use Rattle.flutejoin.specs.Forget.{ForgetFails}
 use Rattle.flutejoin.specs.JoinFaults.{NamesOneOf}
+use Rattle.flutejoin.specs.declared.fill.asking.Asking.{Asking}
 use Rattle.flutejoin.specs.declared.forget.ForgetCounts.{ForgetCounts}
 use Rattle.flutejoin.specs.Limits.{Limits}
 use Rattle.flutejoin.specs.Merge.{MergeFails}
@@ -93,6 +95,16 @@ module _ (files : Option Files) where
   abbrev pub MinusOfNamesFails : List ℕ → List ℕ → CommandFault → Type 0
   MinusOfNamesFails a b fault =
       IsBefore files (a ∷ b ∷ []) fault ⊎ IfFiles files (λ f. MergeFails (f a) (f b) fault)
+
+  -- the journal of what of the file of one name the lines in that of another ask for
+  abbrev pub FillsOfNames : Asking → List ℕ → List ℕ → ℕ → Option (List ℕ) → Option (List ℕ)
+      → Type 0
+  FillsOfNames asking j gaps n old new =
+      IfFiles files (λ f. WritesFill asking (f j) (f gaps) n old new)
+
+  abbrev pub FillOfNamesFails : List ℕ → List ℕ → CommandFault → Type 0
+  FillOfNamesFails j gaps fault =
+      IsBefore files (j ∷ gaps ∷ []) fault ⊎ IfFiles files (λ f. FillFails (f j) (f gaps) fault)
 
   -- the journal of all that the file of a name contains and of the information
   abbrev pub AddsToName : List ℕ → Key → Information → ℕ → Option (List ℕ)

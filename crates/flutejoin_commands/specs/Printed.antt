@@ -12,6 +12,8 @@ use Rattle.flutejoin.specs.Packet.{HasLines, FailsWith}
 use Rattle.flutejoin.specs.Show.{ShowsAll, ShowFails}
 use Rattle.flutejoin.specs.Styles.{passes_check, printed}
 use Rattle.flutejoin.specs.declared.lines.compare_style.CompareStyle.{CompareStyle}
+use Rattle.flutejoin.specs.declared.lines.form.Form.{Form}
+use Rattle.flutejoin.specs.declared.lines.show_style.ShowStyle.{ShowStyle}
 use Rattle.flutejoin.specs.declared.lines.style.Style.{Style}
 use Rattle.flutejoin.specs.declared.extract.picked.Picked.{Picked}
 use Rattle.flutejoin.specs.declared.command_fault.CommandFault.{CommandFault}
@@ -30,28 +32,29 @@ abbrev pub IsUnread : Option Files → List ℕ → CommandFault → Type 0
 IsUnread files name fault = IsUnopened files (name ∷ []) fault ⊎ (fault ≡ OutOfMemory)
 
 -- the lines of the packet were printed
-abbrev pub PrintsPacket : List ℕ → Option (List ℕ) → Option (List ℕ) → Type 0
-PrintsPacket text old new = HasLines text (Appends old new)
+abbrev pub PrintsPacket : List ℕ → Form → Option (List ℕ) → Option (List ℕ) → Type 0
+PrintsPacket text form old new = HasLines text form (Appends old new)
 
 -- why not, and what was printed
-abbrev pub PacketFails : List ℕ → Option (List ℕ) → Option (List ℕ) → CommandFault
+abbrev pub PacketFails : List ℕ → Form → Option (List ℕ) → Option (List ℕ) → CommandFault
     → Type 0
-PacketFails text old new fault =
-    FailsWith text old new fault ⊎ FailsToFlush (PrintsPacket text old new) fault
+PacketFails text form old new fault =
+    FailsWith text form old new fault ⊎ FailsToFlush (PrintsPacket text form old new) fault
 
 module _ (files : Option Files) (name : List ℕ) where
   -- what is selected of the entries of the journal of this name was printed
-  abbrev pub ShowsName : Selection → Option (List ℕ) → Option (List ℕ) → Type 0
-  ShowsName selection old new = IfFiles files (λ f. ShowsAll selection (f name) old new)
+  abbrev pub ShowsName : ShowStyle → Selection → Option (List ℕ) → Option (List ℕ) → Type 0
+  ShowsName style selection old new =
+      IfFiles files (λ f. ShowsAll style selection (f name) old new)
 
   -- why not, and what was printed
-  abbrev pub ShowNameFails : Selection → Option (List ℕ) → Option (List ℕ) → CommandFault
-      → Type 0
-  ShowNameFails selection old new fault =
+  abbrev pub ShowNameFails : ShowStyle → Selection → Option (List ℕ) → Option (List ℕ)
+      → CommandFault → Type 0
+  ShowNameFails style selection old new fault =
       (IsUnread files name fault × (new ≡ old))
       ⊎ IfFiles files (λ f. (left : Option (List ℕ))
-      × (ShowFails selection (f name) left old new fault
-      ⊎ FailsToFlush (ShowsAll selection (f name) old new) fault))
+      × (ShowFails style selection (f name) left old new fault
+      ⊎ FailsToFlush (ShowsAll style selection (f name) old new) fault))
 
   -- what is missing of the selected objects of the journal of this name was printed, and they
   -- passed their check, or did not

@@ -15,33 +15,40 @@ use crate::outlet::Outlet;
 use crate::printing::{Listing, gaps_on, hand_on};
 use crate::world::World;
 use flute_streams::Selection;
-use flutejoin::{Asides, CommandFault, CompareStyle, Picked, compare_input, packet_to, show_to};
+use flutejoin::{
+    Asides, CommandFault, CompareStyle, Form, Picked, ShowStyle, compare_input, packet_to, show_to,
+};
 use flutejoin_line::Limit;
 use std::alloc::Global;
 
-/// Prints what a datagram in hexadecimal says, as [`packet_to`] writes it, and hands it on.
+/// Prints what the datagram `hex` says, in this form, as [`packet_to`] writes it, and hands it on.
 ///
 /// # Errors
 ///
 /// Those of [`packet_to`]; or `CannotWrite` if all was written and not handed on.
-pub fn packet<P: Outlet>(alloc: Global, hex: &str, output: &mut P) -> Result<(), CommandFault>
+pub fn packet<P: Outlet>(
+    alloc: Global,
+    hex: &str,
+    form: Form,
+    output: &mut P,
+) -> Result<(), CommandFault>
     ensures printed { OnOk result
-        (PrintsPacket hex.now (P.written output.old) (P.written output.new)) }
+        (PrintsPacket hex.now form (P.written output.old) (P.written output.new)) }
     ensures handed_on { OnOk result (P.handed_on output.new ≡ P.written output.new) }
     ensures failed { IfErr result
-        (PacketFails hex.now (P.written output.old) (P.written output.new)) }
+        (PacketFails hex.now form (P.written output.old) (P.written output.new)) }
     ensures flushed { IsHandedOn (P.failures output.old) (P.failures output.new)
         (P.written output.new) (P.handed_on output.new) }
     ensures quiet { OnOk result (P.failures output.new ≡ P.failures output.old) }
     ensures cause { IfErr result (λ fault. fault ≡ CannotWrite
         → P.failures output.old < P.failures output.new) }
 {
-    let printed = packet_to(alloc, hex, output);
+    let printed = packet_to(alloc, hex, form, output);
     hand_on(output, printed)
 }
 
-/// Prints what is selected of the entries of the journal of this name, as [`show_to`] writes it,
-/// and hands it on: after a fault of the journal too.
+/// Prints what is selected of the entries of the journal of this name, in this style, as
+/// [`show_to`] writes it, and hands it on: after a fault of the journal too.
 ///
 /// # Errors
 ///
@@ -51,13 +58,14 @@ pub fn show<W: World, P: Outlet>(
     world: &mut W,
     alloc: Global,
     selection: &Selection,
+    style: ShowStyle,
     j: &str,
     output: &mut P,
 ) -> Result<(), CommandFault>
-    ensures shown { OnOk result (ShowsName (W.files world.old) j.now selection.now
+    ensures shown { OnOk result (ShowsName (W.files world.old) j.now style selection.now
         (P.written output.old) (P.written output.new)) }
     ensures handed_on { OnOk result (P.handed_on output.new ≡ P.written output.new) }
-    ensures failed { IfErr result (ShowNameFails (W.files world.old) j.now selection.now
+    ensures failed { IfErr result (ShowNameFails (W.files world.old) j.now style selection.now
         (P.written output.old) (P.written output.new)) }
     ensures flushed { (P.written output.new ≡ P.written output.old)
         ⊎ IsHandedOn (P.failures output.old) (P.failures output.new)
@@ -69,7 +77,7 @@ pub fn show<W: World, P: Outlet>(
     ensures same_closed { W.closed world.new ≡ W.closed world.old }
 {
     let mut source = world.open(1, j, 1)?;
-    let shown = show_to(alloc, &mut source, selection, output);
+    let shown = show_to(alloc, &mut source, selection, style, output);
     hand_on(output, shown)
 }
 

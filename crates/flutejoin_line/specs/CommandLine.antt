@@ -13,12 +13,16 @@ use Rattle.flute_streams.specs.Selections.{is_everything}
 use Rattle.flute_streams.specs.Sessions.{listed_tsis}
 use Rattle.flute_streams.specs.declared.choice.selection.Selection.{Selection}
 use Rattle.flutejoin.specs.OutputGuard.{overwrites_journal, overwrites_other}
+use Rattle.flutejoin.specs.declared.fill.asking.Asking.{Asking}
+use Rattle.flutejoin.specs.declared.fill.asking.Asking.TheVariants.{All as AskAll, Only}
+use Rattle.flutejoin.specs.declared.lines.form.Form.{Form}
+use Rattle.flutejoin.specs.declared.lines.form.Form.TheVariants.{Plain, Json}
 use Rattle.flutejoin.specs.declared.lines.style.Style.{Style}
 use Rattle.flutejoin.specs.declared.output_guard.Overwrites.{Overwrites}
 use Rattle.flutejoin_line.specs.Inputs.{is_standard_twice}
 use Rattle.flutejoin_line.specs.Options.{HasSessions, HasSource, IsFlag, IsKey, IsNumber}
 use Rattle.flutejoin_line.specs.Options.{IsSourceIf, IsZero, all_form, extract_form, first_unfit}
-use Rattle.flutejoin_line.specs.Options.{info_form, list_form, word, words}
+use Rattle.flutejoin_line.specs.Options.{fill_form, info_form, list_form, word, words}
 use Rattle.flutejoin_line.specs.Parser.{command_with, force_flag, input_list, journal_rules}
 use Rattle.flutejoin_line.specs.Parser.{key_rules, long_flag, no_commands, object_rules, option}
 use Rattle.flutejoin_line.specs.Parser.{out, place, selection_rules, session_list, size_flag}
@@ -30,6 +34,7 @@ use Rattle.flutejoin_line.specs.declared.carousel_line.CarouselLine.{CarouselLin
 use Rattle.flutejoin_line.specs.declared.compare_line.CompareLine.{CompareLine}
 use Rattle.flutejoin_line.specs.declared.extract_line.ExtractAllLine.{ExtractAllLine}
 use Rattle.flutejoin_line.specs.declared.extract_line.ExtractLine.{ExtractLine}
+use Rattle.flutejoin_line.specs.declared.fill_line.FillLine.{FillLine}
 use Rattle.flutejoin_line.specs.declared.forget_line.ForgetLine.{ForgetLine}
 use Rattle.flutejoin_line.specs.declared.gaps_line.GapsLine.{GapsLine}
 use Rattle.flutejoin_line.specs.declared.info_line.InfoLine.{InfoLine}
@@ -41,9 +46,10 @@ use Rattle.flutejoin_line.specs.declared.line.Line.{Line}
 use Rattle.flutejoin_line.specs.declared.line.Line.TheVariants.{Packet, Show, Gaps, Extract}
 use Rattle.flutejoin_line.specs.declared.line.Line.TheVariants.{Info, Join, Merge, Carousel}
 use Rattle.flutejoin_line.specs.declared.line.Line.TheVariants.{ExtractAll, InfoList, Forget}
-use Rattle.flutejoin_line.specs.declared.line.Line.TheVariants.{Compare, Minus}
+use Rattle.flutejoin_line.specs.declared.line.Line.TheVariants.{Compare, Minus, Fill}
 use Rattle.flutejoin_line.specs.declared.merge_line.MergeLine.{MergeLine}
 use Rattle.flutejoin_line.specs.declared.minus_line.MinusLine.{MinusLine}
+use Rattle.flutejoin_line.specs.declared.packet_line.PacketLine.{PacketLine}
 use Rattle.flutejoin_line.specs.declared.show_line.ShowLine.{ShowLine}
 use Rattle.flutejoin_line.specs.declared.target.Target.{Target}
 
@@ -68,6 +74,14 @@ is_any_size AnySize = true
 abbrev pub IsLimit : List Row → Limit → Type 0
 IsLimit rows limit = IsFlag (codes "any-size") rows (is_any_size limit)
 
+abbrev pub is_json : Form → Bool
+is_json Plain = false
+is_json Json = true
+
+-- what `--json` says
+abbrev pub IsForm : List Row → Form → Type 0
+IsForm rows form = IsFlag (codes "json") rows (is_json form)
+
 -- two journals
 abbrev pub pair_rules : List Rule
 pair_rules = place (codes "A") ∷ place (codes "B") ∷ []
@@ -81,31 +95,43 @@ pub record IsPair (rows : List Row) (first second : Bor (List ℕ)) : Type 0 whe
   pub second_is : IsWord (codes "B") rows second
   pub once : is_standard_twice (pair_words rows) ≡ false
 
--- OUT is none of them, unless it is standard output
-abbrev pub is_out_an_input : List Row → Bool
-is_out_an_input rows =
+-- OUT is one of two words, and not standard output
+abbrev pub is_out_among : List Row → List ℕ → List ℕ → Bool
+is_out_among rows first second =
     let out = word (codes "OUT") rows in
-    not (bytes_eq out (codes "-"))
-    && (bytes_eq out (word (codes "A") rows) || bytes_eq out (word (codes "B") rows))
+    not (bytes_eq out (codes "-")) && (bytes_eq out first || bytes_eq out second)
+
+-- it is one of the two journals
+abbrev pub is_out_an_input : List Row → Bool
+is_out_an_input rows = is_out_among rows (word (codes "A") rows) (word (codes "B") rows)
 
 -- ---- the commands
 
 abbrev pub packet_rules : List Rule
-packet_rules = place (codes "HEX") ∷ []
+packet_rules = long_flag (codes "json") ∷ place (codes "HEX") ∷ []
 
--- its options select entries
+pub record IsPacketLine (rows : List Row) (line : PacketLine) : Type 0 where
+  pub form : IsForm rows line.form
+  pub hex : IsWord (codes "HEX") rows line.hex
+
+-- its options select entries, and say what is printed of them
 abbrev pub show_rules : List Rule
-show_rules = size_flag ∷ long_flag (codes "conflicts") ∷ object_rules ++ journal_rules
+show_rules =
+    size_flag ∷ long_flag (codes "sums") ∷ long_flag (codes "json")
+    ∷ long_flag (codes "conflicts") ∷ object_rules ++ journal_rules
 
 pub record IsShowLine (rows : List Row) (line : ShowLine) : Type 0 where
   pub selection : IsSelection rows line.selection
+  pub form : IsForm rows line.style.form
+  pub sums : IsFlag (codes "sums") rows line.style.sums
   pub j : IsWord (codes "J") rows line.j
 
 -- its options select objects, and say what is printed of them
 abbrev pub gaps_rules : List Rule
 gaps_rules =
     size_flag ∷ long_flag (codes "check") ∷ long_flag (codes "summary")
-    ∷ long_flag (codes "conflicts") ∷ object_rules ++ journal_rules
+    ∷ long_flag (codes "conflicts") ∷ long_flag (codes "ranges") ∷ long_flag (codes "json")
+    ∷ object_rules ++ journal_rules
 
 -- what `gaps` selects, and how it prints that; `--conflicts` is of the second
 pub record IsStyled (rows : List Row) (s : Selection) (style : Style) : Type 0 where
@@ -113,6 +139,8 @@ pub record IsStyled (rows : List Row) (s : Selection) (style : Style) : Type 0 w
   pub all_entries : s.conflicts ≡ false
   pub check : IsFlag (codes "check") rows style.check
   pub summary : IsFlag (codes "summary") rows style.summary
+  pub ranges : IsFlag (codes "ranges") rows style.ranges
+  pub form : IsForm rows style.form
 
 pub record IsGapsLine (rows : List Row) (line : GapsLine) : Type 0 where
   pub limit : IsLimit rows line.limit
@@ -122,13 +150,14 @@ pub record IsGapsLine (rows : List Row) (line : GapsLine) : Type 0 where
 -- its options select objects, and say what is printed of them
 abbrev pub compare_rules : List Rule
 compare_rules =
-    size_flag ∷ long_flag (codes "check") ∷ long_flag (codes "summary")
+    size_flag ∷ long_flag (codes "check") ∷ long_flag (codes "summary") ∷ long_flag (codes "json")
     ∷ object_rules ++ pair_rules
 
 pub record IsCompareLine (rows : List Row) (line : CompareLine) : Type 0 where
   pub selection : IsSelection rows line.selection
   pub check : IsFlag (codes "check") rows line.style.check
   pub summary : IsFlag (codes "summary") rows line.style.summary
+  pub form : IsForm rows line.style.form
   pub pair : IsPair rows line.first line.second
 
 -- its options are of one object or of all
@@ -227,6 +256,33 @@ pub record IsMinusLine (rows : List Row) (line : MinusLine) : Type 0 where
   pub pair : IsPair rows line.first line.second
   pub others : is_out_an_input rows ≡ false
 
+abbrev pub fill_rules : List Rule
+fill_rules =
+    out ∷ force_flag ∷ size_flag ∷ option (codes "gaps") ∷ long_flag (codes "only") ∷ journal_rules
+
+-- its inputs
+abbrev pub fill_words : List Row → List (List ℕ)
+fill_words rows = word (codes "gaps") rows ∷ word (codes "J") rows ∷ []
+
+abbrev pub is_out_of_fill : List Row → Bool
+is_out_of_fill rows = is_out_among rows (word (codes "J") rows) (word (codes "gaps") rows)
+
+-- what is asked for, by `--only`
+abbrev pub asking_by : Bool → Asking
+asking_by false = AskAll
+asking_by true = Only
+
+pub record IsFillLine (rows : List Row) (line : FillLine) : Type 0 where
+  pub form : first_unfit fill_form rows ≡ None
+  pub target : IsTarget overwrites_journal rows line.target
+  pub gaps : IsWord (codes "gaps") rows line.gaps
+  pub j : IsWord (codes "J") rows line.j
+  pub once : is_standard_twice (fill_words rows) ≡ false
+  pub others : is_out_of_fill rows ≡ false
+  pub only : Bool
+  pub is_only : IsFlag (codes "only") rows only
+  pub asking : line.asking ≡ asking_by only
+
 -- its options select entries
 abbrev pub forget_rules : List Rule
 forget_rules = out ∷ force_flag ∷ size_flag ∷ selection_rules ++ journal_rules
@@ -262,6 +318,7 @@ program = record {
       ∷ command_with (codes "join") join_rules
       ∷ command_with (codes "merge") merge_rules
       ∷ command_with (codes "minus") minus_rules
+      ∷ command_with (codes "fill") fill_rules
       ∷ command_with (codes "forget") forget_rules
       ∷ command_with (codes "carousel") carousel_rules
       ∷ [];
@@ -273,7 +330,7 @@ is_command name = list_any (λ shape. bytes_eq name shape.name) program.subs
 
 -- the line is what these rows of the command with this name say
 abbrev pub IsLine : List ℕ → List Row → Line → Type 0
-IsLine name rows (Packet hex) = (name ≡ codes "packet") × IsWord (codes "HEX") rows hex
+IsLine name rows (Packet line) = (name ≡ codes "packet") × IsPacketLine rows line
 IsLine name rows (Show line) = (name ≡ codes "show") × IsShowLine rows line
 IsLine name rows (Gaps line) = (name ≡ codes "gaps") × IsGapsLine rows line
 IsLine name rows (Compare line) = (name ≡ codes "compare") × IsCompareLine rows line
@@ -284,6 +341,7 @@ IsLine name rows (InfoList line) = (name ≡ codes "info") × IsInfoListLine row
 IsLine name rows (Join line) = (name ≡ codes "join") × IsJoinLine rows line
 IsLine name rows (Merge line) = (name ≡ codes "merge") × IsMergeLine rows line
 IsLine name rows (Minus line) = (name ≡ codes "minus") × IsMinusLine rows line
+IsLine name rows (Fill line) = (name ≡ codes "fill") × IsFillLine rows line
 IsLine name rows (Forget line) = (name ≡ codes "forget") × IsForgetLine rows line
 IsLine name rows (Carousel line) = (name ≡ codes "carousel") × IsCarouselLine rows line
 

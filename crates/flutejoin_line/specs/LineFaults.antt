@@ -19,11 +19,12 @@ use Rattle.flutejoin.specs.declared.command_fault.CommandFault.TheVariants.{Stan
 use Rattle.flutejoin.specs.declared.command_fault.CommandFault.TheVariants.{OutputIsInput}
 use Rattle.flutejoin.specs.declared.command_fault.CommandFault.TheVariants.{OutOfMemory}
 use Rattle.flutejoin_line.specs.CommandLine.{AreNumbersOf, IsLine, command_in, is_out_an_input}
-use Rattle.flutejoin_line.specs.CommandLine.{list_words, pair_words, refusals_of}
+use Rattle.flutejoin_line.specs.CommandLine.{fill_words, is_out_of_fill, list_words, pair_words}
+use Rattle.flutejoin_line.specs.CommandLine.{refusals_of}
 use Rattle.flutejoin_line.specs.Inputs.{IsTwice, is_standard_twice}
 use Rattle.flutejoin_line.specs.Options.{HasObject, HasSessions, HasSource, IsFlag, IsFormFault}
 use Rattle.flutejoin_line.specs.Options.{IsKey, IsZero, all_form, are_sessions, carousel_options}
-use Rattle.flutejoin_line.specs.Options.{extract_form, first_unfit, first_wrong, info_form}
+use Rattle.flutejoin_line.specs.Options.{extract_form, fill_form, first_unfit, first_wrong, info_form}
 use Rattle.flutejoin_line.specs.Options.{info_options, key_options, list_form, words}
 use Rattle.flutejoin_line.specs.Scoping.{AreScopeNumbers, IsScope, IsWrongOfScope}
 use Rattle.flutejoin_line.specs.Selecting.{IsChoiceFault, IsSelection, IsSelectionFault}
@@ -135,6 +136,13 @@ IsOutFault rows OutputIsInput =
     (is_standard_twice (pair_words rows) ≡ false) × (is_out_an_input rows ≡ true)
 IsOutFault rows fault = IsPairFault rows fault
 
+-- of `fill`
+abbrev pub IsFillFault : List Row → CommandFault → Type 0
+IsFillFault rows OutputIsInput =
+    (first_unfit fill_form rows ≡ None) × (is_standard_twice (fill_words rows) ≡ false)
+    × (is_out_of_fill rows ≡ true)
+IsFillFault rows fault = IsFormFault fill_form (IsTwice (fill_words rows)) rows fault
+
 -- of two journals, of which objects are selected
 abbrev pub IsCompareFault : List Row → CommandFault → Type 0
 IsCompareFault rows StandardInputTwice =
@@ -150,10 +158,11 @@ IsFault name rows fault =
     ⊎ (((name ≡ codes "join") × IsJoinFault rows fault)
     ⊎ (((name ≡ codes "merge") × IsOutFault rows fault)
     ⊎ (((name ≡ codes "minus") × IsOutFault rows fault)
+    ⊎ (((name ≡ codes "fill") × IsFillFault rows fault)
     ⊎ (((name ≡ codes "compare") × IsCompareFault rows fault)
     ⊎ (((name ≡ codes "forget") × IsChoiceFault rows fault)
     ⊎ (((name ≡ codes "show") × IsSelectionFault rows fault)
-    ⊎ ((name ≡ codes "gaps") × IsSelectionFault rows fault)))))))))
+    ⊎ ((name ≡ codes "gaps") × IsSelectionFault rows fault))))))))))
 
 -- the line is what the parser found for its command
 abbrev pub IsLineOf : Option (List ℕ × List Row) → Line → Type 0

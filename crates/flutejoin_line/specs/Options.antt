@@ -83,6 +83,10 @@ list_form =
     (codes "source", 0) ∷ (codes "tsi", 0) ∷ (codes "toi", 0) ∷ (codes "fdt", 0)
     ∷ (codes "length", 0) ∷ (codes "symbol", 0) ∷ (codes "block", 0) ∷ []
 
+-- `fill`
+abbrev pub fill_form : List (List ℕ × ℕ)
+fill_form = (codes "gaps", 1) ∷ []
+
 -- ---- numbers
 
 -- 1 to 39 decimal digits, and nothing else

@@ -24,6 +24,9 @@ pub const UNLIMITED: &str = "Taken as by the other commands: the limits of a sto
 /// What is told of `--conflicts` if it selects entries.
 pub const CONFLICTS: &str = "Only symbols and information of which two values were told";
 
+/// What is told of `--json`.
+pub const JSON: &str = "An object of JSON a line, in ASCII";
+
 /// What is told of `--source`: the sender of datagram files, or of an object.
 pub const SOURCE: &str = "\
 The sender's address, as 10.0.0.1, 2001:db8::1 or its 8 or 32 hexadecimal digits; left out, it \

@@ -6,8 +6,9 @@ ghost use Rattle.flutejoin_line.specs.Options.{found_rows};
 ghost use Rattle.flutejoin_line.specs.Parser.{IsCommand};
 
 use crate::arguments::{
-    INSTANCE, OBJECT, SOURCE, UNLIMITED, input, long_flag, option, session_list,
+    INSTANCE, JSON, OBJECT, SOURCE, UNLIMITED, input, long_flag, option, session_list,
 };
+use crate::form::form_of;
 use crate::help_texts::COMPARE_HELP;
 use crate::line::Line;
 use crate::pair::{Pair, pair_of};
@@ -44,6 +45,7 @@ pub fn compare_command<'a>(alloc: Global) -> Result<Command<'a>, AllocError>
             "summary",
             "A line for each session: the sums of its objects",
         ),
+        long_flag(alloc, "json", JSON),
         option(alloc, "source", "ADDRESS", SOURCE),
         session_list(alloc),
         option(alloc, "toi", "N", OBJECT),
@@ -74,6 +76,7 @@ pub fn compare_of<'a>(matches: &ArgMatches<'a>) -> Result<Line<'a>, CommandFault
     let style = CompareStyle {
         check: flag(matches, "check"),
         summary: flag(matches, "summary"),
+        form: form_of(matches),
     };
     Ok(Line::Compare(CompareLine {
         selection,

@@ -6,8 +6,9 @@ ghost use Rattle.flutejoin_line.specs.Parser.{IsCommand};
 ghost use Rattle.flutejoin_line.specs.Selecting.{IsSelectionFault};
 
 use crate::arguments::{
-    ANY_SIZE, INSTANCE, JOURNAL, OBJECT, SOURCE, input, long_flag, option, session_list,
+    ANY_SIZE, INSTANCE, JOURNAL, JSON, OBJECT, SOURCE, input, long_flag, option, session_list,
 };
+use crate::form::form_of;
 use crate::help_texts::GAPS_HELP;
 use crate::limit::{Limit, limit_of};
 use crate::line::Line;
@@ -49,6 +50,12 @@ pub fn gaps_command<'a>(alloc: Global) -> Result<Command<'a>, AllocError>
             "conflicts",
             "Only objects with conflicting information or symbols, and no other gaps",
         ),
+        long_flag(
+            alloc,
+            "ranges",
+            "The byte ranges of an object that are not held, in place of its gaps",
+        ),
+        long_flag(alloc, "json", JSON),
         option(alloc, "source", "ADDRESS", SOURCE),
         session_list(alloc),
         option(alloc, "toi", "N", OBJECT),
@@ -78,6 +85,8 @@ pub fn gaps_of<'a>(matches: &ArgMatches<'a>) -> Result<Line<'a>, CommandFault>
         check: flag(matches, "check"),
         summary: flag(matches, "summary"),
         conflicts: selection.conflicts,
+        ranges: flag(matches, "ranges"),
+        form: form_of(matches),
     };
     // An object is listed by all its entries, and not by those in conflict alone.
     selection.conflicts = false;

@@ -35,13 +35,16 @@ Status 0: all was done. 1: an input is at fault. 2: the command line. 3: memory 
 pub const PACKET_HELP: &str = help_of!(
     "\
 A datagram is given as hexadecimal digits, two for each byte. Prints four lines: session, object,
-info and symbol.",
+info and symbol. With --json each is an object of JSON.",
     "packet 10A004000000000000000007000000010000000068656C6C"
 );
 
 pub const SHOW_HELP: &str = help_of!(
     "\
 Prints a line for each entry, and then: entries N. The journal may have up to 16,777,216 entries.
+With --sums a symbol's line ends in a sum in place of its bytes, the first 8 bytes of their SHA-256:
+by it two sides compare what they have before a symbol is sent.
+With --json each line is an object of JSON: a symbol has no bytes there, but its sum with --sums.
 The options choose entries, and narrow one another. An FDT Instance is --toi 0 --fdt N.",
     "show station1"
 );
@@ -55,6 +58,8 @@ missing, conflicting or misfit. --summary has a line for each session instead: s
 objects, whole, partial, the missing, conflicting and misfit symbols, and unknown, which have no or
 conflicting information.
 --conflicts lists only objects with a conflict: unplaced conflicting N are symbols in no gap.
+--ranges has the bytes of the gaps in their place: bytes FIRST-LAST, from 0, as HTTP counts them.
+--json has the same values as an object of JSON a line.
 --check ends with status 1 if one is not whole, with --conflicts if there is one.
 A line that begins with `source` is of a sender that is not ::, and `extract` takes it by --source.
 The journal may have as much as a store holds, or with --any-size more (flutejoin --help).",
@@ -68,6 +73,7 @@ not (differ), or only the first or the second has any (first, second); and then 
 same, differ, first, second or none. Where a conflict meets a value they differ.
 The options choose objects, and narrow one another. An FDT Instance is --toi 0 --fdt N.
 --summary has a line for each session instead. --check ends with status 1 if anything differs.
+--json has the same values as an object of JSON a line.
 Each journal may have up to 16,777,216 entries; the limits of a store do not apply.",
     "compare station1 station2"
 );
@@ -117,6 +123,17 @@ entries of A of which B has none, or another value.
 Each journal may have up to 16,777,216 entries; the limits of a store do not apply.
 OUT is no input.",
     "minus -o new station1 station2"
+);
+
+pub const FILL_HELP: &str = help_of!(
+    "\
+Prints: entries N. LINES is what `gaps` prints of another journal, without options. OUT has what of
+J that may lack: of a whole object nothing; of a partial one the symbols that are missing; of one
+with conflicting information its symbols; of one without information, or that no line names, all.
+With --only it has just the symbols that a line names as missing, and the information of objects
+that LINES names as without. What both have is not compared: see `compare` and `minus`.
+J may have up to 16,777,216 entries; the limits of a store do not apply. OUT is no input.",
+    "fill -o answer --gaps wanted station1"
 );
 
 pub const FORGET_HELP: &str = help_of!(

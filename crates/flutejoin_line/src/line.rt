@@ -10,6 +10,7 @@ ghost use Rattle.flutejoin_line.specs.Options.{found_rows};
 use crate::carousel_line::{CarouselLine, carousel_of};
 use crate::compare_line::{CompareLine, compare_of};
 use crate::extract_line::{ExtractAllLine, ExtractLine, extract_all, extract_one};
+use crate::fill_line::{FillLine, fill_of};
 use crate::forget_line::{ForgetLine, forget_of};
 use crate::gaps_line::{GapsLine, gaps_of};
 use crate::info_line::{InfoLine, InfoListLine, info_list, info_one};
@@ -17,9 +18,10 @@ use crate::join_line::JoinLine;
 use crate::join_words::join_of;
 use crate::merge_line::{MergeLine, merge_of};
 use crate::minus_line::{MinusLine, minus_of};
+use crate::packet_line::{PacketLine, packet_of};
 use crate::parser::command;
 use crate::show_line::{ShowLine, show_of};
-use crate::words::{flag, text, word};
+use crate::words::{flag, word};
 use clap::ArgMatches;
 use clap::error::ErrorKind;
 use flutejoin::CommandFault;
@@ -28,8 +30,7 @@ use std::alloc::Global;
 /// What the program is to do. Its texts are words of the command line.
 #[derive(Drop)]
 pub enum Line<'a> {
-    /// Print what the datagram `hex` says.
-    Packet { hex: &'a str },
+    Packet(PacketLine<'a>),
     Show(ShowLine<'a>),
     Gaps(GapsLine<'a>),
     Compare(CompareLine<'a>),
@@ -40,6 +41,7 @@ pub enum Line<'a> {
     Join(JoinLine<'a>),
     Merge(MergeLine<'a>),
     Minus(MinusLine<'a>),
+    Fill(FillLine<'a>),
     Forget(ForgetLine<'a>),
     Carousel(CarouselLine<'a>),
 }
@@ -49,15 +51,15 @@ pub enum Line<'a> {
 /// # Errors
 ///
 /// `CommandLine` with the parser's text if that refuses the words, or if they ask for help or
-/// the version; with the first option that does not fit the form of `extract` or `info`,
+/// the version; with the first option that does not fit the form of `extract`, `info` or `fill`,
 /// `MissingOption` if it is left out, or else `BadOption`; `BadNumber` with the first option, in
 /// the order `--tsi`, `--toi`, `--fdt`, `--length`, `--symbol`, `--block`, `--memory`, that is not
 /// a number of its range, or with `--tsi` if `join` has it more than 64 times; `BadSource` if
 /// `--source` is neither 32 or 8 hexadecimal digits nor an address; `BadKey` if `--fdt` does not go
 /// with `--toi`; `BadInformation` if the numbers of `info` are no transmission information;
 /// `MissingChoice` if `forget` is not told what; `TooManyInputs` if `join` has more than 64 inputs;
-/// `StandardInputTwice` if two inputs are `-`; `OutputIsInput` if `merge` or `minus` is to write
-/// one of its inputs; and `OutOfMemory`.
+/// `StandardInputTwice` if two inputs are `-`; `OutputIsInput` if `merge`, `minus` or `fill` is to
+/// write one of its inputs; and `OutOfMemory`.
 pub fn line_of(alloc: Global, words: &[String]) -> Result<Line<'_>, CommandFault>
     ensures read { let texts = map string_bytes words.now in
         MatchResult result (IsLineIn texts) (IsFaultIn texts) }
@@ -88,9 +90,7 @@ fn line_by_name<'a>(
         MatchResult result (IsLine name.now rows) (IsFault name.now rows) }
 {
     match name {
-        "packet" => Ok(Line::Packet {
-            hex: text(matches, "HEX"),
-        }),
+        "packet" => Ok(packet_of(matches)),
         "show" => show_of(matches),
         "gaps" => gaps_of(matches),
         "compare" => compare_of(matches),
@@ -103,6 +103,7 @@ fn line_by_name<'a>(
         "join" => join_of(alloc, matches),
         "merge" => merge_of(matches),
         "minus" => minus_of(matches),
+        "fill" => fill_of(matches),
         "forget" => forget_of(matches),
         "carousel" => carousel_of(matches),
         _ => unreachable!(),

@@ -1,6 +1,6 @@
 //! The two journals of a command.
 ghost use Rattle.std.specs.Prelude.{◌≡◌, MatchResult, false};
-ghost use Rattle.flutejoin_line.specs.CommandLine.{IsPair, is_out_an_input};
+ghost use Rattle.flutejoin_line.specs.CommandLine.{IsPair, is_out_among, is_out_an_input};
 ghost use Rattle.flutejoin_line.specs.LineFaults.{IsOutFault, IsPairFault};
 ghost use Rattle.flutejoin_line.specs.Options.{found_rows};
 
@@ -42,9 +42,16 @@ pub fn pair_beside_out<'a>(matches: &ArgMatches<'a>) -> Result<Pair<'a>, Command
         × (is_out_an_input rows ≡ false)) (IsOutFault rows) }
 {
     let pair = pair_of(matches)?;
-    let out = text(matches, "OUT");
-    if out != STANDARD && (out == pair.first || out == pair.second) {
+    if is_out_one_of(matches, pair.first, pair.second) {
         return Err(CommandFault::OutputIsInput);
     }
     Ok(pair)
+}
+
+/// Whether OUT is the same word as one of two inputs, and not standard output.
+pub fn is_out_one_of(matches: &ArgMatches<'_>, first: &str, second: &str) -> bool
+    ensures { result ≡ is_out_among (found_rows matches.now) first.now second.now }
+{
+    let out = text(matches, "OUT");
+    out != STANDARD && (out == first || out == second)
 }

@@ -3,20 +3,21 @@ ghost use Rattle.std.specs.Prelude.{◌≡◌, List, IfOk, codes};
 ghost use Rattle.std.specs.List.{AllZip};
 ghost use Rattle.clap.specs.Simple.{app_of};
 ghost use Rattle.clap.specs.Walk.{Rule};
-ghost use Rattle.flutejoin_line.specs.CommandLine.{packet_rules, program};
+ghost use Rattle.flutejoin_line.specs.CommandLine.{program};
 ghost use Rattle.flutejoin_line.specs.Parser.{IsArgument, IsCommand};
 
-use crate::arguments::input;
 use crate::carousel_line::carousel_command;
 use crate::compare_line::compare_command;
 use crate::extract_line::extract_command;
+use crate::fill_line::fill_command;
 use crate::forget_line::forget_command;
 use crate::gaps_line::gaps_command;
-use crate::help_texts::{PACKET_HELP, PROGRAM_HELP};
+use crate::help_texts::PROGRAM_HELP;
 use crate::info_line::info_command;
 use crate::join_words::join_command;
 use crate::merge_line::merge_command;
 use crate::minus_line::minus_command;
+use crate::packet_line::packet_command;
 use crate::show_line::show_command;
 use clap::{Arg, Command};
 use std::alloc::{AllocError, Global};
@@ -48,6 +49,7 @@ pub fn command<'a>(alloc: Global) -> Result<Command<'a>, AllocError>
         .subcommand(join_command(alloc)?)?
         .subcommand(merge_command(alloc)?)?
         .subcommand(minus_command(alloc)?)?
+        .subcommand(fill_command(alloc)?)?
         .subcommand(forget_command(alloc)?)?
         .subcommand(carousel_command(alloc)?)?;
     Ok(command)
@@ -69,23 +71,4 @@ pub fn command_with<'a>(
         .after_help(after_help)
         .args(arguments)?;
     Ok(command)
-}
-
-fn packet_command<'a>(alloc: Global) -> Result<Command<'a>, AllocError>
-    ensures { IfOk result (IsCommand (codes "packet") packet_rules) }
-{
-    let arguments = vec![in alloc;
-        input(
-            alloc,
-            "HEX",
-            "The datagram in hexadecimal digits, two for each byte",
-        ),
-    ]?;
-    command_with(
-        alloc,
-        "packet",
-        "Prints what one datagram says: its session, object, information and symbol",
-        PACKET_HELP,
-        arguments,
-    )
 }

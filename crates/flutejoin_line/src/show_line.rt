@@ -6,22 +6,25 @@ ghost use Rattle.flutejoin_line.specs.Parser.{IsCommand};
 ghost use Rattle.flutejoin_line.specs.Selecting.{IsSelectionFault};
 
 use crate::arguments::{
-    CONFLICTS, INSTANCE, JOURNAL, OBJECT, SOURCE, UNLIMITED, input, long_flag, option, session_list,
+    CONFLICTS, INSTANCE, JOURNAL, JSON, OBJECT, SOURCE, UNLIMITED, input, long_flag, option,
+    session_list,
 };
+use crate::form::form_of;
 use crate::help_texts::SHOW_HELP;
 use crate::line::Line;
 use crate::parser::command_with;
 use crate::selection_options::selection;
-use crate::words::text;
+use crate::words::{flag, text};
 use clap::{ArgMatches, Command};
 use flute_streams::Selection;
-use flutejoin::CommandFault;
+use flutejoin::{CommandFault, ShowStyle};
 use std::alloc::{AllocError, Global};
 
-/// Print the selected entries of the journal `j`.
+/// Print the selected entries of the journal `j`, in this style.
 #[derive(Clone, Copy)]
 pub struct ShowLine<'a> {
     pub selection: Selection,
+    pub style: ShowStyle,
     pub j: &'a str,
 }
 
@@ -31,6 +34,12 @@ pub fn show_command<'a>(alloc: Global) -> Result<Command<'a>, AllocError>
 {
     let arguments = vec![in alloc;
         long_flag(alloc, "any-size", UNLIMITED),
+        long_flag(
+            alloc,
+            "sums",
+            "A sum in place of a symbol's bytes: the first 8 bytes of their SHA-256",
+        ),
+        long_flag(alloc, "json", JSON),
         long_flag(alloc, "conflicts", CONFLICTS),
         option(alloc, "source", "ADDRESS", SOURCE),
         session_list(alloc),
@@ -56,8 +65,15 @@ pub fn show_of<'a>(matches: &ArgMatches<'a>) -> Result<Line<'a>, CommandFault>
     ensures { let rows = found_rows matches.now in
         MatchResult result (IsLine (codes "show") rows) (IsSelectionFault rows) }
 {
+    let selection = selection(matches)?;
+    let style = ShowStyle {
+        form: form_of(matches),
+        sums: flag(matches, "sums"),
+    };
+    let j = text(matches, "J");
     Ok(Line::Show(ShowLine {
-        selection: selection(matches)?,
-        j: text(matches, "J"),
+        selection,
+        style,
+        j,
     }))
 }

@@ -4,8 +4,8 @@ use Rattle.flute_output.specs.NewFolders.{Places}
 use Rattle.flutejoin.specs.declared.command_fault.CommandFault.{CommandFault}
 use Rattle.flutejoin_commands.specs.Closings.{Closing, ClosesWhole}
 use Rattle.flutejoin_commands.specs.Deeds.{Deed, IsDone, IsNotDone, Printing, adds, adds_list}
-use Rattle.flutejoin_commands.specs.Deeds.{compares, extracts, extracts_all, forgets, joins, lists}
-use Rattle.flutejoin_commands.specs.Deeds.{merges, prints_packet, sends, shows, subtracts}
+use Rattle.flutejoin_commands.specs.Deeds.{compares, extracts, extracts_all, fills, forgets, joins}
+use Rattle.flutejoin_commands.specs.Deeds.{lists, merges, prints_packet, sends, shows, subtracts}
 use Rattle.flutejoin_commands.specs.Files.{Files}
 use Rattle.flutejoin_commands.specs.Worlds.{Outside, Spares}
 use Rattle.flutejoin_line.specs.LineFaults.{IsFaultIn, IsLineIn}
@@ -13,7 +13,7 @@ use Rattle.flutejoin_line.specs.declared.line.Line.{Line}
 use Rattle.flutejoin_line.specs.declared.line.Line.TheVariants.{Packet, Show, Gaps, Compare}
 use Rattle.flutejoin_line.specs.declared.line.Line.TheVariants.{Extract, ExtractAll, Info}
 use Rattle.flutejoin_line.specs.declared.line.Line.TheVariants.{InfoList, Join, Merge, Minus}
-use Rattle.flutejoin_line.specs.declared.line.Line.TheVariants.{Forget, Carousel}
+use Rattle.flutejoin_line.specs.declared.line.Line.TheVariants.{Fill, Forget, Carousel}
 use Rattle.flutejoin_line.specs.declared.target.Target.{Target}
 
 -- what a line does: it leaves what a command writes at a name, or only prints
@@ -22,7 +22,7 @@ pub data Work : Type 1 where
   prints : Printing → Work
 
 abbrev pub work_of : Line → Work
-work_of (Packet hex) = prints (prints_packet hex.now)
+work_of (Packet line) = prints (prints_packet line)
 work_of (Show line) = prints (shows line)
 work_of (Gaps line) = prints (lists line)
 work_of (Compare line) = prints (compares line)
@@ -33,6 +33,7 @@ work_of (InfoList line) = leaves line.target (adds_list line)
 work_of (Join line) = leaves line.target (joins line)
 work_of (Merge line) = leaves line.target (merges line)
 work_of (Minus line) = leaves line.target (subtracts line)
+work_of (Fill line) = leaves line.target (fills line)
 work_of (Forget line) = leaves line.target (forgets line)
 work_of (Carousel line) = leaves line.target (sends line)
 

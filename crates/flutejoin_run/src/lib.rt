@@ -24,10 +24,12 @@ ghost use Rattle.flutejoin_commands.specs.Worlds.{outside};
 use flute_parts::Sink;
 use flutejoin::CommandFault;
 use flutejoin_commands::{
-    Listing, Outlet, World, carousel, compare, extract, extract_all, forget, gaps, info, info_list,
-    join, merge, minus, packet, show,
+    Listing, Outlet, World, carousel, compare, extract, extract_all, fill, forget, gaps, info,
+    info_list, join, merge, minus, packet, show,
 };
-use flutejoin_line::{CompareLine, ExtractAllLine, ForgetLine, GapsLine, Line, ShowLine, line_of};
+use flutejoin_line::{
+    CompareLine, ExtractAllLine, ForgetLine, GapsLine, Line, PacketLine, ShowLine, line_of,
+};
 use std::alloc::Global;
 
 /// Does what the words after the program's name say, in a world whose standard output and standard
@@ -77,8 +79,14 @@ fn run_line<W: World, O: Outlet, E: Sink>(
         (W.closed world.old) (W.closed world.new) }
 {
     match line {
-        Line::Packet { hex } => packet(alloc, hex, output),
-        Line::Show(ShowLine { selection, j }) => show(world, alloc, &selection, j, output),
+        Line::Packet(PacketLine { form, hex }) => packet(alloc, hex, form, output),
+        Line::Show(
+            ShowLine {
+                selection,
+                style,
+                j,
+            },
+        ) => show(world, alloc, &selection, style, j, output),
         Line::Gaps(
             GapsLine {
                 limit,
@@ -116,6 +124,7 @@ fn run_line<W: World, O: Outlet, E: Sink>(
         Line::Join(line) => join(world, alloc, line, output, errors),
         Line::Merge(line) => merge(world, alloc, line, output, errors),
         Line::Minus(line) => minus(world, alloc, line, output, errors),
+        Line::Fill(line) => fill(world, alloc, line, output, errors),
         Line::Forget(
             ForgetLine {
                 target,

@@ -25,6 +25,7 @@ use Rattle.flutejoin.specs.Parts.{parts_of}
 use Rattle.flutejoin.specs.RowsTold.{AreFew, AreSummed, AreTheirs, weight}
 use Rattle.flutejoin.specs.declared.compare.compare_sums.CompareSums.{CompareSums}
 use Rattle.flutejoin.specs.declared.lines.compare_style.CompareStyle.{CompareStyle}
+use Rattle.flutejoin.specs.declared.lines.form.Form.{Form}
 use Rattle.flutejoin.proofs.compare_lemmas.Cuts.{apart_from, of_more, one_part}
 
 -- ---- sums that are few enough
@@ -144,8 +145,8 @@ module _ (rows : List Row) (row : Row) (few : AreFew (rows ++ row ∷ [])) where
 
 -- ---- the sums of the last session
 
-first_added : (row : Row) → AreFew (row ∷ [])
-    → AreSummed (row ∷ []) [] (with_row (no_sums (row_session row)) row)
+first_added : {form : Form} (row : Row) → AreFew (row ∷ [])
+    → AreSummed form (row ∷ []) [] (with_row (no_sums (row_session row)) row)
 unfolding parts_of
 first_added row few = record {
   before = [];
@@ -158,10 +159,10 @@ first_added row few = record {
   sums_are = with_more [] row few (row_session row);
 }
 
-same_added : (rows : List Row) (lines : List ℕ) (old : CompareSums) (row : Row)
-    → AreFew (rows ++ row ∷ []) → AreSummed rows lines old → old.session ≡ row_session row
-    → AreSummed (rows ++ row ∷ []) lines (with_row old row)
-same_added rows lines old row few h e =
+same_added : {form : Form} (rows : List Row) (lines : List ℕ) (old : CompareSums) (row : Row)
+    → AreFew (rows ++ row ∷ []) → AreSummed form rows lines old → old.session ≡ row_session row
+    → AreSummed form (rows ++ row ∷ []) lines (with_row old row)
+same_added {form} rows lines old row few h e =
     let mine = h.first ∷ h.others in
     let is : rows ++ row ∷ [] ≡ h.before ++ (mine ++ row ∷ []) =
     ap (λ l. l ++ row ∷ []) h.all ∙ append_assoc h.before mine (row ∷ []) in
@@ -180,25 +181,25 @@ same_added rows lines old row few h e =
     }
 
 -- the lines of all sessions
-pub all_summed : (rows : List Row) (lines : List ℕ) (old : CompareSums) → AreSummed rows lines old
-    → lines ++ sums_line old ≡ flat_map session_line (parts_of row_session rows)
+pub all_summed : {form : Form} (rows : List Row) (lines : List ℕ) (old : CompareSums) → AreSummed form rows lines old
+    → lines ++ sums_line form old ≡ flat_map (session_line form) (parts_of row_session rows)
 unfolding parts_of
-all_summed rows lines old h =
+all_summed {form} rows lines old h =
     let mine = parts_of row_session (h.first ∷ h.others) in
-    let last : flat_map session_line mine ≡ sums_line old =
-    ap (flat_map session_line) (one_part row_session h.first h.others h.same)
-    ∙ append-nil (session_line (h.first, h.others)) ∙ ap sums_line (sym h.sums_are) in
-    ap (λ l. l ++ sums_line old) h.lines_are
-    ∙ ap (λ l. flat_map session_line (parts_of row_session h.before) ++ l) (sym last)
-    ∙ sym (flat_map-append session_line (parts_of row_session h.before) mine)
-    ∙ ap (flat_map session_line) (sym (h.apart h.others))
-    ∙ ap (λ l. flat_map session_line (parts_of row_session l)) (sym h.all)
+    let last : flat_map (session_line form) mine ≡ sums_line form old =
+    ap (flat_map (session_line form)) (one_part row_session h.first h.others h.same)
+    ∙ append-nil (session_line form (h.first, h.others)) ∙ ap (sums_line form) (sym h.sums_are) in
+    ap (λ l. l ++ sums_line form old) h.lines_are
+    ∙ ap (λ l. flat_map (session_line form) (parts_of row_session h.before) ++ l) (sym last)
+    ∙ sym (flat_map-append (session_line form) (parts_of row_session h.before) mine)
+    ∙ ap (flat_map (session_line form)) (sym (h.apart h.others))
+    ∙ ap (λ l. flat_map (session_line form) (parts_of row_session l)) (sym h.all)
 
-next_added : (rows : List Row) (lines : List ℕ) (old : CompareSums) (row : Row)
-    → AreFew (rows ++ row ∷ []) → AreSummed rows lines old → (old.session ≡ row_session row → ⊥)
-    → AreSummed (rows ++ row ∷ []) (lines ++ sums_line old)
+next_added : {form : Form} (rows : List Row) (lines : List ℕ) (old : CompareSums) (row : Row)
+    → AreFew (rows ++ row ∷ []) → AreSummed form rows lines old → (old.session ≡ row_session row → ⊥)
+    → AreSummed form (rows ++ row ∷ []) (lines ++ sums_line form old)
     (with_row (no_sums (row_session row)) row)
-next_added rows lines old row few h apart = record {
+next_added {form} rows lines old row few h apart = record {
   before = rows;
   first = row;
   others = [];
@@ -214,25 +215,25 @@ next_added rows lines old row few h apart = record {
 
 -- ---- one row more
 
-added : (rows : List Row) (lines : List ℕ) (old : Option CompareSums) (row : Row)
-    → AreFew (rows ++ row ∷ []) → AreTheirs true rows lines old
-    → AreTheirs true (rows ++ row ∷ []) (lines ++ sums_before old (row_session row))
+added : (form : Form) (rows : List Row) (lines : List ℕ) (old : Option CompareSums) (row : Row)
+    → AreFew (rows ++ row ∷ []) → AreTheirs form true rows lines old
+    → AreTheirs form true (rows ++ row ∷ []) (lines ++ sums_before form old (row_session row))
     (Some (with_row (sums_after old (row_session row)) row))
-added rows lines None row few h =
-    subst (λ l. AreSummed (l ++ row ∷ []) (lines ++ [])
+added form rows lines None row few h =
+    subst (λ l. AreSummed form (l ++ row ∷ []) (lines ++ [])
     (with_row (no_sums (row_session row)) row)) (sym h.0)
-    (subst (λ l. AreSummed (row ∷ []) (l ++ []) (with_row (no_sums (row_session row)) row))
+    (subst (λ l. AreSummed form (row ∷ []) (l ++ []) (with_row (no_sums (row_session row)) row))
     (sym h.1) (first_added row (later rows (row ∷ []) few)))
-added rows lines (Some old) row few h =
+added form rows lines (Some old) row few h =
     elim (cases_Bool (same_session old.session (row_session row))) [
-      | inl t ↦ subst (λ b. AreSummed (rows ++ row ∷ [])
-          (lines ++ (if b then [] else sums_line old))
+      | inl t ↦ subst (λ b. AreSummed form (rows ++ row ∷ [])
+          (lines ++ (if b then [] else sums_line form old))
           (with_row (if b then old else no_sums (row_session row)) row)) (sym t)
-          (subst (λ l. AreSummed (rows ++ row ∷ []) l (with_row old row))
+          (subst (λ l. AreSummed form (rows ++ row ∷ []) l (with_row old row))
           (sym (append-nil lines))
           (same_added rows lines old row few h (session_same old.session (row_session row) t)))
-      | inr n ↦ subst (λ b. AreSummed (rows ++ row ∷ [])
-          (lines ++ (if b then [] else sums_line old))
+      | inr n ↦ subst (λ b. AreSummed form (rows ++ row ∷ [])
+          (lines ++ (if b then [] else sums_line form old))
           (with_row (if b then old else no_sums (row_session row)) row)) (sym n)
           (next_added rows lines old row few h (apart old.session (row_session row) n))
     ]
@@ -244,27 +245,27 @@ added rows lines (Some old) row few h =
         cc_false e = cc
 
 -- the lines with one row more, as a style has them
-pub added_to : (summary : Bool) (rows : List Row) (lines : List ℕ) (old : Option CompareSums)
-    (row : Row) → AreFew (rows ++ row ∷ []) → AreTheirs summary rows lines old
-    → AreTheirs summary (rows ++ row ∷ [])
-    (lines ++ (if summary then sums_before old (row_session row) else row_line row))
+pub added_to : (form : Form) (summary : Bool) (rows : List Row) (lines : List ℕ) (old : Option CompareSums)
+    (row : Row) → AreFew (rows ++ row ∷ []) → AreTheirs form summary rows lines old
+    → AreTheirs form summary (rows ++ row ∷ [])
+    (lines ++ (if summary then sums_before form old (row_session row) else row_line form row))
     (if summary then Some (with_row (sums_after old (row_session row)) row) else old)
-added_to true rows lines old row few h = added rows lines old row few h
-added_to false rows lines old row few h = (
-  ap (λ l. l ++ row_line row) h.0 ∙ flat_map_more row_line [] rows row,
+added_to form true rows lines old row few h = added form rows lines old row few h
+added_to form false rows lines old row few h = (
+  ap (λ l. l ++ row_line form row) h.0 ∙ flat_map_more (row_line form) [] rows row,
   h.1,
 )
 
 -- all lines
 pub all_put : (style : CompareStyle) (rows : List Row) (lines : List ℕ) (old : Option CompareSums)
-    → AreTheirs style.summary rows lines old → lines ++ last_sums old ≡ compared style rows
+    → AreTheirs style.form style.summary rows lines old → lines ++ last_sums style.form old ≡ compared style rows
 unfolding compared parts_of
 all_put style rows lines old h = by style.summary old h
   where
-    by : (b : Bool) (old : Option CompareSums) → AreTheirs b rows lines old
-        → lines ++ last_sums old
-        ≡ (if b then flat_map session_line (parts_of row_session rows) else flat_map row_line rows)
+    by : (b : Bool) (old : Option CompareSums) → AreTheirs style.form b rows lines old
+        → lines ++ last_sums style.form old
+        ≡ (if b then flat_map (session_line style.form) (parts_of row_session rows) else flat_map (row_line style.form) rows)
     by true None h = ap (λ l. l ++ []) h.1
-        ∙ ap (λ l. flat_map session_line (parts_of row_session l)) (sym h.0)
+        ∙ ap (λ l. flat_map (session_line style.form) (parts_of row_session l)) (sym h.0)
     by true (Some s) h = all_summed rows lines s h
-    by false old h = ap (λ o. lines ++ last_sums o) h.1 ∙ append-nil lines ∙ h.0
+    by false old h = ap (λ o. lines ++ last_sums style.form o) h.1 ∙ append-nil lines ∙ h.0

@@ -38,20 +38,20 @@ pub row_put : {A : Type 0} (written : A → Option (List ℕ)) {known : Bool} {b
     → HasRows written known before old → new.style ≡ old.style
     → new.same ≡ (old.same && not (differs row))
     → (Appends (written old.lines.now) (written new.lines.now)
-    (if old.style.summary then sums_before old.sums (row_session row) else row_line row))
+    (if old.style.summary then sums_before old.style.form old.sums (row_session row) else row_line old.style.form row))
     × (new.sums ≡ (if old.style.summary
     then Some (with_row (sums_after old.sums (row_session row)) row) else old.sums))
     → HasRows written known (before ++ row ∷ []) new
 row_put written {before = before} {old = old} new row few h style same put =
-    let more = if old.style.summary then sums_before old.sums (row_session row)
-    else row_line row in
-    let theirs = added_to old.style.summary before h.lines old.sums row few h.theirs in
+    let more = if old.style.summary then sums_before old.style.form old.sums (row_session row)
+    else row_line old.style.form row in
+    let theirs = added_to old.style.form old.style.summary before h.lines old.sums row few h.theirs in
     record {
       lines = h.lines ++ more;
       same = same_more before row old.same new.same h.same same;
-      theirs = subst (λ (s : CompareStyle). AreTheirs s.summary (before ++ row ∷ [])
+      theirs = subst (λ (s : CompareStyle). AreTheirs s.form s.summary (before ++ row ∷ [])
           (h.lines ++ more) new.sums) (sym style)
-          (subst (λ (o : Option CompareSums). AreTheirs old.style.summary (before ++ row ∷ [])
+          (subst (λ (o : Option CompareSums). AreTheirs old.style.form old.style.summary (before ++ row ∷ [])
           (h.lines ++ more) o) (sym put.1) theirs);
       lines_known = knows_more more h.lines_known put.0;
     }
@@ -62,7 +62,7 @@ module _ {A : Type 0} (written : A → Option (List ℕ)) (failures : A → ℕ)
     (same : new.same ≡ (old.same && not (differs row))) where
   taken : failures new.lines.now ≡ failures old.lines.now
       → (Appends (written old.lines.now) (written new.lines.now)
-      (if old.style.summary then sums_before old.sums (row_session row) else row_line row))
+      (if old.style.summary then sums_before old.style.form old.sums (row_session row) else row_line old.style.form row))
       × (new.sums ≡ (if old.style.summary
       then Some (with_row (sums_after old.sums (row_session row)) row) else old.sums))
       → TakesRows written failures old (row ∷ []) new
@@ -75,26 +75,26 @@ module _ {A : Type 0} (written : A → Option (List ℕ)) (failures : A → ℕ)
 
   -- its line was put aside
   pub lined : (r : Result (Unit {0}) DeviceFault) → old.style.summary ≡ false
-      → Writes (written old.lines.now) (written new.lines.now) (row_line row) r
+      → Writes (written old.lines.now) (written new.lines.now) (row_line old.style.form row) r
       → failures new.lines.now ≡ failures old.lines.now + (if is_ok r then 0 else 1)
       → new.sums ≡ old.sums → OnOk r (TakesRows written failures old (row ∷ []) new)
   lined (Err e) off line counted sums = tt
   lined (Ok u) off line counted sums = taken (omega (arith, counted))
       (subst (λ b. (Appends (written old.lines.now) (written new.lines.now)
-      (if b then sums_before old.sums (row_session row) else row_line row))
+      (if b then sums_before old.style.form old.sums (row_session row) else row_line old.style.form row))
       × (new.sums ≡ (if b then Some (with_row (sums_after old.sums (row_session row)) row)
       else old.sums))) (sym off) (line, sums))
 
   -- it was added to sums
   pub summed : old.style.summary ≡ true
       → Appends (written old.lines.now) (written new.lines.now)
-      (sums_before old.sums (row_session row))
+      (sums_before old.style.form old.sums (row_session row))
       → failures new.lines.now ≡ failures old.lines.now
       → new.sums ≡ Some (with_row (sums_after old.sums (row_session row)) row)
       → TakesRows written failures old (row ∷ []) new
   summed on line quiet sums = taken quiet
       (subst (λ b. (Appends (written old.lines.now) (written new.lines.now)
-      (if b then sums_before old.sums (row_session row) else row_line row))
+      (if b then sums_before old.style.form old.sums (row_session row) else row_line old.style.form row))
       × (new.sums ≡ (if b then Some (with_row (sums_after old.sums (row_session row)) row)
       else old.sums))) (sym on) (line, sums))
 
@@ -109,7 +109,7 @@ none_put written known v same sums k = record {
   lines_known = k;
 }
   where
-    by : (b : Bool) (s : Option CompareSums) → s ≡ None → AreTheirs b [] [] s
+    by : (b : Bool) (s : Option CompareSums) → s ≡ None → AreTheirs v.style.form b [] [] s
     by false s e = (refl, e)
     by true None e = (refl, refl)
     by true (Some s) e = absurd (none e)
@@ -120,7 +120,7 @@ none_put written known v same sums k = record {
 -- the lines of all rows were put aside
 pub all_written : {A : Type 0} (written : A → Option (List ℕ)) {rows : List Row}
     {v : CompareLines A} (s : Option (List ℕ)) → HasRows written true rows v
-    → Appends (written v.lines.now) s (last_sums v.sums) → s ≡ Some (compared v.style rows)
+    → Appends (written v.lines.now) s (last_sums v.style.form v.sums) → s ≡ Some (compared v.style rows)
 all_written written {rows = rows} {v = v} s h line =
     subst (λ (l : List ℕ). s ≡ Some l) (all_put v.style rows h.lines v.sums h.theirs)
-    (knows_more (last_sums v.sums) h.lines_known line refl)
+    (knows_more (last_sums v.style.form v.sums) h.lines_known line refl)

@@ -1,7 +1,7 @@
 -- ClosedObjects: objects closed one after another, listed as a style says (specs/Listing).
 use Rattle.std.proofs.Common.{rules}
 use Rattle.std.proofs.Common.{◌≡◌, ℕ, Bool, true, false, ◌&&◌, List, [], ◌∷◌, ◌++◌, Option}
-use Rattle.std.proofs.Common.{None, Result, Ok, Err, if◌then◌else◌, refl, sym, ap, ◌∙◌, subst}
+use Rattle.std.proofs.Common.{Some, None, append-nil, Result, Ok, Err, if◌then◌else◌, refl, sym, ap, ◌∙◌, subst}
 use Rattle.std.proofs.Common.{arith}
 use Rattle.std.proofs.Common.{append_assoc, length}
 use Rattle.std.specs.Prelude.{OnOk, filter, not}
@@ -22,15 +22,17 @@ use Rattle.flute_store.specs.declared.gap.Reason.TheVariants.{Conflicting}
 use Rattle.flute_store.specs.declared.status.Status.{Status}
 use Rattle.flute_store.specs.Objects.{before, one, runs, same_reason}
 use Rattle.flute_store.specs.Status.{how_many}
-use Rattle.flutejoin.specs.Lines.{gap_line}
 use Rattle.flutejoin.specs.Listing.{AreClosed, ArePut, AreSummed, AreSummedUp, AreTheirs, Knows}
 use Rattle.flutejoin.specs.Listing.{last_line}
 use Rattle.flutejoin.specs.Objects.{status_wanting}
-use Rattle.flutejoin.specs.Styles.{are_whole, is_right, is_told, is_whole, listed_by, shown_gap, told_lines}
-use Rattle.flutejoin.specs.Styles.{HasNoStray, has_conflict, object_line, printed}
+use Rattle.flutejoin.specs.Ranges.{longest, range_line}
+use Rattle.flutejoin.specs.Styles.{are_whole, gap_line_in, gap_lines, is_right, is_shown, is_told, is_whole, listed_by}
+use Rattle.flutejoin.specs.Styles.{HasNoStray, has_conflict, object_line, printed, ranges_of, shown}
+use Rattle.flutejoin.specs.Styles.{told_lines}
 use Rattle.flutejoin.specs.Told.{Told, told_of}
 use Rattle.flutejoin.specs.declared.gaps.closed_objects.ClosedObjects.{ClosedObjects}
 use Rattle.flutejoin.specs.declared.gaps.session_sums.SessionSums.{SessionSums}
+use Rattle.flutejoin.specs.declared.lines.form.Form.{Form}
 use Rattle.flutejoin.specs.declared.lines.style.Style.{Style}
 use Rattle.flutejoin.proofs.gaps_lemmas.MovedAside.{knows_more}
 use Rattle.flutejoin.proofs.gaps_lemmas.Sessions.{all_summed}
@@ -66,27 +68,47 @@ whole_more style objects t old whole e o w = search (
 )
 
 -- with a line for each session no gap has one
-none_shown : (style : Style) (gaps : List Gap) → style.summary ≡ true
-    → flat_map (shown_gap style) gaps ≡ []
+none_shown : (style : Style) (gaps : List Gap) → style.summary ≡ true → shown style gaps ≡ []
 none_shown style [] e = refl
 none_shown style (gap ∷ gaps) e =
-    let one : shown_gap style gap ≡ [] = search rules in
-    λ i. one i ++ none_shown style gaps e i
+    let off : is_shown style gap.reason ≡ false = search rules in
+    ap (λ b. if b then gap ∷ shown style gaps else shown style gaps) off ∙ none_shown style gaps e
+
+-- and where no gap is shown, no range is
+unshown : (style : Style) (info : Option Information) (gaps : List Gap) → shown style gaps ≡ []
+    → gap_lines style info gaps ≡ []
+unfolding longest
+unshown style info gaps e =
+    ap (λ gs. if style.ranges then flat_map (range_line style.form) (ranges_of info gs)
+    else flat_map (gap_line_in style.form) gs) e ∙ none style.form info style.ranges
+  where
+    none : (form : Form) (info : Option Information) (b : Bool)
+        → (if b then flat_map (range_line form) (ranges_of info [])
+        else flat_map (gap_line_in form) []) ≡ []
+    none form None true = refl
+    none form (Some info) true = refl
+    none form info false = refl
+
+none_summed : (style : Style) (info : Option Information) (gaps : List Gap)
+    → style.summary ≡ true → gap_lines style info gaps ≡ []
+none_summed style info gaps e = unshown style info gaps (none_shown style gaps e)
 
 -- an object that is not listed
 pub told_nothing : {known : Bool} {style : Style} {objects : List Told} {lines : List ℕ} (t : Told)
     {closed : ClosedObjects} {s : Option (List ℕ)} → is_told style t.status t.conflicts ≡ false
     → HasNoStray style t → AreClosed style objects lines closed → Knows known s lines
-    → ArePut known style (objects ++ t ∷ []) (flat_map (shown_gap style) t.gaps) s closed
+    → ArePut known style (objects ++ t ∷ []) (gap_lines style t.info t.gaps) s closed
 told_nothing {known} {style} {objects} {lines} t {closed} {s} e stray h k =
     let same = told_same style objects t e in
-    let none : lines ≡ lines ++ flat_map (shown_gap style) t.gaps = search rules in
+    let off : gap_lines style t.info t.gaps ≡ [] = stray e in
+    let none : lines ≡ lines ++ gap_lines style t.info t.gaps =
+    sym (append-nil lines) ∙ ap (λ x. lines ++ x) (sym off) in
     record { lines = lines; lines_known = k; are_closed = search rules }
 
 -- what the sums were of
 pub are_summed : {style : Style} {objects : List Told} {lines : List ℕ} {closed : ClosedObjects}
     → style.summary ≡ true → AreClosed style objects lines closed
-    → AreSummed (listed_by style objects) lines closed.sums
+    → AreSummed style.form (listed_by style objects) lines closed.sums
 are_summed {style} {objects} {lines} {closed} e h = search rules
 
 -- the object is listed, and is whole or is not
@@ -99,24 +121,24 @@ pub told_summed : (known : Bool) {style : Style} {objects : List Told} {lines : 
     {closed : ClosedObjects} {whole : Bool} (sums : Option SessionSums) (s : Option (List ℕ))
     (r : Result (Unit {0}) DeviceFault) → style.summary ≡ true → IsListed style t whole
     → AreClosed style objects lines closed
-    → OnOk r (AreSummedUp known (listed_by style objects ++ t ∷ []) s sums)
-    → OnOk r (ArePut known style (objects ++ t ∷ []) (flat_map (shown_gap style) t.gaps) s
+    → OnOk r (AreSummedUp known style.form (listed_by style objects ++ t ∷ []) s sums)
+    → OnOk r (ArePut known style (objects ++ t ∷ []) (gap_lines style t.info t.gaps) s
     (record { all_whole = closed.all_whole && whole; sums = sums }))
 told_summed known sums s (Err x) y is h m = tt
 told_summed known {style} {objects} {lines} {t} {closed} {whole} sums s (Ok x) y is h m = search
-    (rules, told_more, none_shown, whole_more)
+    (rules, told_more, none_summed, whole_more)
 
 -- or with a line of its own
 pub told_lined : {known : Bool} {style : Style} {objects : List Told} {lines : List ℕ} {t : Told}
     {closed : ClosedObjects} {whole : Bool} {s : Option (List ℕ)} (s' : Option (List ℕ))
     (r : Result (Unit {0}) DeviceFault) → style.summary ≡ false → IsListed style t whole → AreClosed
     style objects lines closed → Knows known s lines → Writes s s' (object_line style t.key t.status t.conflicts) r →
-    OnOk r (ArePut known style (objects ++ t ∷ []) (flat_map (shown_gap style) t.gaps) s'
+    OnOk r (ArePut known style (objects ++ t ∷ []) (gap_lines style t.info t.gaps) s'
     (record { all_whole = closed.all_whole && whole; sums = closed.sums }))
 unfolding told_lines
 told_lined s' (Err x) n is h k a = tt
 told_lined {known} {style} {objects} {lines} {t} {closed} {whole} {s} s' (Ok x) n is h k a =
-    let gaps = flat_map (shown_gap style) t.gaps in
+    let gaps = gap_lines style t.info t.gaps in
     let line = object_line style t.key t.status t.conflicts in
     let old = subst (λ b. AreTheirs style b (listed_by style objects) lines closed.sums) n h.theirs
     in
@@ -157,14 +179,13 @@ quiet_runs (w ∷ ws) e =
     ] in cases (p w) refl e
 
 none_quiet : (style : Style) (gaps : List Gap) → style.conflicts ≡ true → AreQuiet gaps
-    → flat_map (shown_gap style) gaps ≡ []
+    → shown style gaps ≡ []
 none_quiet style [] e a = refl
 none_quiet style (gap ∷ gaps) e a =
-    let first : shown_gap style gap ≡ (if (not style.summary && false) then gap_line gap else []) =
-    search rules in
-    let off : (b : Bool) → (if (b && false) then gap_line gap else []) ≡ [] = search rules in
-    let one = first ∙ off (not style.summary) in
-    λ i. one i ++ none_quiet style gaps e a.1 i
+    let first : is_shown style gap.reason ≡ (not style.summary && false) = search rules in
+    let off : (b : Bool) → (b && false) ≡ false = search rules in
+    ap (λ b. if b then gap ∷ shown style gaps else shown style gaps)
+    (first ∙ off (not style.summary)) ∙ none_quiet style gaps e a.1
 
 no_conflict : (style : Style) (status : Status) (n : ℕ) → is_told style status n ≡ false
     → (style.conflicts ≡ true) × (has_conflict status ≡ false)
@@ -175,13 +196,26 @@ quiet_wanting : (info : Information) (ws : List (SymbolId × Reason))
 unfolding how_many
 quiet_wanting x0 x1 x2 = search rules
 
+none_shown_of : (style : Style) (F : List Fact) (key : Key)
+    → is_told style (told_of F key).status (told_of F key).conflicts ≡ false
+    → shown style (told_of F key).gaps ≡ []
+none_shown_of style F key e = search (
+  rules,
+  no_conflict,
+  none_quiet,
+  runs,
+  quiet_runs,
+  quiet_wanting,
+)
+
 -- an object that `--conflicts` doesn't list has no gap in conflict, so none is printed
 pub no_stray : (style : Style) (F : List Fact) (key : Key) → HasNoStray style (told_of F key)
-no_stray style F key e = search (rules, no_conflict, none_quiet, runs, quiet_runs, quiet_wanting)
+no_stray style F key e =
+    unshown style (told_of F key).info (told_of F key).gaps (none_shown_of style F key e)
 
 -- all that is printed
 pub all_printed : (style : Style) (objects : List Told) (lines : List ℕ) (closed : ClosedObjects)
-    → AreClosed style objects lines closed → lines ++ last_line closed.sums ≡ printed style objects
+    → AreClosed style objects lines closed → lines ++ last_line style.form closed.sums ≡ printed style objects
 unfolding printed
 all_printed style objects lines closed h = search (rules, all_summed)
 

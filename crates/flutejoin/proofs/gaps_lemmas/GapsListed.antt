@@ -13,7 +13,7 @@ use Rattle.flutejoin.specs.GapLines.{HasLines}
 use Rattle.flutejoin.specs.Gaps.{ListsJournal}
 use Rattle.flutejoin.specs.Limits.{Limits}
 use Rattle.flutejoin.specs.Listing.{AreFew, ArePut, Knows, last_line}
-use Rattle.flutejoin.specs.Styles.{HasNoStray, are_whole, printed, shown_gap}
+use Rattle.flutejoin.specs.Styles.{HasNoStray, are_whole, gap_lines, printed}
 use Rattle.flutejoin.specs.Told.{Told}
 use Rattle.flutejoin.specs.Progress.{IsTold}
 use Rattle.flutejoin.specs.Walk.{TellsJournal}
@@ -27,42 +27,45 @@ pub told_no_stray : (style : Style) (t : Told) → IsTold t → HasNoStray style
 told_no_stray style t is = subst (HasNoStray style) (sym is.1) (no_stray style is.0 t.key)
 
 -- the lines of an object and those of its gaps were moved together
-pub object_lined : {A : Type 0} {written : A → Option (List ℕ)} {known : Bool}
-    {objects : List Told} (t : Told) {given : List Gap} {old : GapLines A} (new : GapLines A)
-    {put : Option (List ℕ)} (r : Result (Unit {0}) DeviceFault)
-    → HasLines written known objects given old → t.gaps ≡ given → new.style ≡ old.style
-    → ArePut known new.style (objects ++ t ∷ []) (flat_map (shown_gap new.style) t.gaps) put
+pub object_lined : {A : Type 0} (written : A → Option (List ℕ)) {known : Bool}
+    (objects : List Told) (t : Told) (old new : GapLines A)
+    {put aside : Option (List ℕ)} (r : Result (Unit {0}) DeviceFault)
+    → new.style ≡ old.style → new.ranges.last ≡ None
+    → Knows known aside (gap_lines old.style t.info t.gaps)
+    → ArePut known new.style (objects ++ t ∷ []) (gap_lines new.style t.info t.gaps) put
     new.closed × AreFew (length objects + 1) new.closed.sums
-    → ((bytes : List ℕ) → written old.gap_lines.now ≡ Some bytes
+    → ((bytes : List ℕ) → aside ≡ Some bytes
     → OnOk r (Appends put (written new.lines.now) bytes × (written new.gap_lines.now ≡ Some [])))
-    → OnOk r (HasLines written known (objects ++ t ∷ []) [] new)
-object_lined t new (Err x) h e same put moved = tt
-object_lined {written = written} {known = known} {objects = objects} t {old = old} new (Ok x) h e
-    same put moved =
-    let gaps = flat_map (shown_gap new.style) t.gaps in
-    let gaps_known = subst (λ (s : Style). Knows known (written old.gap_lines.now)
-    (flat_map (shown_gap s) t.gaps)) (sym same)
-    (subst (λ (l : List Gap). Knows known (written old.gap_lines.now)
-    (flat_map (shown_gap old.style) l)) (sym e) h.gap_lines_known) in
+    → OnOk r (HasLines written known (objects ++ t ∷ []) None [] new)
+object_lined written objects t old new (Err x) same none gaps put moved = tt
+object_lined written {known} objects t old new {aside = aside} (Ok x) same none gaps_old put moved =
+    let gaps = gap_lines new.style t.info t.gaps in
+    let gaps_known = subst (λ (s : Style). Knows known aside (gap_lines s t.info t.gaps))
+    (sym same) gaps_old in
     record {
       lines = put.0.lines ++ gaps;
       closed_are = put.0.are_closed;
       few = few_more (length objects + 1) (length (objects ++ t ∷ [])) new.closed.sums
           (omega (arith, length-append objects (t ∷ []))) put.1;
       lines_known = λ is. knows_more gaps put.0.lines_known (moved gaps (gaps_known is)).0 is;
-      gap_lines_known = λ is. (moved gaps (gaps_known is)).1;
+      gaps = [];
+      gaps_are = (refl, none);
+      gaps_known = λ is. (moved gaps (gaps_known is)).1;
     }
 
 -- no object yet
 pub none_lined : {A : Type 0} (written : A → Option (List ℕ)) (known : Bool) (v : GapLines A)
-    → v.closed.all_whole ≡ true → v.closed.sums ≡ None → Knows known (written v.lines.now) []
-    → Knows known (written v.gap_lines.now) [] → HasLines written known [] [] v
-none_lined written known v whole sums l g = record {
+    → v.closed.all_whole ≡ true → v.closed.sums ≡ None → v.ranges.last ≡ None
+    → Knows known (written v.lines.now) [] → Knows known (written v.gap_lines.now) []
+    → HasLines written known [] None [] v
+none_lined written known v whole sums last l g = record {
   lines = [];
   closed_are = none_closed v.style v.closed [] whole sums refl;
   few = subst (AreFew 0) (sym sums) tt;
   lines_known = l;
-  gap_lines_known = g;
+  gaps = [];
+  gaps_are = (refl, last);
+  gaps_known = g;
 }
 
 -- the lines of all objects, with the last of the sessions
@@ -72,14 +75,14 @@ pub record AllLined (style : Style) (objects : List Told) (aside : Option (List 
   pub whole : all_whole ≡ are_whole style objects
 
 pub all_lined : {A : Type 0} (written : A → Option (List ℕ)) (style : Style) {objects : List Told}
-    {v : GapLines A} (s : Option (List ℕ)) → HasLines written true objects [] v → v.style ≡ style
-    → Appends (written v.lines.now) s (last_line v.closed.sums)
+    {v : GapLines A} (s : Option (List ℕ)) → HasLines written true objects None [] v → v.style ≡ style
+    → Appends (written v.lines.now) s (last_line v.style.form v.closed.sums)
     → AllLined style objects s v.closed.all_whole
 all_lined written style {objects = objects} {v = v} s h is line =
     subst (λ (t : Style). AllLined t objects s v.closed.all_whole) is (record {
       written = subst (λ (l : List ℕ). s ≡ Some l)
           (all_printed v.style objects h.lines v.closed h.closed_are)
-          (knows_more (last_line v.closed.sums) h.lines_known line refl);
+          (knows_more (last_line v.style.form v.closed.sums) h.lines_known line refl);
       whole = h.closed_are.all_whole;
     })
 

@@ -35,7 +35,8 @@ use Rattle.flute_parts.proofs.Public.{member-after, Member-from, none-at, tied}
 use Rattle.flute_store.specs.declared.gap.Reason.{Reason}
 use Rattle.flute_store.specs.Objects.{want, wants, runs, value_bytes, object as object_of}
 use Rattle.flute_store.specs.Held.{HoldsObject}
-use Rattle.flutejoin.specs.Objects.{bytes_at, bytes_wanting, gaps_at, status_at, status_wanting}
+use Rattle.flutejoin.specs.Objects.{bytes_at, bytes_wanting, gaps_at, info_at}
+use Rattle.flutejoin.specs.Objects.{status_at, status_wanting}
 use Rattle.flutejoin.specs.Told.{AreTold, Told, conflict_in, conflicts_of, told_of}
 use Rattle.flutejoin.specs.Listing.{IsFirstOf}
 
@@ -113,6 +114,8 @@ module _ (F G : List Fact) (key : Key) (same : (part : Part) → fact_at F
       let status : status_at F key (fact_at F (info_address key)) ≡ status_at G key
       (fact_at G (info_address key)) = status_same (fact_at F (info_address key)) ∙ ap
       (status_at G key) (same InfoPart) in
+      let info : info_at (fact_at F (info_address key)) ≡ info_at (fact_at G (info_address key)) =
+      ap info_at (same InfoPart) in
       let gaps : gaps_at F key (fact_at F (info_address key)) ≡ gaps_at G key
       (fact_at G (info_address key)) = gaps_same (fact_at F (info_address key)) ∙ ap
       (gaps_at G key) (same InfoPart) in
@@ -122,6 +125,7 @@ module _ (F G : List Fact) (key : Key) (same : (part : Part) → fact_at F
       λ i. record {
         key = key;
         status = status i;
+        info = info i;
         gaps = gaps i;
         bytes = bytes i;
         conflicts = counts i;

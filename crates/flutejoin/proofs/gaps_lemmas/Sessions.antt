@@ -18,6 +18,7 @@ use Rattle.flutejoin.specs.Sums.{in_front, misfit_in, missing_in, partial_in, se
 use Rattle.flutejoin.specs.Sums.{sums_line, sums_of, unknown_in, whole_in}
 use Rattle.flutejoin.specs.Told.{Told}
 use Rattle.flutejoin.specs.declared.gaps.session_sums.SessionSums.{SessionSums}
+use Rattle.flutejoin.specs.declared.lines.form.Form.{Form}
 use Rattle.flutejoin.proofs.gaps_lemmas.MovedAside.{knows_more}
 
 -- ---- objects of one session, and of the next
@@ -150,14 +151,14 @@ sums_more t ts u old sums o a =
 
 -- ---- the sums of the last session
 
-pub first_summed : (objects : List Told) (lines : List ℕ) (t : Told) (sums : SessionSums)
-    → objects ≡ [] → lines ≡ [] → sums ≡ sums_of t [] → HasSums (objects ++ t ∷ []) lines sums
+pub first_summed : {form : Form} (objects : List Told) (lines : List ℕ) (t : Told) (sums : SessionSums)
+    → objects ≡ [] → lines ≡ [] → sums ≡ sums_of t [] → HasSums form (objects ++ t ∷ []) lines sums
 unfolding by_session
 first_summed objects lines t sums e n s = search rules
 
-pub more_summed : (objects : List Told) (lines : List ℕ) (t : Told) (old sums : SessionSums)
-    → HasSums objects lines old → old.session ≡ t.key.session → AddsObject t.status t.conflicts old sums
-    → HasSums (objects ++ t ∷ []) lines sums
+pub more_summed : {form : Form} (objects : List Told) (lines : List ℕ) (t : Told) (old sums : SessionSums)
+    → HasSums form objects lines old → old.session ≡ t.key.session → AddsObject t.status t.conflicts old sums
+    → HasSums form (objects ++ t ∷ []) lines sums
 more_summed objects lines t old sums h e a = record {
   before = h.before;
   first = h.first;
@@ -171,16 +172,17 @@ more_summed objects lines t old sums h e a = record {
 }
 
 -- the lines of all sessions
-pub all_summed : (objects : List Told) (lines : List ℕ) (sums : Option SessionSums) → AreSummed
-    objects lines sums → lines ++ last_line sums ≡ flat_map session_line (by_session objects)
+pub all_summed : (form : Form) (objects : List Told) (lines : List ℕ) (sums : Option SessionSums) → AreSummed
+    form objects lines sums
+    → lines ++ last_line form sums ≡ flat_map (session_line form) (by_session objects)
 unfolding by_session
-all_summed x0 x1 x2 x3 = search (rules, one_part, flat_map-append)
+all_summed form x0 x1 x2 x3 = search (rules, one_part, flat_map-append)
 
 -- an object of the next session
-pub next_summed : (objects : List Told) (lines : List ℕ) (t : Told) (old sums : SessionSums)
-    → HasSums objects lines old → (old.session ≡ t.key.session → ⊥) → sums ≡ sums_of t []
-    → HasSums (objects ++ t ∷ []) (lines ++ sums_line old) sums
-next_summed objects lines t old sums h apart s = record {
+pub next_summed : {form : Form} (objects : List Told) (lines : List ℕ) (t : Told) (old sums : SessionSums)
+    → HasSums form objects lines old → (old.session ≡ t.key.session → ⊥) → sums ≡ sums_of t []
+    → HasSums form (objects ++ t ∷ []) (lines ++ sums_line form old) sums
+next_summed {form} objects lines t old sums h apart s = record {
   before = objects;
   first = t;
   others = [];
@@ -190,7 +192,7 @@ next_summed objects lines t old sums h apart s = record {
       subst (λ l. by_session (l ++ t ∷ more) ≡ by_session l ++ by_session (t ∷ more)) (sym h.all)
       (apart_from h.before h.first h.others t more h.same
       (λ e. apart (ap (λ (x : SessionSums). x.session) h.sums_are ∙ sym e)));
-  lines_are = all_summed objects lines (Some old) h;
+  lines_are = all_summed form objects lines (Some old) h;
   sums_are = s;
 }
 
@@ -207,26 +209,26 @@ few_more x0 x1 x2 x3 x4 = search rules
 abbrev pub IsOfOthers : Session → Option SessionSums → Type 0
 IsOfOthers session old = IfSome old (λ (sums : SessionSums). sums.session ≡ session → ⊥)
 
-begun_sums : (objects : List Told) (lines : List ℕ) (t : Told) (old new : Option SessionSums) →
-    AreSummed objects lines old → IsOfOthers t.key.session old → BeginsSession t.key.session
-    t.status t.conflicts new → AreSummed (objects ++ t ∷ []) (lines ++ last_line old) new
-begun_sums x0 x1 x2 x3 x4 x5 x6 x7 = search (rules, first_summed, sums_one, next_summed) steps
+begun_sums : (form : Form) (objects : List Told) (lines : List ℕ) (t : Told) (old new : Option SessionSums) →
+    AreSummed form objects lines old → IsOfOthers t.key.session old → BeginsSession t.key.session
+    t.status t.conflicts new → AreSummed form (objects ++ t ∷ []) (lines ++ last_line form old) new
+begun_sums form x0 x1 x2 x3 x4 x5 x6 x7 = search (rules, first_summed, sums_one, next_summed) steps
     400000
 
-pub begun_known : {known : Bool} (objects : List Told) {lines : List ℕ} (t : Told)
+pub begun_known : {known : Bool} (form : Form) (objects : List Told) {lines : List ℕ} (t : Told)
     (old : Option SessionSums) {new : Option SessionSums} {s s' : Option (List ℕ)}
-    → AreSummed objects lines old × IsOfOthers t.key.session old → Knows known s lines
-    → BeginsSession t.key.session t.status t.conflicts new → Appends s s' (last_line old)
-    → AreSummedUp known (objects ++ t ∷ []) s' new
-begun_known objects {lines = lines} t old {new = new} h k b a = record {
-  lines = lines ++ last_line old;
-  lines_known = knows_more (last_line old) k a;
-  summed = begun_sums objects lines t old new h.0 h.1 b;
+    → AreSummed form objects lines old × IsOfOthers t.key.session old → Knows known s lines
+    → BeginsSession t.key.session t.status t.conflicts new → Appends s s' (last_line form old)
+    → AreSummedUp known form (objects ++ t ∷ []) s' new
+begun_known form objects {lines = lines} t old {new = new} h k b a = record {
+  lines = lines ++ last_line form old;
+  lines_known = knows_more (last_line form old) k a;
+  summed = begun_sums form objects lines t old new h.0 h.1 b;
 }
 
-pub more_known : {known : Bool} {objects : List Told} {lines : List ℕ} (t : Told)
-    {old sums : SessionSums} {s : Option (List ℕ)} → HasSums objects lines old
+pub more_known : {known : Bool} {form : Form} {objects : List Told} {lines : List ℕ} (t : Told)
+    {old sums : SessionSums} {s : Option (List ℕ)} → HasSums form objects lines old
     → old.session ≡ t.key.session → AddsObject t.status t.conflicts old sums → Knows known s lines
-    → AreSummedUp known (objects ++ t ∷ []) s (Some sums)
-more_known {known} {objects} {lines} t {old} {sums} {s} h e a k = search (rules, more_summed) steps
+    → AreSummedUp known form (objects ++ t ∷ []) s (Some sums)
+more_known {known} {form} {objects} {lines} t {old} {sums} {s} h e a k = search (rules, more_summed) steps
     400000

@@ -35,7 +35,7 @@ use Rattle.flute_store.specs.Scan.{Scanned, next_fact, at_begin, CanFollow, Gave
 use Rattle.flute_store.proofs.Public.{runs-listed, whole-gapless}
 use Rattle.flute_store.specs.Scans.{ScanState, Scans}
 use Rattle.flute_store.specs.Status.{TellsStatus}
-use Rattle.flutejoin.specs.Objects.{bytes_at, bytes_wanting, gaps_at}
+use Rattle.flutejoin.specs.Objects.{bytes_at, bytes_wanting, gaps_at, info_at}
 use Rattle.flutejoin.specs.Progress.{EndsAs, HasGap, IsBroken, PassesOn, Progress, at_start}
 use Rattle.flutejoin.specs.Progress.{progress_of}
 use Rattle.flutejoin.specs.Told.{AreTold, Told, conflict_in, conflicts_of, told_of}
@@ -294,9 +294,11 @@ module _ {mine : List Fact} {key : Key} {progress : Option Progress} {scan : Sca
 
 -- what is told at the end of an object without one information
 none_of : (F : List Fact) (key : Key) (o : Option Fact) → fact_at F (info_address key) ≡ o
-    → gaps_at F key o ≡ [] → bytes_at F key o ≡ None → EndsAs (told_of F key) None
-none_of F key o e g b = record {
+    → info_at o ≡ None → gaps_at F key o ≡ [] → bytes_at F key o ≡ None
+    → EndsAs (told_of F key) None
+none_of F key o e i g b = record {
   key = tt;
+  info = ap info_at e ∙ i;
   gaps = ap (gaps_at F key) e ∙ g;
   bytes = ap (bytes_at F key) e ∙ b;
 }
@@ -332,7 +334,7 @@ module _ {F before mine : List Fact} (last : EndsIn F before mine) where
         | inr d ↦ s.0 f d (ap (λ (a : Address). a.part) e)
       ]) in (
         (heard, none),
-        subst (EndsAs (told_of F key)) (sym s.1) (none_of F key None none refl refl),
+        subst (EndsAs (told_of F key)) (sym s.1) (none_of F key None none refl refl refl),
       )
 
   pub conflict_told : (key : Key) (progress : Option Progress)
@@ -344,7 +346,7 @@ module _ {F before mine : List Fact} (last : EndsIn F before mine) where
       (Contains-append_right before mine (InfoConflict key) s.0)) in (
         one,
         subst (EndsAs (told_of F key)) (sym s.1)
-            (none_of F key (Some (InfoConflict key)) one refl refl),
+            (none_of F key (Some (InfoConflict key)) one refl refl refl),
       )
 
   module _ {key : Key} {progress : Option Progress} {scan : ScanState}
@@ -385,6 +387,7 @@ module _ {F before mine : List Fact} (last : EndsIn F before mine) where
           told,
           record {
             key = refl;
+            info = ap info_at gave.information;
             gaps = ap (gaps_at F t.key) gave.information ∙ gave.gaps_are;
             bytes = bytes_told t.bytes refl;
           },

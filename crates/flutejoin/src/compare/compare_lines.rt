@@ -12,6 +12,7 @@ use crate::aside::Aside;
 use crate::compare::compare_sums::CompareSums;
 use crate::compare::row_text::row_text;
 use crate::lines::compare_style::CompareStyle;
+use crate::lines::form::Form;
 use crate::lines::report_lines::write_words;
 use flute_parts::{DeviceFault, Sink};
 use flute_streams::{Row, Rows};
@@ -49,7 +50,7 @@ impl<A: Aside> CompareLines<'_, A> {
             ≡ A.failures self.old.lines.now + W.failures sink.old
             + (if is_ok result then 0 else 1) }
     {
-        end_session(&self.sums, self.lines)?;
+        end_session(self.style.form, &self.sums, self.lines)?;
         self.lines.move_to(sink)?;
         Ok(self.same)
     }
@@ -65,9 +66,9 @@ impl<A: Aside> Rows for CompareLines<'_, A> {
     fn row(&mut self, row: Row) -> Result<(), DeviceFault> {
         self.same &= !row.differs();
         if !self.style.summary {
-            return write_words(self.lines, row_text(&row));
+            return write_words(self.lines, row_text(self.style.form, &row));
         }
-        self.sums = Some(add_row(&self.sums, &row, self.lines)?);
+        self.sums = Some(add_row(self.style.form, &self.sums, &row, self.lines)?);
         Ok(())
     }
 
@@ -81,6 +82,7 @@ impl<A: Aside> Rows for CompareLines<'_, A> {
 // The sums of the session of the row, with it. If it is the first of its session, the line of the
 // session before is put aside.
 fn add_row<A: Aside>(
+    form: Form,
     sums: &Option<CompareSums>,
     row: &Row,
     lines: &mut A,
@@ -88,7 +90,7 @@ fn add_row<A: Aside>(
     ensures sums { IfOk result (λ next.
         next ≡ with_row (sums_after sums.now row.now.key.session) row.now) }
     ensures line { OnOk result (Appends (A.written lines.old) (A.written lines.new)
-        (sums_before sums.now row.now.key.session)) }
+        (sums_before form sums.now row.now.key.session)) }
     ensures failures { A.failures lines.new
         ≡ A.failures lines.old + (if is_ok result then 0 else 1) }
 {
@@ -97,19 +99,23 @@ fn add_row<A: Aside>(
             return Ok(last.with(row));
         }
     }
-    end_session(sums, lines)?;
+    end_session(form, sums, lines)?;
     Ok(CompareSums::new(row.key.session).with(row))
 }
 
 // Puts aside the line of the last session, if there is one.
-fn end_session<A: Aside>(sums: &Option<CompareSums>, lines: &mut A) -> Result<(), DeviceFault>
+fn end_session<A: Aside>(
+    form: Form,
+    sums: &Option<CompareSums>,
+    lines: &mut A,
+) -> Result<(), DeviceFault>
     ensures line { OnOk result
-        (Appends (A.written lines.old) (A.written lines.new) (last_sums sums.now)) }
+        (Appends (A.written lines.old) (A.written lines.new) (last_sums form sums.now)) }
     ensures failures { A.failures lines.new
         ≡ A.failures lines.old + (if is_ok result then 0 else 1) }
 {
     match sums {
-        Some(sums) => write_words(lines, sums.text()),
+        Some(sums) => write_words(lines, sums.text(form)),
         None => Ok(()),
     }
 }

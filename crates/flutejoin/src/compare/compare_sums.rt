@@ -2,8 +2,11 @@
 ghost use Rattle.std.specs.Prelude.{◌≡◌, ◌≤◌, length};
 ghost use Rattle.flutejoin.specs.CompareSums.{no_sums, sums_line, with_row};
 ghost use Rattle.flutejoin.specs.Lines.{line};
+ghost use Rattle.flutejoin.specs.declared.lines.form.Form.TheVariants.{Plain, Json};
 
-use crate::compare::row_text::push_sides;
+use crate::compare::row_text::{push_json_sides, push_sides};
+use crate::gaps::json_texts::push_json_session;
+use crate::lines::form::Form;
 use crate::lines::text::Text;
 use crate::sender::push_source;
 use flute_parts::SessionKey;
@@ -59,8 +62,18 @@ impl CompareSums {
     }
 
     /// The words of the session's line.
-    pub fn text(&self) -> Text
-        ensures line { line result ≡ sums_line self.now }
+    pub fn text(&self, form: Form) -> Text
+        ensures line { line result ≡ sums_line form self.now }
+        ensures len { length result ≤ 511 }
+    {
+        match form {
+            Form::Plain => self.plain_text(),
+            Form::Json => self.json_text(),
+        }
+    }
+
+    fn plain_text(&self) -> Text
+        ensures line { line result ≡ sums_line Plain self.now }
         ensures len { length result ≤ 511 }
     {
         let mut text = Text::new();
@@ -72,6 +85,23 @@ impl CompareSums {
         text.push(" information");
         push_sides(&mut text, &self.information);
         text.push_named(" none ", self.unknown);
+        text
+    }
+
+    fn json_text(&self) -> Text
+        ensures line { line result ≡ sums_line Json self.now }
+        ensures len { length result ≤ 511 }
+    {
+        let mut text = Text::new();
+        text.push("{");
+        push_json_session(&mut text, self.session);
+        text.push_named(",\"objects\":", self.objects);
+        text.push(",");
+        push_json_sides(&mut text, &self.symbols);
+        text.push(",\"information\":{");
+        push_json_sides(&mut text, &self.information);
+        text.push_named(",\"none\":", self.unknown);
+        text.push("}}");
         text
     }
 }

@@ -2,16 +2,16 @@
 ghost use Rattle.std.specs.Prelude.{◌≡◌, ◌+◌, ◌∷◌, ◌++◌, [], List, ℕ, Bool, OnOk};
 ghost use Rattle.std.specs.Prelude.{None};
 ghost use Rattle.std.specs.Prelude.{if◌then◌else◌, is_ok};
-ghost use Rattle.std.specs.List.{flat_map};
 ghost use Rattle.std.specs.Io.KnownBytes.{Appends};
 ghost use Rattle.flutejoin.specs.Listing.{AreClosed, AreFew, ArePut};
 ghost use Rattle.flutejoin.specs.Listing.{CanClose, Knows, last_line};
-ghost use Rattle.flutejoin.specs.Styles.{HasNoStray, shown_gap};
+ghost use Rattle.flutejoin.specs.Styles.{HasNoStray, gap_lines};
 ghost use Rattle.flutejoin.specs.Told.{Told};
 
 use crate::aside::Aside;
 use crate::gaps::held_lines::object_text;
 use crate::gaps::session_sums::SessionSums;
+use crate::lines::form::Form;
 use crate::lines::report_lines::write_words;
 use crate::lines::style::Style;
 use flute_parts::{DeviceFault, Key};
@@ -46,7 +46,7 @@ impl ClosedObjects {
             → t.key ≡ key.now → t.status ≡ status → t.conflicts ≡ conflicts → HasNoStray style t
             → AreClosed style objects bytes self.old → Knows known (A.written lines.old) bytes
             → OnOk result (ArePut known style (objects ++ t ∷ [])
-            (flat_map (shown_gap style) t.gaps) (A.written lines.new) self.new) }
+            (gap_lines style t.info t.gaps) (A.written lines.new) self.new) }
         ensures few { (n : ℕ) → AreFew n self.old.sums
             → OnOk result (AreFew (n + 1) self.new.sums) }
         ensures failures { A.failures lines.new
@@ -65,7 +65,7 @@ impl ClosedObjects {
                 Ok(())
             }
             _ => {
-                end_session(&self.sums, lines)?;
+                end_session(style.form, &self.sums, lines)?;
                 let mut next = SessionSums::new(key.session);
                 next.add(status, conflicts);
                 self.sums = Some(next);
@@ -80,14 +80,18 @@ impl ClosedObjects {
 /// # Errors
 ///
 /// If it could not be put aside.
-pub fn end_session<A: Aside>(sums: &Option<SessionSums>, lines: &mut A) -> Result<(), DeviceFault>
+pub fn end_session<A: Aside>(
+    form: Form,
+    sums: &Option<SessionSums>,
+    lines: &mut A,
+) -> Result<(), DeviceFault>
     ensures line { OnOk result
-        (Appends (A.written lines.old) (A.written lines.new) (last_line sums.now)) }
+        (Appends (A.written lines.old) (A.written lines.new) (last_line form sums.now)) }
     ensures failures { A.failures lines.new
         ≡ A.failures lines.old + (if is_ok result then 0 else 1) }
 {
     match sums {
-        Some(sums) => write_words(lines, sums.text()),
+        Some(sums) => write_words(lines, sums.text(form)),
         None => Ok(()),
     }
 }

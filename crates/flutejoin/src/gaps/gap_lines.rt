@@ -1,17 +1,18 @@
 //! The lines of objects and of their gaps, put aside as a walk tells of them.
-ghost use Rattle.std.specs.Prelude.{◌≡◌, ◌+◌, ◌⊎◌, [], ℕ, Bool, List, true, IfOk, OnErr, OnOk};
+ghost use Rattle.std.specs.Prelude.{◌≡◌, ◌+◌, ◌⊎◌, [], None, ℕ, Bool, List, true, IfOk, OnErr, OnOk};
 ghost use Rattle.std.specs.Prelude.{if◌then◌else◌, is_ok};
 ghost use Rattle.std.specs.Io.KnownBytes.{Appends};
 ghost use Rattle.flute_parts.specs.Devices.{AppendsPart};
 ghost use Rattle.flutejoin.specs.GapLines.{HasLines};
-ghost use Rattle.flutejoin.specs.Progress.{gaps_so_far};
-ghost use Rattle.flutejoin.specs.Styles.{are_whole, printed, shown_gap};
+ghost use Rattle.flutejoin.specs.Progress.{gaps_so_far, info_so_far};
+ghost use Rattle.flutejoin.specs.Styles.{are_whole, printed};
 ghost use Rattle.flutejoin.specs.Told.{Told};
 ghost use Rattle.flutejoin.specs.declared.lines.style.Style.{Style as Known};
 
 use crate::aside::Aside;
 use crate::gaps::closed_objects::{ClosedObjects, end_session};
-use crate::gaps::held_lines::gap_text;
+use crate::gaps::held_lines::gap_text_in;
+use crate::gaps::open_ranges::OpenRanges;
 use crate::lines::report_lines::write_words;
 use crate::lines::style::Style;
 use crate::walk::visitor::Visitor;
@@ -24,6 +25,7 @@ use flute_store::{Gap, Status};
 pub struct GapLines<'a, A> {
     pub style: Style,
     pub closed: ClosedObjects,
+    pub ranges: OpenRanges,
     pub lines: &'a mut A,
     pub gap_lines: &'a mut A,
 }
@@ -37,11 +39,11 @@ impl<A: Aside> GapLines<'_, A> {
     /// If the line could not be put aside; nothing was written then. If the lines could not be read
     /// back or the sink failed: it took a proper prefix of the lines.
     pub fn finish<W: Sink>(&mut self, sink: &mut W) -> Result<bool, DeviceFault>
-        ensures printed { (objects : List Told) → HasLines A.written true objects [] self.old
+        ensures printed { (objects : List Told) → HasLines A.written true objects None [] self.old
             → IfOk result (λ all_whole.
             Appends (W.written sink.old) (W.written sink.new) (printed self.old.style objects)
             × (all_whole ≡ are_whole self.old.style objects)) }
-        ensures part { (objects : List Told) → HasLines A.written true objects [] self.old
+        ensures part { (objects : List Told) → HasLines A.written true objects None [] self.old
             → OnErr result ((sink.new ≡ sink.old) ⊎ AppendsPart (W.written sink.old)
             (W.written sink.new) (printed self.old.style objects)) }
         ensures names { (self.new.lines.ghost_name ≡ self.old.lines.ghost_name)
@@ -51,7 +53,7 @@ impl<A: Aside> GapLines<'_, A> {
             ≡ A.failures self.old.lines.now + A.failures self.old.gap_lines.now
             + W.failures sink.old + (if is_ok result then 0 else 1) }
     {
-        end_session(&self.closed.sums, self.lines)?;
+        end_session(self.style.form, &self.closed.sums, self.lines)?;
         self.lines.move_to(sink)?;
         Ok(self.closed.all_whole)
     }
@@ -62,7 +64,7 @@ impl<A: Aside> Visitor for GapLines<'_, A> {
     ghost At = { Bool };
 
     ghost Has = { λ known objects progress v. HasLines A.written known objects
-        (gaps_so_far progress) v };
+        (info_so_far progress) (gaps_so_far progress) v };
 
     ghost Kept = { (ℕ × ℕ) × Known };
 
@@ -71,7 +73,8 @@ impl<A: Aside> Visitor for GapLines<'_, A> {
     ghost fails = { λ v. A.failures v.lines.now + A.failures v.gap_lines.now };
 
     #[inline(always)]
-    fn begins(&mut self, _key: &Key, _info: &Info) -> Result<(), DeviceFault> {
+    fn begins(&mut self, _key: &Key, info: &Info) -> Result<(), DeviceFault> {
+        self.ranges.begin(info);
         Ok(())
     }
 
@@ -86,27 +89,20 @@ impl<A: Aside> Visitor for GapLines<'_, A> {
     }
 
     fn gap(&mut self, gap: &Gap) -> Result<(), DeviceFault> {
-        put_gap(self.style, self.gap_lines, gap)
+        if !self.style.shows(gap.reason) {
+            return Ok(());
+        }
+        if self.style.ranges {
+            self.ranges.add(self.style.form, gap, self.gap_lines)
+        } else {
+            write_words(self.gap_lines, gap_text_in(self.style.form, gap))
+        }
     }
 
     fn ends(&mut self, key: &Key, status: Status, conflicts: u64) -> Result<(), DeviceFault> {
+        self.ranges.end(self.style.form, self.gap_lines)?;
         self.closed
             .add(self.style, key, status, conflicts, self.lines)?;
         self.gap_lines.move_to(self.lines)
-    }
-}
-
-// Puts aside the line of a gap, if it has one.
-#[inline(never)]
-fn put_gap<A: Aside>(style: Style, gap_lines: &mut A, gap: &Gap) -> Result<(), DeviceFault>
-    ensures line { OnOk result (Appends (A.written gap_lines.old) (A.written gap_lines.new)
-        (shown_gap style gap.now)) }
-    ensures failures { A.failures gap_lines.new
-        ≡ A.failures gap_lines.old + (if is_ok result then 0 else 1) }
-{
-    if style.shows(gap.reason) {
-        write_words(gap_lines, gap_text(gap))
-    } else {
-        Ok(())
     }
 }

@@ -2,7 +2,10 @@
 ghost use Rattle.std.specs.Prelude.{◌≡◌, ◌≤◌, ◌+◌, length, ℕ};
 ghost use Rattle.flutejoin.specs.Lines.{line};
 ghost use Rattle.flutejoin.specs.Sums.{AddsObject, AreWithin, CanAddObject, IsNone, sums_line};
+ghost use Rattle.flutejoin.specs.declared.lines.form.Form.TheVariants.{Plain, Json};
 
+use crate::gaps::json_texts::push_json_session;
+use crate::lines::form::Form;
 use crate::lines::text::Text;
 use crate::sender::push_source;
 use flute_parts::SessionKey;
@@ -71,8 +74,18 @@ impl SessionSums {
     }
 
     /// The words of the session's line.
-    pub fn text(&self) -> Text
-        ensures line { line result ≡ sums_line self.now }
+    pub fn text(&self, form: Form) -> Text
+        ensures line { line result ≡ sums_line form self.now }
+        ensures len { length result ≤ 511 }
+    {
+        match form {
+            Form::Plain => self.plain_text(),
+            Form::Json => self.json_text(),
+        }
+    }
+
+    fn plain_text(&self) -> Text
+        ensures line { line result ≡ sums_line Plain self.now }
         ensures len { length result ≤ 511 }
     {
         let mut text = Text::new();
@@ -93,6 +106,31 @@ impl SessionSums {
         text.push_number(self.misfit);
         text.push(" unknown ");
         text.push_number(self.unknown);
+        text
+    }
+
+    fn json_text(&self) -> Text
+        ensures line { line result ≡ sums_line Json self.now }
+        ensures len { length result ≤ 511 }
+    {
+        let mut text = Text::new();
+        text.push("{");
+        push_json_session(&mut text, self.session);
+        text.push(",\"objects\":");
+        text.push_number(self.objects);
+        text.push(",\"whole\":");
+        text.push_number(self.whole);
+        text.push(",\"partial\":");
+        text.push_number(self.partial);
+        text.push(",\"missing\":");
+        text.push_number(self.missing);
+        text.push(",\"conflicting\":");
+        text.push_number(self.conflicting);
+        text.push(",\"misfit\":");
+        text.push_number(self.misfit);
+        text.push(",\"unknown\":");
+        text.push_number(self.unknown);
+        text.push("}");
         text
     }
 }

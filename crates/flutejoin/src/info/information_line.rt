@@ -53,7 +53,7 @@ fn digits_len(text: &[u8]) -> usize
 }
 
 // The number after these words, and what follows it.
-fn number_after<'a>(text: &'a [u8], words: &str) -> Option<(u128, &'a [u8])>
+pub(crate) fn number_after<'a>(text: &'a [u8], words: &str) -> Option<(u128, &'a [u8])>
     ensures found { IfSome result (λ _. (rest : List ℕ) × (text.now ≡ words.now ++ rest)) }
     ensures finds { (n : ℕ) (tail : List ℕ) → n < 2 ^ 128
         → is_ascii_digit (slice_index tail 0) ≡ false
@@ -101,7 +101,7 @@ fn source_in(text: &[u8]) -> Option<(u128, &[u8])>
 }
 
 // The sender and the number of the session at the front of a text, and what follows it.
-fn session_in(text: &[u8]) -> Option<(u128, u128, &[u8])>
+pub(crate) fn session_in(text: &[u8]) -> Option<(u128, u128, &[u8])>
     ensures finds { (s : Session) (tail : List ℕ) → IsSession s
         → is_ascii_digit (slice_index tail 0) ≡ false
         → text.now ≡ source_words s.sender ++ (codes "session " ++ (decimal s.tsi ++ tail))
@@ -118,7 +118,7 @@ fn session_in(text: &[u8]) -> Option<(u128, u128, &[u8])>
 }
 
 // The name of the object after the space at the front of a text, and what follows it.
-fn object_in(text: &[u8]) -> Option<(ObjectName, &[u8])>
+pub(crate) fn object_in(text: &[u8]) -> Option<(ObjectName, &[u8])>
     ensures finds { (name : NameValue) (tail : List ℕ) → IsObjectName name
         → is_ascii_digit (slice_index tail 0) ≡ false
         → text.now ≡ codes " " ++ (object_words name ++ tail)
@@ -135,7 +135,7 @@ fn object_in(text: &[u8]) -> Option<(ObjectName, &[u8])>
 }
 
 // The key of this session and object.
-fn key_of(sender: u128, tsi: u128, name: ObjectName) -> Option<Key>
+pub(crate) fn key_of(sender: u128, tsi: u128, name: ObjectName) -> Option<Key>
     ensures finds { (key : KeyValue) → IsSession key.session → IsObjectName key.object
         → sender ≡ key.session.sender → tsi ≡ key.session.tsi → name ≡ key.object
         → MatchOption result ⊥ (λ k. k ≡ key) }

@@ -1,5 +1,7 @@
 //! What `compare` prints of two journals.
 
+use crate::lines::form::Form;
+
 /// What `compare` prints of two journals, and whether they have to be the same. If nothing is set,
 /// each object has a line.
 #[derive(Clone, Copy)]
@@ -8,4 +10,6 @@ pub struct CompareStyle {
     pub check: bool,
     /// Whether the objects of a session have one line together.
     pub summary: bool,
+    /// In which form all lines are.
+    pub form: Form,
 }

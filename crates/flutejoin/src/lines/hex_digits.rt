@@ -1,5 +1,5 @@
-//! Lines that end with bytes in hexadecimal.
-ghost use Rattle.std.specs.Prelude.{◌≡◌, ◌+◌, ◌*◌, ◌++◌, codes, length, if◌then◌else◌, is_ok};
+//! Lines that have bytes in hexadecimal.
+ghost use Rattle.std.specs.Prelude.{◌≡◌, ◌+◌, ◌*◌, ◌++◌, length, if◌then◌else◌, is_ok};
 ghost use Rattle.hex.specs.Hex.{encode_lower};
 ghost use Rattle.flute_parts.specs.Devices.{Writes};
 ghost use Rattle.flutejoin.specs.Digits.{HasDigits};
@@ -29,7 +29,8 @@ impl HexDigits {
         HexDigits { pairs }
     }
 
-    /// Writes a line of some words, and then of bytes as digits, two for each. It takes no memory.
+    /// Writes a line of some words, then of bytes as digits, two for each, and then of its end. It
+    /// takes no memory.
     ///
     /// # Errors
     ///
@@ -40,9 +41,10 @@ impl HexDigits {
         sink: &mut W,
         words: &Text,
         bytes: &[u8],
+        end: &str,
     ) -> Result<(), DeviceFault>
         ensures line { Writes (W.written sink.old) (W.written sink.new)
-            (words.now ++ (encode_lower bytes.now ++ codes "\n")) result }
+            (words.now ++ (encode_lower bytes.now ++ end.now)) result }
         ensures failures { W.failures sink.new
             ≡ W.failures sink.old + (if is_ok result then 0 else 1) }
     {
@@ -56,7 +58,7 @@ impl HexDigits {
             sink.write_all(room)?;
             rest = later;
         }
-        sink.write_all(b"\n")
+        sink.write_all(end.as_bytes())
     }
 
     // Puts the digits of the bytes into the room, which has two places for each.

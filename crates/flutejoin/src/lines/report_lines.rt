@@ -3,6 +3,7 @@ ghost use Rattle.std.specs.Prelude.{◌≡◌, ◌+◌, ◌≤◌, length, if◌
 ghost use Rattle.std.specs.Prelude.{OnOk, IfErr};
 ghost use Rattle.std.specs.Io.KnownBytes.{Appends};
 ghost use Rattle.flute_parts.specs.Devices.{Writes, AppendsPart};
+ghost use Rattle.flutejoin.specs.Json.{json_count_line};
 ghost use Rattle.flutejoin.specs.Lines.{line, count_line};
 ghost use Rattle.flutejoin.specs.Objects.{FailsToWrite};
 ghost use Rattle.flutejoin.specs.Packet.{write_failures};
@@ -43,6 +44,31 @@ pub fn count_to<W: Sink>(word: &str, count: u64, sink: &mut W) -> Result<(), Com
     text.push(word);
     text.push(" ");
     text.push_number(count);
+    match write_words(sink, text) {
+        Ok(()) => Ok(()),
+        Err(_) => Err(CommandFault::CannotWrite),
+    }
+}
+
+/// Writes a line of JSON: a word of at most 100 bytes as the name of a number.
+///
+/// # Errors
+///
+/// `CannotWrite` if the sink failed: it took a proper prefix of the line.
+pub fn json_count_to<W: Sink>(word: &str, count: u64, sink: &mut W) -> Result<(), CommandFault>
+    requires { length word.now ≤ 100 }
+    ensures printed { OnOk result
+        (Appends (W.written sink.old) (W.written sink.new) (json_count_line word.now count)) }
+    ensures failed { IfErr result (FailsToWrite
+        (AppendsPart (W.written sink.old) (W.written sink.new) (json_count_line word.now count))) }
+    ensures failures { W.failures sink.new ≡ W.failures sink.old + write_failures result }
+{
+    let mut text = Text::new();
+    text.push("{\"");
+    text.push(word);
+    text.push("\":");
+    text.push_number(count);
+    text.push("}");
     match write_words(sink, text) {
         Ok(()) => Ok(()),
         Err(_) => Err(CommandFault::CannotWrite),

@@ -2,6 +2,7 @@
 ghost use Rattle.std.specs.Prelude.{◌≡◌};
 ghost use Rattle.flutejoin.specs.Styles.{is_right, is_shown, is_told, unplaced_in};
 
+use crate::lines::form::Form;
 use flute_store::{Reason, Status};
 
 /// What `gaps` prints of the objects of a journal, and whether all of them have to be whole. If
@@ -15,6 +16,10 @@ pub struct Style {
     /// Whether only objects with a conflict are listed, and their gaps of symbols in conflict. The
     /// line of one tells how many of its conflicts are in no gap.
     pub conflicts: bool,
+    /// Whether the ranges of an object's bytes that its gaps are have lines, and its gaps none.
+    pub ranges: bool,
+    /// In which form all lines are.
+    pub form: Form,
 }
 
 impl Style {

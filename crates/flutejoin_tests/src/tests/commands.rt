@@ -4,9 +4,9 @@ use super::*;
 use flute_parts::{Info, MemorySink, MemorySource, SymbolId};
 use flute_streams::Selection;
 use flutejoin::{
-    CommandFault, CompareStyle, MAX_OBJECTS, MAX_SESSIONS, MAX_SYMBOLS, Style, compare_from,
-    compare_input, extract_to, forget_input, forget_to, gaps_from, info_to, merge_to, minus_input,
-    minus_to, packet_to, sender_of, show_to,
+    Asking, CommandFault, CompareStyle, Form, MAX_OBJECTS, MAX_SESSIONS, MAX_SYMBOLS, ShowStyle,
+    Style, compare_from, compare_input, extract_to, fill_input, fill_to, forget_input, forget_to,
+    gaps_from, info_to, merge_to, minus_input, minus_to, packet_to, sender_of, show_to,
 };
 use flutejoin_line::{Line, ShowLine, line_of};
 use flutejoin_replicas::{MemoryAside, gaps_to, load, save_to};
@@ -33,8 +33,10 @@ fn a_sender_is_named(rt: HostRuntime) {
 fn a_packet_is_printed(rt: HostRuntime) -> Result<(), Fail> {
     let hex = "10A004000000000000000007000000010000000068656C6C";
     let mut sink = MemorySink::new(rt.alloc());
-    packet_to(rt.alloc(), hex, &mut sink)?;
-    assert!(rt; !sink.as_slice().is_empty());
+    packet_to(rt.alloc(), hex, Form::Json, &mut sink)?;
+    let lines = "{\"tsi\":7}\n{\"toi\":\"1\"}\n{\"info\":null}\n\
+        {\"symbol\":{\"sbn\":0,\"esi\":0,\"length\":4,\"bytes\":\"68656c6c\"}}\n";
+    assert_eq!(rt; sink.as_slice(), lines.as_bytes());
     Ok(())
 }
 
@@ -46,9 +48,14 @@ fn a_journal_is_shown(rt: HostRuntime) -> Result<(), Fail> {
         rt.alloc(),
         &mut MemorySource::new(&journal),
         &Selection::all(),
+        ShowStyle {
+            form: Form::Json,
+            sums: true,
+        },
         &mut sink,
     )?;
-    assert!(rt; !sink.as_slice().is_empty());
+    let lines = "{\"tsi\":7,\"toi\":\"1\",\"info\":\"conflict\"}\n{\"entries\":1}\n";
+    assert_eq!(rt; sink.as_slice(), lines.as_bytes());
     Ok(())
 }
 
@@ -77,12 +84,46 @@ fn gaps_are_printed_as_the_journal_is_read(rt: HostRuntime) -> Result<(), Fail> 
             check: false,
             summary: false,
             conflicts: false,
+            ranges: false,
+            form: Form::Plain,
         },
         &mut lines,
         &mut gap_lines,
         &mut sink,
     )?;
     assert!(rt; all_whole && !sink.as_slice().is_empty());
+    Ok(())
+}
+
+#[test]
+fn ranges_are_printed(rt: HostRuntime) -> Result<(), Fail> {
+    let journal = bytes(rt.alloc(), journals::JOINED)?;
+    for form in [Form::Plain, Form::Json] {
+        let mut sink = MemorySink::new(rt.alloc());
+        let mut lines = MemoryAside::new(rt.alloc());
+        let mut gap_lines = MemoryAside::new(rt.alloc());
+        let style = Style {
+            check: false,
+            summary: false,
+            conflicts: false,
+            ranges: true,
+            form,
+        };
+        let all_whole = gaps_from::<MAX_SESSIONS, MAX_OBJECTS, MAX_SYMBOLS, _, _, _>(
+            rt.alloc(),
+            &mut MemorySource::new(&journal),
+            &Selection::all(),
+            style,
+            &mut lines,
+            &mut gap_lines,
+            &mut sink,
+        )?;
+        let line = match form {
+            Form::Plain => b"bytes 4-4\n".as_slice(),
+            Form::Json => b"{\"first\":4,\"last\":4}\n".as_slice(),
+        };
+        assert!(rt; !all_whole && sink.as_slice().ends_with(line));
+    }
     Ok(())
 }
 
@@ -96,6 +137,8 @@ fn sums_are_printed_of_a_session(rt: HostRuntime) -> Result<(), Fail> {
         check: false,
         summary: true,
         conflicts: false,
+        ranges: false,
+        form: Form::Plain,
     };
     let all_whole = gaps_from::<MAX_SESSIONS, MAX_OBJECTS, MAX_SYMBOLS, _, _, _>(
         rt.alloc(),
@@ -172,6 +215,18 @@ fn what_a_journal_lacks_is_written(rt: HostRuntime) -> Result<(), Fail> {
 }
 
 #[test]
+fn what_is_asked_for_is_written(rt: HostRuntime) -> Result<(), Fail> {
+    let journal = bytes(rt.alloc(), journals::WHOLE)?;
+    for (asking, entries) in [(Asking::All, 3), (Asking::Only, 1)] {
+        let lines = MemorySource::new(b"session 7 object 1 no information\n");
+        let mut input = fill_input(MemorySource::new(&journal), lines, asking);
+        let mut sink = MemorySink::new(rt.alloc());
+        assert!(rt; fill_to(rt.alloc(), &mut input, &mut sink)? == entries);
+    }
+    Ok(())
+}
+
+#[test]
 fn two_journals_are_compared(rt: HostRuntime) -> Result<(), Fail> {
     let whole = bytes(rt.alloc(), journals::WHOLE)?;
     let symbols = bytes(rt.alloc(), journals::SYMBOLS)?;
@@ -182,6 +237,7 @@ fn two_journals_are_compared(rt: HostRuntime) -> Result<(), Fail> {
         let style = CompareStyle {
             check: true,
             summary,
+            form: Form::Plain,
         };
         let same = compare_from(
             rt.alloc(),
@@ -198,6 +254,32 @@ fn two_journals_are_compared(rt: HostRuntime) -> Result<(), Fail> {
         };
         assert!(rt; same && sink.as_slice().starts_with(line));
     }
+    Ok(())
+}
+
+#[test]
+fn two_journals_are_compared_in_json(rt: HostRuntime) -> Result<(), Fail> {
+    let whole = bytes(rt.alloc(), journals::WHOLE)?;
+    let all = Selection::all();
+    let mut lines = MemoryAside::new(rt.alloc());
+    let mut sink = MemorySink::new(rt.alloc());
+    let style = CompareStyle {
+        check: false,
+        summary: false,
+        form: Form::Json,
+    };
+    compare_from(
+        rt.alloc(),
+        &mut compare_input(MemorySource::new(&whole), all),
+        &mut compare_input(MemorySource::new(&whole), all),
+        style,
+        &mut lines,
+        &mut sink,
+    )?;
+    assert!(rt;
+        sink.as_slice()
+            .starts_with(b"{\"tsi\":7,\"toi\":\"1\",\"same\":2,")
+    );
     Ok(())
 }
 

@@ -3,7 +3,9 @@
 use super::*;
 use flute_parts::{MemorySink, MemorySource};
 use flute_wire::Datagram;
-use flutejoin::laws::{forgetting_leaves_the_rest, minus_is_enough_for_a_join};
+use flutejoin::laws::{
+    an_answer_is_enough_for_a_join, forgetting_leaves_the_rest, minus_is_enough_for_a_join,
+};
 use flutejoin::{MAX_OBJECTS, MAX_SESSIONS, MAX_SYMBOLS};
 use flutejoin_replicas::{Blob, Replicas, Step, journal_after, laws, object_after, run};
 use std::alloc::Global;
@@ -96,4 +98,5 @@ fn laws_stand() {
     laws::equal_journals_mean_one_content();
     forgetting_leaves_the_rest();
     minus_is_enough_for_a_join();
+    an_answer_is_enough_for_a_join();
 }

@@ -1,5 +1,5 @@
 -- gaps_from: the lines that were put aside are written.
-use Rattle.std.proofs.Common.{◌≡◌, ◌∙◌, ◌⊎◌, Err, List, [], true, false, ap, refl, subst}
+use Rattle.std.proofs.Common.{◌≡◌, ◌∙◌, ◌⊎◌, Err, List, [], None, true, false, ap, refl, subst}
 use Rattle.std.proofs.lemmas.Result.{err_from_is_err_and}
 use Rattle.std.specs.Io.KnownBytes.{Appends}
 use Rattle.flute_parts.specs.Devices.{AppendsPart}
@@ -14,7 +14,7 @@ use Rattle.flutejoin.proofs.gaps.gaps_from.Goals as goal
 pub walk_objects-requires : goal.walk_objects-requires
 walk_objects-requires g c = (
   false,
-  none_lined g.A.Sink.written false _ refl refl (knows_nothing _ []) (knows_nothing _ []),
+  none_lined g.A.Sink.written false _ refl refl c.new.ensures (knows_nothing _ []) (knows_nothing _ []),
 )
 
 pub returns-clause-printed : goal.returns-clause-printed
@@ -22,13 +22,13 @@ returns-clause-printed g c = λ none no_gaps.
     let written = g.A.Sink.written in
     let x = c.walk_objects.new.visitor in
     let told = c.in_ok-walk_objects.ensures.told true (none_lined written true _ refl refl
-    (λ is. none) (λ is. no_gaps)) in
+    c.new.ensures (λ is. none) (λ is. no_gaps)) in
     let same : x.style ≡ c.args.style = ap (λ k. k.1) c.walk_objects.ensures.kept in
     let W = g.W.Sink.written in
     let before = W c.args.sink.now in
     let after = W c.finish.new.sink in
     lists c.args.selection.now (g.R.Source.unread c.args.source.now)
-    (λ objects. HasLines written true objects [] x)
+    (λ objects. HasLines written true objects None [] x)
     (λ objects. Appends before after (printed c.args.style objects)
     × (c.in_ok-finish.field-0 ≡ are_whole c.args.style objects))
     (λ objects h. subst (λ (s : Style). Appends before after (printed s objects)
@@ -42,13 +42,13 @@ returns-in_err-finish-clause-part g c = λ none no_gaps.
     let e = err_from_is_err_and c.from_residual-in_err-finish.result
     c.from_residual-in_err-finish.ensures.1 in
     let told = c.in_ok-walk_objects.ensures.told true (none_lined written true _ refl refl
-    (λ is. none) (λ is. no_gaps)) in
+    c.new.ensures (λ is. none) (λ is. no_gaps)) in
     let same : x.style ≡ c.args.style = ap (λ k. k.1) c.walk_objects.ensures.kept in
     let W = g.W.Sink.written in
     let part : List Told → Type 0 =
     λ objects. AppendsPart (W c.args.sink.now) (W c.finish.new.sink) (printed c.args.style objects) in
     rw (e.1 ∙ ap Err e.2) (λ is. unless c.args.selection.now
-    (g.R.Source.unread c.args.source.now) (λ objects. HasLines written true objects [] x) part
+    (g.R.Source.unread c.args.source.now) (λ objects. HasLines written true objects None [] x) part
     (λ objects h. subst (λ (s : Style). c.finish.new.sink ≡ c.args.sink.now
     ⊎ AppendsPart (W c.args.sink.now) (W c.finish.new.sink) (printed s objects)) same
     (c.in_err-finish.ensures.part objects h)) told)

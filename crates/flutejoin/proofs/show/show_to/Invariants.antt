@@ -7,7 +7,7 @@ use Rattle.flutejoin.proofs.show.show_to.Given as goal
 
 abbrev pub invariant-loop-fact : goal.invariant-loop-fact
 invariant-loop-fact g l = record {
-  shown : Shown l.selection (g.R.Source.unread l.fn.source)
+  shown : Shown l.style l.selection (g.R.Source.unread l.fn.source)
       (g.R.Source.unread l.reader.source.now) l.reader.state (g.W.Sink.written l.initial.sink)
       (g.W.Sink.written l.sink) l.count;
   limit : l.reader.max_entries ≡ MAX_ENTRIES;

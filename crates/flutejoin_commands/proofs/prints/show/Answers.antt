@@ -14,6 +14,7 @@ returns-clause-failed g c =
     let files = g.W.Inputs.files c.args.world.now in
     let unread = g.W.Input.Source.unread in
     let selection = c.args.selection.now in
+    let style = c.args.style in
     let old = g.P.Sink.written c.args.output.now in
     let new = g.P.Sink.written c.hand_on.new.report in
     let u = unread c.in_ok-source.source in
@@ -21,13 +22,13 @@ returns-clause-failed g c =
     let shown = c.show_to-shown.result in
     let same = sym c.hand_on.ensures.same in
     let Fails : Option (List ℕ) → Option (List ℕ) → CommandFault → Type 0 = λ k l fault.
-    ShowFails selection k l old new fault ⊎ FailsToFlush (ShowsAll selection k old new) fault in
+    ShowFails style selection k l old new fault ⊎ FailsToFlush (ShowsAll style selection k old new) fault in
     not_printed files c.args.j.now u c.in_ok-source.ensures.opened Fails
     (λ (fault : CommandFault). IsUnread files c.args.j.now fault × (new ≡ old)) left
     c.hand_on.result
     (fails_after {G = Fails u left} shown c.hand_on.result (λ all. inr (refl, all))
     (λ fault why. inl why)
-    (subst (λ w. OnOk shown (ShowsAll selection u old w)) same c.show_to-shown.ensures.printed)
-    (subst (λ w. IfErr shown (ShowFails selection u left old w)) same
+    (subst (λ w. OnOk shown (ShowsAll style selection u old w)) same c.show_to-shown.ensures.printed)
+    (subst (λ w. IfErr shown (ShowFails style selection u left old w)) same
     c.show_to-shown.ensures.failed)
     c.hand_on.ensures.first c.hand_on.ensures.after)

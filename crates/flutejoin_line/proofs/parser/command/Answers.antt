@@ -40,6 +40,8 @@ returns c =
     c.in_ok-subcommand-8.ensures in
     let with_minus = command_added with_merge c.in_ok-minus_command.ensures
     c.in_ok-subcommand-9.ensures in
-    let with_forget = command_added with_minus c.in_ok-forget_command.ensures
+    let with_fill = command_added with_minus c.in_ok-fill_command.ensures
     c.in_ok-subcommand-10.ensures in
+    let with_forget = command_added with_fill c.in_ok-forget_command.ensures
+    c.in_ok-subcommand-11.ensures in
     command_added with_forget c.in_ok-carousel_command.ensures c.in_ok-command.ensures

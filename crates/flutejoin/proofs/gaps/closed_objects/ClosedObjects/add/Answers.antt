@@ -1,6 +1,5 @@
 -- ClosedObjects::add: the lines of one object more, or with a summary its session's sums.
 use Rattle.std.proofs.Common.{◌≡◌, ◌∷◌, ◌++◌, ◌&&◌, [], List, ℕ, Bool, Option, Some, Ok, true, false, refl, sym, ◌∙◌, ap, subst}
-use Rattle.std.specs.List.{flat_map}
 use Rattle.std.specs.Prelude.{not}
 use Rattle.flute_parts.specs.Devices.{Writes}
 use Rattle.flute_parts.specs.Session.{Session}
@@ -10,7 +9,7 @@ use Rattle.flutejoin.specs.Listing.{ArePut, AreSummed, BeginsSession}
 use Rattle.flutejoin.specs.Sums.{AddsObject}
 use Rattle.flutejoin.specs.declared.gaps.closed_objects.ClosedObjects.{ClosedObjects}
 use Rattle.flutejoin.specs.declared.gaps.session_sums.SessionSums.{SessionSums}
-use Rattle.flutejoin.specs.Styles.{is_right, is_told, listed_by, object_line, shown_gap}
+use Rattle.flutejoin.specs.Styles.{is_right, is_told, gap_lines, listed_by, object_line}
 use Rattle.flutejoin.specs.declared.lines.style.Style.{Style}
 use Rattle.flutejoin.proofs.gaps_lemmas.Closing.{are_summed, told_lined, told_nothing, told_summed}
 use Rattle.flutejoin.proofs.gaps_lemmas.Keys.{equal_sessions, other_sessions}
@@ -40,7 +39,7 @@ pub returns-in-Some-clause-added : goal.returns-in-Some-clause-added
 returns-in-Some-clause-added g c = λ known objects bytes t e is count stray h k. let style = c.args.style
     in
     let old = c.in-Some.last in
-    let q = subst (λ (o : Option SessionSums). AreSummed (listed_by style objects) bytes o)
+    let q = subst (λ (o : Option SessionSums). AreSummed style.form (listed_by style objects) bytes o)
     c.in-Some.is (are_summed (is_on style.summary c.if-not-style.false) h) in
     let same : old.session ≡ t.key.session = equal_sessions old.session c.args.key.now.session
     c.if-eq.ensures ∙ sym (ap (λ (x : Key). x.session) e) in
@@ -62,13 +61,13 @@ returns-in_ok-end_session-in_default-clause-added g c = λ known objects bytes t
     let q = are_summed (is_on style.summary c.if-not-style.false) h in
     let all_whole = c.args.self.now.all_whole && c.is_right.result in
     let P : ClosedObjects → Type 0 = λ x.
-    (AreSummed (listed_by style objects) bytes x.sums × IsOfOthers t.key.session x.sums) ×
+    (AreSummed style.form (listed_by style objects) bytes x.sums × IsOfOthers t.key.session x.sums) ×
     (x.all_whole ≡ all_whole) in
     let here : P c.in_default.self = elim c.in_default.branch [
       | in_default-via-in-Some+else-eq w ↦ let last = w.in-Some.last in
           let apart = other_sessions last.session session w.if-eq.ensures in
           let others : IsOfOthers t.key.session (Some last) = λ same. apart (same ∙ of) in
-          let one = subst (λ (o : Option SessionSums). AreSummed (listed_by style objects) bytes o)
+          let one = subst (λ (o : Option SessionSums). AreSummed style.form (listed_by style objects) bytes o)
           w.in-Some.is q in subst P (sym w.self-is) ((one, others), refl)
       | in_default-via-in_default w ↦ let none = subst
           (λ (o : Option SessionSums). IsOfOthers t.key.session o) (sym w.in_default.is) tt in
@@ -83,13 +82,13 @@ returns-in_ok-end_session-in_default-clause-added g c = λ known objects bytes t
       (c.new-next.result, c.new-next.ensures.none, c.add-in_default.ensures.added),
     ))) in
     let w = g.A.Sink.written c.end_session.new.lines in
-    let gaps = flat_map (shown_gap style) t.gaps in
+    let gaps = gap_lines style t.info t.gaps in
     subst
     (λ a. ArePut known style (objects ++ t ∷ []) gaps w (record { all_whole = a; sums = new }))
     (sym here.1) (told_summed known new w (Ok tt) (is_on style.summary c.if-not-style.false) (record {
       told = told_as style is count ∙ sym c.tells.ensures ∙ c.if-not-tells.false;
       whole_is = c.is_right.ensures ∙ ap (is_right style) (sym is);
-    }) h (begun_known (listed_by style objects) t c.in_default.self.sums here.0 k begun
+    }) h (begun_known style.form (listed_by style objects) t c.in_default.self.sums here.0 k begun
     c.in_ok-end_session-in_default.ensures.line))
 
 pub returns-then-not-style-clause-added : goal.returns-then-not-style-clause-added

@@ -1,6 +1,6 @@
 -- HexDigits::write_line: the words, then two digits for each byte by its loop, or a part of them.
 use Rattle.std.proofs.lemmas.Grind.{common_steps}
-use Rattle.std.proofs.Common.{rules, ◌≡◌, ◌*◌, ◌≤◌, ◌++◌, ◌∙◌, [], List, ℕ, length, codes, refl}
+use Rattle.std.proofs.Common.{rules, ◌≡◌, ◌*◌, ◌≤◌, ◌++◌, ◌∙◌, [], List, ℕ, length, refl}
 use Rattle.std.proofs.Common.{◌==◌, Bool, true, false, ◌∷◌, arith, ap, sym, subst, append-nil}
 use Rattle.std.proofs.lemmas.Bool.{true≢false}
 use Rattle.std.proofs.lemmas.Bool.Decides.{nat_tests}
@@ -35,7 +35,7 @@ returns-in_err-write_all-2-clause-line g c =
     let new = g.W.Sink.written c.write_all-in-loop-rest.new.self in
     let words = subst (λ (x : List ℕ). Appends old mid x) c.as_slice.ensures
     c.in_ok-write_all.ensures.bytes in rw e.1 (AppendsPart-second old mid new c.args.words.now _
-    words (AppendsPart-first mid new (encode_lower c.args.bytes.now) (codes "\n") (digits_cut w.0
+    words (AppendsPart-first mid new (encode_lower c.args.bytes.now) c.args.end.now (digits_cut w.0
     s.0.now s.1.now (front_more w.0 c.loop-rest.rest.now c.min.result w.1 c.split_at.ensures.front
     c.split_at.ensures.back) c.put.ensures w.2 c.in_err-write_all-2.ensures.bytes)))
 
@@ -71,7 +71,7 @@ returns-clause-line g c =
     let all : c.args.bytes.now ≡ w.0 = w.1 ∙ ap (λ (r : List ℕ). w.0 ++ r)
     (emptied c.loop-rest.rest.now c.is_empty.result c.is_empty.ensures c.loop-rest-test.false) ∙
     append-nil w.0 in Writes-behind old mid new c.args.words.now
-    (encode_lower c.args.bytes.now ++ codes "\n") c.write_all-2.result words (Writes-behind mid last
-    new (encode_lower c.args.bytes.now) (codes "\n") c.write_all-2.result
+    (encode_lower c.args.bytes.now ++ c.args.end.now) c.write_all-2.result words (Writes-behind mid last
+    new (encode_lower c.args.bytes.now) c.args.end.now c.write_all-2.result
     (subst (λ (x : List ℕ). Appends mid last (encode_lower x)) (sym all) w.2)
-    c.write_all-2.ensures.bytes)
+    (rw c.as_bytes.ensures.value at c.write_all-2.ensures.bytes))

@@ -1,0 +1,18 @@
+use Rattle.std.proofs.Common.{append_assoc, refl}
+use Rattle.flutejoin.specs.CompareSums.{sums_line}
+use Rattle.flutejoin.proofs.compare.compare_sums.CompareSums.json_text.Goals as goal
+
+pub returns-clause-line : goal.returns-clause-line
+unfolding sums_line
+returns-clause-line c = rw (
+  c.push-4.ensures.text,
+  c.push_named-2.ensures.text,
+  c.push_json_sides-2.ensures.text,
+  c.push-3.ensures.text,
+  c.push_json_sides.ensures.text,
+  c.push-2.ensures.text,
+  c.push_named.ensures.text,
+  c.push_json_session.ensures.text,
+  c.push.ensures.text,
+  c.new-text.ensures,
+) (simp append_assoc refl)

@@ -1,0 +1,66 @@
+-- gap_in: the numbers of a gap, one after the other.
+use Rattle.std.proofs.Common.{rules}
+use Rattle.std.proofs.Common.{arith, refl}
+use Rattle.flute_store.specs.declared.gap.Gap.{Gap}
+use Rattle.flutejoin.specs.Lines.{reason_words}
+use Rattle.flutejoin.proofs.fill_lemmas.ReadLines.{from_first, from_last, gap_is, gap_same}
+use Rattle.flutejoin.proofs.fill_lemmas.ReadLines.{reason_stops}
+use Rattle.flutejoin.proofs.fill.reading_lines.gap_in.Goals as goal
+use Rattle.flutejoin.proofs.fill.reading_lines.gap_in.Goals.{else-sbn-via-then-sbn+then-first+else-last}
+use Rattle.flutejoin.proofs.fill.reading_lines.gap_in.Goals.{else-sbn-via-then-sbn+else-first}
+use Rattle.flutejoin.proofs.fill.reading_lines.gap_in.Goals.{else-sbn-via-else-sbn}
+
+pub returns-in_default : goal.returns-in_default
+returns-in_default c = record {
+  finds = λ g ids is. c.in_default.ensures.finds g.sbn (from_first g) (omega (arith, ids.0)) refl
+      (gap_is c.args.text.now g is);
+}
+
+pub returns-in_default-number_after : goal.returns-in_default-number_after
+returns-in_default-number_after c = record {
+  finds = λ g ids is.
+      let a = c.in-Some.ensures.finds g.sbn (from_first g) (omega (arith, ids.0)) refl
+      (gap_is c.args.text.now g is) in
+      c.in_default-number_after.ensures.finds g.first (from_last g) (omega (arith, ids.1)) refl
+      a.1;
+}
+
+pub returns-in_default-number_after-2 : goal.returns-in_default-number_after-2
+returns-in_default-number_after-2 c = record {
+  finds = λ g ids is.
+      let a = c.in-Some.ensures.finds g.sbn (from_first g) (omega (arith, ids.0)) refl
+      (gap_is c.args.text.now g is) in
+      let b = c.in-Some-number_after.ensures.finds g.first (from_last g) (omega (arith, ids.1))
+      refl a.1 in
+      c.in_default-number_after-2.ensures.finds g.last (reason_words g.reason)
+      (omega (arith, ids.2)) (reason_stops g.reason) b.1;
+}
+
+pub returns-then-last : goal.returns-then-last
+returns-then-last c = record {
+  finds = λ g ids is.
+      let a = c.in-Some.ensures.finds g.sbn (from_first g) (omega (arith, ids.0)) refl
+      (gap_is c.args.text.now g is) in
+      let b = c.in-Some-number_after.ensures.finds g.first (from_last g) (omega (arith, ids.1))
+      refl a.1 in
+      let d = c.in-Some-number_after-2.ensures.finds g.last (reason_words g.reason)
+      (omega (arith, ids.2)) (reason_stops g.reason) b.1 in
+      gap_same g c.in-Some.sbn c.in-Some-number_after.first c.in-Some-number_after-2.last
+      c.reason_of.result a.0 b.0 d.0 (c.reason_of.ensures g.reason d.1);
+}
+
+pub returns-else-sbn : goal.returns-else-sbn
+returns-else-sbn c = record {
+  finds = λ g ids is.
+      let a = c.in-Some.ensures.finds g.sbn (from_first g) (omega (arith, ids.0)) refl
+      (gap_is c.args.text.now g is) in
+      let b = c.in-Some-number_after.ensures.finds g.first (from_last g) (omega (arith, ids.1))
+      refl a.1 in
+      let d = c.in-Some-number_after-2.ensures.finds g.last (reason_words g.reason)
+      (omega (arith, ids.2)) (reason_stops g.reason) b.1 in
+      elim c.else-sbn.branch [
+        | else-sbn-via-then-sbn+then-first+else-last w ↦ omega (arith, d.0, ids.2, w.if-last.false)
+        | else-sbn-via-then-sbn+else-first w ↦ omega (arith, b.0, ids.1, w.if-first.false)
+        | else-sbn-via-else-sbn w ↦ omega (arith, a.0, ids.0, w.if-sbn.false)
+      ];
+}

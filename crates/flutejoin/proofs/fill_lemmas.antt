@@ -1,0 +1,7 @@
+-- The proofs about lines of gaps and what they ask for.
+pub mod Behind
+pub mod Lists
+pub mod FilledTurns
+pub mod ReadLines
+pub mod ListSteps
+pub mod Enough

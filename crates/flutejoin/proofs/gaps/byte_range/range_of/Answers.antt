@@ -1,0 +1,88 @@
+-- range_of: the bytes of a symbol are counted in 64 bits.
+use Rattle.std.proofs.Common.{◌≡◌, ◌∙◌, ℕ, ◌+◌, ◌*◌, ◌/◌, ◌%◌, ◌^◌, ◌<◌, ◌≤◌, min, Some, inl, inr, arith, length, subst, sym, ap}
+use Rattle.std.proofs.Math.Nat.{div-le_self, eq-zero-or-pos}
+use Rattle.std.proofs.lemmas.Grind.{div_ceil_times}
+use Rattle.std.proofs.lemmas.Nat.{mul-le}
+use Rattle.std.proofs.lemmas.Option.{slice_get_within}
+use Rattle.std.specs.Int.{div_ceil}
+use Rattle.flute_parts.specs.Information.{Information, IsValid, symbol_count}
+use Rattle.flute_parts.specs.Partition.{ids, place, symbol_id}
+use Rattle.flute_parts.specs.declared.symbol_id.SymbolId.{SymbolId}
+use Rattle.flute_parts.proofs.Public.{div_ceil-zero, ids_counted, places-inverse}
+use Rattle.flutejoin.proofs.gaps.byte_range.range_of.Goals as goal
+
+-- the bytes up to the end of a symbol
+within : (info : Information) (id : SymbolId) (k : ℕ) → IsValid info → place info id ≡ Some k
+    → (k + 1) * info.symbol_length < info.transfer_length + info.symbol_length
+within info id k v e =
+    let l = info.transfer_length in
+    let n = info.symbol_length in
+    let below : k < length (ids info) =
+    slice_get_within (ids info) k id ((places-inverse info id k).0 e) in
+    let count : length (ids info) ≡ div_ceil l n = ids_counted info v in
+    elim (eq-zero-or-pos l) [
+      | inl z ↦ let none : div_ceil l n ≡ 0 = subst (λ x. div_ceil x n ≡ 0) (sym z) (div_ceil-zero n)
+          in absurd (omega (arith, below, count, none))
+      | inr p ↦ let t = div_ceil_times l n (v.parts p).symbol in
+          let le : k + 1 ≤ div_ceil l n = omega (arith, below, count) in
+          let m : (k + 1) * n ≤ div_ceil l n * n = mul-le (k + 1) n (div_ceil l n) n le (omega arith)
+          in omega (arith, t.1, m)
+    ]
+
+-- there is at most one symbol more than there are bytes
+places_below : (info : Information) (id : SymbolId) (k : ℕ) → IsValid info
+    → place info id ≡ Some k → k ≤ info.transfer_length
+places_below info id k v e =
+    let l = info.transfer_length in
+    let n = info.symbol_length in
+    let below : k < length (ids info) =
+    slice_get_within (ids info) k id ((places-inverse info id k).0 e) in
+    let count : length (ids info) ≡ l / n + min 1 (l % n) = ids_counted info v in
+    let quotient : l / n ≤ l = div-le_self l n in
+    omega (arith, below, count, quotient)
+
+-- so those before it and up to its end are counted in 64 bits
+before_it : (k n l : ℕ) → n < 65536 → l < 2 ^ 48 → (k + 1) * n < l + n → k * n < 2 ^ 64
+before_it k n l small short w =
+    omega (arith, mul-le k n (k + 1) n (omega arith) (omega arith), w, small, short)
+
+up_to_end : (k n l : ℕ) → n < 65536 → l < 2 ^ 48 → (k + 1) * n < l + n → (k + 1) * n < 2 ^ 64
+up_to_end k n l small short w = omega (arith, w, small, short)
+
+pub overflow_mul-result : goal.overflow_mul-result
+overflow_mul-result c =
+    let info = c.args.info.now in
+    let id = symbol_id c.args.gap.now.sbn c.args.gap.now.first in
+    let v = c.symbol.ensures.valid in
+    let n : c.from-symbol.result ≡ info.symbol_length =
+    c.from-symbol.ensures ∙ c.symbol.ensures.value in
+    let small : info.symbol_length < 65536 = omega (arith, c.symbol.ensures.value) in
+    let at : place info id ≡ Some c.in_ok-first.first =
+    sym (c.in_ok-first.ensures ∙ ap (λ p. place p id) c.of-partition.ensures) in
+    let fits = before_it c.in_ok-first.first info.symbol_length info.transfer_length small v.length
+    (within info id c.in_ok-first.first v at) in
+    rw n (omega (arith, fits))
+
+pub overflow_add-last : goal.overflow_add-last
+overflow_add-last c =
+    let info = c.args.info.now in
+    let id = symbol_id c.args.gap.now.sbn c.args.gap.now.last in
+    let v = c.symbol.ensures.valid in
+    let at : place info id ≡ Some c.in_ok-last.last =
+    sym (c.in_ok-last.ensures ∙ ap (λ p. place p id) c.of-partition.ensures) in
+    let below = places_below info id c.in_ok-last.last v at in
+    omega (arith, below, v.length)
+
+pub overflow_mul-last : goal.overflow_mul-last
+overflow_mul-last c =
+    let info = c.args.info.now in
+    let id = symbol_id c.args.gap.now.sbn c.args.gap.now.last in
+    let v = c.symbol.ensures.valid in
+    let n : c.from-symbol.result ≡ info.symbol_length =
+    c.from-symbol.ensures ∙ c.symbol.ensures.value in
+    let small : info.symbol_length < 65536 = omega (arith, c.symbol.ensures.value) in
+    let at : place info id ≡ Some c.in_ok-last.last =
+    sym (c.in_ok-last.ensures ∙ ap (λ p. place p id) c.of-partition.ensures) in
+    let fits = up_to_end c.in_ok-last.last info.symbol_length info.transfer_length small v.length
+    (within info id c.in_ok-last.last v at) in
+    rw n (omega (arith, fits))

@@ -1,0 +1,5 @@
+use Rattle.std.proofs.Common.{rules}
+use Rattle.flutejoin_line.proofs.packet_line.packet_command.Goals as goal
+
+pub returns : goal.returns
+returns c = c.command_with.ensures _ (rw c.in_ok-arguments.ensures.items (search rules))
