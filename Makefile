@@ -26,7 +26,7 @@ PREFIX ?= /usr/local
 PROGRAM ?= bin/flutejoin
 # They find their modules beside themselves, so bin has links to them.
 TOOLS := flutejoin-capture flutejoin-centre flutejoin-files flutejoin-gather flutejoin-map \
-	flutejoin-mend flutejoin-receive flutejoin-station flutejoin-values
+	flutejoin-mend flutejoin-receive flutejoin-repair flutejoin-station flutejoin-values
 
 # What `rt ci` leaves
 BUILT := crates/flutejoin_cli/out/flutejoin_cli
@@ -90,6 +90,7 @@ test-tools:
 	tests/files.py "$(FLUTEJOIN)"
 	tests/test_map.py
 	tests/map_cases.py
+	tests/test_repair.py
 	tests/test_package.py
 
 # What receives, and stations; their tests mostly wait

@@ -20,12 +20,13 @@ _flutejoin_words() {
 # The options of a command, or of a tool
 _flutejoin_options() {
     case $1 in
-        packet) echo '--help' ;;
-        show) echo '--any-size --conflicts --source --tsi --toi --fdt --help' ;;
+        packet) echo '--json --help' ;;
+        show) echo '--any-size --sums --json --conflicts --source --tsi --toi --fdt --help' ;;
         gaps)
-            echo '--any-size --check --summary --conflicts --source --tsi --toi --fdt --help'
+            echo '--any-size --check --summary --conflicts --ranges --json --source --tsi --toi' \
+                '--fdt --help'
             ;;
-        compare) echo '--any-size --check --summary --source --tsi --toi --fdt --help' ;;
+        compare) echo '--any-size --check --summary --json --source --tsi --toi --fdt --help' ;;
         extract) echo '-o --all --any-size --force --source --tsi --toi --fdt --help' ;;
         info)
             echo '-o --any-size --force --list --source --tsi --toi --fdt --length --symbol' \
@@ -36,6 +37,7 @@ _flutejoin_options() {
                 '--reasons --help'
             ;;
         merge | minus) echo '-o --any-size --force --help' ;;
+        fill) echo '-o --any-size --force --gaps --only --help' ;;
         forget)
             echo '-o --any-size --force --conflicts --source --tsi --toi --fdt --symbol --info' \
                 '--help'
@@ -58,6 +60,10 @@ _flutejoin_options() {
             echo '--group --port --from --interface -o --senders --split --most --buffer' \
                 '--as-received --status --count --seconds --config --help'
             ;;
+        flutejoin-repair)
+            echo '-o --base --allow --symbols --source --tsi --fdt --after --spread --most' \
+                '--seconds --json --flutejoin --help'
+            ;;
         flutejoin-station)
             echo '-o --config --group --port --from --interface --senders --buffer' \
                 '--as-received --tsi --same --every --window --keep-raw --most --nightly --outbox' \
@@ -76,7 +82,7 @@ _flutejoin_interfaces() {
 
 _flutejoin() {
     local word=${COMP_WORDS[COMP_CWORD]} before=${COMP_WORDS[COMP_CWORD - 1]} tool=${1##*/} command
-    local commands='packet show gaps compare extract info join merge minus forget carousel help'
+    local commands='packet show gaps compare extract info join merge minus fill forget carousel help'
     COMPREPLY=()
     command=$tool
     if [ "$tool" = flutejoin ] && [ "$COMP_CWORD" -gt 1 ]; then
@@ -93,7 +99,9 @@ _flutejoin() {
             esac
             return ;;
         --deliver) _flutejoin_folders "$word"; return ;;
-        --delivered | --flutejoin | --config | --status | --on-file) _flutejoin_files "$word"; return ;;
+        --delivered | --flutejoin | --config | --status | --on-file | --gaps)
+            _flutejoin_files "$word"
+            return ;;
         --list)
             # Of flutejoin-files it has no value.
             if [ "$tool" = flutejoin ]; then
@@ -101,7 +109,9 @@ _flutejoin() {
                 return
             fi ;;
         --fdt | --from)
-            [ "$tool" != flutejoin-files ] || _flutejoin_files "$word"
+            case $tool in
+                flutejoin-files | flutejoin-repair) _flutejoin_files "$word" ;;
+            esac
             return ;;
         --interface) _flutejoin_words "$word" "$(_flutejoin_interfaces)"; return ;;
         --source | --tsi | --toi | --length | --symbol | --block | --without | --memory | --as | --same)
@@ -109,6 +119,7 @@ _flutejoin() {
         --port | --group | --count | --seconds | --senders | --split | --most | --buffer)
             return ;;
         --every | --window | --keep-raw | --nightly | --file) return ;;
+        --base | --allow | --after | --spread) return ;;
     esac
     case $command in
         help) [ "$COMP_CWORD" -gt 2 ] || _flutejoin_words "$word" "$commands"; return ;;
@@ -127,7 +138,7 @@ _flutejoin() {
         packet | flutejoin-centre | flutejoin-receive | flutejoin-station)
             _flutejoin_words "$word" "$(_flutejoin_options "$command")"
             ;;
-        show | gaps | compare | extract | info | join | merge | minus | forget | carousel | \
+        show | gaps | compare | extract | info | join | merge | minus | fill | forget | carousel | \
             flutejoin-*)
             _flutejoin_files "$word"
             ;;
@@ -135,4 +146,5 @@ _flutejoin() {
 }
 
 complete -F _flutejoin flutejoin flutejoin-capture flutejoin-centre flutejoin-files \
-    flutejoin-gather flutejoin-map flutejoin-mend flutejoin-receive flutejoin-station flutejoin-values
+    flutejoin-gather flutejoin-map flutejoin-mend flutejoin-receive flutejoin-repair \
+    flutejoin-station flutejoin-values

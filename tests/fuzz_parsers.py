@@ -24,10 +24,15 @@ import captures as made
 import flute_sender
 import flutejoin_adapting as adapting
 import flutejoin_captures as captures
+import flutejoin_containers as containers
 import flutejoin_content as content
 import flutejoin_fdt as fdt
+import flutejoin_http as http
+import flutejoin_locations as places
 import flutejoin_names as names
+import flutejoin_origins as origins
 import flutejoin_packets as packets
+import flutejoin_ranges as ranges
 from flute_sender import Sent, Shape
 from flutejoin_datagrams import Datagrams
 from flutejoin_entries import HEADER as JOURNAL
@@ -35,6 +40,7 @@ from flutejoin_entries import Entries, reader_of
 from flutejoin_hints import Hint
 from flutejoin_instances import Assembler
 from flutejoin_holdings import Key
+from flutejoin_partition import Partition
 from flutejoin_records import HEADER, LENGTH, Cut, Fault, Records, last_whole, whole_records
 from flutejoin_salvage import Salvage
 
@@ -268,6 +274,116 @@ def objects(data: bytes) -> None:
 
 XML = (b"<File ", b"<!DOCTYPE a>", b"<FDT-Instance ", b"Expires=", b"TOI=", b"/>", b"xmlns:f=",
        b"Content-MD5=", b"&#0;", b"<![CDATA[", b"]]>", b"<!--", b"<?xml encoding='cp037'?>")
+class Given:
+    """A connection of which these bytes come, at most so many at once."""
+
+    def __init__(self, data: bytes, most: int) -> None:
+        self.data, self.most = data, most
+
+    def settimeout(self, seconds: float) -> None:
+        assert seconds > 0
+
+    def recv(self, size: int) -> bytes:
+        piece, self.data = self.data[: min(size, self.most)], self.data[min(size, self.most) :]
+        return piece
+
+
+def answer_of(data: bytes, most: int) -> http.Answer:
+    connection = http.Connection(Given(data, most), http.Spending(1 << 30, 600))  # type: ignore
+    connection.begin(0)
+    return http.Answer(connection, origins.url_of("http://h/"))
+
+
+WHOLE = bytes(range(90))  # a file
+ASKED = [(0, 8), (27, 44)]
+
+
+def answers(data: bytes) -> None:
+    """An answer of whatever bytes, that come in pieces of two sizes: the same bytes of the file."""
+    found = []
+    for most in 7, 1 << 16:
+        taken: dict[int, int] = {}
+        try:
+            for first, piece in ranges.parts(answer_of(data, most), len(WHOLE), ASKED):
+                assert 0 <= first and first + len(piece) <= len(WHOLE)
+                taken.update(zip(range(first, first + len(piece)), piece))
+            found.append(taken)
+        except http.Fault:
+            found.append({})
+    assert found[0] == found[1], found
+
+
+def of_answers() -> list[bytes]:
+    part = b"\r\n--ab\r\nContent-Range: bytes %d-%d/90\r\n\r\n%s"
+    body = b"".join(part % (a, b, WHOLE[a : b + 1]) for a, b in ASKED) + b"\r\n--ab--\r\n"
+    kind = b"Content-Type: multipart/byteranges; boundary=ab\r\n"
+    chunked = b"Transfer-Encoding: chunked\r\n\r\n3c;a\r\n%s\r\n1e\r\n%s\r\n0\r\nA: b\r\n\r\n"
+    return [
+        b"HTTP/1.1 206 OK\r\n%sContent-Length: %d\r\n\r\n%s" % (kind, len(body), body),
+        b"HTTP/1.1 206 OK\r\nContent-Range: bytes 0-8/90\r\nContent-Length: 9\r\n\r\n" + WHOLE[:9],
+        b"HTTP/1.1 200 OK\r\n" + chunked % (WHOLE[:60], WHOLE[60:]),
+        b"HTTP/1.0 200 OK\n\n" + WHOLE,
+        b"HTTP/1.1 100 C\r\n\r\nHTTP/1.1 416 No\r\nContent-Range: bytes */8\r\n\r\n",
+    ]
+
+
+def symbols(data: bytes) -> None:
+    """A container of whatever bytes: symbols of the object alone."""
+    kind = b"Content-Type: application/simpleSymbolContainer\r\n"
+    head = b"HTTP/1.1 200 OK\r\n%sContent-Length: %d\r\n\r\n" % (kind, len(data))
+    partition = Partition(88, 9, 4)
+    runs = [*containers.runs([0, 1, 5, 9], partition, 9)]
+    try:
+        for place, value in containers.symbols_in(answer_of(head + data, 99), partition, runs):
+            assert place < 10 and len(value) == (7 if place == 9 else 9)
+    except http.Fault:
+        pass
+
+
+def of_symbols() -> list[bytes]:
+    group = struct.Struct(">HHH")
+    short = group.pack(1, 0, 0) + bytes(9) + group.pack(2, 2, 0) + bytes(16)
+    return [short, group.pack(2, 0, 0) + bytes(18) + group.pack(2, 2, 0) + bytes(18)]
+
+
+def urls(data: bytes) -> None:
+    """A text of a stranger: whatever may be asked is below the base, and is one line of ASCII."""
+    text = data.decode(errors="replace")
+    allowed = origins.Origins([origins.url_of("http://h/a/")])
+    for place in places.urls_of(text, [text[3:]], ["http://h/a/", text[:9]]):
+        for url in origins.first_refusal([place], allowed)[0]:
+            target = url.target()
+            assert target.startswith("/a/") and url.authority() == "h", target
+            assert target.isascii() and target.isprintable() and " " not in target, target
+            assert "/../" not in f"{target.partition('?')[0]}/", target
+
+
+def of_urls() -> list[bytes]:
+    return [b"http://h/a/b", b"../a/b?c#d", b"//h:80/a/%2e", "http://u@h/a/\u00e4".encode()]
+
+
+def of_places() -> list[bytes]:
+    inner = "<Alternate-Content-Location>b</Alternate-Content-Location>"
+    form = f"<Alternate-Content-Location-1>{inner}</Alternate-Content-Location-1>"
+    xml = flute_sender.fdt([Sent(1, b"a", "b")]).decode().replace("/>", f">{form}</File>")
+    return [xml.replace("</FDT", "<Base-URL-1>http://h/</Base-URL-1></FDT").encode(), *of_fdt()]
+
+
+def located(data: bytes) -> None:
+    """An FDT Instance: what is read is the same with where files lie, and is bounded."""
+    try:
+        found, of = places.read_from(io.BytesIO(data), 1, "1", fdt.Budget())
+    except (fdt.Refused, fdt.Spent):
+        return
+    assert found == fdt.read_from(io.BytesIO(data), 1, "1", fdt.Budget())
+    assert of.of_files.keys() <= found.files.keys()
+    for texts in of.bases, *of.of_files.values():
+        assert len(texts) <= places.MOST_PLACES and all(len(text) <= 2048 for text in texts)
+
+
+PLACES = (b"<Alternate-Content-Location-2>", b"</Alternate-Content-Location-2>", b"<Base-URL-2 ")
+FIELDS = (b"\r\n", b"Content-Range: bytes ", b"--ab", b"Content-Length: ", b"\r\n\r\n", b"chunked")
+
 PARSERS = {
     "capture": Parser(of_captures, capture, (b"\x0a\x0d\x0d\x0a", b"\xff\xff\xff\xff", b"\x81\0")),
     "fdt": Parser(of_fdt, instance, XML),
@@ -275,6 +391,10 @@ PARSERS = {
     "packets": Parser(of_packets, datagrams, (b"\x10\xa0\4\0", b"\x40\4", b"\xc0\x20\0\1")),
     "names": Parser(of_names, locations, (b"../", b"%2e", b"%2F", b"//", b"http:", b".from-1")),
     "content": Parser(of_content, objects, (b"\x1f\x8b\x08", b"\x78\x9c")),
+    "answers": Parser(of_answers, answers, FIELDS),
+    "containers": Parser(of_symbols, symbols, (b"\0\1\0\0\0\0", bytes(9), b"\0\2\0\1")),
+    "urls": Parser(of_urls, urls, (b"../", b"%2e", b"//", b"http:", b"@", b"\\", b"#", b":80")),
+    "places": Parser(of_places, located, (*XML, *PLACES)),
 }
 
 

@@ -124,14 +124,7 @@ class Large(unittest.TestCase):
 
     def test_gaps_of_few_bytes_take_no_memory(self) -> None:
         """400 datagrams, 15.6 KB in all, of which each makes 65,535 symbols missing."""
-        sent, journal = self.room / "sent", self.room / "journal"
-        lengths = struct.pack(">BBHIHHI", 64, 4, 0, 65_536, 0, 1, 1)
-        with sent.open("wb") as file:
-            file.write(datagram_files.HEADER)
-            for toi in range(1, 401):
-                header = struct.pack(">BBBBIII", 0x10, 0xA0, 8, 0, 0, 7, toi)
-                file.write(datagram_files.record(header + lengths + bytes(4) + b"x"))
-        self.assertEqual(counted(run("join", "-o", journal, sent))["entries"], 800)
+        journal = self.gaping("journal", 0)
         limited = f'ulimit -v {32 << 10}; exec "$@"'
         command = ["sh", "-c", limited, "sh", PROGRAM, "gaps", str(journal)]
         with subprocess.Popen(command, stdout=subprocess.PIPE) as gaps:
@@ -140,6 +133,29 @@ class Large(unittest.TestCase):
             while piece := gaps.stdout.read(1 << 20):
                 lines += piece.count(b"\n")
         self.assertEqual((gaps.returncode, lines), (0, 400 * 65_536))
+
+    def test_an_answer_to_many_lines_takes_no_memory(self) -> None:
+        """26,214,400 lines, of which each of 400 objects has the last at the end of a block."""
+        asker, station = self.gaping("asker", 0), self.gaping("station", 65_535)
+        piped = f'ulimit -v {32 << 10}; "$1" gaps "$2" | "$1" fill -o "$4" --gaps - "$3"'
+        words = [PROGRAM, asker, station, self.room / "answer"]
+        ran = subprocess.run(
+            ["sh", "-c", piped, "sh", *words], capture_output=True, text=True, check=False
+        )
+        self.assertEqual((ran.returncode, ran.stdout, ran.stderr), (0, "entries 400\n", ""))
+
+    def gaping(self, name: str, block: int) -> Path:
+        """A journal of 400 objects of 65,536 blocks, each with the symbol of this block alone."""
+        sent, journal = self.room / f"{name}.sent", self.room / name
+        lengths = struct.pack(">BBHIHHI", 64, 4, 0, 65_536, 0, 1, 1)
+        with sent.open("wb") as file:
+            file.write(datagram_files.HEADER)
+            for toi in range(1, 401):
+                header = struct.pack(">BBBBIII", 0x10, 0xA0, 8, 0, 0, 7, toi)
+                number = struct.pack(">HH", block, 0)
+                file.write(datagram_files.record(header + lengths + number + b"x"))
+        self.assertEqual(counted(run("join", "-o", journal, sent))["entries"], 800)
+        return journal
 
     def test_each_of_many_inputs_has_the_sender(self) -> None:
         journal, sent = self.room / "journal", []

@@ -29,11 +29,14 @@ class Inputs(Stays):
     def test_merge_minus_join_and_info(self) -> None:
         self.write("cut", self.part("one", 100))
         self.write("cut_end", self.part("one", -1))
+        self.write("lines", "session 7 object 1 whole 5\n" * 2)
         for target in TARGETS:
             for name, words, text in (
                 ("merge with a cut journal", f"merge -o {target} two cut", "input 2: Cut"),
                 ("minus of a cut journal", f"minus -o {target} cut two", "input 1: Cut"),
                 ("minus, the other cut", f"minus -o {target} two cut", "input 2: Cut"),
+                ("fill of a cut journal", f"fill -o {target} --gaps /dev/null cut", "input 1: Cut"),
+                ("fill, a bad line", f"fill -o {target} --gaps lines two", "bad line 2"),
                 ("join, cut at its end", f"join -o {target} two sent2 cut_end", "input 3: Cut"),
                 ("info, cut at its end", f"info -o {target} {THIRD} cut_end", "input 1: Cut"),
             ):
@@ -79,6 +82,7 @@ class Limits(Stays):
                 "join -o {} three one",
                 "merge -o {} three one",
                 "minus -o {} three one",
+                "fill -o {} --gaps /dev/null three",
                 "forget --conflicts -o {} three",
                 f"info -o {{}} {THIRD} three",
                 "extract -f --tsi 7 --toi 3 -o {} three",

@@ -92,6 +92,7 @@ class Kept(Case):
         self.kept("sent1", DATAGRAMS, words, stations[0])
         for words in (
             *("merge -o d one two", "minus -o d both one", "forget -o d --conflicts two"),
+            "fill -o d --gaps /dev/null two",
             *(f"info -o d {THIRD} two", f"extract -o d {SECOND} two"),
             f"carousel -o d {SECOND} {CUT} other",
         ):
@@ -127,6 +128,17 @@ class Kept(Case):
         self.same("it stays", "d", "lines")
         self.copy("two", "d")
         self.row("over its journal", "info -o d --list lines d", 0, "entries 4")
+
+    def test_gap_lines(self) -> None:
+        """LINES of `fill` is kept, unless forced, under whatever name."""
+        self.write("lines", "session 9 object 1 whole 5\n")
+        self.kept("lines", INPUT, "fill -o ./d --gaps d two")
+        self.copy("lines", "d")
+        self.row("by the same name", "fill -f -o d --gaps d two", 2, "", INPUT)
+        self.same("it stays", "d", "lines")
+        done = self.shell("flutejoin fill -o d --gaps - two < d")
+        self.check("on standard input", done, 2, "", INPUT)
+        self.same("it stays", "d", "lines")
 
     def test_standard_output_is_an_input(self) -> None:
         of = f"{SECOND} {CUT}"
@@ -242,6 +254,8 @@ class Before(Case):
         self.same("the input of merge stays", "in.partial", "one")
         self.row("minus", "minus -o in in.partial two", *created)
         self.same("the input of minus stays", "in.partial", "one")
+        self.row("fill", "fill -o in --gaps /dev/null in.partial", *created)
+        self.same("the input of fill stays", "in.partial", "one")
         self.row("extract", f"extract -o in {FIRST} in.partial", *created)
         self.same("the input of extract stays", "in.partial", "one")
 

@@ -183,6 +183,7 @@ class Closed(Case):
             ("join -o closed two", "two"),
             ("merge -o closed one two", "both"),
             ("minus -o closed both one", "two"),
+            ("fill -o closed --gaps /dev/null two", "two"),
             ("forget -o closed --conflicts two", "two"),
             (f"carousel -o closed {SECOND} {CUT} other", "sent2"),
         ):

@@ -20,6 +20,7 @@ class Words(Case):
     def test_standard_input_once(self) -> None:
         for words in (
             *("join -o got - -", "join -o got - whole -", "merge -o got - -", "minus -o got - -"),
+            "fill -o got --gaps - -",
             *("compare - -", "compare --check --tsi 7 - -", "info -o got --list - -"),
         ):
             self.row(words, words, 2, "", "standard input twice", stdin=self.path("whole"))
@@ -50,7 +51,7 @@ class Words(Case):
         for words in (
             *("join -o got whole", "merge -o got whole others", "minus -o got whole others"),
             *(f"extract -o got {NAME} whole", f"info -o got {NAME} {FIELDS} whole"),
-            f"forget -o got {NAME} others",
+            *(f"forget -o got {NAME} others", "fill -o got --gaps /dev/null whole"),
         ):
             plain = self.row(words, words, 0, None)
             wanted = self.read("got")

@@ -287,7 +287,8 @@ class Deciding(Case):
     def test_what_another_side_keeps_aside(self) -> None:
         """What no generation has goes aside here too, once, and begins no generation."""
         one = {key(1): ((300, 100, 3), {(0, at): b"one %d" % at for at in range(3)})}
-        told = {key(1): (None, {(0, 0): b"one 0", (0, 1): b"two 1"}), key(2): (None, {(0, 0): b"x"})}
+        symbols = {(0, 0): b"one 0", (0, 1): b"two 1"}
+        told = {key(1): (None, symbols), key(2): (None, {(0, 0): b"x"})}
         held = self.held(one)
         of = Wants.of_aside(held, sums.sums_of(write(self.path("told"), told)))
         taken = of.take(self.answer(of, told), self.generations(), join)

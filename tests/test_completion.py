@@ -112,6 +112,8 @@ class Completion(run.Case):
             *((FILES, "flutejoin-map "), (FILES, "flutejoin-map --flutejoin ")),
             (stations, "flutejoin-map -o map.svg --tsi 7 --toi 1 station"),
             *((FILES, "flutejoin-mend -o "), (stations, "flutejoin-mend -o mended station")),
+            *((FILES, "flutejoin-repair -o "), (FILES, "flutejoin-repair --fdt ")),
+            *(("", "flutejoin-repair --base "), (stations, "flutejoin-repair -o more sta")),
             (FILES, "flutejoin-values "),
             (stations, "flutejoin-values --tsi 7 --symbol 1/2 sta"),
             *(("", "flutejoin-values --without "), (FILES, "flutejoin-values -o ")),

@@ -427,7 +427,7 @@ class Gathered(Events):
         self.compare(sum(sent, []))
 
     def test_more_than_eight_generations(self) -> None:
-        """The one that was delivered first goes, and is told; without a list the values go aside."""
+        """The one that was delivered first goes, and is told; without a list values go aside."""
         versions = [files_of(turn, [1, 2], 3) for turn in range(1, 12)]
         listed = self.folder / "centre/all/delivered.jsonl"
         for turn, files in enumerate(versions, 1):
@@ -446,7 +446,8 @@ class Gathered(Events):
                 listed.write_text("".join(ours + rest) + '{"sender": "10.9')
         self.assertEqual(self.conflicts(), 0)
         journal = self.centre / f"all/{SENDER}.g2.journal"
-        done = self.command("join", "-o", "ten", "--no-fdt", "--source", SENDER, f"10/{SENDER}.fldg")
+        words = "join", "-o", "ten", "--no-fdt", "--source", SENDER, f"10/{SENDER}.fldg"
+        done = self.command(*words)
         self.assertEqual(journal.read_bytes(), (self.folder / "ten").read_bytes(), done)
         shutil.rmtree(self.folder / "files")
         # The first of the others went for the last one; what is aside is still found by its MD5.
@@ -844,14 +845,15 @@ class Files(Events):
         journal = folder / f"{SENDER}.journal"
         for journals in (journal,), (journal, folder / f"fdt/{SENDER}.journal"):
             lines = self.map_of(*journals)
-            self.assertEqual([all(of) for of in zip(map(str.__contains__, lines, told))], [True] * 4)
+            self.assertTrue(all(map(str.__contains__, lines, told)), lines)
             self.assertEqual(["of the FDT" in line for line in lines], [True, True, False, False])
             self.assertIn("nothing of this object", lines[3])
         # Of two journals each is drawn by what the FDT tells, and both joined.
         other.mkdir()
         shutil.copy(journal, other / "half")
         self.assertEqual(len(self.map_of(journal, other / "half")), 12)
-        self.assertEqual(self.map_of("--source", SENDER, "--tsi", 7, "--toi", 1, journal), lines[:1])
+        words = "--source", SENDER, "--tsi", 7, "--toi", 1, journal
+        self.assertEqual(self.map_of(*words), lines[:1])
         # Beside another sender's journal it tells nothing, nor alone.
         one = [run.PROGRAM, "join", "--source", "10.9.0.2", "--no-fdt", "-o", folder / "one", name]
         subprocess.run([*map(str, one)], check=True, capture_output=True)

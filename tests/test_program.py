@@ -9,12 +9,17 @@ sys.dont_write_bytecode = True
 import run
 from program_compare import Compare, CompareDrawn
 from program_extract import Extract, Info, InfoList
+from program_fill import Fill, FillLines
+from program_filled import FillDrawn
+from program_forms import CompareForms, GapsForms
 from program_gaps import GapsCheck, GapsDrawn, GapsSummary
 from program_join import Join, JoinLimits, Reasons, Symbols
+from program_json import Json, ShowSums
 from program_merge import Carousel, Forget, Merge
 from program_minus import Minus, MinusDrawn
 from program_only import Names, OnlyObjects, Sessions
 from program_prints import Gaps, Objects, Packet, Show
+from program_ranges import Ranges, RangesDrawn
 from program_sends import Sending
 from program_sources import BadSources, ExtractOf, InfoOf, JoinOf
 from program_sparse import Sparse
@@ -22,8 +27,9 @@ from program_versions import BothVersions, Faults, Senders
 from program_words import Help, Words
 
 __all__ = [
-    "Packet", "Show", "Gaps", "GapsCheck", "GapsSummary", "GapsDrawn", "Objects", "Extract",
-    "Info", "InfoList", "Merge", "Minus", "MinusDrawn", "Compare", "CompareDrawn", "Forget",
+    "Packet", "Show", "ShowSums", "Json", "Gaps", "GapsCheck", "GapsSummary", "GapsDrawn", "Ranges",
+    "RangesDrawn", "GapsForms", "CompareForms", "Objects", "Extract", "Info", "InfoList", "Merge",
+    "Minus", "MinusDrawn", "Compare", "CompareDrawn", "Fill", "FillLines", "FillDrawn", "Forget",
     "Carousel", "Sending", "Join", "JoinLimits", "Reasons", "Symbols", "Sessions", "Names",
     "OnlyObjects", "Sparse", "BothVersions", "Senders", "Faults", "ExtractOf", "InfoOf", "JoinOf",
     "BadSources", "Help", "Words",

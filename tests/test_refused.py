@@ -38,10 +38,14 @@ MOST = 10_000  # runs of a command
 PRINTS = (
     "--help",
     f"packet {SYMBOL}",
+    f"packet --json {SYMBOL}",
     "show whole",
+    "show --sums --json whole",
     "gaps whole",
+    "gaps --ranges --json whole",
     "compare whole others",
     "compare --summary whole others",
+    "compare --json whole others",
 )
 OUTPUTS = (
     f"extract -o made {NAME} whole",
@@ -51,6 +55,7 @@ OUTPUTS = (
     "join -o made --source 0a000001 sent others",
     "merge -o made whole others",
     "minus -o made others whole",
+    "fill -o made --gaps lines whole",
     f"forget -o made {NAME} --symbol 0/1 whole",
     f"carousel -o made {NAME} --symbol 4 --block 2 content",
     f"carousel -o made {NAME} --symbol 4 --block 2 /dev/null",
@@ -73,6 +78,7 @@ class Sweeps(Case):
             f"0025 10A00800 {header} 00000001 6F",
         )
         self.write("content", "hello")
+        self.write("lines", "session 7 object 1 partial missing 1 conflicting 0 misfit 0\n")
 
     def begin(self, before: bytes | None) -> None:
         """Makes OUT as it was before, or removes it."""

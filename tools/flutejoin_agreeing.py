@@ -15,9 +15,9 @@ station, asks for nothing that it has, and still sees another file under a TOI t
 What a station tells has to be all that it has of an object, not only what is new there: the more it
 tells, the surer is what agrees (Sums.with_more puts together what came at several times). Its own
 numbers of generations mean nothing here: each of its journals has Wants of its own, one after
-another, and then those of its folder `aside`, Wants.of_aside. A symbol of an answer is taken only if it was wanted and has the sum that was told, so what
-a station changes meanwhile, or tells wrongly, spoils nothing. Transmission information is in the
-sums themselves, and is not asked for.
+another, and then those of its folder `aside`, Wants.of_aside. A symbol of an answer is taken only
+if it was wanted and has the sum that was told, so what a station changes meanwhile, or tells
+wrongly, spoils nothing. Transmission information is in the sums themselves, and is not asked for.
 
 What was delivered may be let go: the journals forget it, and its sums stay, so nothing of it is
 wanted, and another file under its TOI is still seen. If an FDT Instance describes a file of that

@@ -89,7 +89,7 @@ class Catalogue:
         """Reads an FDT Instance. If it is refused, that is reported, and the others are read."""
         whose = f"{session.title()}: FDT Instance {name}"
         try:
-            instance = fdt.read_from(file, number, name, self.xml)
+            instance = self.instance_of(session, file, number, name)
         except fdt.Spent:
             self.left += 1
             return
@@ -103,6 +103,12 @@ class Catalogue:
             session.add(instance)
         else:
             self.left += 1
+
+    def instance_of(
+        self, session: Session, file: BinaryIO, number: Optional[int], name: str
+    ) -> fdt.Instance:
+        """Reads the XML of an FDT Instance. Raises fdt.Refused, and fdt.Spent."""
+        return fdt.read_from(file, number, name, self.xml)
 
     def has_room(self, session: Session, instance: fdt.Instance) -> bool:
         """Whether there is room for what an FDT Instance adds, which is counted then."""

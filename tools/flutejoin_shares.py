@@ -52,7 +52,9 @@ def shares(
     Journals agree if more of its symbols are equal than differ. Those are left out that have all
     that others have of it.
     """
-    agreeing = {key: same_in(found, resolving.wanted[key]) for key, found in chosen(resolving, keys)}
+    agreeing = {
+        key: same_in(found, resolving.wanted[key]) for key, found in chosen(resolving, keys)
+    }
     for key, found in chosen(resolving, keys):
         wanted = resolving.wanted[key]
         groups = groups_of(wanted, agreeing[key], without)
