@@ -91,7 +91,7 @@ class Completion(run.Case):
             ("station1,station2", "flutejoin join -o all station1 sta"),
             (FILES, "flutejoin join -o "),
             ("a name", "flutejoin merge -o a"),
-            ("--help", "flutejoin packet "),
+            ("--json,--help", "flutejoin packet "),
         )
 
     def test_tools(self) -> None:
