@@ -5,7 +5,7 @@
 //!
 //! ```
 //! let mut output = StdSink::new(writer);
-//! let mut errors = StdSink::new(rt.stderr());
+//! let mut errors = StdSink::new(io::writer(errors));
 //! run(
 //!     &mut System::new(rt),
 //!     rt.alloc(),
