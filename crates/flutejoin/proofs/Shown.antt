@@ -176,12 +176,13 @@ read_failures T {u = u} {v = v} {state = state} {es = es} {r = r} {f = f} number
 pub if_done : {A B : Type 0} (r : Result (Unit {0}) CommandFault) → (A → B) → OnOk r A → OnOk r B
 if_done x0 x1 x2 = search rules
 
-pub cut_short : {A : Type 0} (style : ShowStyle) (choice : Selection) (u v s t : Option (List ℕ))
-    (r : Result (Unit {0}) CommandFault) → (A → ShowsPart style choice u v s t)
-    → IfErr r (FailsToWrite A) → IfErr r (ShowFails style choice u v s t)
-cut_short style choice u v s t (Ok x) f a = tt
-cut_short style choice u v s t (Err CannotWrite) f a = f a
-cut_short style choice u v s t (Err x) f a = absurd a
+module _ {A : Type 0} (style : ShowStyle) (choice : Selection) where
+  pub cut_short : (u v s t : Option (List ℕ)) (r : Result (Unit {0}) CommandFault)
+      → (A → ShowsPart style choice u v s t) → IfErr r (FailsToWrite A)
+      → IfErr r (ShowFails style choice u v s t)
+  cut_short u v s t (Ok x) f a = tt
+  cut_short u v s t (Err CannotWrite) f a = f a
+  cut_short u v s t (Err x) f a = absurd a
 
 pub only_written : (A : Type 0) (old new : ℕ) (r : Result (Unit {0}) CommandFault)
     → IfErr r (FailsToWrite A) → new ≡ old → FailsToRead old new r

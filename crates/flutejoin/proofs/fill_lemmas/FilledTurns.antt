@@ -217,34 +217,35 @@ module _ {S R : Type 0} (a : Behaviour S) (unread : R → Option (List ℕ)) (fa
 
   module _ {x t : Filled S R} where
     -- the facts go on
-    facts_go : (start : Filled S R) (F G : List Fact) (B : Between a unread failures start x F)
-        → (a.held x.facts ≡ None → ⊥) → GoesOn a x.facts t.facts
-        → ((rest : List ListedLine) → AreInOrder None (all_lines start F B rest)
-        → (x.list.last ≡ Ended → rest ≡ [])
-        → G ≡ asked x.asking (all_lines start F B rest) (B.all ++ option_list (a.held x.facts)))
-        → t.list ≡ x.list → t.asking ≡ x.asking → t.begun ≡ true → t.list_fault ≡ x.list_fault
-        → Between a unread failures start t G
-    facts_go start F G B n g left list asking begun sound =
-        let v = g.gave start.facts B.all B.gave.passes in
-        let A = B.all ++ option_list (a.held x.facts) in
-        record {
-          all = A;
-          passed = B.passed;
-          gave = v;
-          stands = subst (λ l. Stands unread failures start.list l B.passed) (sym list) B.stands;
-          asked_for = subst (λ l. (rest : List ListedLine)
-              → AreInOrder None ((B.passed ++ line_of l.last) ++ rest)
-              → (l.last ≡ Ended → rest ≡ [])
-              → G ≡ asked t.asking ((B.passed ++ line_of l.last) ++ rest) A) (sym list)
-              (subst (λ z. (rest : List ListedLine) → AreInOrder None (all_lines start F B rest)
-              → (x.list.last ≡ Ended → rest ≡ []) → G ≡ asked z (all_lines start F B rest) A)
-              (sym asking) left);
-          reached = reached_later (last_of None B.passed) (a.held x.facts) (a.held t.facts) B.all n
-              v.rising B.reached;
-          same = asking ∙ B.same;
-          begun = begun;
-          sound = sound ∙ B.sound;
-        }
+    module _ (start : Filled S R) (F G : List Fact)
+        (B : Between a unread failures start x F) where
+      facts_go : (a.held x.facts ≡ None → ⊥) → GoesOn a x.facts t.facts
+          → ((rest : List ListedLine) → AreInOrder None (all_lines start F B rest)
+          → (x.list.last ≡ Ended → rest ≡ [])
+          → G ≡ asked x.asking (all_lines start F B rest) (B.all ++ option_list (a.held x.facts)))
+          → t.list ≡ x.list → t.asking ≡ x.asking → t.begun ≡ true → t.list_fault ≡ x.list_fault
+          → Between a unread failures start t G
+      facts_go n g left list asking begun sound =
+          let v = g.gave start.facts B.all B.gave.passes in
+          let A = B.all ++ option_list (a.held x.facts) in
+          record {
+            all = A;
+            passed = B.passed;
+            gave = v;
+            stands = subst (λ l. Stands unread failures start.list l B.passed) (sym list) B.stands;
+            asked_for = subst (λ l. (rest : List ListedLine)
+                → AreInOrder None ((B.passed ++ line_of l.last) ++ rest)
+                → (l.last ≡ Ended → rest ≡ [])
+                → G ≡ asked t.asking ((B.passed ++ line_of l.last) ++ rest) A) (sym list)
+                (subst (λ z. (rest : List ListedLine) → AreInOrder None (all_lines start F B rest)
+                → (x.list.last ≡ Ended → rest ≡ []) → G ≡ asked z (all_lines start F B rest) A)
+                (sym asking) left);
+            reached = reached_later (last_of None B.passed) (a.held x.facts) (a.held t.facts) B.all n
+                v.rising B.reached;
+            same = asking ∙ B.same;
+            begun = begun;
+            sound = sound ∙ B.sound;
+          }
 
     pub lets_go : x.begun ≡ true → (a.held x.facts ≡ None → ⊥) → GoesOn a x.facts t.facts
         → t.list ≡ x.list → t.asking ≡ x.asking → t.begun ≡ x.begun → t.list_fault ≡ x.list_fault

@@ -95,29 +95,30 @@ lent_first m room xs lent e l =
     ∙ take-append-le m (take room xs) (drop room xs) (omega (arith, l, ap length e))
     ∙ ap (take m) (sym e)
 
-pub takes_end : (old new : Option (List ℕ)) (before now xs lent : List ℕ) (room count : ℕ)
-    → lent ≡ take room xs → count < length lent → ((k : ℕ) → k < count → get_or lent k 0 ≢ 10)
-    → get_or lent count 0 ≡ 10 → now ≡ before ++ take count lent
-    → Consumes old new (take (count + 1) xs) → TakesWords old new before now true
-takes_end old new before now xs lent room count e l h ten is c = record {
-  words = take count lent;
-  now_is = is;
-  one_line = one_line_taken count lent (omega (arith, l)) h;
-  taken = subst (λ b. Consumes old new b) (lent_first (count + 1) room xs lent e (omega (arith, l))
-      ∙ take_more lent count 0 l ∙ ap (λ b. take count lent ++ b ∷ []) ten) c;
-}
+module _ (old new : Option (List ℕ)) (before now xs lent : List ℕ) where
+  pub takes_end : (room count : ℕ) → lent ≡ take room xs → count < length lent
+      → ((k : ℕ) → k < count → get_or lent k 0 ≢ 10) → get_or lent count 0 ≡ 10
+      → now ≡ before ++ take count lent → Consumes old new (take (count + 1) xs)
+      → TakesWords old new before now true
+  takes_end room count e l h ten is c = record {
+    words = take count lent;
+    now_is = is;
+    one_line = one_line_taken count lent (omega (arith, l)) h;
+    taken = subst (λ b. Consumes old new b) (lent_first (count + 1) room xs lent e (omega (arith, l))
+        ∙ take_more lent count 0 l ∙ ap (λ b. take count lent ++ b ∷ []) ten) c;
+  }
 
-pub takes_more : (old new : Option (List ℕ)) (before now xs lent : List ℕ) (room count : ℕ)
-    → lent ≡ take room xs → count ≤ length lent → ((k : ℕ) → k < count → get_or lent k 0 ≢ 10)
-    → now ≡ before ++ take count lent → Consumes old new (take count xs)
-    → TakesWords old new before now false
-takes_more old new before now xs lent room count e l h is c = record {
-  words = take count lent;
-  now_is = is;
-  one_line = one_line_taken count lent l h;
-  taken = subst (λ b. Consumes old new b)
-      (lent_first count room xs lent e l ∙ sym (append-nil (take count lent))) c;
-}
+module _ (old new : Option (List ℕ)) (before now xs lent : List ℕ) where
+  pub takes_more : (room count : ℕ) → lent ≡ take room xs → count ≤ length lent
+      → ((k : ℕ) → k < count → get_or lent k 0 ≢ 10) → now ≡ before ++ take count lent
+      → Consumes old new (take count xs) → TakesWords old new before now false
+  takes_more room count e l h is c = record {
+    words = take count lent;
+    now_is = is;
+    one_line = one_line_taken count lent l h;
+    taken = subst (λ b. Consumes old new b)
+        (lent_first count room xs lent e l ∙ sym (append-nil (take count lent))) c;
+  }
 
 -- what was read of a line, and more of it
 pub taken_more : (old mid new : Option (List ℕ)) (text now : List ℕ) → Consumes old mid text
@@ -146,25 +147,26 @@ longer (Some x) (Some y) text buf c one full words =
     }
 
 -- the input ends within a line
-pub at_its_end : (a b c : Option (List ℕ)) (text : List ℕ) (count : ℕ) (buf : List ℕ)
-    → Consumes a b text → IsOneLine text → Consumes b c (take count buf) → count ≡ 0 → IsAtEnd c
-    → (text ≡ [] → ⊥) → IfSome a HasNoEnd
-at_its_end None b c text count buf k one m zero_is end some = tt
-at_its_end (Some x) None c text count buf k one m zero_is end some = absurd k
-at_its_end (Some x) (Some y) None text count buf k one m zero_is end some = absurd m
-at_its_end (Some x) (Some y) (Some z) text count buf k one m zero_is end some = record {
-  words = text;
-  rest = [];
-  bytes_are = k ∙ ap (λ r. text ++ r)
-      (m ∙ ap (λ n. take n buf ++ z) zero_is ∙ end);
-  one_line = one;
-  some = at_least text some;
-  long = inl refl;
-}
-  where
-    at_least : (text : List ℕ) → (text ≡ [] → ⊥) → 0 < length text
-    at_least [] h = absurd (h refl)
-    at_least (t ∷ text) h = omega arith
+module _ (text : List ℕ) (count : ℕ) (buf : List ℕ) where
+  pub at_its_end : (a b c : Option (List ℕ)) → Consumes a b text → IsOneLine text
+      → Consumes b c (take count buf) → (count ≡ 0) × IsAtEnd c → (text ≡ [] → ⊥)
+      → IfSome a HasNoEnd
+  at_its_end None b c k one m at some = tt
+  at_its_end (Some x) None c k one m at some = absurd k
+  at_its_end (Some x) (Some y) None k one m at some = absurd m
+  at_its_end (Some x) (Some y) (Some z) k one m at some = record {
+    words = text;
+    rest = [];
+    bytes_are = k ∙ ap (λ r. text ++ r)
+        (m ∙ ap (λ n. take n buf ++ z) at.0 ∙ at.1);
+    one_line = one;
+    some = at_least text some;
+    long = inl refl;
+  }
+    where
+      at_least : (text : List ℕ) → (text ≡ [] → ⊥) → 0 < length text
+      at_least [] h = absurd (h refl)
+      at_least (t ∷ text) h = omega arith
 
 pub byte_is : (buf : List ℕ) → length buf ≡ 1 → get_or buf 0 0 ≡ 10 → buf ≡ 10 ∷ []
 byte_is [] one ten = cc

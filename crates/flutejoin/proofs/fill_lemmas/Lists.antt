@@ -151,26 +151,26 @@ left_tells (Held l) passed rest a o n h =
 
 -- whether a fact is asked for is known once the line that is held is not behind it, whatever
 -- lines follow
-pub decided : (asking : Asking) (passed rest : List ListedLine) (object : Option ListedObject)
-    (last : LastLine) (f : Fact) → Knows passed object
-    → IsBehind (last_of None passed) (address f)
-    → AreInOrder None ((passed ++ line_of last) ++ rest) → (last ≡ Ended → rest ≡ [])
-    → is_behind last (Some (address f)) ≡ false
-    → asks asking ((passed ++ line_of last) ++ rest) f ≡ asks_at asking object last (address f)
-decided asking passed rest object last f knows reached o n h =
-    let a = address f in
-    let left = left_tells last passed rest a o n h in
-    let assoc = append_assoc passed (line_of last) rest in
-    let status : status_in ((passed ++ line_of last) ++ rest) a.key ≡ status_at object a.key =
-    ap (λ x. status_in x a.key) assoc
-    ∙ status_append_none passed (line_of last ++ rest) a.key left.0 ∙ knows.status a reached in
-    let missing : is_missing_in ((passed ++ line_of last) ++ rest) a ≡ missing_at last a =
-    ap (λ x. is_missing_in x a) assoc
-    ∙ list_any-append (is_missing_by a) passed (line_of last ++ rest)
-    ∙ or_none (is_missing_in passed a) (is_missing_in (line_of last ++ rest) a)
-    (knows.none_missing a reached) ∙ left.1 in
-    ap (λ s. wants asking s (is_missing_in ((passed ++ line_of last) ++ rest) a) a.part) status
-    ∙ ap (λ b. wants asking (status_at object a.key) b a.part) missing
+module _ (asking : Asking) (passed rest : List ListedLine) where
+  pub decided : (object : Option ListedObject) (last : LastLine) (f : Fact) → Knows passed object
+      → IsBehind (last_of None passed) (address f)
+      → AreInOrder None ((passed ++ line_of last) ++ rest) → (last ≡ Ended → rest ≡ [])
+      → is_behind last (Some (address f)) ≡ false
+      → asks asking ((passed ++ line_of last) ++ rest) f ≡ asks_at asking object last (address f)
+  decided object last f knows reached o n h =
+      let a = address f in
+      let left = left_tells last passed rest a o n h in
+      let assoc = append_assoc passed (line_of last) rest in
+      let status : status_in ((passed ++ line_of last) ++ rest) a.key ≡ status_at object a.key =
+      ap (λ x. status_in x a.key) assoc
+      ∙ status_append_none passed (line_of last ++ rest) a.key left.0 ∙ knows.status a reached in
+      let missing : is_missing_in ((passed ++ line_of last) ++ rest) a ≡ missing_at last a =
+      ap (λ x. is_missing_in x a) assoc
+      ∙ list_any-append (is_missing_by a) passed (line_of last ++ rest)
+      ∙ or_none (is_missing_in passed a) (is_missing_in (line_of last ++ rest) a)
+      (knows.none_missing a reached) ∙ left.1 in
+      ap (λ s. wants asking s (is_missing_in ((passed ++ line_of last) ++ rest) a) a.part) status
+      ∙ ap (λ b. wants asking (status_at object a.key) b a.part) missing
 
 -- nothing is known before the first line
 pub knows_nothing : Knows [] None

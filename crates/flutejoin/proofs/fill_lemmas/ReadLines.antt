@@ -50,9 +50,10 @@ reason_stops Missing = refl
 reason_stops Conflicting = refl
 reason_stops Misfit = refl
 
-pub gap_same : (g : Gap) (s f l : ℕ) (r : Reason) → s ≡ g.sbn → f ≡ g.first → l ≡ g.last
-    → r ≡ g.reason → record { sbn = s; first = f; last = l; reason = r } ≡ g
-gap_same g s f l r a b d e = search rules
+module _ (g : Gap) where
+  pub gap_same : (s f l : ℕ) (r : Reason) → s ≡ g.sbn → f ≡ g.first → l ≡ g.last → r ≡ g.reason
+      → record { sbn = s; first = f; last = l; reason = r } ≡ g
+  gap_same s f l r a b d e = search rules
 
 -- words of an object
 
@@ -99,12 +100,13 @@ not_both words g key status e h =
 
 -- what a line is, if it is read as that of a gap
 
-pub gap_after : (words : List ℕ) (g : Gap) (p : ListedLine) → line words ≡ gap_line g
-    → ((gap : Gap) → HasIds gap → line words ≡ gap_line gap → g ≡ gap) → (l : ListedLine)
-    → IsListed l → MayCome (Some p) l → line words ≡ text_of l → GapLine (object_of p) g ≡ l
-gap_after words g p is finds (ObjectLine key status) i m e =
-    absurd (not_both words g key status is e)
-gap_after words g p is finds (GapLine key gap) i m e = λ j. GapLine (m.1 j) (finds gap i e j)
+module _ (words : List ℕ) (g : Gap) where
+  pub gap_after : (p : ListedLine) → line words ≡ gap_line g
+      → ((gap : Gap) → HasIds gap → line words ≡ gap_line gap → g ≡ gap) → (l : ListedLine)
+      → IsListed l → MayCome (Some p) l → line words ≡ text_of l → GapLine (object_of p) g ≡ l
+  gap_after p is finds (ObjectLine key status) i m e =
+      absurd (not_both words g key status is e)
+  gap_after p is finds (GapLine key gap) i m e = λ j. GapLine (m.1 j) (finds gap i e j)
 
 pub gap_first : (words : List ℕ) (g : Gap) → line words ≡ gap_line g → (l : ListedLine)
     → MayCome None l → line words ≡ text_of l → ⊥

@@ -27,31 +27,31 @@ pub told_no_stray : (style : Style) (t : Told) → IsTold t → HasNoStray style
 told_no_stray style t is = subst (HasNoStray style) (sym is.1) (no_stray style is.0 t.key)
 
 -- the lines of an object and those of its gaps were moved together
-pub object_lined : {A : Type 0} (written : A → Option (List ℕ)) {known : Bool}
-    (objects : List Told) (t : Told) (old new : GapLines A)
-    {put aside : Option (List ℕ)} (r : Result (Unit {0}) DeviceFault)
-    → new.style ≡ old.style → new.ranges.last ≡ None
-    → Knows known aside (gap_lines old.style t.info t.gaps)
-    → ArePut known new.style (objects ++ t ∷ []) (gap_lines new.style t.info t.gaps) put
-    new.closed × AreFew (length objects + 1) new.closed.sums
-    → ((bytes : List ℕ) → aside ≡ Some bytes
-    → OnOk r (Appends put (written new.lines.now) bytes × (written new.gap_lines.now ≡ Some [])))
-    → OnOk r (HasLines written known (objects ++ t ∷ []) None [] new)
-object_lined written objects t old new (Err x) same none gaps put moved = tt
-object_lined written {known} objects t old new {aside = aside} (Ok x) same none gaps_old put moved =
-    let gaps = gap_lines new.style t.info t.gaps in
-    let gaps_known = subst (λ (s : Style). Knows known aside (gap_lines s t.info t.gaps))
-    (sym same) gaps_old in
-    record {
-      lines = put.0.lines ++ gaps;
-      closed_are = put.0.are_closed;
-      few = few_more (length objects + 1) (length (objects ++ t ∷ [])) new.closed.sums
-          (omega (arith, length-append objects (t ∷ []))) put.1;
-      lines_known = λ is. knows_more gaps put.0.lines_known (moved gaps (gaps_known is)).0 is;
-      gaps = [];
-      gaps_are = (refl, none);
-      gaps_known = λ is. (moved gaps (gaps_known is)).1;
-    }
+module _ {A : Type 0} (written : A → Option (List ℕ)) {known : Bool} (objects : List Told)
+    (t : Told) where
+  pub object_lined : (old new : GapLines A) {put aside : Option (List ℕ)}
+      (r : Result (Unit {0}) DeviceFault) → new.style ≡ old.style → new.ranges.last ≡ None
+      → Knows known aside (gap_lines old.style t.info t.gaps)
+      → ArePut known new.style (objects ++ t ∷ []) (gap_lines new.style t.info t.gaps) put
+      new.closed × AreFew (length objects + 1) new.closed.sums
+      → ((bytes : List ℕ) → aside ≡ Some bytes
+      → OnOk r (Appends put (written new.lines.now) bytes × (written new.gap_lines.now ≡ Some [])))
+      → OnOk r (HasLines written known (objects ++ t ∷ []) None [] new)
+  object_lined old new (Err x) same none gaps put moved = tt
+  object_lined old new {aside = aside} (Ok x) same none gaps_old put moved =
+      let gaps = gap_lines new.style t.info t.gaps in
+      let gaps_known = subst (λ (s : Style). Knows known aside (gap_lines s t.info t.gaps))
+      (sym same) gaps_old in
+      record {
+        lines = put.0.lines ++ gaps;
+        closed_are = put.0.are_closed;
+        few = few_more (length objects + 1) (length (objects ++ t ∷ [])) new.closed.sums
+            (omega (arith, length-append objects (t ∷ []))) put.1;
+        lines_known = λ is. knows_more gaps put.0.lines_known (moved gaps (gaps_known is)).0 is;
+        gaps = [];
+        gaps_are = (refl, none);
+        gaps_known = λ is. (moved gaps (gaps_known is)).1;
+      }
 
 -- no object yet
 pub none_lined : {A : Type 0} (written : A → Option (List ℕ)) (known : Bool) (v : GapLines A)

@@ -24,12 +24,13 @@ use Rattle.flutejoin.specs.declared.lines.style.Style.{Style}
 use Rattle.flutejoin.proofs.gaps_lemmas.LongestRanges.{ranges_ended, ranges_more, ranges_none}
 use Rattle.flutejoin.proofs.gaps_lemmas.MovedAside.{knows_more}
 
-begun_open : (form : Form) (b : Bool) (gaps : List Gap) (lines : List ℕ) (r : OpenRanges) {info : Information}
-    (new : OpenRanges) (style : Style) → AreOpen form None b gaps lines r → new.info ≡ Some info
-    → new.last ≡ r.last → AreOpen form (Some info) b (shown style []) lines new
-begun_open form true gaps lines r {info = info} new style h is same = subst (λ l. AreOpen form (Some info) true [] l new)
-    (sym h.0) (ranges_none new is (same ∙ h.1))
-begun_open form false gaps lines r new style h is same = (h.0, same ∙ h.1)
+module _ (form : Form) (gaps : List Gap) (lines : List ℕ) (r : OpenRanges) {info : Information}
+    (new : OpenRanges) (style : Style) where
+  begun_open : (b : Bool) → AreOpen form None b gaps lines r → new.info ≡ Some info
+      → new.last ≡ r.last → AreOpen form (Some info) b (shown style []) lines new
+  begun_open true h is same = subst (λ l. AreOpen form (Some info) true [] l new)
+      (sym h.0) (ranges_none new is (same ∙ h.1))
+  begun_open false h is same = (h.0, same ∙ h.1)
 
 shown_more : (style : Style) (given : List Gap) (g : Gap) → is_shown style g.reason ≡ true
     → shown style (given ++ g ∷ []) ≡ shown style given ++ g ∷ []
@@ -37,12 +38,13 @@ shown_more style given g on =
     filter-append (λ (x : Gap). is_shown style x.reason) given (g ∷ [])
     ∙ ap (λ b. shown style given ++ (if b then g ∷ [] else [])) on
 
-lined : (form : Form) (b : Bool) (info : Information) (gaps : List Gap) (lines : List ℕ) (r : OpenRanges)
-    (g : Gap) → b ≡ false → AreOpen form (Some info) b gaps lines r
-    → AreOpen form (Some info) b (gaps ++ g ∷ []) (lines ++ gap_line_in form g) r
-lined form true info gaps lines r g e h = absurd cc
-lined form false info gaps lines r g e h =
-    (ap (λ l. l ++ gap_line_in form g) h.0 ∙ flat_map_more (gap_line_in form) [] gaps g, h.1)
+module _ (form : Form) (info : Information) (gaps : List Gap) where
+  lined : (b : Bool) (lines : List ℕ) (r : OpenRanges) (g : Gap) → b ≡ false
+      → AreOpen form (Some info) b gaps lines r
+      → AreOpen form (Some info) b (gaps ++ g ∷ []) (lines ++ gap_line_in form g) r
+  lined true lines r g e h = absurd cc
+  lined false lines r g e h =
+      (ap (λ l. l ++ gap_line_in form g) h.0 ∙ flat_map_more (gap_line_in form) [] gaps g, h.1)
 
 -- its one information is remembered
 known_open : (form : Form) (b : Bool) (info : Information) (gaps : List Gap) (lines : List ℕ) (r : OpenRanges)
@@ -50,13 +52,14 @@ known_open : (form : Form) (b : Bool) (info : Information) (gaps : List Gap) (li
 known_open form true info gaps lines r e h = h.info_is
 known_open form false info gaps lines r e h = absurd cc
 
-ranged : (form : Form) (b : Bool) (info : Information) (gaps : List Gap) (lines : List ℕ) (r : OpenRanges)
-    (g : Gap) (new : OpenRanges) → b ≡ true → AreOpen form (Some info) b gaps lines r
-    → new.info ≡ r.info → new.last ≡ last_range r.last (gap_range info g)
-    → AreOpen form (Some info) b (gaps ++ g ∷ []) (lines ++ ended_line form r.last (gap_range info g))
-    new
-ranged form true info gaps lines r g new e h same last = ranges_more g new h same last
-ranged form false info gaps lines r g new e h same last = absurd cc
+module _ (form : Form) (info : Information) (gaps : List Gap) (lines : List ℕ) where
+  ranged : (b : Bool) (r : OpenRanges) (g : Gap) (new : OpenRanges) → b ≡ true
+      → AreOpen form (Some info) b gaps lines r → new.info ≡ r.info
+      → new.last ≡ last_range r.last (gap_range info g)
+      → AreOpen form (Some info) b (gaps ++ g ∷ []) (lines ++ ended_line form r.last (gap_range info g))
+      new
+  ranged true r g new e h same last = ranges_more g new h same last
+  ranged false r g new e h same last = absurd cc
 
 -- what changed is of the open object alone
 pub record KeepsClosed {A : Type 0} (old new : GapLines A) : Type 0 where
@@ -91,7 +94,7 @@ module _ {A : Type 0} {written : A → Option (List ℕ)} {known : Bool} {object
       → HasLines written known objects (Some info) [] new
   object_begun {given} {old} info new h k is same aside = reopened (Some info) [] new h.gaps h k
       (subst (λ (s : Style). AreOpen s.form (Some info) s.ranges (shown s []) h.gaps new.ranges)
-      (sym k.style) (begun_open old.style.form old.style.ranges (shown old.style given) h.gaps old.ranges new.ranges old.style
+      (sym k.style) (begun_open old.style.form (shown old.style given) h.gaps old.ranges new.ranges old.style old.style.ranges
       h.gaps_are is same))
       (subst (λ a. Knows known (written a) h.gaps) (sym aside) h.gaps_known)
 
@@ -111,58 +114,57 @@ module _ {A : Type 0} {written : A → Option (List ℕ)} {known : Bool} {object
       h.gaps_are) h.gaps_known
 
   -- one with a line of its own
-  pub gap_lined : {info : Information} {given : List Gap} {old : GapLines A} (g : Gap)
-      (new : GapLines A) (r : Result (Unit {0}) DeviceFault)
-      → HasLines written known objects (Some info) given old → KeepsClosed old new
-      → new.ranges ≡ old.ranges → is_shown old.style g.reason ≡ true
-      → old.style.ranges ≡ false
-      → Writes (written old.gap_lines.now) (written new.gap_lines.now) (gap_line_in old.style.form g) r
-      → OnOk r (HasLines written known objects (Some info) (given ++ g ∷ []) new)
-  gap_lined g new (Err x) h k same on off line = tt
-  gap_lined {info} {given} {old} g new (Ok x) h k same on off line =
-      let gaps = h.gaps ++ gap_line_in old.style.form g in
-      let opened = subst (λ (gs : List Gap). AreOpen old.style.form (Some info) old.style.ranges gs gaps old.ranges)
-      (sym (shown_more old.style given g on)) (lined old.style.form old.style.ranges info (shown old.style given) h.gaps
-      old.ranges g off h.gaps_are) in
-      reopened (Some info) (given ++ g ∷ []) new gaps h k
-      (subst (λ (s : Style). AreOpen s.form (Some info) s.ranges (shown s (given ++ g ∷ [])) gaps
-      new.ranges) (sym k.style)
-      (subst (λ (o : OpenRanges). AreOpen old.style.form (Some info) old.style.ranges
-      (shown old.style (given ++ g ∷ [])) gaps o) (sym same) opened))
-      (knows_more (gap_line_in old.style.form g) h.gaps_known line)
+  module _ {info : Information} {given : List Gap} {old : GapLines A} (g : Gap) where
+    pub gap_lined : (new : GapLines A) (r : Result (Unit {0}) DeviceFault)
+        → HasLines written known objects (Some info) given old → KeepsClosed old new
+        → new.ranges ≡ old.ranges → is_shown old.style g.reason ≡ true → old.style.ranges ≡ false
+        → Writes (written old.gap_lines.now) (written new.gap_lines.now) (gap_line_in old.style.form g) r
+        → OnOk r (HasLines written known objects (Some info) (given ++ g ∷ []) new)
+    gap_lined new (Err x) h k same on off line = tt
+    gap_lined new (Ok x) h k same on off line =
+        let gaps = h.gaps ++ gap_line_in old.style.form g in
+        let opened = subst (λ (gs : List Gap). AreOpen old.style.form (Some info) old.style.ranges gs gaps old.ranges)
+        (sym (shown_more old.style given g on)) (lined old.style.form info (shown old.style given) old.style.ranges h.gaps
+        old.ranges g off h.gaps_are) in
+        reopened (Some info) (given ++ g ∷ []) new gaps h k
+        (subst (λ (s : Style). AreOpen s.form (Some info) s.ranges (shown s (given ++ g ∷ [])) gaps
+        new.ranges) (sym k.style)
+        (subst (λ (o : OpenRanges). AreOpen old.style.form (Some info) old.style.ranges
+        (shown old.style (given ++ g ∷ [])) gaps o) (sym same) opened))
+        (knows_more (gap_line_in old.style.form g) h.gaps_known line)
 
   -- one of which the range may go on
-  pub gap_ranged : {info : Information} {given : List Gap} {old : GapLines A} (g : Gap)
-      (new : GapLines A) (r : Result (Unit {0}) DeviceFault)
-      → HasLines written known objects (Some info) given old → KeepsClosed old new
-      → is_shown old.style g.reason ≡ true → old.style.ranges ≡ true
-      → new.ranges.info ≡ old.ranges.info
-      → OnOk r (IfSome old.ranges.info (λ (i : Information).
-      new.ranges.last ≡ last_range old.ranges.last (gap_range i g)))
-      → OnOk r (IfSome old.ranges.info (λ (i : Information).
-      Appends (written old.gap_lines.now) (written new.gap_lines.now)
-      (ended_line old.style.form old.ranges.last (gap_range i g))))
-      → OnOk r (HasLines written known objects (Some info) (given ++ g ∷ []) new)
-  gap_ranged g new (Err x) h k on is same last line = tt
-  gap_ranged {info} {given} {old} g new (Ok x) h k on is same last line =
-      let i = known_open old.style.form old.style.ranges info (shown old.style given) h.gaps old.ranges is h.gaps_are in
-      let last' : new.ranges.last ≡ last_range old.ranges.last (gap_range info g) =
-      subst (λ (o : Option Information). IfSome o (λ (i : Information).
-      new.ranges.last ≡ last_range old.ranges.last (gap_range i g))) i last in
-      let more = ended_line old.style.form old.ranges.last (gap_range info g) in
-      let line' : Appends (written old.gap_lines.now) (written new.gap_lines.now) more =
-      subst (λ (o : Option Information). IfSome o (λ (i : Information).
-      Appends (written old.gap_lines.now) (written new.gap_lines.now)
-      (ended_line old.style.form old.ranges.last (gap_range i g)))) i line in
-      let gaps = h.gaps ++ more in
-      let opened = subst (λ (gs : List Gap). AreOpen old.style.form (Some info) old.style.ranges gs gaps new.ranges)
-      (sym (shown_more old.style given g on))
-      (ranged old.style.form old.style.ranges info (shown old.style given) h.gaps old.ranges g new.ranges is
-      h.gaps_are same last') in
-      reopened (Some info) (given ++ g ∷ []) new gaps h k
-      (subst (λ (s : Style). AreOpen s.form (Some info) s.ranges (shown s (given ++ g ∷ [])) gaps
-      new.ranges) (sym k.style) opened)
-      (knows_more more h.gaps_known line')
+  module _ {info : Information} {given : List Gap} {old : GapLines A} (g : Gap) (new : GapLines A) where
+    pub gap_ranged : (r : Result (Unit {0}) DeviceFault)
+        → HasLines written known objects (Some info) given old → KeepsClosed old new
+        → is_shown old.style g.reason ≡ true → old.style.ranges ≡ true
+        → new.ranges.info ≡ old.ranges.info
+        → OnOk r (IfSome old.ranges.info (λ (i : Information).
+        new.ranges.last ≡ last_range old.ranges.last (gap_range i g)))
+        → OnOk r (IfSome old.ranges.info (λ (i : Information).
+        Appends (written old.gap_lines.now) (written new.gap_lines.now)
+        (ended_line old.style.form old.ranges.last (gap_range i g))))
+        → OnOk r (HasLines written known objects (Some info) (given ++ g ∷ []) new)
+    gap_ranged (Err x) h k on is same last line = tt
+    gap_ranged (Ok x) h k on is same last line =
+        let i = known_open old.style.form old.style.ranges info (shown old.style given) h.gaps old.ranges is h.gaps_are in
+        let last' : new.ranges.last ≡ last_range old.ranges.last (gap_range info g) =
+        subst (λ (o : Option Information). IfSome o (λ (i : Information).
+        new.ranges.last ≡ last_range old.ranges.last (gap_range i g))) i last in
+        let more = ended_line old.style.form old.ranges.last (gap_range info g) in
+        let line' : Appends (written old.gap_lines.now) (written new.gap_lines.now) more =
+        subst (λ (o : Option Information). IfSome o (λ (i : Information).
+        Appends (written old.gap_lines.now) (written new.gap_lines.now)
+        (ended_line old.style.form old.ranges.last (gap_range i g)))) i line in
+        let gaps = h.gaps ++ more in
+        let opened = subst (λ (gs : List Gap). AreOpen old.style.form (Some info) old.style.ranges gs gaps new.ranges)
+        (sym (shown_more old.style given g on))
+        (ranged old.style.form info (shown old.style given) h.gaps old.style.ranges old.ranges g new.ranges is
+        h.gaps_are same last') in
+        reopened (Some info) (given ++ g ∷ []) new gaps h k
+        (subst (λ (s : Style). AreOpen s.form (Some info) s.ranges (shown s (given ++ g ∷ [])) gaps
+        new.ranges) (sym k.style) opened)
+        (knows_more more h.gaps_known line')
 
 -- ---- the end of an object
 

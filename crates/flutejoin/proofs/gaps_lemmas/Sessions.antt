@@ -209,11 +209,13 @@ few_more x0 x1 x2 x3 x4 = search rules
 abbrev pub IsOfOthers : Session → Option SessionSums → Type 0
 IsOfOthers session old = IfSome old (λ (sums : SessionSums). sums.session ≡ session → ⊥)
 
-begun_sums : (form : Form) (objects : List Told) (lines : List ℕ) (t : Told) (old new : Option SessionSums) →
-    AreSummed form objects lines old → IsOfOthers t.key.session old → BeginsSession t.key.session
-    t.status t.conflicts new → AreSummed form (objects ++ t ∷ []) (lines ++ last_line form old) new
-begun_sums form x0 x1 x2 x3 x4 x5 x6 x7 = search (rules, first_summed, sums_one, next_summed) steps
-    400000
+module _ (form : Form) where
+  begun_sums : (objects : List Told) (lines : List ℕ) (t : Told) (old new : Option SessionSums)
+      → AreSummed form objects lines old → IsOfOthers t.key.session old
+      → BeginsSession t.key.session t.status t.conflicts new
+      → AreSummed form (objects ++ t ∷ []) (lines ++ last_line form old) new
+  begun_sums x0 x1 x2 x3 x4 x5 x6 x7 = search (rules, first_summed, sums_one, next_summed) steps
+      400000
 
 pub begun_known : {known : Bool} (form : Form) (objects : List Told) {lines : List ℕ} (t : Told)
     (old : Option SessionSums) {new : Option SessionSums} {s s' : Option (List ℕ)}

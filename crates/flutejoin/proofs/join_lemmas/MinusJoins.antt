@@ -131,29 +131,29 @@ none_missing {first = first} {second = second} is_held facts held h f s below =
     (Same-from_journals second held G s (second_is h)))))
 
 -- what is joined after a journal may be any with which its facts have the same values
-pub alike : (one : OneReading) (choice : Choice) {second missing first bs cs : List ℕ}
-    (G M F : List Fact) (others : List (List ℕ)) → IsJournal second G → IsJournal missing M
-    → IsJournal first F → Same (G ++ M) (G ++ F) → Joined choice (second ∷ missing ∷ others) bs
-    → Joined choice (second ∷ first ∷ others) cs → bs ≡ cs
-alike one choice {second = second} {missing = missing} {first = first} {bs = bs} {cs = cs} G M F
-    others s m f same j k =
-    let all = λ (told : List InputContent). flat_map (content_facts choice) told in
-    let x : TwoTold choice (G ++ M) others j.2.told = two_told choice others j.2.told
-    (record { of_first = s; of_second = m }) j.2.tell in
-    let y : TwoTold choice (G ++ F) others k.2.told = two_told choice others k.2.told
-    (record { of_first = s; of_second = f }) k.2.tell in
-    let between : Same (chosen choice.takes (G ++ M) ++ all x.rest)
-    (chosen choice.takes (G ++ F) ++ all y.rest) =
-    Same-append (chosen choice.takes (G ++ M)) (chosen choice.takes (G ++ F)) (all x.rest)
-    (all y.rest) (same_chosen choice.takes (G ++ M) (G ++ F) same)
-    (tell_same one choice others x.rest y.rest x.tell y.tell) in
-    Journal-only bs cs (all j.2.told) (all k.2.told)
-    (Same-trans (all j.2.told) (chosen choice.takes (G ++ M) ++ all x.rest)
-    (all k.2.told) x.same (Same-trans (chosen choice.takes (G ++ M) ++ all x.rest)
-    (chosen choice.takes (G ++ F) ++ all y.rest) (all k.2.told) between
-    (Same-sym (all k.2.told) (chosen choice.takes (G ++ F) ++ all y.rest) y.same)))
-    (wrote one choice (second ∷ missing ∷ others) bs j)
-    (wrote one choice (second ∷ first ∷ others) cs k)
+module _ (one : OneReading) (choice : Choice) {second missing first bs cs : List ℕ}
+    (G M : List Fact) where
+  pub alike : (F : List Fact) (others : List (List ℕ)) → IsJournal second G → IsJournal missing M
+      → IsJournal first F → Same (G ++ M) (G ++ F) → Joined choice (second ∷ missing ∷ others) bs
+      → Joined choice (second ∷ first ∷ others) cs → bs ≡ cs
+  alike F others s m f same j k =
+      let all = λ (told : List InputContent). flat_map (content_facts choice) told in
+      let x : TwoTold choice (G ++ M) others j.2.told = two_told choice others j.2.told
+      (record { of_first = s; of_second = m }) j.2.tell in
+      let y : TwoTold choice (G ++ F) others k.2.told = two_told choice others k.2.told
+      (record { of_first = s; of_second = f }) k.2.tell in
+      let between : Same (chosen choice.takes (G ++ M) ++ all x.rest)
+      (chosen choice.takes (G ++ F) ++ all y.rest) =
+      Same-append (chosen choice.takes (G ++ M)) (chosen choice.takes (G ++ F)) (all x.rest)
+      (all y.rest) (same_chosen choice.takes (G ++ M) (G ++ F) same)
+      (tell_same one choice others x.rest y.rest x.tell y.tell) in
+      Journal-only bs cs (all j.2.told) (all k.2.told)
+      (Same-trans (all j.2.told) (chosen choice.takes (G ++ M) ++ all x.rest)
+      (all k.2.told) x.same (Same-trans (chosen choice.takes (G ++ M) ++ all x.rest)
+      (chosen choice.takes (G ++ F) ++ all y.rest) (all k.2.told) between
+      (Same-sym (all k.2.told) (chosen choice.takes (G ++ F) ++ all y.rest) y.same)))
+      (wrote one choice (second ∷ missing ∷ others) bs j)
+      (wrote one choice (second ∷ first ∷ others) cs k)
 
 module _ (one : OneReading) (enough : IsEnough) where
   pub joined_alike : {first second missing : List ℕ} {count : ℕ} (choice : Choice)

@@ -17,10 +17,12 @@ returns-else-is_empty-clause-fails g c =
     c.take_lent.new.text) c.if-take_lent.false c.take_lent.ensures.takes in
     let m = taken_more (u c.args.source.now) (u c.loop-text.source) (u c.take_lent.new.source)
     c.loop-text.text c.take_lent.new.text i.so_far i.one_line t in
-    at_its_end (u c.args.source.now) (u c.take_lent.new.source) (u c.read.new.self)
-    c.take_lent.new.text c.in-Ok.count c.read.new.buffer m.0 m.1 c.in-Ok.ensures.bytes.0
-    c.if-count-eq0.true (c.in-Ok.ensures.bytes.1 c.if-count-eq0.true
-    (omega (arith, c.read.auto.buffer)))
+    at_its_end c.take_lent.new.text c.in-Ok.count c.read.new.buffer (u c.args.source.now)
+    (u c.take_lent.new.source) (u c.read.new.self) m.0 m.1 c.in-Ok.ensures.bytes.0 (
+      c.if-count-eq0.true,
+      c.in-Ok.ensures.bytes.1 c.if-count-eq0.true
+          (omega (arith, c.read.auto.buffer)),
+    )
     (λ e. false≢true (sym c.if-is_empty.false ∙ c.is_empty.ensures
     ∙ ap (λ l. length l == 0) (c.as_slice.ensures ∙ e)))
 

@@ -27,8 +27,9 @@ partial_chain m d f =
 with_nil : (f : ℕ) → from_misfit f ≡ codes " misfit " ++ (decimal f ++ [])
 with_nil f = ap (λ x. codes " misfit " ++ x) (sym (append-nil (decimal f)))
 
-same_counts : (m d f a b e : ℕ) → a ≡ m → b ≡ d → e ≡ f → Partial a b e ≡ Partial m d f
-same_counts m d f a b e x y z = search rules
+module _ (m d f : ℕ) where
+  same_counts : (a b e : ℕ) → a ≡ m → b ≡ d → e ≡ f → Partial a b e ≡ Partial m d f
+  same_counts a b e x y z = search rules
 
 pub returns-in_default : goal.returns-in_default
 returns-in_default c = record {
