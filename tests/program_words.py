@@ -87,6 +87,8 @@ class Help(Case):
         self.path("tried").mkdir()
         self.run_examples("program", text)
         self.path("tried/station2").write_bytes(self.read("tried/station1"))
+        wanted = self.shell("flutejoin gaps station1", folder="tried")
+        self.path("tried/wanted").write_bytes(wanted.out)
         for command in commands:
             if command != "help":
                 done = self.row(f"help of {command}", f"{command} --help", 0, None)
