@@ -111,10 +111,12 @@ class Fill(Case):
         self.makes("--any-size", f"fill -o got --any-size {of}", "entries 1", "last2")
         self.rows(
             ("no lines", "fill -o got whole", 2, "", "missing option: --gaps"),
-            ("two lists", f"fill -o got --gaps lines {of}", 2, "", "bad option: --gaps"),
             ("standard input twice", "fill -o x --gaps - -", 2, "", "standard input twice"),
         )
-        self.refused_by_parser("an option", f"fill -o got --tsi 7 {of}", "unexpected argument")
+        twice = "the argument '--gaps <LINES>' cannot be used multiple times"
+        self.refused_by_parser("two lists", f"fill -o got --gaps lines {of}", twice)
+        told = "unexpected argument '--tsi' found"
+        self.refused_by_parser("an option", f"fill -o got --tsi 7 {of}", told)
 
     def test_streams(self) -> None:
         self.write("lines", lines(WANTED))
