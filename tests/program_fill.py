@@ -22,7 +22,7 @@ NAME = "session 7 object 1"
 NO_INFORMATION = f"{NAME} no information"
 GAP = "gap 0/1-1 missing"
 WANTED = PART + GAP  # what `part` lacks of `whole`
-MANY = 200_000  # gap lines
+MANY = 20_000  # gap lines
 
 
 class Fill(Case):
@@ -264,7 +264,7 @@ class FillLines(Case):
         partial = f"{NAME} partial missing {MANY} conflicting 0 misfit 0"
         gaps = []
         for number in range(MANY):
-            block, symbol = number >> 15, 2 * (number & 0x7FFF)
+            block, symbol = number >> 12, 2 * (number & 0xFFF)
             gaps.append(f"gap {block}/{symbol}-{symbol} missing")
         self.write("lines", lines(partial, *gaps))
         self.row("many lines", "fill -o got --gaps lines whole", 0, "entries 1")
