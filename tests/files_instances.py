@@ -203,11 +203,17 @@ class Instances(Case):
         self.assertEqual(self.tree(), {"h/1": sent[0].content, "h/2": sent[1].content})
 
     def test_conflicting_information(self) -> None:
-        """Without an MD5 nothing shows which is right."""
+        """Without an MD5 the length that the FDT has shows which is right; without that nothing."""
         file = Sent(1, text(1), "http://h/a", more={"Content-MD5": None})
         other = Sent(1, text(1, 4000), "http://h/a")
         self.journal("all", instance(7, 1, fdt([file])), file.packets(7), other.packets(7)[:1])
         answer = self.files("--list", "-o", "files", "all", status=1)
+        self.assertIn("not verified", answer.out)
+        self.assertIn("by its length, no MD5", answer.out)
+        self.assertEqual(self.tree(), {"h/a": file.content})
+        file.more.update({"Content-Length": None, "Transfer-Length": None})
+        self.journal("none", instance(7, 1, fdt([file])), file.packets(7), other.packets(7)[:1])
+        answer = self.files("--list", "-o", "others", "none", status=1)
         self.assertIn("conflicting information", answer.out)
         self.assertIn("missing 1", answer.out)
 

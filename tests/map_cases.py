@@ -161,7 +161,7 @@ class Pictures(unittest.TestCase):
 
         tracemalloc.start()
         self.addCleanup(tracemalloc.stop)
-        survey = flutejoin_survey.Survey(Program(), ["journal"], None, False)
+        survey = flutejoin_survey.Survey(Program(), ["journal"], {}, None, False)
         self.assertEqual(survey.panels["object"][0].grid.counts[1], 131072)
         self.assertLess(tracemalloc.get_traced_memory()[1], 300000)
 
@@ -176,7 +176,7 @@ class Pictures(unittest.TestCase):
 
         tracemalloc.start()
         self.addCleanup(tracemalloc.stop)
-        survey = flutejoin_survey.Survey(Program(), ["journal"], None, True)
+        survey = flutejoin_survey.Survey(Program(), ["journal"], {}, None, True)
         overview = next(survey.drawings()).panels[0].grid
         self.assertEqual(overview.counts, [25_000, 0, 0, 25_000])
         first = overview.range_words(0, 0, 1)
@@ -204,12 +204,12 @@ class Pictures(unittest.TestCase):
                         for number in range(state.gaps if take else 0):
                             take(number // 8, number % 8, number % 8, flutejoin_gaps.MISSING)
 
-        survey = flutejoin_survey.Survey(Program(), ["journal"], None, True)
+        survey = flutejoin_survey.Survey(Program(), ["journal"], {}, None, True)
         self.assertEqual(list(survey.keys), ["object 9", "object 1"])
         self.assertEqual(survey.left, (2, 0))
         self.assertEqual(len(list(survey.drawings())), 3)
         flutejoin_survey.MOST_GAPS = 0  # the first object is drawn in any case
-        survey = flutejoin_survey.Survey(Program(), ["journal"], None, True)
+        survey = flutejoin_survey.Survey(Program(), ["journal"], {}, None, True)
         self.assertEqual(list(survey.keys), ["object 9"])
 
     def test_gaps_of_what_is_not_drawn_are_passed_over(self) -> None:
