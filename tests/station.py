@@ -921,7 +921,7 @@ def too_many_at_the_centre(work: pathlib.Path, centre: pathlib.Path) -> None:
     program = work / "bin/flutejoin"
     program.unlink()
     others = "*) echo full >&2; exit 1 ;;"
-    script = f'case "$*" in gaps* | *"-o - "*) exec {PROGRAM} "$@" ;; {others} esac'
+    script = f'case "$*" in gaps* | compare* | *"-o - "*) exec {PROGRAM} "$@" ;; {others} esac'
     program.write_text(f"#!/bin/sh\n{script}\n")
     program.chmod(0o755)
     done = push(work, "sh", "-c")
@@ -941,6 +941,8 @@ def too_many_at_the_centre(work: pathlib.Path, centre: pathlib.Path) -> None:
 OF_60_ENTRIES = f"""
 import os, subprocess, sys
 words = sys.argv[1:]
+if "-o" not in words:
+    os.execv({PROGRAM!r}, [{PROGRAM!r}, *words])
 out = words.index("-o") + 1
 path, words[out] = words[out], words[out] + ".try"
 done = subprocess.run([{PROGRAM!r}, *words], stdout=subprocess.PIPE, text=True)
