@@ -258,6 +258,30 @@ fn two_journals_are_compared(rt: HostRuntime) -> Result<(), Fail> {
 }
 
 #[test]
+fn two_journals_are_compared_in_json(rt: HostRuntime) -> Result<(), Fail> {
+    let whole = bytes(rt.alloc(), journals::WHOLE)?;
+    let all = Selection::all();
+    let mut lines = MemoryAside::new(rt.alloc());
+    let mut sink = MemorySink::new(rt.alloc());
+    let style = CompareStyle {
+        check: false,
+        summary: false,
+        form: Form::Json,
+    };
+    let same = compare_from(
+        rt.alloc(),
+        &mut compare_input(MemorySource::new(&whole), all),
+        &mut compare_input(MemorySource::new(&whole), all),
+        style,
+        &mut lines,
+        &mut sink,
+    )?;
+    let line = b"{\"tsi\":7,\"toi\":\"1\",\"same\":2,".as_slice();
+    assert!(rt; same && sink.as_slice().starts_with(line));
+    Ok(())
+}
+
+#[test]
 fn a_symbol_is_forgotten(rt: HostRuntime) -> Result<(), Fail> {
     let journal = bytes(rt.alloc(), journals::WHOLE)?;
     let mut selection = Selection::all();
