@@ -39,8 +39,8 @@ _flutejoin_options() {
         merge | minus) echo '-o --any-size --force --help' ;;
         fill) echo '-o --any-size --force --gaps --only --help' ;;
         forget)
-            echo '-o --any-size --force --conflicts --source --tsi --toi --fdt --symbol --info' \
-                '--help'
+            echo '-o --any-size --force --list --conflicts --source --tsi --toi --fdt --symbol' \
+                '--info --help'
             ;;
         carousel) echo '-o --force --tsi --toi --fdt --symbol --block --help' ;;
         flutejoin) echo '--help --version' ;;

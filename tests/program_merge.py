@@ -85,6 +85,8 @@ class Forget(Case):
             ("an FDT Instance without the TOI 0", "forget -o got --fdt 3 whole", 2, "", "bad key"),
             ("of a file", "forget -o got --toi 1 --fdt 3 whole", 2, "", "bad key"),
             ("a wrong symbol before a wrong sender", both, 2, "", "bad number: --symbol"),
+            ("two lists", "forget -o got --list a --list b whole", 2, "", None),
+            ("both standard input", "forget -o got --list - -", 2, "", "standard input twice"),
         )
         self.absent("no file after a fault", "got")
 

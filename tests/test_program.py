@@ -15,6 +15,7 @@ from program_forms import CompareForms, GapsForms
 from program_gaps import GapsCheck, GapsDrawn, GapsSummary
 from program_join import Join, JoinLimits, Reasons, Symbols
 from program_json import Json, ShowSums
+from program_lists import ForgetDrawn, ForgetList
 from program_merge import Carousel, Forget, Merge
 from program_minus import Minus, MinusDrawn
 from program_only import Names, OnlyObjects, Sessions
@@ -30,7 +31,8 @@ __all__ = [
     "Packet", "Show", "ShowSums", "Json", "Gaps", "GapsCheck", "GapsSummary", "GapsDrawn", "Ranges",
     "RangesDrawn", "GapsForms", "CompareForms", "Objects", "Extract", "Info", "InfoList", "Merge",
     "Minus", "MinusDrawn", "Compare", "CompareDrawn", "Fill", "FillLines", "FillDrawn", "Forget",
-    "Carousel", "Sending", "Join", "JoinLimits", "Reasons", "Symbols", "Sessions", "Names",
+    "ForgetList", "ForgetDrawn", "Carousel",
+    "Sending", "Join", "JoinLimits", "Reasons", "Symbols", "Sessions", "Names",
     "OnlyObjects", "Sparse", "BothVersions", "Senders", "Faults", "ExtractOf", "InfoOf", "JoinOf",
     "BadSources", "Help", "Words",
 ]

@@ -2,7 +2,9 @@
 use Rattle.std.specs.Prelude.{ℕ, Bool, true, false, not, ◌&&◌, ◌||◌, ◌==◌, Option, Some, None}
 use Rattle.std.specs.Prelude.{List, filter, is_some}
 use Rattle.std.specs.List.{count_by}
+use Rattle.std.specs.BTreeSet.{BTreeSet, contains}
 use Rattle.flute_parts.specs.Addresses.{address}
+use Rattle.flute_parts.specs.Order.{key_cmp}
 use Rattle.flute_parts.specs.declared.address.Part.{Part}
 use Rattle.flute_parts.specs.declared.address.Part.TheVariants.{Info as InfoPart, Symbol}
 use Rattle.flute_parts.specs.declared.fact.Fact.{Fact}
@@ -10,6 +12,7 @@ use Rattle.flute_parts.specs.declared.fact.Fact.TheVariants.{InfoConflict, Symbo
 use Rattle.flute_parts.specs.declared.key.Key.{Key}
 use Rattle.flute_parts.specs.declared.symbol_id.SymbolId.{SymbolId}
 use Rattle.flute_streams.specs.Scopes.{is_all, takes_key}
+use Rattle.flute_streams.specs.declared.choice.selection.AllBut.{AllBut}
 use Rattle.flute_streams.specs.declared.choice.selection.Selection.{Selection}
 
 -- it is this one, or any is meant
@@ -56,14 +59,31 @@ is_everything s =
     not (is_some s.sender) && is_all s.scope && not (is_some s.symbol) && not s.info
     && not s.conflicts
 
--- a fact is not selected
-abbrev pub leaves : Selection → Fact → Bool
-leaves s fact = not (selects s fact)
+-- what is selected is left out of all objects
+abbrev pub all_but : Selection → AllBut
+all_but selection = record { selection = selection; listed = None }
 
--- the facts that are left once those that are selected are taken out
-abbrev pub left : Selection → List Fact → List Fact
-left s facts = filter (leaves s) facts
+-- the same, of these objects alone
+abbrev pub all_but_of : BTreeSet Key → Selection → AllBut
+all_but_of keys selection = record { selection = selection; listed = Some keys }
 
--- how many are selected
-abbrev pub selected_in : Selection → List Fact → ℕ
-selected_in s facts = count_by (selects s) facts
+-- the object is listed, or there is no list
+abbrev pub is_listed : Option (BTreeSet Key) → Key → Bool
+is_listed None key = true
+is_listed (Some keys) key = contains key_cmp keys key
+
+-- a fact is left out: it is selected, and its object listed
+abbrev pub leaves_out : AllBut → Fact → Bool
+leaves_out rest fact = is_listed rest.listed (address fact).key && selects rest.selection fact
+
+-- a fact is left
+abbrev pub leaves : AllBut → Fact → Bool
+leaves rest fact = not (leaves_out rest fact)
+
+-- the facts that are left once others are taken out
+abbrev pub left : AllBut → List Fact → List Fact
+left rest facts = filter (leaves rest) facts
+
+-- how many are taken out
+abbrev pub left_out_in : AllBut → List Fact → ℕ
+left_out_in rest facts = count_by (leaves_out rest) facts

@@ -12,7 +12,7 @@ use Rattle.flute_journal.specs.Journal.{IsJournalWithin}
 use Rattle.flute_journal.specs.JournalWriters.{WritesJournal}
 use Rattle.flute_streams.specs.OneStream.{WritesAll, WritesPart}
 use Rattle.flute_streams.specs.OwnedStreams.{left_in, owned_behaviour, owned_limit}
-use Rattle.flute_streams.specs.Selections.{left, leaves, selects}
+use Rattle.flute_streams.specs.Selections.{left, leaves, leaves_out}
 use Rattle.flute_streams.specs.Streams.{Behaviour}
 use Rattle.flute_streams.specs.declared.choice.selection.AllBut.{AllBut}
 use Rattle.flutejoin.specs.Forget.{Forgets, ForgetsPart, IsForgetful}
@@ -31,19 +31,19 @@ not_left p facts = search rules
 module _ {R : Type 0} (unread : R → Option (List ℕ)) (buffered : R → List ℕ)
     (failures : R → ℕ) where
   abbrev rests : Behaviour (Chosen (OwnedJournalStream R) AllBut)
-  rests = chosen_behaviour (λ c. leaves c.0) (owned_behaviour unread buffered failures)
+  rests = chosen_behaviour leaves (owned_behaviour unread buffered failures)
 
   module _ (s t : Chosen (OwnedJournalStream R) AllBut)
       (limit : owned_limit s.stream ≡ MAX_ENTRIES) where
     journal_of : (input : Option (List ℕ)) (all : List Fact) → s.others ≡ 0 → (s.others + others_of
-        (leaves s.choice.0) all < 2 ^ 64 → t.others ≡ s.others + others_of (leaves s.choice.0) all)
+        (leaves s.choice) all < 2 ^ 64 → t.others ≡ s.others + others_of (leaves s.choice) all)
         → IfSome input (λ bytes. IsJournalWithin (owned_limit s.stream) bytes all) → IfSome input
-        (IsForgetful s.choice.0 t.others all)
+        (IsForgetful s.choice t.others all)
     journal_of None all none counts is = tt
     journal_of (Some bytes) all none counts is =
         let within : IsJournalWithin MAX_ENTRIES bytes all = search rules in
-        let few = count_by-le-length (λ f. not (leaves s.choice.0 f)) all in
-        let same = not_left (selects s.choice.0) all in
+        let few = count_by-le-length (λ f. not (leaves s.choice f)) all in
+        let same = not_left (leaves_out s.choice) all in
         let count = counts (omega (arith, none, few, within.are_items.few)) in
         (within, omega (arith, count, none, same))
 
@@ -51,17 +51,17 @@ module _ {R : Type 0} (unread : R → Option (List ℕ)) (buffered : R → List 
       (limit : owned_limit s.stream ≡ MAX_ENTRIES) {old new : Option (List ℕ)} where
     pub forgets : {t : Chosen (OwnedJournalStream R) AllBut} {count : ℕ} → s.others ≡ 0
         → WritesAll rests s t old new count
-        → Forgets s.choice.0 (record { forgotten = t.others; entries = count })
+        → Forgets s.choice (record { forgotten = t.others; entries = count })
         (left_in unread buffered s.stream) old new
     forgets {t = t} {count = count} none w = search (rules, journal_of)
 
     pub forgets_part : WritesPart rests s old new
-        → ForgetsPart s.choice.0 (left_in unread buffered s.stream) old new
+        → ForgetsPart s.choice (left_in unread buffered s.stream) old new
     forgets_part p = record {
       bytes = p.bytes;
       appended = p.appended;
       no_journal = p.no_journal;
-      prefix = λ journal whole entries is within writes. p.prefix (left s.choice.0 entries) (
+      prefix = λ journal whole entries is within writes. p.prefix (left s.choice entries) (
         entries,
         record {
           version = within.are_items.told;

@@ -13,9 +13,9 @@ use Rattle.flute_parts.specs.declared.address.Address.{Address}
 use Rattle.flute_parts.specs.declared.fact.Fact.{Fact}
 use Rattle.flute_parts.proofs.Public.{rising_unique}
 use Rattle.flute_journal.specs.Journal.{IsJournalWithin, Journal}
-use Rattle.flute_streams.specs.Selections.{left, leaves, selected_in, selects}
+use Rattle.flute_streams.specs.Selections.{left, leaves, leaves_out, left_out_in}
 use Rattle.flute_journal.specs.declared.format.version.Version.TheVariants.{Two}
-use Rattle.flute_streams.specs.declared.choice.selection.Selection.{Selection}
+use Rattle.flute_streams.specs.declared.choice.selection.AllBut.{AllBut}
 use Rattle.flutejoin.specs.Laws.{Leaves}
 use Rattle.flutejoin.specs.declared.forget.ForgetCounts.{ForgetCounts}
 use Rattle.flutejoin.specs.declared.limits.TheConstants.{MAX_ENTRIES}
@@ -44,14 +44,14 @@ none_selected : (p : Fact → Bool) (facts : List Fact)
 none_selected p [] = refl
 none_selected p (f ∷ facts) = search (rules, none_selected p facts)
 
-left_of_none : (s : Selection) (facts : List Fact) → selected_in s facts ≡ 0 → left s facts ≡ facts
-left_of_none s facts none = none_left (selects s) facts (length-filter (selects s) facts ∙ none)
+left_of_none : (s : AllBut) (facts : List Fact) → left_out_in s facts ≡ 0 → left s facts ≡ facts
+left_of_none s facts none = none_left (leaves_out s) facts (length-filter (leaves_out s) facts ∙ none)
 
-none_in_left : (s : Selection) (facts : List Fact) → selected_in s (left s facts) ≡ 0
+none_in_left : (s : AllBut) (facts : List Fact) → left_out_in s (left s facts) ≡ 0
 none_in_left s facts =
-    sym (length-filter (selects s) (left s facts)) ∙ ap length (none_selected (selects s) facts)
+    sym (length-filter (leaves_out s) (left s facts)) ∙ ap length (none_selected (leaves_out s) facts)
 
-module _ (s : Selection) (bytes written : List ℕ) (counts : ForgetCounts)
+module _ (s : AllBut) (bytes written : List ℕ) (counts : ForgetCounts)
     (h : Leaves s bytes written counts) where
   abbrev pub entries_of : List Fact
   entries_of = h.1.entries
@@ -59,7 +59,7 @@ module _ (s : Selection) (bytes written : List ℕ) (counts : ForgetCounts)
   pub within_of : IsJournalWithin MAX_ENTRIES bytes entries_of
   within_of = h.1.journal.0
 
-  pub count_of : counts.forgotten ≡ selected_in s entries_of
+  pub count_of : counts.forgotten ≡ left_out_in s entries_of
   count_of = h.1.journal.1
 
   pub journal_left : Journal written (left s entries_of)
@@ -68,7 +68,7 @@ module _ (s : Selection) (bytes written : List ℕ) (counts : ForgetCounts)
       h.1.writes.appended in subst (λ l. Journal l (left s entries_of)) (sym is) h.1.writes.journal
 
 -- with nothing to forget the journal is the same
-pub none_forgotten : (s : Selection) (bytes written : List ℕ) (counts : ForgetCounts)
+pub none_forgotten : (s : AllBut) (bytes written : List ℕ) (counts : ForgetCounts)
     (facts : List Fact) → Leaves s bytes written counts → counts.forgotten ≡ 0
     → Journal bytes facts → written ≡ bytes
 none_forgotten s bytes written counts facts h none journal =
@@ -81,7 +81,7 @@ none_forgotten s bytes written counts facts h none journal =
     journal
 
 -- what is left is left again
-pub forgotten_twice : (s : Selection) (bytes once twice : List ℕ) (counts again : ForgetCounts) →
+pub forgotten_twice : (s : AllBut) (bytes once twice : List ℕ) (counts again : ForgetCounts) →
     Leaves s bytes once counts → Leaves s once twice again → (again.forgotten ≡ 0) × (twice ≡ once)
 forgotten_twice s bytes once twice counts again h k =
     let E = entries_of s bytes once counts h in
@@ -92,5 +92,5 @@ forgotten_twice s bytes once twice counts again h k =
     (IsJournal-from_within once F within) (Two, journal) in
     let one : F ≡ left s E = rising_unique F (left s E) within.are_items.in_order
     (rising_left (leaves s) E (within_of s bytes once counts h).are_items.in_order) same in
-    let none : again.forgotten ≡ 0 = count_of s once twice again k ∙ ap (selected_in s) one ∙
+    let none : again.forgotten ≡ 0 = count_of s once twice again k ∙ ap (left_out_in s) one ∙
     none_in_left s E in (none, none_forgotten s once twice again (left s E) k none journal)

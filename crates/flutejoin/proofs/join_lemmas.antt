@@ -9,4 +9,5 @@ pub mod InputStreams
 pub mod JoinStreams
 pub mod JoinStops
 pub mod JoinTrees
+pub mod ForgetJoins
 pub mod MinusJoins

@@ -19,7 +19,7 @@ use Rattle.flute_store.specs.declared.gap.Reason.TheVariants.{Missing}
 use Rattle.flute_store.specs.declared.status.Status.{Status}
 use Rattle.flute_store.specs.declared.status.Status.TheVariants.{ConflictingInformation}
 use Rattle.flute_store.specs.declared.status.Status.TheVariants.{NoInformation, Partial, Whole}
-use Rattle.flutejoin.specs.InformationLines.{IsOneLine}
+use Rattle.flutejoin.specs.ListedLines.{HasNoEnd, IsOneLine}
 use Rattle.flutejoin.specs.Lines.{gap_line, line, status_line}
 use Rattle.flutejoin.specs.declared.fill.asking.Asking.{Asking}
 use Rattle.flutejoin.specs.declared.fill.asking.Asking.TheVariants.{All as AskAll, Only}
@@ -153,15 +153,6 @@ pub record ListsUpTo (bytes : List ℕ) (number : ℕ) (lines : List ListedLine)
   pub text : bytes ≡ flat_map text_of lines ++ rest
   pub in_order : AreInOrder None lines
   pub number_is : number ≡ length lines + 1
-
--- bytes begin with some that no line feed ends: all of them, or more than 512
-pub record HasNoEnd (bytes : List ℕ) : Type 0 where
-  pub words : List ℕ
-  pub rest : List ℕ
-  pub bytes_are : bytes ≡ words ++ rest
-  pub one_line : IsOneLine words
-  pub some : 0 < length words
-  pub long : (rest ≡ []) ⊎ (512 < length words)
 
 -- the line with this number is the first that `gaps` cannot print there; more than 2^64 - 1 lines
 -- are not read

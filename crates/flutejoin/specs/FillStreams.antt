@@ -14,11 +14,12 @@ use Rattle.flute_parts.specs.declared.key.Key.{Key}
 use Rattle.flute_journal.specs.declared.fault.LoadFault.{LoadFault}
 use Rattle.flute_store.specs.declared.status.Status.{Status}
 use Rattle.flute_streams.specs.Streams.{Behaviour, Gave, address_of, option_list}
-use Rattle.flutejoin.specs.FillLists.{AreInOrder, HasNoEnd, IsBadLine, IsListed, IsListing}
+use Rattle.flutejoin.specs.FillLists.{AreInOrder, IsBadLine, IsListed, IsListing}
+use Rattle.flutejoin.specs.ListedLines.{HasNoEnd}
 use Rattle.flutejoin.specs.FillLists.{MayCome, asked, ends}
 use Rattle.flutejoin.specs.FillLists.{is_missing_by, is_missing_in, object_of, status_in, text_of}
 use Rattle.flutejoin.specs.FillLists.{last_of, wants}
-use Rattle.flutejoin.specs.InformationLines.{IsOneLine}
+use Rattle.flutejoin.specs.ListedLines.{IsOneLine}
 use Rattle.flutejoin.specs.Lines.{line}
 use Rattle.flutejoin.specs.declared.fill.asking.Asking.{Asking}
 use Rattle.flutejoin.specs.declared.fill.filled.Filled.{Filled}
@@ -34,8 +35,8 @@ use Rattle.flutejoin.specs.declared.fill.gap_list.ListedObject.{ListedObject}
 use Rattle.flutejoin.specs.declared.fill.listed_line.ListedLine.{ListedLine}
 use Rattle.flutejoin.specs.declared.fill.listed_line.ListedLine.TheVariants.{Object as ObjectLine}
 use Rattle.flutejoin.specs.declared.fill.listed_line.ListedLine.TheVariants.{Gap as GapLine}
-use Rattle.flutejoin.specs.declared.fill.next_words.WordsFault.{WordsFault}
-use Rattle.flutejoin.specs.declared.fill.next_words.WordsFault.TheVariants.{Read, NoEnd}
+use Rattle.flutejoin.specs.declared.lines.next_words.WordsFault.{WordsFault}
+use Rattle.flutejoin.specs.declared.lines.next_words.WordsFault.TheVariants.{Read, NoEnd}
 use Rattle.flutejoin.specs.declared.lines.text.Text.{Text}
 
 -- ---- lines of a source
@@ -46,7 +47,8 @@ GivesWords old new None = IfSome old (λ bytes. bytes ≡ []) × Consumes old ne
 GivesWords old new (Some words) = IsOneLine words × Consumes old new (line words)
 
 -- these are the next bytes of a line, of which these came before; whether it has ended
-pub record TakesWords (old new : Option (List ℕ)) (before now : List ℕ) (ended : Bool) : Type 0 where
+pub record TakesWords (old new : Option (List ℕ)) (before now : List ℕ)
+    (ended : Bool) : Type 0 where
   pub words : List ℕ
   pub now_is : now ≡ before ++ words
   pub one_line : IsOneLine words
@@ -268,7 +270,8 @@ module _ {S R : Type 0} (a : Behaviour S) (unread : R → Option (List ℕ)) (fa
     reads = λ start now facts. ⊤;
     fails = FilledFails;
     ends = λ start now facts.
-        AskedOf start.asking (a.ends start.facts now.facts) (AreOf (unread start.list.source)) facts;
+        AskedOf start.asking (a.ends start.facts now.facts) (AreOf (unread start.list.source))
+        facts;
   }
 
   -- it let go of what it held, and the facts and the lines went on since

@@ -6,7 +6,8 @@ use Rattle.flute_streams.specs.Streams.{Behaviour, IsNew}
 use Rattle.flute_journal.specs.declared.fault.LoadFault.{LoadFault}
 use Rattle.flute_journal.specs.declared.fault.ReadFault.TheVariants.{Read}
 use Rattle.flutejoin.specs.Info.{AddsFacts, InfoFails}
-use Rattle.flutejoin.specs.InformationLines.{ListTells, ListFails}
+use Rattle.flutejoin.specs.InformationLines.{LineTells, ListFails}
+use Rattle.flutejoin.specs.ListedLines.{ListTells}
 use Rattle.flutejoin.specs.Limits.{Limits}
 use Rattle.flutejoin.specs.declared.command_fault.CommandFault.{CommandFault}
 use Rattle.flutejoin.specs.declared.command_fault.CommandFault.TheVariants.{Input}
@@ -16,7 +17,7 @@ use Rattle.flutejoin.specs.declared.command_fault.CommandFault.TheVariants.{Inpu
 abbrev pub AddsList : Option (List ℕ) → Option (List ℕ) → ℕ → Option (List ℕ)
     → Option (List ℕ) → Type 0
 AddsList input list count old new =
-    IfSome list (λ text. (facts : List Fact) × ListTells text facts
+    IfSome list (λ text. (facts : List Fact) × ListTells LineTells text facts
     × AddsFacts input facts old new count)
 
 -- why it was not: the list's fault, or its source failed; or the list contains some facts, and they
@@ -25,7 +26,7 @@ pub data AddListFails (most : Limits) (input list : Option (List ℕ))
     (fault : CommandFault) : Type 0 where
   of_list : IfSome list (λ text. ListFails most text fault) → AddListFails most input list fault
   of_source : fault ≡ Input 2 Read → AddListFails most input list fault
-  of_facts : IfSome list (λ text. (facts : List Fact) × ListTells text facts
+  of_facts : IfSome list (λ text. (facts : List Fact) × ListTells LineTells text facts
       × InfoFails most input facts fault) → AddListFails most input list fault
 
 -- Streams of facts in memory.

@@ -29,6 +29,8 @@ pub mod Digits
 pub mod Examples
 pub mod Merge
 pub mod Minus
+pub mod ListedLines
+pub mod KeyLists
 pub mod FillLists
 pub mod FillStreams
 pub mod Fill

@@ -18,8 +18,8 @@ use Rattle.flutejoin.specs.declared.lines.form.Form.{Form}
 use Rattle.flutejoin.specs.declared.lines.form.Form.TheVariants.{Plain, Json}
 use Rattle.flutejoin.specs.declared.lines.style.Style.{Style}
 
--- 75 bytes in two blocks of 4 symbols of 10 bytes; the last has 5. The last two symbols of the first
--- block and the first of the second are wanted, and the last
+-- 75 bytes in two blocks of 4 symbols of 10 bytes; the last has 5. The last two symbols of the
+-- first block and the first of the second are wanted, and the last
 abbrev partial : Told
 partial = record {
   key = record { session = session 0 7; object = File 2 };

@@ -12,7 +12,8 @@ use Rattle.flutejoin.specs.declared.compare.compare_sums.CompareSums.{CompareSum
 use Rattle.flutejoin.specs.declared.lines.form.Form.{Form}
 
 -- the lines of all sessions but the last, which has these sums
-pub record AreSummed (form : Form) (rows : List Row) (lines : List ℕ) (sums : CompareSums) : Type 0 where
+pub record AreSummed (form : Form) (rows : List Row) (lines : List ℕ)
+    (sums : CompareSums) : Type 0 where
   pub before : List Row
   pub first : Row
   pub others : List Row

@@ -9,7 +9,6 @@ pub(crate) mod asking;
 pub(crate) mod filled;
 pub(crate) mod gap_list;
 pub(crate) mod listed_line;
-pub(crate) mod next_words;
 pub(crate) mod reading_lines;
 
 use crate::command_fault::{CommandFault, load_fault};

@@ -1,9 +1,12 @@
 //! The command `forget`: entries that are taken out of a journal.
 ghost use Rattle.std.specs.Prelude.{◌≡◌, ◌+◌, IfOk, IfErr};
+ghost use Rattle.flute_streams.specs.Selections.{all_but};
 ghost use Rattle.flutejoin.specs.Forget.{Forgets, ForgetsPart, ForgetFails};
 ghost use Rattle.flutejoin.specs.Packet.{write_failures};
 ghost use Rattle.flutejoin.specs.Show.{FailsToRead};
 ghost use Rattle.flutejoin.specs.declared.limits.TheConstants.{MAX_ENTRIES};
+
+pub(crate) mod forget_list;
 
 use crate::command_fault::{CommandFault, load_fault};
 use crate::limits::MAX_ENTRIES;
@@ -21,19 +24,26 @@ pub struct ForgetCounts {
     pub entries: u64,
 }
 
-/// The journal that a source has left, of which this is to be forgotten. Nothing of it is read yet.
+/// The journal that a source has left, of which this is to be forgotten, of all objects. Nothing of
+/// it is read yet.
 pub fn forget_input<R: Source>(source: R, selection: Selection) -> ForgetInput<R>
     ensures source { result.stream.source ≡ source }
-    ensures selection { result.choice.0 ≡ selection }
+    ensures choice { result.choice ≡ all_but selection }
 {
     let journal = OwnedJournalStream::new(source, MAX_ENTRIES);
-    Chosen::new(journal, AllBut(selection))
+    Chosen::new(
+        journal,
+        AllBut {
+            selection,
+            listed: None,
+        },
+    )
 }
 
-/// Writes the journal of the entries of a journal, of at most 16,777,216, that are not selected,
-/// and returns how many are and how many are not. The journal is what the input's source has left.
-/// One entry is held. This is no join: what is forgotten comes back with the next input of a join
-/// that has it.
+/// Writes the journal of the entries of a journal, of at most 16,777,216, that are not selected, or
+/// not of a listed object, and returns how many are both and how many are not. The journal is what
+/// the input's source has left. One entry is held. This is no join: what is forgotten comes back
+/// with the next input of a join that has it.
 ///
 /// # Errors
 ///
@@ -44,9 +54,9 @@ pub fn forget_to<R: Source, W: Sink>(
     input: &mut ForgetInput<R>,
     sink: &mut W,
 ) -> Result<ForgetCounts, CommandFault>
-    ensures forgot { IfOk result (λ counts. Forgets input.old.choice.0 counts
+    ensures forgot { IfOk result (λ counts. Forgets input.old.choice counts
         (R.unread input.old.stream.source) (W.written sink.old) (W.written sink.new)) }
-    ensures short { IfErr result (λ _. ForgetsPart input.old.choice.0
+    ensures short { IfErr result (λ _. ForgetsPart input.old.choice
         (R.unread input.old.stream.source) (W.written sink.old) (W.written sink.new)) }
     ensures failed { IfErr result (ForgetFails (R.unread input.old.stream.source)) }
     ensures read_failures { FailsToRead (R.failures input.old.stream.source)

@@ -6,10 +6,11 @@ ghost use Rattle.flute_parts.specs.declared.key.Key.{Key};
 ghost use Rattle.flute_journal.specs.Journal.{Journal, IsJournal};
 ghost use Rattle.flute_journal.specs.Stores.{IsJournalOf};
 ghost use Rattle.flutejoin.specs.FillLists.{IsListing, asked};
-ghost use Rattle.flutejoin.specs.Laws.{HaveTheRest, IsAnswer, IsMinus, Leaves};
+ghost use Rattle.flutejoin.specs.Laws.{AreLeft, HaveTheRest, IsAnswer};
+ghost use Rattle.flutejoin.specs.Laws.{IsMinus, IsOfObjects, Leaves};
 ghost use Rattle.flutejoin.specs.Joined.{Choice, InputContent, TellAll, content_facts};
 ghost use Rattle.flutejoin.specs.JoinTrees.{Joined, Inputs, AreMade, bytes_of, leaf_facts};
-ghost use Rattle.flute_streams.specs.declared.choice.selection.Selection.{Selection as Selecting};
+ghost use Rattle.flute_streams.specs.declared.choice.selection.AllBut.{AllBut as Rest};
 ghost use Rattle.flutejoin.specs.declared.fill.asking.Asking.{Asking as AskingValue};
 ghost use Rattle.flutejoin.specs.declared.fill.listed_line.ListedLine.{ListedLine as LineValue};
 ghost use Rattle.flutejoin.specs.declared.forget.ForgetCounts.{ForgetCounts as Counts};
@@ -23,13 +24,25 @@ use flute_streams::laws::minus_is_what_a_join_needs;
 /// - `none`: if none was forgotten, a journal of the newest version stays the same, byte for byte.
 /// - `twice`: forgetting the same again forgets nothing, and writes the same bytes.
 pub fn forgetting_leaves_the_rest()
-    ensures none { (selection : Selecting) (bytes written : List ℕ) (counts : Counts)
-        (facts : List Known) → Leaves selection bytes written counts → counts.forgotten ≡ 0
+    ensures none { (rest : Rest) (bytes written : List ℕ) (counts : Counts)
+        (facts : List Known) → Leaves rest bytes written counts → counts.forgotten ≡ 0
         → Journal bytes facts → written ≡ bytes }
-    ensures twice { (selection : Selecting) (bytes once twice : List ℕ) (counts again : Counts)
-        → Leaves selection bytes once counts → Leaves selection once twice again
+    ensures twice { (rest : Rest) (bytes once twice : List ℕ) (counts again : Counts)
+        → Leaves rest bytes once counts → Leaves rest once twice again
         → (again.forgotten ≡ 0) × (twice ≡ once) }
 {}
+
+/// Objects are taken out before a join or after it: what is written is the same, byte for byte, of
+/// any journals, whatever objects the join takes.
+pub fn forgetting_objects_commutes_with_a_join()
+    ensures { (choice : Choice) (rest : Rest) (journals written : List (List ℕ))
+        (bs cs ds : List ℕ) (counts : Counts) → IsOfObjects rest
+        → AreLeft rest journals written → Joined choice written bs → Joined choice journals cs
+        → Leaves rest cs ds counts → bs ≡ ds }
+{
+    // By this the proof knows that a datagram file contains one list of datagrams.
+    bytes_are_a_file_or_stop();
+}
 
 /// Joins of inputs with the same facts write equal bytes, in whatever order, however often and in
 /// whatever groups the facts come.

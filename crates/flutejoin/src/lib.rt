@@ -53,6 +53,7 @@ pub use extract::file_names::{different_objects_have_different_names, file_name}
 pub use extract::picked::Picked;
 pub use fill::asking::Asking;
 pub use fill::{FillInput, fill_input, fill_to};
+pub use forget::forget_list::forget_list_to;
 pub use forget::{ForgetCounts, ForgetInput, forget_input, forget_to};
 pub use gaps::gaps_from;
 pub use gaps::held_lines::{gap_text, status_text};

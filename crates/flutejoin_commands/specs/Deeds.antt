@@ -10,6 +10,7 @@ use Rattle.flutejoin_commands.specs.Named.{AddListOfNamesFails, AddToNameFails}
 use Rattle.flutejoin_commands.specs.Named.{AddsListOfNames, AddsToName, ExtractOfNameFails}
 use Rattle.flutejoin_commands.specs.Named.{FillOfNamesFails, FillsOfNames}
 use Rattle.flutejoin_commands.specs.Named.{ForgetsInName, ForgetInNameFails}
+use Rattle.flutejoin_commands.specs.Named.{ForgetListOfNamesFails, ForgetsListOfNames}
 use Rattle.flutejoin_commands.specs.Named.{HoldsOfName, JoinsNames, JoinNamesFails}
 use Rattle.flutejoin_commands.specs.Named.{MergesNames, MergeNamesFails, MinusOfNames}
 use Rattle.flutejoin_commands.specs.Named.{MinusOfNamesFails, SendsName, SendNameFails}
@@ -27,6 +28,7 @@ use Rattle.flutejoin_line.specs.declared.extract_line.ExtractAllLine.{ExtractAll
 use Rattle.flutejoin_line.specs.declared.extract_line.ExtractLine.{ExtractLine}
 use Rattle.flutejoin_line.specs.declared.fill_line.FillLine.{FillLine}
 use Rattle.flutejoin_line.specs.declared.forget_line.ForgetLine.{ForgetLine}
+use Rattle.flutejoin_line.specs.declared.forget_line.ForgetListLine.{ForgetListLine}
 use Rattle.flutejoin_line.specs.declared.gaps_line.GapsLine.{GapsLine}
 use Rattle.flutejoin_line.specs.declared.info_line.InfoLine.{InfoLine}
 use Rattle.flutejoin_line.specs.declared.info_line.InfoListLine.{InfoListLine}
@@ -99,6 +101,11 @@ adds_list line = plain {A = ℕ} (λ files. AddsListOfNames files line.j.now lin
 abbrev pub forgets : ForgetLine → Deed
 forgets line = plain {A = ForgetCounts} (λ files. ForgetsInName files line.j.now line.selection)
     (λ files. ForgetInNameFails files line.j.now) forget_lines
+
+abbrev pub forgets_list : ForgetListLine → Deed
+forgets_list line = plain {A = ForgetCounts}
+    (λ files. ForgetsListOfNames files line.inputs.j.now line.inputs.list.now line.selection)
+    (λ files. ForgetListOfNamesFails files line.inputs.j.now line.inputs.list.now) forget_lines
 
 abbrev pub extracts : ExtractLine → Deed
 extracts line = record {

@@ -7,7 +7,8 @@ use Rattle.flute_streams.specs.declared.choice.selection.Selection.{Selection}
 use Rattle.flute_parts.specs.Information.{Information}
 use Rattle.flute_parts.specs.declared.key.Key.{Key}
 use Rattle.flutejoin.specs.Fill.{FillFails, WritesFill}
-use Rattle.flutejoin.specs.Forget.{ForgetFails}
+use Rattle.flute_streams.specs.Selections.{all_but}
+use Rattle.flutejoin.specs.Forget.{ForgetFails, ForgetListFails, ForgetsListed}
 use Rattle.flutejoin.specs.JoinFaults.{NamesOneOf}
 use Rattle.flutejoin.specs.declared.fill.asking.Asking.{Asking}
 use Rattle.flutejoin.specs.declared.forget.ForgetCounts.{ForgetCounts}
@@ -121,11 +122,22 @@ module _ (files : Option Files) where
   abbrev pub ForgetsInName : List ℕ → Selection → ForgetCounts → Option (List ℕ)
       → Option (List ℕ) → Type 0
   ForgetsInName j selection counts old new =
-      IfFiles files (λ f. ForgetsIn (f j) selection counts old new)
+      IfFiles files (λ f. ForgetsIn (f j) (all_but selection) counts old new)
 
   abbrev pub ForgetInNameFails : List ℕ → CommandFault → Type 0
   ForgetInNameFails j fault =
       IsBefore files (j ∷ []) fault ⊎ IfFiles files (λ f. ForgetFails (f j) fault)
+
+  -- the same of the objects that the file of another name lists
+  abbrev pub ForgetsListOfNames : List ℕ → List ℕ → Selection → ForgetCounts → Option (List ℕ)
+      → Option (List ℕ) → Type 0
+  ForgetsListOfNames j list selection counts old new =
+      IfFiles files (λ f. ForgetsListed selection (f list) (f j) counts old new)
+
+  abbrev pub ForgetListOfNamesFails : List ℕ → List ℕ → CommandFault → Type 0
+  ForgetListOfNamesFails j list fault =
+      IsBefore files (j ∷ list ∷ []) fault
+      ⊎ IfFiles files (λ f. ForgetListFails (f list) (f j) fault)
 
   -- the journal of all that the file of one name contains and of the list that another has
   abbrev pub AddsListOfNames : List ℕ → List ℕ → ℕ → Option (List ℕ)

@@ -10,7 +10,7 @@ use Rattle.flute_parts.specs.declared.key.Key.{Key}
 use Rattle.flute_streams.specs.Merges.{Merged}
 use Rattle.flute_streams.specs.Scopes.{is_all}
 use Rattle.flute_streams.specs.declared.choice.scope.Scope.{Scope}
-use Rattle.flute_streams.specs.declared.choice.selection.Selection.{Selection}
+use Rattle.flute_streams.specs.declared.choice.selection.AllBut.{AllBut}
 use Rattle.flutejoin.specs.Carousel.{SendFails, SendsInput}
 use Rattle.flutejoin.specs.Extract.{AnswersFrom, Extracts}
 use Rattle.flutejoin.specs.Forget.{Forgets}
@@ -55,10 +55,10 @@ abbrev pub forget_lines : ForgetCounts → List ℕ
 forget_lines counts =
     count_line (codes "forgotten") counts.forgotten ++ count_line (codes "entries") counts.entries
 
--- what a journal is without what is selected
-abbrev pub ForgetsIn : Option (List ℕ) → Selection → ForgetCounts → Option (List ℕ)
+-- what a journal is without what is left out
+abbrev pub ForgetsIn : Option (List ℕ) → AllBut → ForgetCounts → Option (List ℕ)
     → Option (List ℕ) → Type 0
-ForgetsIn input selection counts old new = Forgets selection counts input old new
+ForgetsIn input rest counts old new = Forgets rest counts input old new
 
 module _ {X : Type 0} (count : X → ℕ)
     (writes : X → Option (List ℕ) → Option (List ℕ) → Type 0) where

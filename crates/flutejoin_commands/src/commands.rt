@@ -3,7 +3,8 @@ ghost use Rattle.std.specs.Prelude.{◌≡◌, OnOk, IfOk, IfErr};
 ghost use Rattle.flutejoin_commands.specs.Closings.{ClosesWhole};
 ghost use Rattle.flutejoin_commands.specs.Deeds.{IsDone, IsNotDone, adds, adds_list, extracts};
 ghost use Rattle.flutejoin_commands.specs.Deeds.{joins, merges, sends};
-ghost use Rattle.flutejoin_commands.specs.Named.{ForgetInNameFails, ForgetsInName, MeasureFails};
+ghost use Rattle.flutejoin_commands.specs.Named.{ForgetInNameFails, ForgetListOfNamesFails};
+ghost use Rattle.flutejoin_commands.specs.Named.{ForgetsInName, ForgetsListOfNames, MeasureFails};
 ghost use Rattle.flutejoin_commands.specs.Works.{forget_lines};
 ghost use Rattle.flutejoin_commands.specs.Worlds.{FailsToLeave, IsAgain, Leaves, Spares, outside};
 
@@ -12,7 +13,7 @@ use crate::adding_list::InfoListWork;
 use crate::beginning::{begin, begin_join, begin_with_list, begin_with_two};
 use crate::delivery::Delivery;
 use crate::extracting::ExtractWork;
-use crate::forgetting::ForgetWork;
+use crate::forgetting::{ForgetListWork, ForgetWork};
 use crate::joining::JoinWork;
 use crate::leaving::leave;
 use crate::merging::MergeWork;
@@ -24,7 +25,7 @@ use flute_parts::Sink;
 use flute_streams::Selection;
 use flutejoin::{Asides, CommandFault, forget_input, is_too_large, put_aside};
 use flutejoin_line::{
-    CarouselLine, ExtractLine, InfoLine, InfoListLine, JoinLine, MergeLine, Target,
+    CarouselLine, ExtractLine, InfoLine, InfoListLine, JoinLine, ListedInputs, MergeLine, Target,
 };
 use std::alloc::Global;
 
@@ -243,6 +244,54 @@ pub fn forget<W: World, O: Outlet, E: Sink>(
     let source = begin(world, target, j)?;
     let input = forget_input(source, selection);
     let work = ForgetWork { alloc, input };
+    leave(
+        world,
+        target,
+        work,
+        Delivery::AtOnce(IfNoOutput::Try),
+        output,
+        errors,
+    )
+}
+
+/// Takes the entries that are selected, of the objects in a list, out of a journal, both of these
+/// names, and prints how many were and how many were not.
+///
+/// # Errors
+///
+/// The first input that is not opened, the journal or the list; why OUT is not overwritten; then
+/// those of [`forget_list_to`](flutejoin::forget_list_to), of the output and of printing, as
+/// [`leave`] says.
+pub fn forget_list<W: World, O: Outlet, E: Sink>(
+    world: &mut W,
+    alloc: Global,
+    target: Target<'_>,
+    selection: Selection,
+    inputs: ListedInputs<'_>,
+    output: &mut O,
+    errors: &mut E,
+) -> Result<(), CommandFault>
+    ensures forgot { OnOk result (Leaves
+        (ForgetsListOfNames (W.files world.old) inputs.entry.j.now inputs.entry.list.now selection)
+        (ForgetsListOfNames (W.files world.old) inputs.entry.j.now inputs.entry.list.now selection)
+        forget_lines target.entry.out.now
+        (outside (W.files world.old) (O.written output.old) (E.written errors.old))
+        (outside (W.files world.new) (O.written output.new) (E.written errors.new))) }
+    ensures handed_on { OnOk result (O.handed_on output.new ≡ O.written output.new) }
+    ensures spared { Spares target.entry.overwrites target.entry.out.now
+        (W.files world.old) (W.files world.new) }
+    ensures any_moment { ClosesWhole target.entry.out.now (W.files world.old)
+        (W.closed world.old) (W.closed world.new) }
+    ensures failed { IfErr result (FailsToLeave
+        (ForgetsListOfNames (W.files world.old) inputs.entry.j.now inputs.entry.list.now selection)
+        (ForgetListOfNamesFails (W.files world.old) inputs.entry.j.now inputs.entry.list.now)
+        target.entry.out.now
+        (outside (W.files world.old) (O.written output.old) (E.written errors.old))
+        (outside (W.files world.new) (O.written output.new) (E.written errors.new))) }
+{
+    let (source, list) = begin_with_list(world, target, inputs.j, inputs.list)?;
+    let input = forget_input(source, selection);
+    let work = ForgetListWork { alloc, input, list };
     leave(
         world,
         target,

@@ -6,8 +6,8 @@
 //! [`open_inputs`] opens inputs by their names.
 //!
 //! Where an output is at a name, [`leave`] does one of these with what the name leads to, in a
-//! [`World`]; [`join`], [`merge`], [`minus`], [`info`], [`extract`], [`carousel`], [`show`], [`gaps`],
-//! [`compare`] and [`extract_all`] take a line of words alone, as
+//! [`World`]; [`join`], [`merge`], [`minus`], [`info`], [`extract`], [`carousel`], [`show`],
+//! [`gaps`], [`compare`] and [`extract_all`] take a line of words alone, as
 //! [`JoinLine`](flutejoin_line::JoinLine).
 //!
 //! Two journals, merged (from `commands.rt`):
@@ -60,7 +60,7 @@ mod world;
 
 pub use adding::InfoWork;
 pub use adding_list::InfoListWork;
-pub use commands::{carousel, extract, forget, info, info_list, join, merge};
+pub use commands::{carousel, extract, forget, forget_list, info, info_list, join, merge};
 pub use comparing::compare_on;
 pub use delivery::Delivery;
 pub use extracting::ExtractWork;

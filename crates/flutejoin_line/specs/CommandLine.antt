@@ -36,6 +36,7 @@ use Rattle.flutejoin_line.specs.declared.extract_line.ExtractAllLine.{ExtractAll
 use Rattle.flutejoin_line.specs.declared.extract_line.ExtractLine.{ExtractLine}
 use Rattle.flutejoin_line.specs.declared.fill_line.FillLine.{FillLine}
 use Rattle.flutejoin_line.specs.declared.forget_line.ForgetLine.{ForgetLine}
+use Rattle.flutejoin_line.specs.declared.forget_line.ForgetListLine.{ForgetListLine}
 use Rattle.flutejoin_line.specs.declared.gaps_line.GapsLine.{GapsLine}
 use Rattle.flutejoin_line.specs.declared.info_line.InfoLine.{InfoLine}
 use Rattle.flutejoin_line.specs.declared.info_line.InfoListLine.{InfoListLine}
@@ -46,7 +47,7 @@ use Rattle.flutejoin_line.specs.declared.line.Line.{Line}
 use Rattle.flutejoin_line.specs.declared.line.Line.TheVariants.{Packet, Show, Gaps, Extract}
 use Rattle.flutejoin_line.specs.declared.line.Line.TheVariants.{Info, Join, Merge, Carousel}
 use Rattle.flutejoin_line.specs.declared.line.Line.TheVariants.{ExtractAll, InfoList, Forget}
-use Rattle.flutejoin_line.specs.declared.line.Line.TheVariants.{Compare, Minus, Fill}
+use Rattle.flutejoin_line.specs.declared.line.Line.TheVariants.{Compare, Minus, Fill, ForgetList}
 use Rattle.flutejoin_line.specs.declared.merge_line.MergeLine.{MergeLine}
 use Rattle.flutejoin_line.specs.declared.minus_line.MinusLine.{MinusLine}
 use Rattle.flutejoin_line.specs.declared.packet_line.PacketLine.{PacketLine}
@@ -283,15 +284,24 @@ pub record IsFillLine (rows : List Row) (line : FillLine) : Type 0 where
   pub is_only : IsFlag (codes "only") rows only
   pub asking : line.asking ≡ asking_by only
 
--- its options select entries
+-- its options select entries, of all objects or of a list of them
 abbrev pub forget_rules : List Rule
-forget_rules = out ∷ force_flag ∷ size_flag ∷ selection_rules ++ journal_rules
+forget_rules =
+    out ∷ force_flag ∷ size_flag ∷ option (codes "list") ∷ selection_rules ++ journal_rules
 
 pub record IsForgetLine (rows : List Row) (line : ForgetLine) : Type 0 where
+  pub no_list : first_of (codes "list") rows ≡ None
   pub target : IsTarget overwrites_journal rows line.target
   pub selection : IsSelection rows line.selection
   pub some : is_everything line.selection ≡ false
   pub j : IsWord (codes "J") rows line.j
+
+pub record IsForgetListLine (rows : List Row) (line : ForgetListLine) : Type 0 where
+  pub list : first_of (codes "list") rows ≡ Some line.inputs.list.now
+  pub once : is_standard_twice (list_words rows) ≡ false
+  pub target : IsTarget overwrites_journal rows line.target
+  pub selection : IsSelection rows line.selection
+  pub j : IsWord (codes "J") rows line.inputs.j
 
 abbrev pub carousel_rules : List Rule
 carousel_rules = out ∷ force_flag ∷ key_rules ++ size_rules ++ place (codes "FILE") ∷ []
@@ -343,6 +353,7 @@ IsLine name rows (Merge line) = (name ≡ codes "merge") × IsMergeLine rows lin
 IsLine name rows (Minus line) = (name ≡ codes "minus") × IsMinusLine rows line
 IsLine name rows (Fill line) = (name ≡ codes "fill") × IsFillLine rows line
 IsLine name rows (Forget line) = (name ≡ codes "forget") × IsForgetLine rows line
+IsLine name rows (ForgetList line) = (name ≡ codes "forget") × IsForgetListLine rows line
 IsLine name rows (Carousel line) = (name ≡ codes "carousel") × IsCarouselLine rows line
 
 -- ---- words

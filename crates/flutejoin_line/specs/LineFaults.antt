@@ -126,6 +126,16 @@ IsInfoFault rows fault =
     ((is_some (first_of (codes "list") rows) ≡ true) × IsListFault rows fault)
     ⊎ ((first_of (codes "list") rows ≡ None) × IsNumbersFault rows fault)
 
+-- of `forget` of a list
+abbrev pub IsForgetListFault : List Row → CommandFault → Type 0
+IsForgetListFault rows StandardInputTwice = is_standard_twice (list_words rows) ≡ true
+IsForgetListFault rows fault = IsSelectionFault rows fault
+
+abbrev pub IsForgetFault : List Row → CommandFault → Type 0
+IsForgetFault rows fault =
+    ((is_some (first_of (codes "list") rows) ≡ true) × IsForgetListFault rows fault)
+    ⊎ ((first_of (codes "list") rows ≡ None) × IsChoiceFault rows fault)
+
 -- of two journals
 abbrev pub IsPairFault : List Row → CommandFault → Type 0
 IsPairFault rows = IsTwice (pair_words rows)
@@ -160,7 +170,7 @@ IsFault name rows fault =
     ⊎ (((name ≡ codes "minus") × IsOutFault rows fault)
     ⊎ (((name ≡ codes "fill") × IsFillFault rows fault)
     ⊎ (((name ≡ codes "compare") × IsCompareFault rows fault)
-    ⊎ (((name ≡ codes "forget") × IsChoiceFault rows fault)
+    ⊎ (((name ≡ codes "forget") × IsForgetFault rows fault)
     ⊎ (((name ≡ codes "show") × IsSelectionFault rows fault)
     ⊎ ((name ≡ codes "gaps") × IsSelectionFault rows fault))))))))))
 

@@ -1,6 +1,8 @@
-//! The line of `forget`.
-ghost use Rattle.std.specs.Prelude.{IfOk, MatchResult, codes};
+//! The line of `forget`, of all objects or of a list of them.
+ghost use Rattle.std.specs.Prelude.{◌≡◌, IfOk, MatchResult, None, Some, codes};
+ghost use Rattle.clap.specs.Walk.{first_of};
 ghost use Rattle.flutejoin_line.specs.CommandLine.{IsLine, forget_rules};
+ghost use Rattle.flutejoin_line.specs.LineFaults.{IsForgetFault, IsForgetListFault};
 ghost use Rattle.flutejoin_line.specs.Options.{found_rows};
 ghost use Rattle.flutejoin_line.specs.Parser.{IsCommand};
 ghost use Rattle.flutejoin_line.specs.Selecting.{IsChoiceFault};
@@ -10,11 +12,12 @@ use crate::arguments::{
     option, output, session_list,
 };
 use crate::help_texts::FORGET_HELP;
+use crate::inputs::standard_once;
 use crate::line::Line;
 use crate::parser::command_with;
 use crate::selection_options::selection;
 use crate::target::{Target, journal_target};
-use crate::words::text;
+use crate::words::{text, word};
 use clap::{ArgMatches, Command};
 use flute_streams::Selection;
 use flutejoin::CommandFault;
@@ -28,6 +31,22 @@ pub struct ForgetLine<'a> {
     pub j: &'a str,
 }
 
+/// Write the entries of a journal that are not selected, or whose objects are not in a list, to a
+/// journal.
+#[derive(Clone, Copy)]
+pub struct ForgetListLine<'a> {
+    pub target: Target<'a>,
+    pub selection: Selection,
+    pub inputs: ListedInputs<'a>,
+}
+
+/// The journal `j`, and the file `list`, whose lines begin with names of objects.
+#[derive(Clone, Copy)]
+pub struct ListedInputs<'a> {
+    pub list: &'a str,
+    pub j: &'a str,
+}
+
 /// The command, as the parser takes it.
 pub fn forget_command<'a>(alloc: Global) -> Result<Command<'a>, AllocError>
     ensures { IfOk result (IsCommand (codes "forget") forget_rules) }
@@ -36,6 +55,12 @@ pub fn forget_command<'a>(alloc: Global) -> Result<Command<'a>, AllocError>
         output(alloc),
         force(alloc, FORCE),
         long_flag(alloc, "any-size", UNLIMITED),
+        option(
+            alloc,
+            "list",
+            "KEYS",
+            "Only objects that the lines of this file begin with; - is standard input",
+        ),
         long_flag(alloc, "conflicts", CONFLICTS),
         option(alloc, "source", "ADDRESS", SOURCE),
         session_list(alloc),
@@ -63,8 +88,38 @@ pub fn forget_command<'a>(alloc: Global) -> Result<Command<'a>, AllocError>
 ///
 /// # Errors
 ///
-/// Those of `selection`; `MissingChoice` if nothing is said of what to forget.
+/// `BadNumber`, `BadSource` and `BadKey` as `line_of` has them; `StandardInputTwice` if both the
+/// list and the journal are standard input; `MissingChoice` if there is no list, and nothing is
+/// said of what to forget.
 pub fn forget_of<'a>(matches: &ArgMatches<'a>) -> Result<Line<'a>, CommandFault>
+    ensures { let rows = found_rows matches.now in
+        MatchResult result (IsLine (codes "forget") rows) (IsForgetFault rows) }
+{
+    match word(matches, "list") {
+        Some(list) => forget_list(matches, list),
+        None => forget_all(matches),
+    }
+}
+
+// The line of `forget` of a list.
+fn forget_list<'a>(matches: &ArgMatches<'a>, list: &'a str) -> Result<Line<'a>, CommandFault>
+    requires { first_of (codes "list") (found_rows matches.now) ≡ Some list.now }
+    ensures { let rows = found_rows matches.now in
+        MatchResult result (IsLine (codes "forget") rows) (IsForgetListFault rows) }
+{
+    let selection = selection(matches)?;
+    let j = text(matches, "J");
+    standard_once(&[list, j])?;
+    Ok(Line::ForgetList(ForgetListLine {
+        target: journal_target(matches),
+        selection,
+        inputs: ListedInputs { list, j },
+    }))
+}
+
+// The line of `forget` of all objects.
+fn forget_all<'a>(matches: &ArgMatches<'a>) -> Result<Line<'a>, CommandFault>
+    requires { first_of (codes "list") (found_rows matches.now) ≡ None }
     ensures { let rows = found_rows matches.now in
         MatchResult result (IsLine (codes "forget") rows) (IsChoiceFault rows) }
 {

@@ -139,7 +139,8 @@ J may have up to 16,777,216 entries; the limits of a store do not apply. OUT is 
 pub const FORGET_HELP: &str = help_of!(
     "\
 Prints: forgotten N and entries N. The options narrow one another; at least one is needed. An FDT
-Instance is --toi 0 --fdt N.
+Instance is --toi 0 --fdt N. Each line of KEYS begins with the name of an object, as `gaps` prints
+it; lines that are empty or begin with #, gap or bytes name none.
 It is no join: what is forgotten comes back with the next input of a join that has it.
 The journal may have up to 16,777,216 entries; the limits of a store do not apply.",
     "forget -o without --conflicts all"

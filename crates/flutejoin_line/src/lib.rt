@@ -47,7 +47,7 @@ pub use carousel_line::CarouselLine;
 pub use compare_line::CompareLine;
 pub use extract_line::{ExtractAllLine, ExtractLine};
 pub use fill_line::FillLine;
-pub use forget_line::ForgetLine;
+pub use forget_line::{ForgetLine, ForgetListLine, ListedInputs};
 pub use gaps_line::GapsLine;
 pub use info_line::{InfoLine, InfoListLine};
 pub use join_line::JoinLine;

@@ -11,7 +11,7 @@ use crate::carousel_line::{CarouselLine, carousel_of};
 use crate::compare_line::{CompareLine, compare_of};
 use crate::extract_line::{ExtractAllLine, ExtractLine, extract_all, extract_one};
 use crate::fill_line::{FillLine, fill_of};
-use crate::forget_line::{ForgetLine, forget_of};
+use crate::forget_line::{ForgetLine, ForgetListLine, forget_of};
 use crate::gaps_line::{GapsLine, gaps_of};
 use crate::info_line::{InfoLine, InfoListLine, info_list, info_one};
 use crate::join_line::JoinLine;
@@ -43,6 +43,7 @@ pub enum Line<'a> {
     Minus(MinusLine<'a>),
     Fill(FillLine<'a>),
     Forget(ForgetLine<'a>),
+    ForgetList(ForgetListLine<'a>),
     Carousel(CarouselLine<'a>),
 }
 

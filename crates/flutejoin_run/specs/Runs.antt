@@ -4,8 +4,9 @@ use Rattle.flute_output.specs.NewFolders.{Places}
 use Rattle.flutejoin.specs.declared.command_fault.CommandFault.{CommandFault}
 use Rattle.flutejoin_commands.specs.Closings.{Closing, ClosesWhole}
 use Rattle.flutejoin_commands.specs.Deeds.{Deed, IsDone, IsNotDone, Printing, adds, adds_list}
-use Rattle.flutejoin_commands.specs.Deeds.{compares, extracts, extracts_all, fills, forgets, joins}
-use Rattle.flutejoin_commands.specs.Deeds.{lists, merges, prints_packet, sends, shows, subtracts}
+use Rattle.flutejoin_commands.specs.Deeds.{compares, extracts, extracts_all, fills, forgets}
+use Rattle.flutejoin_commands.specs.Deeds.{forgets_list, joins, lists, merges, prints_packet}
+use Rattle.flutejoin_commands.specs.Deeds.{sends, shows, subtracts}
 use Rattle.flutejoin_commands.specs.Files.{Files}
 use Rattle.flutejoin_commands.specs.Worlds.{Outside, Spares}
 use Rattle.flutejoin_line.specs.LineFaults.{IsFaultIn, IsLineIn}
@@ -13,7 +14,7 @@ use Rattle.flutejoin_line.specs.declared.line.Line.{Line}
 use Rattle.flutejoin_line.specs.declared.line.Line.TheVariants.{Packet, Show, Gaps, Compare}
 use Rattle.flutejoin_line.specs.declared.line.Line.TheVariants.{Extract, ExtractAll, Info}
 use Rattle.flutejoin_line.specs.declared.line.Line.TheVariants.{InfoList, Join, Merge, Minus}
-use Rattle.flutejoin_line.specs.declared.line.Line.TheVariants.{Fill, Forget, Carousel}
+use Rattle.flutejoin_line.specs.declared.line.Line.TheVariants.{Fill, Forget, ForgetList, Carousel}
 use Rattle.flutejoin_line.specs.declared.target.Target.{Target}
 
 -- what a line does: it leaves what a command writes at a name, or only prints
@@ -35,6 +36,7 @@ work_of (Merge line) = leaves line.target (merges line)
 work_of (Minus line) = leaves line.target (subtracts line)
 work_of (Fill line) = leaves line.target (fills line)
 work_of (Forget line) = leaves line.target (forgets line)
+work_of (ForgetList line) = leaves line.target (forgets_list line)
 work_of (Carousel line) = leaves line.target (sends line)
 
 -- only standard output changed, and as P says

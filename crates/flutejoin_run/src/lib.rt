@@ -24,11 +24,12 @@ ghost use Rattle.flutejoin_commands.specs.Worlds.{outside};
 use flute_parts::Sink;
 use flutejoin::CommandFault;
 use flutejoin_commands::{
-    Listing, Outlet, World, carousel, compare, extract, extract_all, fill, forget, gaps, info,
-    info_list, join, merge, minus, packet, show,
+    Listing, Outlet, World, carousel, compare, extract, extract_all, fill, forget, forget_list,
+    gaps, info, info_list, join, merge, minus, packet, show,
 };
 use flutejoin_line::{
-    CompareLine, ExtractAllLine, ForgetLine, GapsLine, Line, PacketLine, ShowLine, line_of,
+    CompareLine, ExtractAllLine, ForgetLine, ForgetListLine, GapsLine, Line, PacketLine, ShowLine,
+    line_of,
 };
 use std::alloc::Global;
 
@@ -132,6 +133,13 @@ fn run_line<W: World, O: Outlet, E: Sink>(
                 j,
             },
         ) => forget(world, alloc, target, selection, j, output, errors),
+        Line::ForgetList(
+            ForgetListLine {
+                target,
+                selection,
+                inputs,
+            },
+        ) => forget_list(world, alloc, target, selection, inputs, output, errors),
         Line::Carousel(line) => carousel(world, alloc, line, output, errors),
     }
 }

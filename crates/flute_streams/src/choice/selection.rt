@@ -2,12 +2,13 @@
 ghost use Rattle.std.specs.Prelude.{◌≡◌, true};
 ghost use Rattle.flute_parts.specs.Addresses.{fact_of};
 ghost use Rattle.flute_parts.specs.declared.fact.Fact.{Fact};
-ghost use Rattle.flute_streams.specs.Selections.{is_everything, selects};
+ghost use Rattle.flute_streams.specs.Selections.{is_everything, leaves_out, selects};
 
 use crate::choice::Choice;
 use crate::choice::scope::Scope;
 use crate::streams::stream::Stream;
-use flute_parts::{Address, FactRef, Part, Sender, SymbolId};
+use flute_parts::{Address, FactRef, Key, Part, Sender, SymbolId};
+use std::collections::BTreeSet;
 
 /// Which facts are selected. Each field narrows the others.
 #[derive(Clone, Copy)]
@@ -91,19 +92,37 @@ impl Choice for Selection {
     }
 }
 
-/// What is selected is left out, and all else is taken.
-#[derive(Clone, Copy)]
-pub struct AllBut(pub Selection);
+/// What is selected is left out, of the objects that are listed if there is a list, and all else is
+/// taken.
+#[derive(Drop)]
+pub struct AllBut {
+    pub selection: Selection,
+    pub listed: Option<BTreeSet<Key>>,
+}
+
+impl AllBut {
+    /// Whether the fact is left out.
+    #[inline(always)]
+    pub fn leaves_out(&self, fact: &FactRef<'_>) -> bool
+        ensures { result ≡ leaves_out self.now (fact_of fact.now) }
+    {
+        let is_listed = match &self.listed {
+            Some(keys) => keys.contains(&fact.address().key),
+            None => true,
+        };
+        is_listed && self.selection.selects(fact)
+    }
+}
 
 impl Choice for AllBut {
     ghost use Rattle.flute_streams.specs.Selections.{leaves};
 
-    ghost takes = { λ rest. leaves rest.0 };
+    ghost takes = { leaves };
 
     #[inline(always)]
     fn passes_over<S: Stream>(&self, stream: &S) -> bool {
         match stream.head() {
-            Some(fact) => self.0.selects(&fact),
+            Some(fact) => self.leaves_out(&fact),
             None => false,
         }
     }

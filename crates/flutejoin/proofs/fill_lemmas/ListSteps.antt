@@ -9,8 +9,9 @@ use Rattle.std.proofs.KnownBytes.{Consumes-nil, Consumes-trans}
 use Rattle.std.proofs.lemmas.Grind.{flat_map-append}
 use Rattle.std.proofs.lemmas.List.{take-append-le, take_all, take_more}
 use Rattle.std.proofs.lemmas.List.Elements.{All-append, All-cons, All-nil}
-use Rattle.flutejoin.specs.InformationLines.{IsOneLine}
-use Rattle.flutejoin.specs.FillLists.{AreInOrder, HasNoEnd, IsBadLine, IsListed, IsListing, ListsUpTo}
+use Rattle.flutejoin.specs.ListedLines.{IsOneLine}
+use Rattle.flutejoin.specs.FillLists.{AreInOrder, IsBadLine, IsListed, IsListing, ListsUpTo}
+use Rattle.flutejoin.specs.ListedLines.{HasNoEnd}
 use Rattle.flutejoin.specs.FillLists.{MayCome, last_of, text_of}
 use Rattle.flutejoin.specs.FillLists.{other, no_end, too_many}
 use Rattle.flutejoin.specs.FillStreams.{IsBadNext, Knows, NoNext, ReadsNext, Stands, StopsAfter}

@@ -37,7 +37,7 @@ no_file bytes facts datagrams (Two, j) f =
     omega (arith, third)
 
 -- what a journal among the inputs contains
-told_journal : (choice : Choice) (bytes : List ℕ) (facts : List Fact) (content : InputContent)
+pub told_journal : (choice : Choice) (bytes : List ℕ) (facts : List Fact) (content : InputContent)
     → IsJournal bytes facts → Tells bytes content
     → Same (content_facts choice content) (chosen choice.takes facts)
 told_journal choice bytes facts (of_journal entries) is tells =

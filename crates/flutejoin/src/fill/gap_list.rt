@@ -9,8 +9,8 @@ ghost use Rattle.flutejoin.specs.declared.fill.listed_line.ListedLine.{ListedLin
 
 use crate::fill::asking::Asking;
 use crate::fill::listed_line::ListedLine;
-use crate::fill::next_words::{WordsFault, next_words};
 use crate::fill::reading_lines::read_listed;
+use crate::lines::next_words::{WordsFault, next_words};
 use flute_parts::{Address, Key, Source};
 use flute_store::Status;
 

@@ -12,7 +12,7 @@ ghost use Rattle.flutejoin.specs.declared.fill.listed_line.ListedLine.{ListedLin
 
 use crate::fill::listed_line::ListedLine;
 use crate::gaps::held_lines::{gap_text, status_text};
-use crate::info::information_line::{key_of, number_after, object_in, session_in};
+use crate::lines::key_words::{key_of, number_after, object_in, session_in};
 use flute_parts::Key;
 use flute_store::{Gap, Reason, Status};
 

@@ -5,8 +5,9 @@ use flute_parts::{Info, MemorySink, MemorySource, SymbolId};
 use flute_streams::Selection;
 use flutejoin::{
     Asking, CommandFault, CompareStyle, Form, MAX_OBJECTS, MAX_SESSIONS, MAX_SYMBOLS, ShowStyle,
-    Style, compare_from, compare_input, extract_to, fill_input, fill_to, forget_input, forget_to,
-    gaps_from, info_to, merge_to, minus_input, minus_to, packet_to, sender_of, show_to,
+    Style, compare_from, compare_input, extract_to, fill_input, fill_to, forget_input,
+    forget_list_to, forget_to, gaps_from, info_to, merge_to, minus_input, minus_to, packet_to,
+    sender_of, show_to,
 };
 use flutejoin_line::{Line, ShowLine, line_of};
 use flutejoin_replicas::{MemoryAside, gaps_to, load, save_to};
@@ -290,6 +291,17 @@ fn a_symbol_is_forgotten(rt: HostRuntime) -> Result<(), Fail> {
     let mut sink = MemorySink::new(rt.alloc());
     let counts = forget_to(rt.alloc(), &mut input, &mut sink)?;
     assert!(rt; counts.forgotten == 1 && counts.entries == 2);
+    Ok(())
+}
+
+#[test]
+fn an_object_of_a_list_is_forgotten(rt: HostRuntime) -> Result<(), Fail> {
+    let journal = bytes(rt.alloc(), journals::WHOLE)?;
+    let mut list = MemorySource::new(b"session 7 object 1 whole 5\n");
+    let mut input = forget_input(MemorySource::new(&journal), Selection::all());
+    let mut sink = MemorySink::new(rt.alloc());
+    let counts = forget_list_to(rt.alloc(), &mut list, &mut input, &mut sink)?;
+    assert!(rt; counts.forgotten == 3 && counts.entries == 0);
     Ok(())
 }
 

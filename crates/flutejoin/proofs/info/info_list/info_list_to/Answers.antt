@@ -9,7 +9,8 @@ use Rattle.flute_parts.specs.Facts.{Same}
 use Rattle.flute_parts.specs.declared.fact.Fact.{Fact}
 use Rattle.flutejoin.specs.Info.{AddsFacts, InfoFails}
 use Rattle.flutejoin.specs.InfoLists.{AddListFails, of_facts}
-use Rattle.flutejoin.specs.InformationLines.{ListTells}
+use Rattle.flutejoin.specs.InformationLines.{LineTells}
+use Rattle.flutejoin.specs.ListedLines.{ListTells}
 use Rattle.flutejoin.specs.Limits.{Limits, at_most}
 use Rattle.flutejoin.specs.declared.command_fault.CommandFault.{CommandFault}
 use Rattle.flutejoin.proofs.info_lemmas.AddedFacts.{never_second, of_source}
@@ -17,7 +18,7 @@ use Rattle.flutejoin.proofs.info.info_list.info_list_to.Goals as goal
 
 fails_with_list : (most : Limits) (input list : Option (List ℕ)) (told : List Fact)
     (r : Result ℕ CommandFault)
-    → IfSome list (λ text. (facts : List Fact) × ListTells text facts × Same told facts)
+    → IfSome list (λ text. (facts : List Fact) × ListTells LineTells text facts × Same told facts)
     → ((facts : List Fact) → Same told facts → IfErr r (InfoFails most input facts))
     → IfErr r (AddListFails most input list)
 fails_with_list x0 x1 x2 x3 x4 x5 x6 = search rules
