@@ -261,6 +261,39 @@ class ExtractAll(unittest.TestCase):
         self.assertEqual(ran.returncode, 0, ran.stderr)
         self.assertEqual(len(self.files()), 1)
 
+    def test_there_before_the_journal_is_read(self) -> None:
+        """That OUT is there is told at once, and nothing is made beside it."""
+        self.out.mkdir()
+        self.journal.write_bytes(b"no journal")
+        ran = run("extract", "--all", "-o", self.out, self.journal)
+        self.assertEqual((ran.returncode, ran.stderr), (3, b"cannot create output\n"))
+        self.assertEqual(ran.stdout, b"")
+        self.assertFalse(self.beside.exists())
+
+    def test_there_meanwhile(self) -> None:
+        """What gets OUT's name while the journal is read stays: a file, and an empty folder."""
+        content = journal_of({Name(0, 7, 1, 1): whole(9, 4, 2)})
+        slow = self.room / "slow"
+        os.mkfifo(slow)
+        for is_folder in True, False:
+            command = [PROGRAM, "extract", "--all", "-o", self.out, slow]
+            running = subprocess.Popen(command, stdout=subprocess.PIPE, stderr=subprocess.PIPE)
+            with slow.open("wb") as journal:
+                self.assertTrue(until(lambda: self.beside.exists() and waits(running)))
+                if is_folder:
+                    self.out.mkdir()
+                else:
+                    self.out.write_bytes(b"a file")
+                journal.write(content)
+            _, told = running.communicate()
+            self.assertEqual((running.returncode, told), (3, b"cannot write\n"))
+            self.assertFalse(self.beside.exists())
+            if is_folder:
+                self.assertEqual(os.listdir(self.out), [])
+                self.out.rmdir()
+            else:
+                self.assertEqual(self.out.read_bytes(), b"a file")
+
     def test_what_stands_beside(self) -> None:
         objects = {Name(0, 7, 1, 1): whole(9, 4, 2)}
         self.journal.write_bytes(journal_of(objects))

@@ -68,12 +68,34 @@ class Large(unittest.TestCase):
         self.assertEqual(told, f"datagrams {datagrams}\n")
         self.assertGreater(size, length + datagrams * 4)
 
-    def test_two_million_datagrams_are_sent(self) -> None:
-        file = self.room / "file"
-        file.write_bytes(bytes(2_000_001))
-        key = ["--tsi", "7", "--toi", "1", "--symbol", "1", "--block", "60000"]
-        told = run("carousel", "-o", self.room / "sent", *key, file)
-        self.assertEqual(told, "datagrams 2000001\n")
+    def test_more_than_64_mebibytes_of_a_pipe_are_sent(self) -> None:
+        content = bytes(range(251)) * 280_000
+        file, sent = self.room / "file", self.room / "sent"
+        file.write_bytes(content)
+        key = ["--tsi", "7", "--toi", "1", "--symbol", "65000", "--block", "1000"]
+        told = run("carousel", "-o", sent, *key, file)
+        command = [PROGRAM, "carousel", "-o", self.room / "piped", *key, "-"]
+        piped = subprocess.run(command, input=content, capture_output=True, check=False)
+        self.assertEqual((piped.returncode, piped.stderr), (0, b""))
+        self.assertEqual(piped.stdout.decode(), told)
+        self.assertEqual((self.room / "piped").read_bytes(), sent.read_bytes())
+
+    def test_two_million_datagrams_are_sent_and_joined(self) -> None:
+        """More symbols than a million are held at once, and more than that put aside."""
+        file, sent, content = self.room / "file", self.room / "sent", bytes(range(250)) * 8_001
+        file.write_bytes(content)
+        key = ["--tsi", "7", "--toi", "1"]
+        words = [*key, "--symbol", "1", "--block", "60000"]
+        told = run("carousel", "-o", sent, *words, file)
+        self.assertEqual(told, "datagrams 2000250\n")
+        held, apart, out = (self.room / name for name in ("held", "apart", "out"))
+        counts = {"datagrams": 2_000_250, "refused": 0, "entries": 2_000_251}
+        for journal, memory in (held, "1G"), (apart, "20M"):
+            words = ["join", "--any-size", "--memory", memory, "-o", str(journal), str(sent)]
+            self.assertEqual(counted(run(*words)), counts)
+        run("extract", "--any-size", "-o", out, *key, held)
+        self.assertEqual(out.read_bytes(), content)
+        self.assertEqual(apart.read_bytes(), held.read_bytes())
 
     def test_long_symbols_go_from_datagrams_to_the_file(self) -> None:
         for symbol in (49_999, 50_000, 55_000, 59_999, 60_000, 62_500, 65_000):

@@ -6,7 +6,7 @@ import resource
 import stat
 
 import run
-from outputs_case import CUT, FIRST, LINES_OF_TWO, SECOND, THIRD, WRITE, Case
+from outputs_case import CREATE, CUT, FIRST, LINES_OF_TWO, SECOND, THIRD, WRITE, Case
 
 SYMBOL = "10A004000000000000000007000000010000000068656C6C"
 
@@ -152,6 +152,32 @@ class StandardInput(Case):
         words = f"carousel -o got {SECOND} {CUT} -"
         self.row("from a pipe", words, 0, "datagrams 2", stdin=self.read("other"))
         self.same("its datagrams", "got", "sent2")
+
+    def test_content_that_is_the_output(self) -> None:
+        """OUT is kept, under whatever name, if it is the file that standard input is."""
+        of = f"{SECOND} {CUT} -"
+        self.path("soft").symlink_to("d")
+        for out in "d", "./d", "soft":
+            self.copy("other", "d")
+            words = f"carousel -o {out} {of}"
+            self.row(words, words, 2, "", "output is an input", stdin=self.path("d"))
+            self.same(f"{words}: the file stays", "d", "other")
+            self.alone(words, "d")
+            self.row(f"{words}, forced", f"{words} -f", 0, "datagrams 2", stdin=self.path("d"))
+            self.same(f"{words}, forced: it has the datagrams", "d", "sent2")
+
+    def test_input_beside_the_output(self) -> None:
+        """The file beside OUT is no leftover if it is the file that standard input is."""
+        for words in (
+            f"carousel -o d {SECOND} {CUT} -",
+            *("join -o d - one", "merge -o d - one", "minus -o d - one"),
+            *("fill -o d --gaps /dev/null -", "forget -o d --conflicts -"),
+            *(f"info -o d {THIRD} -", f"extract -o d {SECOND} -"),
+        ):
+            self.copy("two", "d.partial")
+            self.row(words, words, 3, "", CREATE, stdin=self.path("d.partial"))
+            self.same(f"{words}: the file stays", "d.partial", "two")
+            self.absent(f"{words}: there is no output", "d")
 
 
 class Closed(Case):

@@ -9,6 +9,7 @@ sys.dont_write_bytecode = True
 import run
 from program_compare import Compare, CompareDrawn
 from program_extract import Extract, Info, InfoList
+from program_faults import EachFault
 from program_fill import Fill, FillLines
 from program_filled import FillDrawn
 from program_forms import CompareForms, GapsForms
@@ -34,7 +35,7 @@ __all__ = [
     "ForgetList", "ForgetDrawn", "Carousel",
     "Sending", "Join", "JoinLimits", "Reasons", "Symbols", "Sessions", "Names",
     "OnlyObjects", "Sparse", "BothVersions", "Senders", "Faults", "ExtractOf", "InfoOf", "JoinOf",
-    "BadSources", "Help", "Words",
+    "BadSources", "EachFault", "Help", "Words",
 ]
 
 if __name__ == "__main__":
