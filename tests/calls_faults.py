@@ -14,6 +14,14 @@ NOT_ON_DISK = "output may not be on the disk"
 # The commands of which a new OUT is tried too, and a fault in each call that only looks
 WHOLLY = "join", "extract"
 
+PRINTS = {
+    "show both": {"both": 1},
+    "gaps both": {"both": 1},
+    "gaps --summary --json both": {"both": 1},
+    "compare both one": {"both": 1, "one": 2},
+    "packet 10A004000000000000000007000000010000000068656C6C": {},
+}
+
 
 def runs() -> Iterator[tuple[str, str, dict[str, int]]]:
     """Each command over a file, and some to a new one, with OUT and the inputs' numbers."""
@@ -138,6 +146,46 @@ class Faults(Writing):
                 self.alone(name, out)
             else:
                 self.stays(name, out, call)
+
+    def test_prints(self) -> None:
+        """What only prints reports its inputs and standard output in the same words."""
+        for words, inputs in PRINTS.items():
+            done, calls = self.traced(words)
+            self.check(words, done, 0, None)
+            for call in calls:
+                if not is_expected(call, "kept/none", inputs) or call.plain() == "flock":
+                    continue
+                name = f"{words}: {call.name} of {call.path or 'standard output'}, {call.number}"
+                failed, _, _ = self.fault(words, call)
+                self.check(name, failed, 3, None, self.told(call, "", inputs, ""))
+
+    def test_put_aside(self) -> None:
+        """A fault of what is put aside, once of each kind of call, and at its last."""
+        content = os.urandom(300_000)
+        self.write("large", content)
+        self.made("carousel -o many --tsi 7 --toi 9 --symbol 100 --block 64 large")
+        of = "--tsi 7 --toi 9 --symbol 1400 --block 64 -"
+        for words, given, text in (
+            ("join --any-size --memory 64K -o kept/there many", b"", "cannot write what is put aside"),
+            (f"carousel -o kept/there {of}", content, WRITE),
+        ):
+            self.begin()
+            done, calls = self.traced(words, stdin=given)
+            self.check(words, done, 0, None)
+            aside = [it for it in calls if it.path.startswith("kept/there.aside.0")]
+            tried = {it.name: it for it in reversed(aside)} | {"last": aside[-1]}
+            self.holds(f"{words}: kinds of calls", len(tried) > 4, tried)
+            for call in tried.values():
+                name = f"{words}: {call.name}, {call.number}"
+                self.begin()
+                fault = f"{call.name}:error=EIO:when={call.number}"
+                done, _ = self.traced(words, fault, stdin=given)
+                is_source = call.name == "read" and words.startswith("carousel")
+                self.check(name, done, 3, "", "input 1: Read" if is_source else text)
+                self.same(f"{name}: OUT is what it was", "kept/there", OLD)
+                left = [it for it in os.listdir(self.path("kept")) if it != "there"]
+                is_kept = call.name == "unlink"
+                self.holds(f"{name}: nothing is left", not left or is_kept, left)
 
     def test_interrupted(self) -> None:
         """A call that a signal interrupts is made again."""

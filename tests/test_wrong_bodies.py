@@ -107,6 +107,22 @@ class Tool(run.Case):
         self.edit("highest_is_top", COUNTER, *texts)
         self.tried(1, ("it shows nothing", r"^wrong bodies: 0 refused, 1 unfit, 0 failed$"))
 
+    def test_unfit(self) -> None:
+        """Bodies without the call that a written answer names are tried without that answer: the
+        wrong one is refused at values, and nothing is shown of one that means the same."""
+        call = "let left = self.left();"
+        self.edit("room_of_200", COUNTER, (call, "let left = 200 - self.count.min(200);"))
+        self.edit("room_the_same", COUNTER, (call, "let left = 255 - self.count;"))
+        at_values = r"returns, false at some values: without its written answers: "
+        self.tried(
+            0,
+            ("the wrong one", rf"^sample/room_of_200: refused: {at_values}.*::has_room$"),
+            ("the same", r"^sample/room_the_same: UNFIT: only a written proof does not fit: "),
+            ("at values", r"^of 1 that are refused, 1 are so at values that a check found$"),
+            ("one is left", r"^wrong bodies: 1 refused, 1 unfit, 0 failed$"),
+            ("two more checks", r"^sample: 2 wrong bodies in 3 checks$"),
+        )
+
     def test_copies(self) -> None:
         """The second edit of a function is of a copy, with the written proof if it has one. No copy
         has the clauses of a trait, so a second edit of its method waits."""

@@ -24,12 +24,17 @@ the crate does: those of its public functions are proved from it. So edits of fu
 public, but for those of `run`'s crate, those of wrong-bodies/more/ and those of must-fail/, which
 `rt ci` tries, are tried with --all, --alone or --edits only.
 
-A goal that the check leaves open is what refuses a body: the check names it. Where it names none,
-only an answer of the written proof no longer fits. That alone shows nothing of the contract, so
-such a body is told apart, as unfit, and is to be written anew.
+A goal that the check leaves open is what refuses a body: the check names it, and says so if it
+found values at which that goal is false. A goal that is only open may still be true.
+
+Where the check names none, only an answer of the written proof no longer fits. That alone shows
+nothing of the contract. So such a body is tried once more without the written answers of its
+function, and beside it the right body without them: it is refused if the check finds values at
+which a goal is false, and finds none for that goal of the right body. Else it is told apart, as
+unfit: then nothing is known of it, and it is to be written anew, or its proof adapted by hand.
 
 The last line is 'wrong bodies: N refused, M unfit, K failed', and the status is 0 if some were
-refused and none failed.
+refused and none failed. The line before counts those that are refused at values.
 """
 from __future__ import annotations
 
@@ -45,154 +50,12 @@ from pathlib import Path
 from typing import Iterable, Optional
 
 sys.dont_write_bytecode = True
-from wrong_checks import (
-    ANSWER,
-    FAULT,
-    LIMIT,
-    are_built,
-    checking,
-    found_in,
-    goals_of,
-    is_proved,
-    is_refused,
-    is_unproved,
-    lacks_invariant,
-    last_names,
-    libraries_of,
-    listed_libraries,
-    shown,
-    wait_for,
-)
-from wrong_edits import ROOT, Body, Piece, crate_folder, text_of, with_bodies
-
+from wrong_checks import are_built, libraries_of, listed_libraries, wait_for
+from wrong_crate import Counts, Crate
+from wrong_edits import ROOT, Body, crate_folder, text_of
 
 # The crate of `run`
 RUN = "flutejoin_run"
-
-
-class Crate:
-    """A crate in a folder of its own, in which its wrong bodies are tried."""
-
-    def __init__(self, folder: str, name: str, edits: Iterable[str]) -> None:
-        self.name, self.folder = name, folder
-        self.told: list[str] = []
-        self.refused = self.unfit = self.failed = self.checks = 0
-        self.bodies = [Body(name, it) for it in edits]
-
-    def check(
-        self, bodies: list[Body], functions: Iterable[str] = (), by_contract: bool = False
-    ) -> tuple[int, str]:
-        """Checks a copy of the crate that has these bodies, or these functions of it. If
-        `by_contract`, what they call is not proved. Returns the status of the check and what it
-        printed."""
-        for part in "src", "specs", "proofs":
-            shutil.rmtree(f"{self.folder}/{part}", ignore_errors=True)
-            if os.path.isdir(f"{crate_folder(self.name)}/{part}"):
-                shutil.copytree(f"{crate_folder(self.name)}/{part}", f"{self.folder}/{part}")
-        for path, text in with_bodies(self.name, bodies, by_contract).items():
-            file = Path(self.folder, path)
-            if text is None:
-                file.unlink(missing_ok=True)
-            else:
-                file.parent.mkdir(parents=True, exist_ok=True)
-                file.write_text(text, encoding="utf-8")
-        self.checks += 1
-        words = ["--allow-holes"] * by_contract
-        words += [word for it in sorted(functions) for word in ("--only", last_names(it))]
-        ran = subprocess.run(
-            [*checking(self.name), *words],
-            cwd=self.folder,
-            stdin=subprocess.DEVNULL,
-            stdout=subprocess.PIPE,
-            stderr=subprocess.STDOUT,
-            errors="replace",
-        )
-        return ran.returncode, ran.stdout
-
-    def group(self, pending: list[Body]) -> list[Body]:
-        """As many of these bodies as can be tried together: the first of a function in its place,
-        others beside it."""
-        chosen: list[Body] = []
-        edited: set[Piece] = set()
-        for body in pending:
-            body.is_beside = body.is_over or not edited.isdisjoint(body.texts)
-            if body.is_of_functions() and (not body.is_beside or body.may_be_beside()):
-                chosen.append(body)
-                edited.update([] if body.is_beside else body.texts)
-        return chosen
-
-    def fail(self, body: Body, why: str) -> None:
-        self.failed += 1
-        self.told.append(f"{body.name}: FAILED: {why}")
-
-    def refuse(self, body: Body, goals: list[str], why: str) -> None:
-        """Counts the body as refused, for the first of these goals; without a goal as unfit."""
-        self.refused += bool(goals)
-        self.unfit += not goals
-        by = f"refused: {shown(goals)}" if goals else "UNFIT: only a written proof does not fit"
-        self.told.append(f"{body.name}: {by}: {why}")
-
-    def alone(self, body: Body) -> None:
-        """Tries one body, with which the crate has to be unproved. A limit of the prover is no
-        proof either."""
-        body.is_beside = body.is_over
-        status, told = self.check([body], body.named)
-        said = next((it for it in told.split("\n") if FAULT.match(it)), told[-160:])
-        why = f"alone: {said[:160]}"
-        if status == 3 and LIMIT.search(told):
-            self.refuse(body, ["a limit"], why)
-        elif is_unproved(status, told):
-            self.refuse(body, [goal for goals in goals_of(told).values() for goal in goals], why)
-        else:
-            self.fail(body, why)
-
-    def together(self, bodies: list[Body]) -> Optional[list[Body]]:
-        """Tries these bodies together, and returns those of which nothing is known yet, or None
-        if that tells nothing of any."""
-        named = {name for it in bodies for name in it.functions()}
-        status, told = self.check(bodies, named, by_contract=True)
-        answers, goals = dict(ANSWER.findall(told)), goals_of(told)
-        functions = {it: sorted(found_in(answers, one) for one in it.functions()) for it in bodies}
-        edited = {name for names in functions.values() for name in names}
-        others = [it for it, said in answers.items() if is_refused(said) and it not in edited]
-        if not is_unproved(status, told) or others:
-            why = ", ".join(others) or told[-300:]
-            self.told.append(f"{self.name}: {len(bodies)} together told nothing: {why}")
-            return None
-        left = []
-        for body in bodies:
-            said = [answers.get(it, "no answer") for it in functions[body]]
-            names = ", ".join(functions[body])
-            if any(lacks_invariant(it) for it in said):
-                self.alone(body)
-            elif any(is_refused(it) for it in said):
-                of_body = [goal for it in functions[body] for goal in goals.get(it, [])]
-                self.refuse(body, of_body, f"not proved: {names}")
-            elif all(is_proved(it) for it in said):
-                self.fail(body, f"still proved: {names}")
-            else:
-                left.append(body)
-        return left
-
-    def left_of(self, bodies: list[Body]) -> list[Body]:
-        """Tries these bodies together, or in halves if that shows nothing.
-
-        Returns those that are still open.
-        """
-        left = self.together(bodies) if bodies[0].is_of_functions() else None
-        if len(bodies) == 1 and left != []:
-            self.alone(bodies[0])
-            return []
-        if left is None or len(left) == len(bodies):
-            half = len(bodies) // 2
-            return self.left_of(bodies[:half]) + self.left_of(bodies[half:])
-        return left
-
-    def run(self) -> None:
-        pending = self.bodies
-        while pending:
-            bodies = self.group(pending) or pending[:1]
-            pending = self.left_of(bodies) + [it for it in pending if it not in bodies]
 
 
 def edits_in(folders: Iterable[str]) -> list[str]:
@@ -226,11 +89,8 @@ def take_kept(name: str, to: str) -> None:
         os.mkdir(to)
 
 
-def tried(name: str, options: argparse.Namespace) -> tuple[int, int, int]:
-    """Tries the wrong bodies of a crate in a copy of it.
-
-    Returns how many were refused, how many were unfit, and how many failed.
-    """
+def tried(name: str, options: argparse.Namespace) -> Counts:
+    """Tries the wrong bodies of a crate in a copy of it."""
     with tempfile.TemporaryDirectory(prefix="wrong-bodies-") as room:
         take_kept(name, f"{room}/kept")
         crate = Crate(room, name, edits_of(name, options))
@@ -239,7 +99,7 @@ def tried(name: str, options: argparse.Namespace) -> tuple[int, int, int]:
         crate.run()
     crate.told.append(f"{name}: {len(crate.bodies)} wrong bodies in {crate.checks} checks")
     print("\n".join(crate.told), flush=True)
-    return crate.refused, crate.unfit, crate.failed
+    return crate.counts()
 
 
 def first_of(crates: list[str], process: Optional[int]) -> str:
@@ -254,12 +114,12 @@ def first_of(crates: list[str], process: Optional[int]) -> str:
         wait_for(libraries_of(crates[0])[1], process)
 
 
-def all_tried(crates: list[str], options: argparse.Namespace) -> list[tuple[int, int, int]]:
+def all_tried(crates: list[str], options: argparse.Namespace) -> list[Counts]:
     """Tries the wrong bodies of these crates, of as many side by side as there are processors."""
     left, turn = [*crates], threading.Lock()
 
-    def work() -> list[tuple[int, int, int]]:
-        found: list[tuple[int, int, int]] = []
+    def work() -> list[Counts]:
+        found: list[Counts] = []
         while True:
             with turn:
                 if not left:
@@ -356,7 +216,8 @@ def main(words: list[str]) -> int:
     except ValueError as fault:
         print(f"wrong_bodies.py: {fault}", file=sys.stderr)
         return 2
-    refused, unfit, failed = (sum(numbers) for numbers in zip(*found))
+    refused, at_values, unfit, failed = (sum(numbers) for numbers in zip(*found))
+    print(f"of {refused} that are refused, {at_values} are so at values that a check found")
     print(f"wrong bodies: {refused} refused, {unfit} unfit, {failed} failed")
     return 1 if failed or not refused else 0
 

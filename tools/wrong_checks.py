@@ -5,7 +5,7 @@ import os
 import re
 import shutil
 import time
-from typing import Iterable
+from typing import Iterable, NamedTuple
 
 from wrong_edits import ROOT, crate_folder, text_of
 
@@ -13,8 +13,9 @@ KIT = os.path.dirname(os.path.dirname(os.path.realpath(shutil.which("rt") or "rt
 
 # The line of a check about a function.
 ANSWER = re.compile(r"^fn (\S+): (.*)$", re.M)
-# A goal that the check leaves open: in a note before the function's result, and in that result.
-OPEN = re.compile(r"^note: \S+ it is not proved .*?\(`([^`]+)`\)", re.M)
+# A goal that the check leaves open: in a note before the function's result, and in that result. The
+# note says so if the check found values at which the goal is false.
+OPEN = re.compile(r"^note: \S+ it is not proved .*?\(`([^`]+)`\)(.*this goal is false)?", re.M)
 UNFOUND = re.compile(r"`search` did not prove ((?:`[^`]+`(?:, )?)+)")
 # The last line of a check that ran to its end and did not prove everything.
 UNPROVED = re.compile(r"^(logic=not-proved|only=\d+ (proved|holes)=\d+)", re.M)
@@ -25,6 +26,13 @@ LIMIT = re.compile(
     r"antt ran out of (stack|the (steps|memory) that the check of one declaration may (take|use))"
     r"|(outgrew the memory limit|stopped at the step limit) \("
 )
+
+
+class Goal(NamedTuple):
+    """A goal that a check leaves open."""
+
+    name: str
+    is_false: bool = False  # whether the check found values at which it is
 
 
 def last_names(name: str) -> str:
@@ -54,27 +62,37 @@ def lacks_invariant(said: str) -> bool:
     return re.search(r"it stands on [^;]*\.Invariants\.", said) is not None
 
 
-def goals_of(told: str) -> dict[str, list[str]]:
+def goals_of(told: str) -> dict[str, list[Goal]]:
     """The goals that a check leaves open, by function: notes come before their function."""
-    goals: dict[str, list[str]] = {}
-    open_goals: list[str] = []
+    goals: dict[str, list[Goal]] = {}
+    open_goals: dict[str, Goal] = {}
     for line in told.split("\n"):
         note, answer = OPEN.match(line), ANSWER.match(line)
         if note:
-            open_goals.append(note[1])
+            open_goals[note[1]] = Goal(note[1], note[2] is not None)
         elif answer:
             unfound = UNFOUND.search(answer[2])
             named = re.findall("`([^`]+)`", unfound[1]) if unfound else []
-            goals[answer[1]] = [*dict.fromkeys([*open_goals, *named])]
-            open_goals = []
+            goals[answer[1]] = [*({it: Goal(it) for it in named} | open_goals).values()]
+            open_goals = {}
     return goals
 
 
-def shown(goals: list[str]) -> str:
-    """The first of these goals that belongs to a clause, or else the first, and how many more."""
-    first = next((it for it in goals if it.startswith("returns")), goals[0])
+def shown(goals: list[Goal]) -> str:
+    """The first of these goals that is false, or else that belongs to a clause, or else the first,
+    and how many more."""
+    of_clause = [it for it in goals if it.name.startswith("returns")]
+    first = next((it for it in [*of_clause, *goals] if it.is_false), [*of_clause, *goals][0])
+    said = "false at some values" if first.is_false else "open"
     more = f" and {len(goals) - 1} more" if len(goals) > 1 else ""
-    return f"{first}{more}"
+    return f"{first.name}, {said}{more}"
+
+
+def false_alone(wrong: list[Goal], right: list[Goal]) -> list[Goal]:
+    """The goals that are false at some values of a wrong body, and are not so of the right one:
+    there the check may lack a fact that rules those values out."""
+    as_well = {it.name for it in right if it.is_false}
+    return [it for it in wrong if it.is_false and it.name not in as_well]
 
 
 def is_unproved(status: int, told: str) -> bool:

@@ -5,6 +5,7 @@ wrong_bodies.py.
 """
 from __future__ import annotations
 
+import copy
 import functools
 import os
 import re
@@ -18,7 +19,8 @@ FUNCTION = re.compile(rf"^(?: *#\[.*\]\n)*( *){PUB}(?:const |final |unsafe )*fn 
 ITEM = re.compile(rf"^{PUB}(?:impl|trait|struct|enum)\b[^{{;]*", re.M)
 OWNER = re.compile(rf"{PUB}(?:impl|trait)\b")
 # The files of a written proof.
-PROOFS = ("Answers.antt", "Invariants.antt", "Proof.antt")
+ANSWERS = "Answers.antt"
+PROOFS = (ANSWERS, "Invariants.antt", "Proof.antt")
 
 
 def text_of(path: str) -> str:
@@ -94,13 +96,25 @@ class Body:
             found += Path(crate_folder(self.crate)).glob(at)
         return [it for it in found if it.name in PROOFS]
 
-    def files_beside(self) -> dict[str, str]:
-        """The written proofs of its copies: those of its functions, under the copies' names."""
-        files: dict[str, str] = {}
+    def right(self) -> Body:
+        """The right body in its place: that of each of its functions as it is."""
+        body = copy.copy(self)
+        body.texts, body.is_beside = {it: it.text for it in self.texts}, False
+        return body
+
+    def files(self, with_answers: bool = True) -> dict[str, Optional[str]]:
+        """The files of its functions' written proofs that are added or go: those of its copies,
+        under the copies' names, with the answers or without; and in its place the answers, if it
+        is tried without."""
+        files: dict[str, Optional[str]] = {}
         for file in [] if self.is_over else self.proofs():
             folder = str(file.parent.relative_to(crate_folder(self.crate)))
-            old, new = (f".{it.replace('/', '.')}." for it in (folder, self.renamed(folder)))
-            files[f"{self.renamed(folder)}/{file.name}"] = text_of(str(file)).replace(old, new)
+            is_left_out = file.name == ANSWERS and not with_answers
+            if self.is_beside and not is_left_out:
+                old, new = (f".{it.replace('/', '.')}." for it in (folder, self.renamed(folder)))
+                files[f"{self.renamed(folder)}/{file.name}"] = text_of(str(file)).replace(old, new)
+            elif is_left_out and not self.is_beside:
+                files[f"{folder}/{file.name}"] = None
         return files
 
 
@@ -127,12 +141,12 @@ def with_body(text: str, head: str, body: str) -> str:
 
 
 def with_bodies(
-    crate: str, bodies: Iterable[Body], by_contract: bool = False
+    crate: str, bodies: Iterable[Body], by_contract: bool = False, with_answers: bool = True
 ) -> dict[str, Optional[str]]:
     """The files of a crate that these bodies change or add, with them; None for one that goes.
 
     If `by_contract`, no other function has to be proved: each that can has an empty body, and a
-    hole for its proof.
+    hole for its proof. Their functions' written answers may be left out.
     """
     made: dict[Piece, str] = {}
     files: dict[str, Optional[str]] = {}
@@ -145,7 +159,7 @@ def with_bodies(
             made[piece] = there + beside if body.is_beside else text
             if not body.is_beside:
                 stubs.pop(piece, None)
-        files |= body.files_beside() if body.is_beside else {}
+        files |= body.files(with_answers)
     for piece, text in stubs.items():
         made.setdefault(piece, text)
         files |= hole_of(piece)
