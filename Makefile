@@ -65,6 +65,7 @@ test-program:
 	tests/test_run.py
 	tests/test_program.py
 	tests/test_outputs.py
+	tests/test_calls.py
 	tests/large.py "$(FLUTEJOIN)"
 	tests/extract_all.py "$(FLUTEJOIN)"
 	tests/test_any_size.py

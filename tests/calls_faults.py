@@ -91,6 +91,7 @@ class Faults(Writing):
         return done, disk, calls
 
     def is_second_look(self, call: Call, calls: list[Call], out: str) -> bool:
+        """Whether it looks if a regular file has a name: if not, OUT takes the bytes itself."""
         looks = [it for it in calls if it.path == out and "AT_SYMLINK_NOFOLLOW" in it.flags]
         return call in looks[1:2]
 
@@ -165,8 +166,9 @@ class Faults(Writing):
         self.write("large", content)
         self.made("carousel -o many --tsi 7 --toi 9 --symbol 100 --block 64 large")
         of = "--tsi 7 --toi 9 --symbol 1400 --block 64 -"
+        joining = "join --any-size --memory 64K -o kept/there many"
         for words, given, text in (
-            ("join --any-size --memory 64K -o kept/there many", b"", "cannot write what is put aside"),
+            (joining, b"", f"{WRITE} what is put aside"),
             (f"carousel -o kept/there {of}", content, WRITE),
         ):
             self.begin()

@@ -12,18 +12,15 @@ from outputs_case import Case as Outputs
 from run import Run
 
 # What reads files and names, and what changes them or brings them to the disk
-READS = ("read", "pread64", "readv", "statx", "newfstatat", "fstat", "getdents64", "readlink",
-         "readlinkat", "lseek")
-CHANGES = ("write", "pwrite64", "writev", "pwritev", "pwritev2", "sendfile", "copy_file_range",
-           "splice", "fsync", "fdatasync", "sync", "syncfs", "sync_file_range", "rename", "renameat",
-           "renameat2", "link", "linkat", "symlink", "symlinkat", "unlink", "unlinkat", "mkdir",
-           "mkdirat", "mknod", "mknodat", "rmdir", "truncate", "ftruncate", "fallocate", "chmod",
-           "fchmod", "fchmodat", "chown", "fchown", "lchown", "fchownat", "utimensat", "setxattr",
-           "fsetxattr", "lsetxattr", "flock", "creat")
+READS = "read pread64 readv statx newfstatat fstat getdents64 readlink readlinkat lseek".split()
+CHANGES = """write pwrite64 writev pwritev pwritev2 sendfile copy_file_range splice fsync fdatasync
+    sync syncfs sync_file_range rename renameat renameat2 link linkat symlink symlinkat unlink
+    unlinkat mkdir mkdirat mknod mknodat rmdir creat truncate ftruncate fallocate chmod fchmod
+    fchmodat chown fchown lchown fchownat utimensat setxattr fsetxattr lsetxattr flock""".split()
 WATCHED = ",".join(["open", "openat", *READS, *CHANGES])
-# The names of calls that take a folder too, and of those that take a place, under plain ones
+# What the names of calls that also take a folder, or a larger number, have behind plain ones
 PLAIN = re.compile(r"(at2?|64)$")
-FOR_CHANGES = {"O_WRONLY", "O_RDWR", "O_CREAT", "O_TRUNC"}
+TO_CHANGE = {"O_WRONLY", "O_RDWR", "O_CREAT", "O_TRUNC"}
 
 CALL = re.compile(r"(?:\d+ +)?(\w+)\((.*)\) += (-?\d+)(?:<.*?>)?(?: (E\w+))?(.*)$")
 FILE = re.compile(r"(\d+|AT_FDCWD)<((?:\\x[0-9a-f]{2})*)>")
@@ -52,7 +49,7 @@ class Call(NamedTuple):
 
     def changes(self) -> bool:
         """Whether it may change a file or a name, or brings one to the disk."""
-        return self.name in CHANGES or self.plain() == "open" and bool(self.flags & FOR_CHANGES)
+        return self.name in CHANGES or self.plain() == "open" and bool(self.flags & TO_CHANGE)
 
 
 def bytes_of(text: str) -> bytes:

@@ -112,7 +112,8 @@ class Body:
             is_left_out = file.name == ANSWERS and not with_answers
             if self.is_beside and not is_left_out:
                 old, new = (f".{it.replace('/', '.')}." for it in (folder, self.renamed(folder)))
-                files[f"{self.renamed(folder)}/{file.name}"] = text_of(str(file)).replace(old, new)
+                text = text_of(str(file)).replace(old, new)
+                files[f"{self.renamed(folder)}/{file.name}"] = text
             elif is_left_out and not self.is_beside:
                 files[f"{folder}/{file.name}"] = None
         return files
@@ -141,7 +142,10 @@ def with_body(text: str, head: str, body: str) -> str:
 
 
 def with_bodies(
-    crate: str, bodies: Iterable[Body], by_contract: bool = False, with_answers: bool = True
+    crate: str,
+    bodies: Iterable[Body],
+    by_contract: bool = False,
+    with_answers: bool = True,
 ) -> dict[str, Optional[str]]:
     """The files of a crate that these bodies change or add, with them; None for one that goes.
 
