@@ -4,11 +4,11 @@ from __future__ import annotations
 import os
 from typing import Iterator
 
+from calls_case import Call
+from calls_disk import Disk, Left, first_loss
 from calls_order import ALL, COMMANDS, MODE, OLD, Writing
-from lost_power import Disk, Left, first_loss
 from outputs_case import CREATE, WRITE
 from run import Run
-from traced import Call
 
 NOT_ON_DISK = "output may not be on the disk"
 # The commands of which a new OUT is tried too, and a fault in each call that only looks

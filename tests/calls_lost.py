@@ -1,10 +1,10 @@
 """What a power that is lost at any moment of a command may leave as OUT, by its calls."""
 from __future__ import annotations
 
+from calls_case import Call
+from calls_disk import Disk, Left, first_loss
 from calls_faults import runs
 from calls_order import ALL, Writing
-from lost_power import Disk, Left, first_loss
-from traced import Call
 
 
 class LostPower(Writing):

@@ -3,9 +3,9 @@ from __future__ import annotations
 
 import os
 
+from calls_case import Call, Case
 from outputs_case import CUT, FIRST, SECOND, THIRD
 from run import Run
-from traced import Call, Case
 
 OLD = b"what was there before"
 MODE = 0o640

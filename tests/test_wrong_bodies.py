@@ -96,8 +96,13 @@ class Tool(run.Case):
             ("one of three is refused", r"^wrong bodies: 1 refused, 0 unfit, 2 failed$"),
         )
 
-    def test_renamed(self) -> None:
-        """A body that means the same under another name, which the written proof does not know."""
+    def test_unfit(self) -> None:
+        """Bodies without the call that a written answer names are tried without that answer: the
+        wrong one is refused at values. Nothing is shown of one that means the same, or has another
+        name that the written proof does not know."""
+        call = "let left = self.left();"
+        self.edit("room_of_200", COUNTER, (call, "let left = 200 - self.count.min(200);"))
+        self.edit("room_the_same", COUNTER, (call, "let left = 255 - self.count;"))
         texts = (
             ("let mut highest = self.count;", "let mut top = self.count;"),
             ("if highest < *count", "if top < *count"),
@@ -105,22 +110,15 @@ class Tool(run.Case):
             ("self.count = highest;", "self.count = top;"),
         )
         self.edit("highest_is_top", COUNTER, *texts)
-        self.tried(1, ("it shows nothing", r"^wrong bodies: 0 refused, 1 unfit, 0 failed$"))
-
-    def test_unfit(self) -> None:
-        """Bodies without the call that a written answer names are tried without that answer: the
-        wrong one is refused at values, and nothing is shown of one that means the same."""
-        call = "let left = self.left();"
-        self.edit("room_of_200", COUNTER, (call, "let left = 200 - self.count.min(200);"))
-        self.edit("room_the_same", COUNTER, (call, "let left = 255 - self.count;"))
         at_values = r"returns, false at some values: without its written answers: "
+        unfit = "UNFIT: only a written proof does not fit: "
         self.tried(
             0,
             ("the wrong one", rf"^sample/room_of_200: refused: {at_values}.*::has_room$"),
-            ("the same", r"^sample/room_the_same: UNFIT: only a written proof does not fit: "),
+            ("the same", rf"^sample/room_the_same: {unfit}"),
+            ("the same under another name", rf"^sample/highest_is_top: {unfit}"),
             ("at values", r"^of 1 that are refused, 1 are so at values that a check found$"),
-            ("one is left", r"^wrong bodies: 1 refused, 1 unfit, 0 failed$"),
-            ("two more checks", r"^sample: 2 wrong bodies in 3 checks$"),
+            ("two are left", r"^wrong bodies: 1 refused, 2 unfit, 0 failed$"),
         )
 
     def test_copies(self) -> None:

@@ -46,7 +46,6 @@ import sys
 import tempfile
 import threading
 from concurrent.futures import ThreadPoolExecutor
-from pathlib import Path
 from typing import Iterable, Optional
 
 sys.dont_write_bytecode = True

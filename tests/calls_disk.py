@@ -9,7 +9,7 @@ from __future__ import annotations
 import pathlib
 from typing import Optional, Union
 
-from traced import Call
+from calls_case import Call
 
 # What a name may lead to: nothing, a file's bytes, or the possible contents of a folder's names
 Left = Union[None, bytes, "dict[str, list[Left]]"]
