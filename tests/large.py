@@ -97,6 +97,17 @@ class Large(unittest.TestCase):
         self.assertEqual(out.read_bytes(), content)
         self.assertEqual(apart.read_bytes(), held.read_bytes())
 
+    def test_two_million_objects_are_held(self) -> None:
+        """Each has one symbol, of four bytes, in one datagram."""
+        count, sent = 2_000_001, self.room / "sent"
+        head = bytes.fromhex("0018 10A00400 00000000 00000007")  # the length, and before the TOI
+        numbers = (toi.to_bytes(4, "big") for toi in range(1, count + 1))
+        records = b"".join(head + number + bytes(4) + b"abcd" for number in numbers)
+        sent.write_bytes(datagram_files.HEADER + records)
+        words = ["--any-size", "--memory", "4G", "-o", str(self.room / "journal"), str(sent)]
+        wanted = {"datagrams": count, "refused": 0, "entries": count}
+        self.assertEqual(counted(run("join", *words)), wanted)
+
     def test_long_symbols_go_from_datagrams_to_the_file(self) -> None:
         for symbol in (49_999, 50_000, 55_000, 59_999, 60_000, 62_500, 65_000):
             with self.subTest(symbol=symbol):
