@@ -167,7 +167,7 @@ class PutAside(Writing):
 
     def sent(self, name: str, length: int, toi: int) -> None:
         self.write("large", os.urandom(length))
-        self.made(f"carousel -o {name} --tsi 7 --toi {toi} --symbol 100 --block 64 large")
+        self.made(f"carousel -o {name} --tsi 7 --toi {toi} --symbol 1000 --block 64 large")
 
     def asides(self, words: str, **how: object) -> list[str]:
         """The paths of what was put aside, in the order in which they were made."""
@@ -207,9 +207,9 @@ class PutAside(Writing):
             self.sent(f"many{toi}", 400_000, toi)
         words = "join --any-size -f -o kept/there many1 many2"
         self.holds("none with ample room", not self.asides(words))
-        # 8,000 symbols take some 2 MB.
-        made = self.asides(words.replace("-f", "--memory 512K -f"))
-        self.holds("few with less", 2 <= len(made) <= 16, made)
+        # 800 symbols take some 900 KB.
+        made = self.asides(words.replace("-f", "--memory 256K -f"))
+        self.holds("few with less", 2 <= len(made) <= 8, made)
         self.holds("with names beside OUT", {*made} == {"kept/there.aside.0"}, made)
 
 

@@ -223,6 +223,22 @@ class Disk(Case):
         done = self.through("", f"extract -o object {SECOND} ../two", folder="kept")
         self.check("without a folder in the name", done, 0, asked)
 
+    def test_folder(self) -> None:
+        """Of `extract --all`: each file, their names, and then FOLDER's name."""
+        files = "".join(f"fsync {0:032x}-7-{toi}\n" for toi in (1, 2))
+        lines = "session 7 object 1 whole 37\nsession 7 object 2 whole 5\n"
+        beside, words = "fsync all.partial\n", "extract --all -o kept/all both"
+        done = self.through("", words)
+        named = f"{beside}rename all.partial to all\nfsync kept\n"
+        self.check("a folder", done, 0, f"{files}{lines}{named}written 2\n")
+        self.shell("rm -r kept/all")
+        self.check("a file that fails", self.through("lost", words), 3, None, WRITE)
+        self.absent("nothing is left of it", "kept/all", "kept/all.partial")
+        done = self.through("unnamed", words)
+        self.check("names that fail", done, 3, f"{files}{lines}{beside}", WRITE)
+        self.absent("nothing is left of them", "kept/all", "kept/all.partial")
+        self.check("no folder is synced", self.through("unnameable", words), 0, None)
+
     def test_disk_that_fails(self) -> None:
         self.asked("there", "lost", 3, "fsync there.partial\n", WRITE)
         self.alone("the disk failed", "kept/there")
