@@ -180,10 +180,7 @@ class PutAside(Writing):
             made.append(call.path)
             later = calls[calls.index(call) + 1 :]
             following = next((it for it in later if it.changes()), None)
-            is_gone = following is not None and following[0:1] + following[2:3] == (
-                "unlink",
-                call.path,
-            )
+            is_gone = following and (following.plain(), following.path) == ("unlink", call.path)
             self.holds(f"{words}: its name is taken away at once", is_gone, following)
             is_alone = "O_EXCL" in call.flags and "O_RDWR" in call.flags
             self.holds(f"{words}: it is new", is_alone, call)
