@@ -5,6 +5,7 @@ bytes of its answers.
 """
 from __future__ import annotations
 
+import contextlib
 import gzip
 import re
 import socket
@@ -87,7 +88,8 @@ class Origin:
         threading.Thread(target=self.serve, daemon=True).start()
 
     def close(self) -> None:
-        self.listener.shutdown(socket.SHUT_RDWR)
+        with contextlib.suppress(OSError):  # it may be closed already
+            self.listener.shutdown(socket.SHUT_RDWR)
         self.listener.close()
         with self.lock:
             for stream in self.open:

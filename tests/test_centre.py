@@ -11,9 +11,11 @@ sys.dont_write_bytecode = True
 import run
 from centre_delivers import Delivers, OneStation, Service
 from centre_lets_go import LetsGo, Month
+from centre_repairs import Killed, OfStation, Repairs, Servers
 from centre_tells import Asks, Tells
 
-TESTS = Delivers, OneStation, Service, LetsGo, Month, Asks, Tells
+TESTS = [Delivers, OneStation, Service, LetsGo, Month, Asks, Tells]
+TESTS += [Repairs, Servers, Killed, OfStation]
 
 if __name__ == "__main__":
     run.main("centre")

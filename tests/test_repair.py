@@ -14,12 +14,13 @@ sys.dont_write_bytecode = True
 import run
 from repair_answers import Answers, Bounds, Changes
 from repair_fetched import Encoded, Fetched, Stations, Symbols
+from repair_generations import Generations
 from repair_hostile import Addresses, Descriptions, Redirects, Secure
 from repair_others import Nginx, Settings, Words
 
 __all__ = [
     "Answers", "Bounds", "Changes", "Encoded", "Fetched", "Stations", "Symbols", "Addresses",
-    "Descriptions", "Redirects", "Secure", "Nginx", "Settings", "Words",
+    "Descriptions", "Generations", "Redirects", "Secure", "Nginx", "Settings", "Words",
 ]
 
 if __name__ == "__main__":

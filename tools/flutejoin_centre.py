@@ -7,6 +7,8 @@ from typing import Any, NamedTuple, Optional
 
 from flutejoin_files import shown
 from flutejoin_inbox import Station
+from flutejoin_origin import NAME as ORIGIN
+from flutejoin_origin import Repairing, repairing_of, station_of as origin_of, status_of
 from flutejoin_settings import read_config
 
 DAY = 86400
@@ -29,6 +31,13 @@ class Settings(NamedTuple):
     on_file: Optional[str] = None
     flutejoin: Optional[str] = None
     listen: Optional[str] = None
+    repair: Optional[Repairing] = None
+
+    def with_repair(self, repair: Repairing) -> Settings:
+        """These, with the origin as a further station."""
+        status = {**self.status, ORIGIN: status_of(self.folder)}
+        stations = (*self.stations, origin_of(self.folder))
+        return self._replace(stations=stations, status=status, repair=repair)
 
 
 def duration(text: str) -> float:
@@ -50,10 +59,15 @@ def settings_of(path: str) -> Settings:
     given = read_config(path)
     front = f"argument --config: {shown(path)}: "
     try:
-        unknown = given.keys() - {"centre", "station"}
+        unknown = given.keys() - {"centre", "station", "repair"}
         if unknown:
             raise ValueError(f"there is no setting {min(unknown)}")
-        return settings_in(given.get("centre", {}), given.get("station", []))
+        settings = settings_in(given.get("centre", {}), given.get("station", []))
+        if "repair" not in given:
+            return settings
+        if any(station.name == ORIGIN for station in settings.stations):
+            raise ValueError(f"with [repair] no [[station]] has the name {ORIGIN}")
+        return settings.with_repair(repairing_of(given["repair"]))
     except ValueError as fault:
         raise ValueError(front + str(fault)) from None
 

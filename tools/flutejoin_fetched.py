@@ -89,6 +89,16 @@ class Fetched:
             self.at[place] = self.spool.tell()
             self.spool.write(symbol)
 
+    def hold(self, more: bytes) -> None:
+        """Takes a symbol that a journal has, if it is in the object."""
+        partition = self.lack.partition()
+        place = partition.place(more)
+        value = partition.piece(place, more[6:]) if place is not None else None
+        if place is not None and value is not None and place not in self.at:
+            self.spool.seek(0, io.SEEK_END)
+            self.at[place] = self.spool.tell()
+            self.spool.write(value)
+
     def symbols(self) -> Iterator[Tuple[int, bytes]]:
         """Yields the symbols by their places, in order."""
         for place in sorted(self.at):

@@ -347,10 +347,11 @@ def join_lines(sender: bytes, journal: str, inputs: list[str]) -> Iterator[str]:
         inputs = [journal, *rest] if rest else []
 
 
-def gather_lines(folder: str, inputs: list[str]) -> Iterator[str]:
+def gather_lines(folder: str, inputs: list[str], source: str = "") -> Iterator[str]:
     """Yields the command that joins a sender's files by what agrees."""
     paths = [f"./{path}" if path.startswith("-") else path for path in inputs]
-    yield " ".join(map(quoted, ["flutejoin-gather", "-o", folder, *paths]))
+    words = ["flutejoin-gather", *["--source", source] * bool(source), "-o", folder, *paths]
+    yield " ".join(map(quoted, words))
 
 
 def address(sender: bytes) -> str:

@@ -32,7 +32,8 @@ def problems(model: Model, stations: list[StationRow], report: Log) -> list[Prob
     if silent:
         told = ", ".join(f"{it.name} ({since(it.seen, model.of.clock())})" for it in silent[:FEW])
         more = ", .." if len(silent) > FEW else ""
-        level = CRITICAL if len(silent) == len(stations) else WARNING
+        quiet = sum(it.station.is_quiet for it in model.of.arrivals)
+        level = CRITICAL if len(silent) == len(stations) - quiet else WARNING
         count = f"{len(silent)} of {len(stations)} stations silent"
         found.append(Problem(level, f"{count}: {told}{more}"))
     rows = model.rows.values()
@@ -134,6 +135,16 @@ METRICS = (
     ("missing_bytes", "gauge", "Bytes that are missing at every station.", "missing_bytes"),
     ("free_bytes", "gauge", "Bytes that are free on the disk.", "free"),
 )
+OF_REPAIR = (
+    ("repair_running", "gauge", "Whether servers are asked now.", "running"),
+    ("repair_runs_total", "counter", "Runs that asked servers.", "runs"),
+    ("repair_requests_total", "counter", "Requests to servers.", "requests"),
+    ("repair_symbols_total", "counter", "Symbols that servers were asked for.", "asked"),
+    ("repair_bytes_total", "counter", "Bytes that servers sent.", "fetched"),
+    ("repair_files_total", "counter", "Files that were complete then.", "files"),
+    ("repair_failed_total", "counter", "Files that were not.", "failed"),
+    ("repair_today_bytes", "gauge", "Bytes that servers sent today.", "today"),
+)
 OF_STATION = (
     ("station_silent", "gauge", "Whether nothing comes of a station.", "is_silent"),
     ("station_seen_seconds", "gauge", "When something came of a station last.", "seen"),
@@ -155,6 +166,10 @@ def metrics(status: dict, stations: list[StationRow], now: float) -> Iterator[st
     yield f"flutejoin_centre_level {WORDS.index(status['level'])}"
     yield from head("told_seconds", "gauge", "When this was written.")
     yield f"flutejoin_centre_told_seconds {int(now)}"
+    repair = status.get("repair")
+    for name, kind, told, key in OF_REPAIR if repair else ():
+        yield from head(name, kind, told)
+        yield f"flutejoin_centre_{name} {int(repair[key])}"
     for name, kind, told, key in OF_STATION:
         values = [(it.name, getattr(it, key)) for it in stations]
         known = [(of, value) for of, value in values if value is not None]

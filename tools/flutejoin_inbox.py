@@ -37,6 +37,7 @@ class Station(NamedTuple):
     folder: str
     is_own: bool = False  # whether the folder is the station's, and its documents stay
     journals: str = ""  # the folder of journals in it; empty if they are in the folder itself
+    is_quiet: bool = False  # whether nothing need come of it
 
     def path(self) -> str:
         return os.path.join(self.folder, self.journals) if self.journals else self.folder

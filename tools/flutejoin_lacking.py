@@ -2,7 +2,18 @@
 from __future__ import annotations
 
 import re
-from typing import BinaryIO, Dict, Iterable, Iterator, List, NamedTuple, Optional, Set, Tuple
+from typing import (
+    BinaryIO,
+    Container,
+    Dict,
+    Iterable,
+    Iterator,
+    List,
+    NamedTuple,
+    Optional,
+    Set,
+    Tuple,
+)
 
 import flutejoin_fdt as fdt
 import flutejoin_gaps as gaps
@@ -83,6 +94,13 @@ class Located(Catalogue):
         if self.texts <= fdt.MOST_KEPT:
             self.places[session.source, session.tsi, name] = places
         return instance
+
+    def leave_out_others(self, keys: Container[Key]) -> None:
+        """Forgets the descriptions of other objects than these."""
+        for session in self:
+            for toi in [toi for toi in session.files if session.key(toi) not in keys]:
+                del session.files[toi]
+                session.others.pop(toi, None)
 
     def source(self, session: Session, toi: int, of: Described, origins: Origins) -> Source:
         """Where a description says that a file lies."""

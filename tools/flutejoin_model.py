@@ -173,7 +173,8 @@ class Model:
         times = [seconds_of(it) for it in heard if isinstance(it, str)]
         times.append(arrival.came_at)
         seen = max((it for it in times if it is not None), default=None)
-        is_silent = now - (self.began if seen is None else seen) > self.of.settings.silent
+        unheard = now - (self.began if seen is None else seen)
+        is_silent = not arrival.station.is_quiet and unheard > self.of.settings.silent
         shares = [it.shares.get(name, 0.0) for it in files if it.shares]
         dropped = receiver.get("dropped")
         counts = sum_of(it.get("datagrams") for it in senders)

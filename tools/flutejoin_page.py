@@ -82,6 +82,7 @@ class Page:
         self.model, self.has_files = model, has_files
         self.names = [each.station.name for each in model.of.arrivals]
         self.made: dict[Key, tuple[Row, str]] = {}
+        self.repair: Optional[dict] = None  # what the status has of repairs
 
     def text(
         self,
@@ -102,6 +103,7 @@ class Page:
                 "stations. The page renews itself each minute.</p>",
                 verdict(found, summary),
                 self.not_whole(rows),
+                repaired(self.repair),
                 self.stations(stations, len(newest), now),
                 self.whole(files, count),
                 "</main></body></html>\n",
@@ -211,6 +213,16 @@ class Page:
         whole = f"{self.whole_at(it)} of {len(self.names)}"
         cells = f'<td class="n">{size(it.told.bytes)}</td><td class="n m">{whole}</td>'
         return f'<tr><th scope="row">{name}</th>{cells}</tr>\n'
+
+
+def repaired(repair: Optional[dict]) -> str:
+    """What servers were asked for."""
+    if repair is None:
+        return ""
+    files = f"{repair['files']} file{'s' * (repair['files'] != 1)} complete"
+    told = f"{files} by {size(repair['fetched'])} of servers, {size(repair['today'])} today"
+    now = "; they are asked now" if repair["running"] else ""
+    return f'<p class="dim">Repair: {told} of {size(repair["most"])}{now}.</p>'
 
 
 def link(path: str) -> str:

@@ -8,7 +8,7 @@ from __future__ import annotations
 
 import itertools
 import os
-from typing import BinaryIO, Callable, Container, Iterator, NamedTuple
+from typing import BinaryIO, Callable, Container, Iterable, Iterator, NamedTuple
 
 import flutejoin_files as files
 import flutejoin_holdings as holdings
@@ -86,6 +86,35 @@ def sift(path: str, out_path: str, contents_of: ContentsOf) -> Came:
     return sieve.came
 
 
+def journals_in(folder: str) -> list[str]:
+    """The paths of the journals that wait in a folder, and of other values of symbols."""
+    folders = folder, os.path.join(folder, "aside")
+    return [
+        os.path.join(each, name)
+        for each in folders
+        if os.path.isdir(each)
+        for name in sorted(os.listdir(each))
+        if name.endswith(ENDING)
+    ]
+
+
+def copies(journals: Iterable[str], keys: Container[Key], folder: str) -> list[str]:
+    """Writes to a folder what each journal has of some objects; those that have nothing not."""
+    made = []
+    for path in journals:
+        out_path = os.path.join(folder, f"{len(os.listdir(folder))}{ENDING}")
+        with open(path, "rb", buffering=0) as file, begin_file(out_path) as out:
+            copy = Copy(out)
+            for kind, raw, more in chosen(file, keys):
+                copy.add(kind, raw, more)
+            copy.finish()
+        if copy.count:
+            made.append(out_path)
+        else:
+            os.unlink(out_path)
+    return made
+
+
 class Pending:
     """The journals of one station."""
 
@@ -98,15 +127,7 @@ class Pending:
                 os.unlink(os.path.join(folder, name))
 
     def journals(self) -> list[str]:
-        """The paths of the journals, and of other values of symbols."""
-        folders = self.folder, os.path.join(self.folder, "aside")
-        return [
-            os.path.join(folder, name)
-            for folder in folders
-            if os.path.isdir(folder)
-            for name in sorted(os.listdir(folder))
-            if name.endswith(ENDING)
-        ]
+        return journals_in(self.folder)
 
     def read(self) -> None:
         """Reads which symbols the journals have."""
@@ -143,19 +164,7 @@ class Pending:
 
     def copy(self, keys: Container[Key], folder: str) -> list[str]:
         """Writes to a folder what each journal has of some objects; those that have nothing not."""
-        made = []
-        for path in self.journals():
-            out_path = os.path.join(folder, f"{len(os.listdir(folder))}{ENDING}")
-            with open(path, "rb", buffering=0) as file, begin_file(out_path) as out:
-                copy = Copy(out)
-                for kind, raw, more in chosen(file, keys):
-                    copy.add(kind, raw, more)
-                copy.finish()
-            if copy.count:
-                made.append(out_path)
-            else:
-                os.unlink(out_path)
-        return made
+        return copies(self.journals(), keys, folder)
 
     def remove(self, keys: Container[Key], contents_of: ContentsOf) -> None:
         """Takes what was delivered of some objects out of the journals.

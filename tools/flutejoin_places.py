@@ -9,8 +9,10 @@ import ipaddress
 import os
 import shutil
 import stat
+import tempfile
 from typing import Iterator
 
+import flutejoin_files as files
 from flutejoin_files import PARTIAL
 
 PIECE = 1 << 18
@@ -93,6 +95,21 @@ class Work:
         self.clear()
         os.rmdir(self.path)
         os.close(self.folder)
+
+
+@contextlib.contextmanager
+def work_folder(prefix: str = "flutejoin-repair-") -> Iterator[Work]:
+    """A temporary folder of the system's, which is removed also if a signal ends the run."""
+    with files.later():
+        work = Work(tempfile.mkdtemp(prefix=prefix))
+        files.ENDS.append(work.end)
+    try:
+        yield work
+    finally:
+        with files.later():
+            if work.end in files.ENDS:
+                files.ENDS.remove(work.end)
+                work.end()
 
 
 def work_beside(folder: str) -> str:

@@ -22,6 +22,7 @@ from flutejoin_validators import Validator, check_digest
 
 TRIES = 3  # of a request whose answer has nothing of what was asked for, or is cut
 MOST_ANSWER = 1 << 26  # bytes that one request asks for
+WRONG_FILE = "what came is another file: its MD5 is wrong"
 COSTLY = 4  # times what is missing, that a whole file may have in place of single ranges
 
 
@@ -61,7 +62,7 @@ class Repair:
         every = [of for of in came if not of.wanted and of.lack.can_be_whole()]
         wrong = wrong_ones(journal, every)
         for of in wrong:
-            of.lack.why = "what came is another file: its MD5 is wrong"
+            of.lack.why = WRONG_FILE
         self.right.update((of.lack.key, of) for of in came if of not in wrong)
         self.complete.update(of.lack.key for of in every if of not in wrong)
 

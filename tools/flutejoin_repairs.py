@@ -16,8 +16,18 @@ import os
 import random
 import re
 import stat
-import tempfile
-from typing import Any, Dict, Iterator, List, Mapping, NamedTuple, Optional, Sequence, Tuple
+from typing import (
+    Any,
+    Dict,
+    Iterator,
+    List,
+    Mapping,
+    NamedTuple,
+    Optional,
+    Protocol,
+    Sequence,
+    Tuple,
+)
 
 import flutejoin_files as files
 import flutejoin_gaps as gaps
@@ -27,10 +37,11 @@ from flutejoin_catalogue import Told
 from flutejoin_delivery import Delivery, Wanted
 from flutejoin_fetched import write
 from flutejoin_files import Report, shown
+from flutejoin_further import Further, generations_beside
 from flutejoin_http import Client, Spending
 from flutejoin_lacking import Lack, Lacking, Located
 from flutejoin_origins import Network, Origins, Refused, Url, network_of, url_of
-from flutejoin_places import Work
+from flutejoin_places import Work, work_folder
 from flutejoin_ranges import size_of
 from flutejoin_records import Records
 from flutejoin_repairing import Repair
@@ -130,6 +141,25 @@ class Inputs(NamedTuple):
     tsis: Sequence[int] = ()
     instances: Sequence[str] = ()  # files
 
+    def read(self, program: gaps.Program, work: Work, catalogue: Located) -> Delivery:
+        """Reads the journal, and the FDT Instances that describe its files."""
+        wanted, folders = Wanted(self.source, self.tsis), beside([self.journal]).folders
+        delivery = Delivery(program, [self.journal], wanted, work, catalogue, folders)
+        delivery.read(self.instances, [])
+        return delivery
+
+
+class Reading(Protocol):
+    """What is to be repaired: a journal, of a sender if it has several, and how it is read."""
+
+    @property
+    def journal(self) -> str: ...
+
+    @property
+    def source(self) -> Optional[bytes]: ...
+
+    def read(self, program: gaps.Program, work: Work, catalogue: Located) -> Delivery: ...
+
 
 class Result:
     """What a run did, and what is still missing."""
@@ -139,6 +169,7 @@ class Result:
         self.asked = self.requests = self.received = self.wanted = self.datagrams = 0
         self.complete: List[Lack] = []
         self.left: List[Lack] = []  # of which something is missing
+        self.spent = ""  # why no more was asked for; empty if all was
         self.notes: List[str] = []  # what else is missing
 
     def is_whole(self) -> bool:
@@ -185,20 +216,6 @@ class Result:
         )
 
 
-@contextlib.contextmanager
-def work_folder() -> Iterator[Work]:
-    with files.later():
-        work = Work(tempfile.mkdtemp(prefix="flutejoin-repair-"))
-        files.ENDS.append(work.end)
-    try:
-        yield work
-    finally:
-        with files.later():
-            if work.end in files.ENDS:
-                files.ENDS.remove(work.end)
-                work.end()
-
-
 def see(journal: str) -> None:
     """Raises OSError or Fault unless this is a regular file, and no datagram file."""
     if not stat.S_ISREG(os.stat(journal).st_mode):
@@ -220,7 +237,7 @@ def sender_of(catalogue: Located, source: Optional[bytes]) -> bytes:
 
 
 def repair(
-    settings: Settings, inputs: Inputs, out: str, program: gaps.Program, report: Report
+    settings: Settings, inputs: Reading, out: str, program: gaps.Program, report: Report
 ) -> Result:
     """Asks for what is missing, and writes OUT, a new datagram file of one sender.
 
@@ -233,24 +250,27 @@ def repair(
     catalogue = Located(report)
     with work_folder() as work:
         program.kept = (work.folder,)
-        wanted, folders = Wanted(inputs.source, inputs.tsis), beside([inputs.journal]).folders
-        delivery = Delivery(program, [inputs.journal], wanted, work, catalogue, folders)
-        delivery.read(inputs.instances, [])
+        delivery = inputs.read(program, work, catalogue)
         result = Result(sender_of(catalogue, inputs.source))
+        further = Further(delivery, catalogue, generations_beside(inputs.journal))
         lacking = Lacking(delivery, catalogue, origins, settings.symbols)
         journal = lacking.read()
+        further.choose(lacking)
         run = Repair(Client(origins, spending), settings.symbols)
         with contextlib.closing(run):
             run.run([lack for lack in lacking.lacks.values() if not lack.why], journal)
+            further.ask(run, lacking, origins, journal)
             outputs.write_new(out, files.PARTIAL, lambda file: write(file, [*run.right.values()]))
         take(result, run, spending)
         settle(result, run, lacking)
+        result.notes += further.notes
     tell(result, report)
     return result
 
 
 def take(result: Result, run: Repair, spending: Spending) -> None:
     result.requests, result.received = spending.requests, spending.received
+    result.spent = run.spent
     result.asked = sum(lack.symbols() for lack in run.asked.values())
     result.wanted = sum(size_of(lack.ranges) for lack in run.asked.values())
     result.datagrams = sum(len(of.at) for of in run.right.values())

@@ -9,9 +9,11 @@ from typing import Callable, Optional
 import flutejoin_gaps as gaps
 from flutejoin_centre import Settings
 from flutejoin_delivering import Deliverer
+from flutejoin_fetching import Fetching
 from flutejoin_hooks import Hooks
 from flutejoin_house import House
 from flutejoin_inbox import Station
+from flutejoin_origin import Repairing
 from flutejoin_shelves import take_lock
 from flutejoin_telling import Telling
 from flutejoin_voice import Log
@@ -26,13 +28,20 @@ class Service:
 
     def __init__(self, settings: Settings, report: Log, tend: Callable[[], None]) -> None:
         self.settings, self.report = settings, report
-        self.lock = take_lock(settings.folder)
+        self.lock, self.tend = take_lock(settings.folder), tend
         program = gaps.find(settings.flutejoin)
         self.deliverer = Deliverer(settings, program, report, tend=tend)
         self.hooks = Hooks(settings.on_file, settings.files, self.deliverer.ledger, report)
         self.telling = Telling(self.deliverer, report)
         self.house = House(self.deliverer, self.telling.model, report)
+        self.fetching = self.telling.fetching = self.repairing()
         self.delay, self.next = 0.0, float("-inf")
+
+    def repairing(self) -> Optional[Fetching]:
+        """What repairs, if the settings have it."""
+        if not self.settings.repair:
+            return None
+        return Fetching(self.deliverer, self.telling.model, self.report)
 
     def work(self) -> bool:
         """Delivers what came. Returns whether it could; if not, it is due again after a delay."""
@@ -52,6 +61,8 @@ class Service:
             self.work()
             self.next = time.monotonic() + max(each, self.delay)
         self.attempt(self.hooks.tend)
+        if self.fetching:
+            self.attempt(self.fetching.tend)
         self.telling.tell()
 
     def attempt(self, step: Callable[[], bool]) -> Optional[bool]:
@@ -73,19 +84,48 @@ class Service:
         the next run goes on with them. Returns whether it could deliver."""
         has_worked = self.work()
         self.telling.tell(at_once=True)
+        while self.fetching and has_worked and self.repair_now(is_stopped):
+            has_worked = self.work()
+            self.telling.tell(at_once=True)
         while not is_stopped() and self.attempt(self.hooks.tend):
             if self.hooks.tries and not self.hooks.child:
                 break
             time.sleep(0.02)
-        self.hooks.stop()
+        self.stop()
         return has_worked
 
+    def repair_now(self, is_stopped: Callable[[], bool]) -> bool:
+        """Repairs what is due, by one run. Returns whether one came to its end."""
+        assert self.fetching
+        if is_stopped() or not self.attempt(self.fetching.tend):
+            return False
+        while self.fetching.child is not None:
+            if is_stopped():
+                return False
+            self.tend()
+            time.sleep(0.05)
+            self.attempt(self.fetching.tend)
+        return True
 
-def of_station(folder: str, station: str, on_file: Optional[str], program: str) -> Settings:
+    def stop(self) -> None:
+        """Ends the commands and repairs that run: the next run begins them anew."""
+        self.hooks.stop()
+        if self.fetching:
+            self.fetching.stop()
+
+
+def of_station(
+    folder: str,
+    station: str,
+    on_file: Optional[str],
+    program: str,
+    repair: Optional[Repairing] = None,
+) -> Settings:
     """The settings by which a station delivers its own files to a folder."""
     place = os.path.abspath(folder)
     name = os.path.basename(os.path.abspath(station)) or "station"
     one = Station("".join(it if it.isalnum() else "-" for it in name), station, True, FRESH)
-    return Settings(
+    settings = Settings(
         place, os.path.join(place, "files"), (one,), {}, on_file=on_file, flutejoin=program
     )
+    return settings.with_repair(repair) if repair else settings

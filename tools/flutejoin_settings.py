@@ -175,6 +175,7 @@ def complete(options: argparse.Namespace) -> None:
     file = read_config(options.config) if options.config is not None else {}
     file.pop("station", None)  # settings of flutejoin-station
     file.pop("same", None)
+    file.pop("repair", None)
     tables = file.pop("session", [])
     if not isinstance(tables, list) or not all(isinstance(table, dict) for table in tables):
         raise ValueError(f"{shown(options.config)}: session is no [[session]]")

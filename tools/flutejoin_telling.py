@@ -5,8 +5,10 @@ import contextlib
 import json
 import os
 import time
+from typing import Optional
 
 from flutejoin_delivering import Deliverer
+from flutejoin_fetching import Fetching
 from flutejoin_health import LATELY, metrics, problems, status_of
 from flutejoin_ledger import Delivery
 from flutejoin_model import Model
@@ -28,6 +30,7 @@ class Telling:
         os.makedirs(self.folder, exist_ok=True)
         self.page = Page(self.model, self.link_files())
         self.summary = ""
+        self.fetching: Optional[Fetching] = None  # what repairs
 
     def link_files(self) -> bool:
         """Makes the link `files` beside the page. Returns whether it is there."""
@@ -57,10 +60,12 @@ class Telling:
         stations = self.model.stations(newest)
         found = problems(self.model, stations, self.report)
         status = status_of(self.model, self.report, stations)
+        status["repair"] = self.fetching and self.fetching.told()
         self.summary = "; ".join([*status["problems"], status["summary"]])
         told = "\n".join(metrics(status, stations, self.of.clock())) + "\n"
         self.put("status.json", json.dumps(status) + "\n")
         self.put("metrics.prom", told)
+        self.page.repair = status["repair"]
         self.put("index.html", self.page.text(stations, found, newest))
 
     def put(self, name: str, text: str) -> None:
