@@ -162,7 +162,7 @@ class Fetching:
         rows, self.asked, self.child = self.asked, [], None
         told = read_file(os.path.join(self.work, RESULT), MOST_RESULT)
         shutil.rmtree(self.work, ignore_errors=True)
-        fault = told.get("fault")
+        fault: str = told.get("fault") or ""
         if not fault and "files" not in told:
             fault = f"ended by signal {-status}" if status < 0 else f"ended with status {status}"
         why = {(it["tsi"], it["toi"]): it["told"] for it in told.get("files", ())}
