@@ -32,8 +32,13 @@ LOCAL = (
     *("192.0.2.1", "198.18.0.1", "240.0.0.1", "::", "::1", "::ffff:127.0.0.1", "::ffff:8.8.8.8"),
     *("::127.0.0.1", "::8.8.8.8", "fe80::1", "fec0::1", "fc00::1", "fd00::1", "ff02::1", "ff0e::1"),
     *("2001:db8::1", "2002:7f00:1::", "2002:a00:1::1", "64:ff9b::127.0.0.1", "64:ff9b::10.0.0.1"),
+    *("64:ff9b:1::8.8.8.8", "192.0.0.8", "192.0.0.200", "192.88.99.1", "3fff::1", "100::1"),
+    *("2a00::5efe:127.0.0.1", "2a00::200:5efe:10.0.0.1", "2001:0:7f00:1::", "::ffff:0:8.8.8.8"),
 )
-PUBLIC = "8.8.8.8", "93.184.216.34", "2606:4700::1111", "2a00:1450:4001::1", "64:ff9b::8.8.8.8"
+PUBLIC = (
+    *("8.8.8.8", "93.184.216.34", "2606:4700::1111", "2a00:1450:4001::1", "64:ff9b::8.8.8.8"),
+    *("2002:808:808::1", "2a00::5efe:8.8.8.8"),
+)
 # URLs that are not asked, and why
 REFUSED = (
     ("file:///etc/passwd", "is no URL of http or https"),
@@ -56,6 +61,8 @@ REFUSED = (
     ("http://h/news/%2e%2E/secret", "leads to a folder above"),
     ("http://h/news/..%2fsecret", "leads to a folder above"),
     ("http://h/news/.%2e%5csecret", "leads to a folder above"),
+    ("http://h/news/..;/secret", "leads to a folder above"),
+    ("http://h/news/%2e.%3Ba=b/secret", "leads to a folder above"),
     (f"http://h/{'a' * 2048}", "more than 2048 characters"),
     ("http://h/news", None),
     ("http://h/newspaper", "is below no --base"),

@@ -24,6 +24,13 @@ REFERENCE = "%/?#[]@!$&'()*+,;=:-._~"  # what a URL has beside letters and digit
 SLASHES = re.compile(r"[/\\]")
 NAT64 = ipaddress.ip_network("64:ff9b::/96")  # RFC 6052
 COMPATIBLE = ipaddress.ip_network("::/96")  # RFC 4291, section 2.5.5.1
+# Networks that are not for the public, which versions of Python differ about: of protocols, of 6to4
+# relays (RFC 7526), of translation within a site (RFC 8215), and for documents (RFC 9637)
+NOT_PUBLIC = [
+    *map(ipaddress.ip_network, ("192.0.0.0/24", "192.88.99.0/24")),
+    *map(ipaddress.ip_network, ("64:ff9b:1::/48", "3fff::/20")),
+]
+ISATAP = 0x00005EFE, 0x02005EFE  # before an address of IPv4 in one of IPv6 (RFC 5214)
 
 Network = Union[ipaddress.IPv4Network, ipaddress.IPv6Network]
 # The family of a socket, and what it connects to
@@ -93,9 +100,10 @@ def encoded(text: str) -> str:
 
 
 def has_dots(part: str) -> bool:
-    """Whether a part of a path leads elsewhere, also for a server that decodes it first."""
+    """Whether a part of a path leads elsewhere, also for a server that decodes it first, or takes
+    what follows a semicolon for parameters."""
     steps = SLASHES.split(urllib.parse.unquote(part, errors="replace"))
-    return any(step in (".", "..") for step in steps)
+    return any(step.partition(";")[0] in (".", "..") for step in steps)
 
 
 def joined(base: str, reference: str) -> str:
@@ -115,8 +123,12 @@ def is_public(address: IPAddress) -> bool:
         if address in NAT64:
             return is_public(ipaddress.IPv4Address(int(address) & 0xFFFFFFFF))
         inner = address.sixtofour or (address.teredo or [None])[-1]
+        if int(address) >> 32 & 0xFFFFFFFF in ISATAP:
+            inner = inner or ipaddress.IPv4Address(int(address) & 0xFFFFFFFF)
         if inner and not is_public(inner):
             return False
+    if any(address.version == it.version and address in it for it in NOT_PUBLIC):
+        return False
     is_local = address.is_loopback or address.is_link_local or address.is_private
     is_other = address.is_multicast or address.is_unspecified or address.is_reserved
     return address.is_global and not is_local and not is_other
