@@ -21,6 +21,7 @@ sys.dont_write_bytecode = True
 import captures
 import run
 from flute_sender import Sent, fdt, header, instance, packets
+from ports import free_port
 from run import ROOT
 
 SIZE = 10 << 20  # bytes of an input
@@ -174,11 +175,18 @@ class Journals(Case):
         self.costs("flutejoin-values", *words, "kept.fldg")
 
 
+def lengths(length: int, symbol: int, block: int) -> bytes:
+    """EXT_FTI."""
+    return struct.pack(">BB6sHHI", 64, 4, length.to_bytes(6, "big"), 0, symbol, block)
+
+
+def with_toi(front: bytes, toi: int) -> bytes:
+    """A header with another TOI."""
+    return front[:12] + struct.pack(">I", toi) + front[16:]
+
+
 class Objects(Case):
     """Many objects in a journal of one sender."""
-
-    def lengths(self, length: int, symbol: int, block: int) -> bytes:
-        return struct.pack(">BB6sHHI", 64, 4, length.to_bytes(6, "big"), 0, symbol, block)
 
     journals: tuple[str, ...] = ("journal",)
 
@@ -189,7 +197,7 @@ class Objects(Case):
             self.costs("flutejoin-files", *program, *more, *self.journals)
 
     def test_whole(self) -> None:
-        front = header(7, 1, self.lengths(1, 1, 1))
+        front = header(7, 1, lengths(1, 1, 1))
         many = (
             front[:12] + struct.pack(">I", toi) + front[16:] + b"\0\0\0\0x"
             for toi in range(1, SIZE)
@@ -198,7 +206,7 @@ class Objects(Case):
         self.both()
 
     def test_partial(self) -> None:
-        front = header(7, 1, self.lengths(600, 10, 64))
+        front = header(7, 1, lengths(600, 10, 64))
         many = (
             b"".join((front[:12], struct.pack(">I", toi), front[16:], struct.pack(">I", toi % 59)))
             + bytes(10)
@@ -209,9 +217,18 @@ class Objects(Case):
 
     def test_gaps(self) -> None:
         """Of one object, of which each second symbol is there."""
-        front = header(7, 1, self.lengths(1 << 20, 1, 1 << 16))
+        front = header(7, 1, lengths(1 << 20, 1, 1 << 16))
         places = (struct.pack(">HH", at >> 16, at & 0xFFFF) for at in range(0, 1 << 20, 2))
         self.journal(front + place + b"x" for place in places)
+        self.both()
+
+    def test_nearly_empty(self) -> None:
+        """Of 65,536 blocks each, of which one is there: each has as many gaps as there may be."""
+        front = header(7, 1, lengths(1 << 16, 1, 1))
+        many = (
+            front[:12] + struct.pack(">I", toi) + front[16:] + b"\0\1\0\0x" for toi in range(1, SIZE)
+        )
+        self.journal(many)
         self.both()
 
     def test_instances(self) -> None:
@@ -289,6 +306,77 @@ class Folders(Case):
             epoch = f".e{number % 8 + 1}" * (number % 8 > 0)
             self.path(f"kept/{address}{epoch}.fldg").write_bytes(b"FLDG\0\1" + records[:20_000])
         self.received()
+
+
+class Keeping(Case):
+    """What keeps datagrams as journals, what repairs, and what delivers: each by all hostile
+    shapes."""
+
+    def shapes(self) -> Iterator[tuple[str, Iterator[bytes]]]:
+        """Datagrams of objects, each shape for 10 MB."""
+        one = header(7, 1, lengths(1, 1, 1))
+        sparse = header(7, 1, lengths(1 << 16, 1, 1))
+        partial = header(7, 1, lengths(600, 10, 64))
+        yield "whole", (with_toi(one, toi) + b"\0\0\0\0x" for toi in range(1, SIZE))
+        yield "sparse", (with_toi(sparse, toi) + b"\0\1\0\0x" for toi in range(1, SIZE))
+        yield "partial", (
+            with_toi(partial, toi) + struct.pack(">I", toi % 59) + bytes(10)
+            for toi in range(1, SIZE)
+        )
+        yield "values", (  # of the same symbols, each with another one
+            with_toi(partial, toi % 500 + 1) + struct.pack(">IHQ", toi % 59, 0, toi)
+            for toi in range(1, SIZE)
+        )
+        yield "described", self.described()
+
+    def described(self) -> Iterator[bytes]:
+        """Files of 65,536 blocks, of which a symbol is there each."""
+        sparse = header(7, 1, lengths(1 << 16, 1, 1))
+        for number in range(1, 1 << 16):
+            tois = range(500 * number, 500 * number + 500)
+            files = [Sent(toi, bytes(8), f"http://h/{toi}", symbol=1, block=1) for toi in tois]
+            for file in files:
+                file.more = {"Transfer-Length": 1 << 16, "Content-Length": 1 << 16}
+            yield from instance(7, number, fdt(files, 4_000_000_000 + number))
+            yield from (with_toi(sparse, toi) + b"\0\1\0\0x" for toi in tois)
+
+    def test_gather(self) -> None:
+        for name, of in self.shapes():
+            self.datagrams(f"{name}.sent", of)
+            words = "--flutejoin", run.PROGRAM, "--source", SENDER, "-o", name, f"{name}.sent"
+            self.costs("flutejoin-gather", *words)
+            self.costs("flutejoin-gather", *words)  # again, beside what is there
+
+    def test_repair(self) -> None:
+        base = "--base", "http://127.0.0.1:9/", "--seconds", 60
+        for name, of in self.shapes():
+            self.journal(of, name)
+            words = "--flutejoin", run.PROGRAM, *base, "-o", f"{name}.more", name
+            self.costs("flutejoin-repair", *words)
+
+    def test_centre(self) -> None:
+        for name, of in self.shapes():
+            self.datagrams(f"{name}.sent", of)
+            words = "--source", SENDER, "-o", f"push/{name}", f"{name}.sent"
+            self.path("push").mkdir(exist_ok=True)
+            done = self.tool("flutejoin-gather", ["--flutejoin", run.PROGRAM, *words])
+            self.holds(f"{name}: pushed", done.status == 0, done)
+            folders = {"centre": f"centre/{name}", "station": f"push/{name}"}
+            places = {of: self.path(each) for of, each in folders.items()}
+            places["centre"].mkdir(parents=True)
+            settings = f'[centre]\nfolder = "{places["centre"]}"\nflutejoin = "{run.PROGRAM}"\n'
+            settings += f'[[station]]\nname = "north"\nfolder = "{places["station"]}"\n'
+            self.write("centre.toml", settings)
+            self.costs("flutejoin-centre", "--config", "centre.toml", "--once")
+            self.costs("flutejoin-centre", "--config", "centre.toml", "--once")
+
+    def test_station(self) -> None:
+        """That joins what a receiver left, and delivers."""
+        for name, of in self.shapes():
+            self.path(name, "in").mkdir(parents=True)
+            self.datagrams(f"{name}/in/10.0.0.1.fldg", of)
+            words = "--port", free_port(), "--seconds", 1, "--deliver", f"{name}.here", "-o", name
+            self.costs("flutejoin-station", "--flutejoin", run.PROGRAM, *words)
 
 
 if __name__ == "__main__":

@@ -133,7 +133,7 @@ class Deliverer:
         found = False
         for each in self.arrivals:
             for path in each.pending.journals():
-                answer = self.program.run(["gaps", "--any-size", "--summary", path])
+                answer = self.program.run([*gaps.CHECK, path])
                 if answer.status == 1:
                     kept = each.inbox.put_aside(path, self.at("aside"))
                     told = f"{path} is damaged: {answer.told}; it is kept as {kept}"

@@ -4,7 +4,7 @@ from __future__ import annotations
 import contextlib
 import itertools
 import os
-from typing import Iterable, Iterator, NamedTuple, Optional, Sequence
+from typing import Container, Iterable, Iterator, NamedTuple, Optional, Sequence
 
 import flutejoin_files as files
 import flutejoin_gaps as gaps
@@ -12,14 +12,16 @@ import flutejoin_holdings as holdings
 from flutejoin_catalogue import Catalogue
 from flutejoin_documents import Documents
 from flutejoin_entries import FILE, SYMBOL
-from flutejoin_gaps import GAPS, Fault, argument, shown
-from flutejoin_holdings import Key
+from flutejoin_gaps import CHECK, GAPS, Fault, argument, shown
+from flutejoin_holdings import NOTHING, Key
 from flutejoin_merged import merged
+from flutejoin_partition import Partition
 from flutejoin_places import Work
 from flutejoin_records import Cut
 from flutejoin_records import Fault as RecordFault
 from flutejoin_resolving import Way
 from flutejoin_session import Session
+from flutejoin_sparse import Thinning
 from flutejoin_states import State, key_of
 from flutejoin_ways import Ways
 
@@ -86,7 +88,7 @@ class Delivery:
         if len(self.journals) == 1 and not self.wanted.tsis:
             (self.journal,) = self.journals
             self.name = shown(self.journal)
-            self.run([*GAPS, "--summary", argument(self.journal)], [self.name])
+            self.run([*CHECK, argument(self.journal)], [self.name])
             return
         self.journal, self.name = self.work.at("journal"), JOINED
         words = ["join", "--any-size", *self.wanted.sessions(), "-o", self.journal]
@@ -167,12 +169,28 @@ class Delivery:
         A few datagrams of objects that nothing describes can make millions of gaps. Then only
         described objects are looked at.
         """
-        shown_keys = self.catalogue.describes
+        shown_keys, sparse = self.catalogue.describes, self.sparse()
         if sum(session.gaps_of_strays() for session in self.catalogue) <= MOST_GAPS:
             shown_keys = self.catalogue.has
-        for line in self.program.lines([([*GAPS, self.describe(shown_keys)], [self.name])]):
-            if not line.startswith(b"gap "):
+        journal = self.describe(lambda key: key not in sparse and shown_keys(key))
+        for line in self.program.lines([([*GAPS, "--ranges", journal], [self.name])]):
+            if not line.startswith(b"bytes "):
                 self.take(*self.told(line))
+
+    def sparse(self) -> Container[Key]:
+        """Described objects of which next to nothing is held, and which are too many for flutejoin
+        to look at each. Their states are noted by what is held: none of them is whole."""
+        thinning, found = Thinning(lambda key: False), set()
+        for session in self.catalogue:
+            for toi in session.files:
+                held, numbers = session.held.get(toi, NOTHING), session.information(toi)
+                if not held.symbols or held.is_disputed or not numbers:
+                    continue
+                if thinning.is_left(session.key(toi), numbers, held.symbols):
+                    wanted = Partition(*numbers).symbols - held.symbols
+                    session.states[toi] = State(gaps.PARTIAL, wanted)
+                    found.add(session.key(toi))
+        return found
 
     def extract_all(self) -> None:
         """Has flutejoin write the whole objects that are described, and reads the others' state.
@@ -180,8 +198,10 @@ class Delivery:
         Those whose file is there already are left out.
         """
 
+        sparse = self.sparse()
+
         def is_wanted(key: Key) -> bool:
-            is_new = self.catalogue.describes(key)
+            is_new = self.catalogue.describes(key) and key not in sparse
             return is_new and key.number not in self.catalogue.of(key).outcomes
 
         for key, state in self.extract(self.describe(is_wanted), "objects"):

@@ -5,6 +5,7 @@ Lines are read as they come, and none is kept.
 from __future__ import annotations
 
 import contextlib
+import itertools
 import os
 import re
 import shutil
@@ -21,6 +22,7 @@ from typing import (
     List,
     NamedTuple,
     Optional,
+    Sequence,
     Tuple,
 )
 
@@ -38,6 +40,11 @@ STATE = re.compile(
     rb"|(partial) missing (\d+) conflicting (\d+) misfit (\d+))\n"
 )
 GAPS = ["gaps", "--any-size"]
+# Reads a journal to its end, and reports its faults: it chooses no object, since to look for what is
+# missing of many large ones takes long.
+CHECK = [*GAPS, "--summary", "--source", "f" * 32]
+MOST_LINES = 1 << 21  # of gaps that are counted; of one datagram there may be 65,536
+MOST_BLOCKS = 1 << 16
 GAP = re.compile(rb"gap (\d+)/(\d+)-(\d+) (missing|conflicting|misfit)\n")
 INFORMATION = re.compile(OBJECT + rb"info length (\d+) symbol (\d+) block (\d+)\n")
 
@@ -70,20 +77,31 @@ class Enough(Exception):
     """No more gaps are wanted."""
 
 
+class Many(Exception):
+    """There are more gaps than are counted."""
+
+
 class State(NamedTuple):
     """What flutejoin reports about an object.
 
-    `disputed` counts its symbols in conflict and its misfits, and `gaps` the gap lines that follow.
+    `disputed` counts its symbols in conflict and its misfits, and `gaps` the gap lines that follow,
+    or more, if there are very many of all objects. `missing` counts its missing symbols.
     """
 
     words: str
     disputed: int = 0
     gaps: int = 0
+    missing: int = 0
+
+    def bound(self, ranges: int) -> State:
+        """The same with as many gap lines as there may be, by the ranges of bytes that are not
+        held: each gap is in one block."""
+        return self._replace(gaps=min(self.missing + self.disputed, ranges + MOST_BLOCKS))
 
     @classmethod
     def of(cls, line: re.Match) -> State:
         if line[5]:
-            return cls(PARTIAL, int(line[7]) + int(line[8]))
+            return cls(PARTIAL, int(line[7]) + int(line[8]), 0, int(line[6]))
         return cls((line[2] or line[3] or line[4]).decode())
 
     def has_information(self) -> bool:
@@ -108,6 +126,8 @@ class Program:
         self.path = path
         self.kept: tuple[int, ...] = ()  # open files that the program inherits
         self.known: Optional[IO[bytes]] = None  # lines of `know`
+        self.instead: dict[str, IO[bytes]] = {}  # what is read in place of journals
+        self.has_many = False  # whether there are more gap lines than are counted
 
     def know(self, information: Iterable[Tuple[str, Numbers]]) -> None:
         """Adds transmission information to what `states` and `gaps` read: `(object, numbers)`."""
@@ -118,30 +138,59 @@ class Program:
         self.known.flush()
         self.kept += (self.known.fileno(),)
 
+    def read_instead(self, journal: str, file: IO[bytes]) -> None:
+        """Has an open file read in place of a journal, which is named in faults as ever."""
+        self.instead[journal] = file
+        self.kept += (file.fileno(),)
+
+    def input(self, journal: str) -> str:
+        if journal in self.instead:
+            return f"/dev/fd/{self.instead[journal].fileno()}"
+        return argument(journal)
+
     def states(self, journals: list[str]) -> Iterator[tuple[str, State]]:
         """Yields each object in these journals together, and its state.
 
         Objects are named as flutejoin gaps prints them.
         """
-        key, state, gaps = None, State(""), 0
-        for line in self.lines(self.commands(journals)):
-            if line.startswith(b"gap "):
-                gaps += 1
-                continue
-            if key is not None:
-                yield key, state._replace(gaps=gaps)
-            told, gaps = state_of(line), 0
-            key, state = told[1].decode(), State.of(told)
+        count = 0
+        try:
+            for each in self.counted(self.commands(journals), 0 if self.has_many else MOST_LINES):
+                yield each
+                count += 1
+            return
+        except Many:
+            self.has_many = True
+        ranges = self.counted(self.commands(journals, ["--ranges"]), None)
+        for key, state in itertools.islice(ranges, count, None):
+            yield key, state.bound(state.gaps)
+
+    def counted(
+        self, commands: list[Command], most: Optional[int]
+    ) -> Iterator[tuple[str, State]]:
+        """Yields each object and its state with the number of lines that follow. Raises Many once
+        there are more than `most` lines."""
+        key, state, begin, number = None, State(""), 0, 0
+        with contextlib.closing(self.lines(commands)) as lines:
+            for number, line in enumerate(lines):
+                if line.startswith((b"gap ", b"bytes ")):
+                    if most is not None and number >= most:
+                        raise Many
+                    continue
+                if key is not None:
+                    yield key, state._replace(gaps=number - begin - 1)
+                told, begin = state_of(line), number
+                key, state = told[1].decode(), State.of(told)
         if key is not None:
-            yield key, state._replace(gaps=gaps)
+            yield key, state._replace(gaps=number - begin)
 
     def gaps(self, journals: list[str], begin: Begin) -> None:
         """Passes the gaps of these journals together to what `begin` returns for each object."""
         self.read_gaps(self.commands(journals), begin)
 
-    def commands(self, journals: list[str]) -> list[Command]:
+    def commands(self, journals: list[str], more: Sequence[str] = ()) -> list[Command]:
         """The commands that print the gaps of these journals together."""
-        paths = [argument(path) for path in journals]
+        paths = [*map(self.input, journals)]
         names = [shown(path) for path in journals]
         found: list[Command] = []
         if len(paths) > 1:
@@ -152,7 +201,7 @@ class Program:
             words = ["info", "--any-size", "-o", "-", "--list", lines, *paths]
             found.append((words, [*names, "what the FDT tells"]))
             paths = ["-"]
-        return [*found, ([*GAPS, *paths], names)]
+        return [*found, ([*GAPS, *more, *paths], names)]
 
     def gaps_with(
         self, journal: str, information: Iterable[Tuple[str, Numbers]], begin: Begin
@@ -163,7 +212,7 @@ class Program:
             (["info", "--any-size", "-o", "-", *options(key), *numbers_of(numbers), "-"], [name])
             for key, numbers in information
         ]
-        added[0][0][-1] = argument(journal)
+        added[0][0][-1] = self.input(journal)
         self.read_gaps([*added, ([*GAPS, "-"], [name])], begin)
 
     def read_gaps(self, commands: list[Command], begin: Begin) -> None:
@@ -185,7 +234,7 @@ class Program:
         It is the transfer length, the symbol length and the block length.
         """
         found: dict[str, Numbers] = {}
-        show = (["show", argument(journal)], [shown(journal)])
+        show = (["show", self.input(journal)], [shown(journal)])
         with contextlib.closing(self.lines([show])) as lines:
             for line in lines:
                 if b" info length " not in line[:140]:

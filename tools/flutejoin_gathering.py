@@ -8,6 +8,7 @@ import time
 from typing import Iterator, Optional
 
 import flutejoin_files as files
+import flutejoin_gaps as gaps
 import flutejoin_holdings as holdings
 from flutejoin_delivered import NAME, Delivered
 from flutejoin_documents import Assembly
@@ -153,7 +154,7 @@ class Gathering:
 
     def take_journal(self, path: str) -> None:
         """Takes the files of a journal, of each sender apart, and its FDT Instances."""
-        self.checked(self.program.run(["gaps", "--any-size", "--summary", argument(path)]))
+        self.checked(self.program.run([*gaps.CHECK, argument(path)]))
         self.take_instances(path)
         for source, piece in self.by_source(path):
             self.bring(source, piece, set())

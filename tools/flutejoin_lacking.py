@@ -127,7 +127,10 @@ class Lacking:
 
     def read(self) -> str:
         """Finds what is missing. Returns a journal that has the described objects alone."""
-        journal = self.delivery.describe(self.catalogue.describes)
+        sparse = self.delivery.sparse()
+        journal = self.delivery.describe(
+            lambda key: key not in sparse and self.catalogue.describes(key)
+        )
         disputed: Set[Key] = set()
         current: Optional[Lack] = None
         commands = [([*RANGES, journal], [self.delivery.name])]

@@ -12,7 +12,7 @@ from flutejoin_grids import Grid, Overview, partition_words
 from flutejoin_partition import Partition
 
 MOST_PANELS = 520
-MOST_GAPS = 2000000  # of all objects that are drawn, unless it is one: a datagram can make 65,536
+MOST_GAPS = 1000000  # of all objects that are drawn, unless it is one: a datagram can make 65,536
 ADDED_AT_ONCE = 16  # objects whose information is added in one run, each by a program of its own
 NOTHING = "nothing of this object"
 OF_OTHERS = ", with the transmission information of other journals"
@@ -97,13 +97,20 @@ class Survey:
         return max(1, MOST_PANELS // self.count)
 
     def chosen(self) -> dict[str, None]:
-        """The objects that are drawn: as many as have room with their gaps."""
+        """The objects that are drawn: as many as have room with their gaps.
+
+        The gaps before the last of them are all read, so those of others have a bound too.
+        """
         chosen: dict[str, None] = {}
-        left = MOST_GAPS
+        left = skipped = MOST_GAPS
         for key, state in self.all.items():
             if not chosen or state.gaps <= left:
                 chosen[key] = None
                 left -= state.gaps
+            else:
+                skipped -= state.gaps
+            if skipped < 0:
+                break
         return chosen
 
     def look(self, journal: str) -> list[Waiting]:
