@@ -1,3 +1,4 @@
+pub mod DiskWrites
 pub mod Entries
 pub mod Modes
 pub mod NewFolders

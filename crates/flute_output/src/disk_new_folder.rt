@@ -1,10 +1,12 @@
 //! A new folder of the system.
-ghost use Rattle.std.specs.Prelude.{None};
+ghost use Rattle.std.specs.Prelude.{◌≡◌, None};
 
+use crate::beside::check_name;
 use crate::buffered_file::BufferedFile;
 use crate::file_limit::FileLimit;
-use crate::name_pair::{ATTEMPTS, NamePair, found_at, sync_folder};
+use crate::name_pair::{ATTEMPTS, NamePair, found_at};
 use crate::new_folder::NewFolder;
+use flute_calls::{CallFault, Calls, SystemCalls};
 use flute_parts::{DeviceFault, Sink};
 use std::alloc::{Alloc, Global};
 use std::fs::{self, File, OpenOptions};
@@ -16,6 +18,7 @@ use std::rt::Files;
 #[derive(Drop)]
 pub struct DiskNewFolder<'a, R: Files<File = File> + Alloc + Clone + Drop> {
     rt: &'a R,
+    calls: SystemCalls<'a, R>,
     alloc: Global,
     names: NamePair,
     /// The folder beside OUT, open and locked, and the folder that both are in, if that may be
@@ -41,6 +44,7 @@ impl<'a, R: Files<File = File> + Alloc + Clone + Drop> DiskNewFolder<'a, R> {
         let out = PathBuf::from_str(alloc, path)?;
         Ok(DiskNewFolder {
             rt,
+            calls: SystemCalls::new(rt),
             alloc,
             names: NamePair::new(alloc, out)?,
             beside: None,
@@ -55,29 +59,60 @@ impl<'a, R: Files<File = File> + Alloc + Clone + Drop> DiskNewFolder<'a, R> {
     //
     // It fails also if OUT is there, whatever it is, or if what has the name beside it is not a
     // folder that contains only files, or a running program has that locked.
-    fn make(&self) -> io::Result<File> {
+    fn make(&mut self) -> Result<File, CallFault>
+        ensures { self.new.writer ≡ self.old.writer }
+    {
         for _ in 0..ATTEMPTS {
-            if found_at(self.rt, self.names.out.as_str())?.is_some() {
-                return Err(ErrorKind::AlreadyExists.into());
-            }
-            match fs::create_dir(self.rt, &self.names.beside) {
-                Err(error) if error.kind() != ErrorKind::AlreadyExists => return Err(error),
-                _ => {}
-            }
-            match found_at(self.rt, &self.names.beside)? {
-                Some(found) if !found.is_dir() => return Err(ErrorKind::AlreadyExists.into()),
-                _ => {}
-            }
-            match self.names.lock_beside(self.rt) {
-                Err(error) if error.kind() == ErrorKind::NotFound => {}
-                Err(error) => return Err(error),
-                Ok(folder) => {
-                    self.remove_files()?;
-                    return Ok(folder);
-                }
+            if let Some(folder) = self.make_once()? {
+                return Ok(folder);
             }
         }
-        Err(ErrorKind::AlreadyExists.into())
+        Err(CallFault::AlreadyExists)
+    }
+
+    // None if another run has taken the name away meanwhile.
+    fn make_once(&mut self) -> Result<Option<File>, CallFault>
+        ensures { self.new.writer ≡ self.old.writer }
+    {
+        if self.calls.look(self.names.out.as_str())?.is_some() {
+            return Err(CallFault::AlreadyExists);
+        }
+        match fs::create_dir(self.rt, &self.names.beside) {
+            Err(error) if error.kind() != ErrorKind::AlreadyExists => return Err(error.into()),
+            _ => {}
+        }
+        match found_at(self.rt, &self.names.beside)? {
+            Some(found) if !found.is_dir() => return Err(CallFault::AlreadyExists),
+            _ => {}
+        }
+        match self.lock_beside() {
+            Err(CallFault::NotFound) => Ok(None),
+            Err(fault) => Err(fault),
+            Ok(folder) => {
+                self.remove_files()?;
+                Ok(Some(folder))
+            }
+        }
+    }
+
+    // Opens and locks what is beside OUT. `NotFound` if another run has taken its name away.
+    fn lock_beside(&mut self) -> Result<File, CallFault>
+        ensures { self.new.writer ≡ self.old.writer }
+    {
+        let opened = self.calls.open(&self.names.beside)?;
+        self.calls.lock(&opened)?;
+        check_name(&mut self.calls, &self.names.beside, &opened)?;
+        Ok(opened)
+    }
+
+    // Checks that the open folder has the name beside OUT still.
+    fn check_beside(&mut self) -> Result<(), CallFault>
+        ensures { self.new.writer ≡ self.old.writer }
+    {
+        match &self.beside {
+            Some(beside) => check_name(&mut self.calls, &self.names.beside, beside),
+            None => Err(CallFault::NotFound),
+        }
     }
 
     // Removes the files in the folder beside OUT. `AlreadyExists` if it has anything but regular
@@ -101,7 +136,7 @@ impl<R: Files<File = File> + Alloc + Clone + Drop> NewFolder for DiskNewFolder<'
     ghost failures = { λ f. ⟦<BufferedFile as Sink>⟧.failures f.writer };
 
     fn create(&mut self) -> Result<(), DeviceFault> {
-        let parent = self.names.parent(self.rt);
+        let parent = self.calls.open_parent(self.names.out.as_str());
         self.parent = self.writer.count(parent)?;
         let made = self.make();
         self.beside = Some(self.writer.count(made)?);
@@ -141,29 +176,31 @@ impl<R: Files<File = File> + Alloc + Clone + Drop> NewFolder for DiskNewFolder<'
     }
 
     fn sync(&mut self) -> Result<(), DeviceFault> {
-        let synced = sync_folder(&self.beside);
+        let synced = self.calls.sync_folder(&self.beside);
         self.writer.count(synced)
     }
 
     fn put_in_place(&mut self) -> Result<(), DeviceFault> {
         // A rename would replace an empty folder.
-        let checked = match found_at(self.rt, self.names.out.as_str()) {
-            Ok(Some(_)) => Err(ErrorKind::AlreadyExists.into()),
-            Ok(None) => self.names.check_beside(self.rt, self.beside.as_ref()),
-            Err(error) => Err(error),
+        let checked = match self.calls.look(self.names.out.as_str()) {
+            Ok(Some(_)) => Err(CallFault::AlreadyExists),
+            Ok(None) => self.check_beside(),
+            Err(fault) => Err(fault),
         };
         self.writer.count(checked)?;
-        let put = fs::rename(self.rt, &self.names.beside, &self.names.out);
+        let put = self
+            .calls
+            .rename(&self.names.beside, self.names.out.as_str());
         self.writer.count(put)
     }
 
     fn sync_name(&mut self) -> Result<(), DeviceFault> {
-        let synced = sync_folder(&self.parent);
+        let synced = self.calls.sync_folder(&self.parent);
         self.writer.count(synced)
     }
 
     fn remove(&mut self) -> Result<(), DeviceFault> {
-        let checked = self.names.check_beside(self.rt, self.beside.as_ref());
+        let checked = self.check_beside();
         self.writer.count(checked)?;
         let emptied = self.remove_files();
         self.writer.count(emptied)?;

@@ -43,10 +43,15 @@ impl FileLimit {
     /// This one for what was found: `NONE` for all but a regular file.
     pub fn of(&self, found: &Metadata) -> FileLimit {
         if found.is_file() {
-            FileLimit { most: self.most }
+            self.again()
         } else {
             FileLimit::NONE
         }
+    }
+
+    /// The same limit once more.
+    pub fn again(&self) -> FileLimit {
+        FileLimit { most: self.most }
     }
 
     /// Whether there is none.

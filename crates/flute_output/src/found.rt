@@ -1,6 +1,6 @@
 //! The file that an output is to overwrite.
 
-use crate::file_id::FileId;
+use flute_calls::FileId;
 use std::fs::{self, File, Metadata};
 use std::io::Read;
 use std::rt::Files;

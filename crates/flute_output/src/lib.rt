@@ -22,11 +22,11 @@
 //! ```
 #![tactic(auto)]
 
+mod beside;
 mod buffered_file;
 mod device_file;
 mod disk_folder;
 mod disk_new_folder;
-mod file_id;
 mod file_limit;
 mod filled_folder;
 mod folder;
@@ -41,7 +41,6 @@ mod streams;
 pub use device_file::DeviceFile;
 pub use disk_folder::DiskFolder;
 pub use disk_new_folder::DiskNewFolder;
-pub use file_id::FileId;
 pub use file_limit::FileLimit;
 pub use filled_folder::finish_folder;
 pub use folder::Folder;

@@ -1,10 +1,12 @@
 //! What the path of an output leads to.
 
+use crate::beside::Wanted;
 use crate::device_file::DeviceFile;
-use crate::disk_folder::DiskFolder;
-use crate::file_id::FileId;
+use crate::disk_folder::{DiskFolder, new_mode};
+use crate::file_limit::FileLimit;
 use crate::found::is_standard_output;
 use crate::name_pair::{NamePair, found_at};
+use flute_calls::{FileId, SystemCalls};
 use std::alloc::Global;
 use std::fs::{self, File};
 use std::io::{self, ErrorKind};
@@ -43,7 +45,7 @@ pub fn place_at<'a, R: Files<File = File>>(
     path: &str,
     before: Option<FileId>,
     inputs: Vec<FileId>,
-) -> io::Result<Place<DiskFolder<'a, R>, DeviceFile<'a, R>>> {
+) -> io::Result<Place<DiskFolder<SystemCalls<'a, R>>, DeviceFile<'a, R>>> {
     if path == STANDARD {
         return Ok(Place::StandardOutput);
     }
@@ -73,7 +75,15 @@ pub fn place_at<'a, R: Files<File = File>>(
             _ => return Ok(Place::Device(DeviceFile::new(rt, alloc, path)?)),
         }
     }
-    Ok(Place::File(DiskFolder::new(rt, alloc, names, found, before, inputs)?))
+    let wanted = Wanted {
+        mode: new_mode(&found),
+        replaces: found.is_some(),
+        before,
+        inputs,
+    };
+    let limit = FileLimit::of_process(rt);
+    let folder = DiskFolder::new(SystemCalls::new(rt), alloc, limit, names, wanted)?;
+    Ok(Place::File(folder))
 }
 
 // Where the path leads to, without symbolic links at its end.

@@ -4,7 +4,8 @@ ghost use Rattle.flutejoin_commands.specs.Worlds.{IsNotMade};
 
 use crate::asides::{FileAsides, beside};
 use crate::input::{Input, Reader, input_of};
-use flute_output::{DeviceFile, DiskFolder, DiskNewFolder, FileId, Found, Place, place_at};
+use flute_calls::{FileId, SystemCalls};
+use flute_output::{DeviceFile, DiskFolder, DiskNewFolder, Found, Place, place_at};
 use flute_parts::Failures;
 use flutejoin::{CommandFault, Overwrites};
 use flutejoin_commands::{Inputs, World};
@@ -88,7 +89,7 @@ impl Inputs for System<'_> {
 }
 
 impl<'a> World for System<'a> {
-    type Folder = DiskFolder<'a, HostRuntime>;
+    type Folder = DiskFolder<SystemCalls<'a, HostRuntime>>;
 
     type Device = DeviceFile<'a, HostRuntime>;
 

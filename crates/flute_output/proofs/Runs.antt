@@ -1,0 +1,180 @@
+-- How a run goes on, and what stays true of each of its moments.
+use Rattle.std.proofs.Common.{◌≡◌, ◌≢◌, ◌++◌, ℕ, List, [], ◌∷◌, refl, sym, ap, ◌∙◌, subst, append_assoc, take, drop, ◌+◌, ◌-◌, ◌≤◌, arith, length, length-drop, take_all, Bool, true, Result, Ok, Err, OnErr, OnOk}
+use Rattle.std.proofs.Math.Seq.{take-add}
+use Rattle.std.proofs.lemmas.List.Elements.{All-append, All-weaker, All-nil, All-cons}
+use Rattle.flute_calls.specs.Disks.{Disk, HasHad, Touches, Creates, Grows, Spoils, Unlinks, OnlyTouches}
+use Rattle.flute_calls.specs.Moments.{Run, Always, Does, Passes, IsSame}
+use Rattle.flute_output.specs.DiskWrites.{Extends}
+
+pub always-here : (P : Disk → Type 0) (a : Run) → P a.now → Always P a a
+always-here P a p = record { added = []; past = refl; each = All-nil P; here = p }
+
+-- what holds at each moment up to b, and what does from b on
+pub always-then : (P Q : Disk → Type 0) (a b c : Run) → Always P a b → Always Q b c
+    → ((d : Disk) → Q d → P d) → Always P a c
+always-then P Q a b c first next weaker = record {
+  added = next.added ++ first.added;
+  past = next.past ∙ ap (λ l. next.added ++ l) first.past
+      ∙ sym (append_assoc next.added first.added a.past);
+  each = All-append P _ _ (All-weaker Q P weaker _ next.each) first.each;
+  here = weaker _ next.here;
+}
+
+pub always-weaker : (P Q : Disk → Type 0) (a b : Run) → Always Q a b
+    → ((d : Disk) → Q d → P d) → Always P a b
+always-weaker P Q a b so weaker = record {
+  added = so.added;
+  past = so.past;
+  each = All-weaker Q P weaker _ so.each;
+  here = weaker _ so.here;
+}
+
+-- one call
+pub always-does : (P : Disk → Type 0) (R : Disk → Disk → Type 0) (a b : Run) → P a.now
+    → Does R a b → (R a.now b.now → P b.now) → Always P a b
+always-does P R a b start does here = record {
+  added = a.now ∷ [];
+  past = does.past;
+  each = All-cons P _ [] start (All-nil P);
+  here = here does.made;
+}
+
+pub on_ok_with : {T E : Type 0} (r : Result T E) (P Q : Type 0) → OnOk r P → (P → Q) → OnOk r Q
+on_ok_with (Ok x) P Q p f = f p
+on_ok_with (Err e) P Q p f = tt
+
+pub on_err_with : {T E : Type 0} (r : Result T E) (P Q : Type 0) → OnErr r P → (P → Q) → OnErr r Q
+on_err_with (Ok x) P Q p f = tt
+on_err_with (Err e) P Q p f = f p
+
+-- what follows from either end of a call
+pub either_end : {T E : Type 0} (r : Result T E) (P Q R : Type 0) → OnOk r P → OnErr r Q
+    → (P → R) → (Q → R) → R
+either_end (Ok x) P Q R p q f h = f p
+either_end (Err e) P Q R p q f h = h q
+
+pub only-refl : (b : List ℕ) (d : Disk) → OnlyTouches b d d
+only-refl b d = record { elsewhere = λ other not. record { entry = refl; files = λ k had. refl } }
+
+pub only-trans : (b : List ℕ) (x y z : Disk) → OnlyTouches b x y → OnlyTouches b y z
+    → OnlyTouches b x z
+only-trans b x y z xy yz = record {
+  elsewhere = λ other not.
+      let one = xy.elsewhere other not in
+      let two = yz.elsewhere other not in
+      record {
+        entry = two.entry ∙ one.entry;
+        files = λ k had. two.files k (subst (λ e. HasHad e k) (sym one.entry) had) ∙ one.files k had;
+      };
+}
+
+-- each name but this one is as before, at each moment
+abbrev pub Stays : List ℕ → Run → Run → Type 0
+Stays b a c = Always (OnlyTouches b a.now) a c
+
+pub stays-same : (b : List ℕ) (a c : Run) → c ≡ a → Stays b a c
+stays-same b a c same = subst (λ r. Stays b a r) (sym same) (always-here _ a (only-refl b a.now))
+
+pub stays-then : (b : List ℕ) (a c e : Run) → Stays b a c → Stays b c e → Stays b a e
+stays-then b a c e ac ce = always-then (OnlyTouches b a.now) (OnlyTouches b c.now) a c e ac ce
+    (λ d so. only-trans b _ _ _ ac.here so)
+
+-- after calls that did nothing
+pub stays-later : (b : List ℕ) (a c e : Run) → c ≡ a → Stays b c e → Stays b a e
+stays-later b a c e same so = subst (λ r. Stays b r e) same so
+
+pub stays-does : (b : List ℕ) (R : Disk → Disk → Type 0) (a c : Run) → Does R a c
+    → (R a.now c.now → OnlyTouches b a.now c.now) → Stays b a c
+stays-does b R a c does so = always-does (OnlyTouches b a.now) R a c (only-refl b a.now) does so
+
+pub stays-failed : (b : List ℕ) (a c : Run) → Passes IsSame IsSame a c → Stays b a c
+stays-failed b a c so = always-weaker _ _ a c so.always
+    (λ d same. subst (λ x. OnlyTouches b a.now x) (sym same) (only-refl b a.now))
+
+pub only-creates : (b : List ℕ) (k : ℕ) (x y : Disk) → Creates b k x y → OnlyTouches b x y
+only-creates b k x y so = record {
+  elsewhere = λ other not. record {
+    entry = so.elsewhere other not;
+    files = λ j had. so.others j (λ e. so.fresh other (subst (λ i. HasHad (x.names other) i) e had));
+  };
+}
+
+pub only-unlinks : (b : List ℕ) (x y : Disk) → Unlinks b x y → OnlyTouches b x y
+only-unlinks b x y so = record {
+  elsewhere = λ other not. record {
+    entry = so.elsewhere other not;
+    files = λ j had. so.files j;
+  };
+}
+
+pub only-touches : (b : List ℕ) (k : ℕ) (x y : Disk)
+    → ((other : List ℕ) → other ≢ b → HasHad (x.names other) k → ⊥) → Touches k x y
+    → OnlyTouches b x y
+only-touches b k x y apart so = record {
+  elsewhere = λ other not. record {
+    entry = so.names other;
+    files = λ j had. so.others j (λ e. apart other not (subst (λ i. HasHad (x.names other) i) e had));
+  };
+}
+
+pub stays-unlink : {T E : Type 0} (b : List ℕ) (r : Result T E) (a c : Run)
+    → OnOk r (Does (Unlinks b) a c) → OnErr r (Passes IsSame IsSame a c) → Stays b a c
+stays-unlink b r a c done failed = either_end r _ _ _ done failed
+    (λ u. stays-does b (Unlinks b) a c u (only-unlinks b a.now c.now)) (stays-failed b a c)
+
+pub touches-refl : (k : ℕ) (d : Disk) → Touches k d d
+touches-refl k d = record { names = λ n. refl; others = λ j apart. refl }
+
+pub touches-trans : (k : ℕ) (a b c : Disk) → Touches k a b → Touches k b c → Touches k a c
+touches-trans k a b c ab bc = record {
+  names = λ n. bc.names n ∙ ab.names n;
+  others = λ j apart. bc.others j apart ∙ ab.others j apart;
+}
+
+-- a file that is touched once more
+pub touched-more : (k : ℕ) (R S T : Disk → Disk → Type 0) (a b c : Run)
+    → Passes (Touches k) R a b → Passes (Touches k) S b c
+    → (R a.now b.now → Touches k a.now b.now)
+    → (R a.now b.now → S b.now c.now → T a.now c.now)
+    → Passes (Touches k) T a c
+touched-more k R S T a b c ab bc at_b both = record {
+  made = both ab.made bc.made;
+  always = always-then (Touches k a.now) (Touches k b.now) a b c ab.always bc.always
+      (λ d t. touches-trans k _ _ _ (at_b ab.made) t);
+}
+
+pub extends-more : (k : ℕ) (xs : List ℕ) (n m : ℕ) (a b c : Disk) → Extends k (take n xs) a b
+    → Grows k (take m (drop n xs)) b c → Extends k (take (n + m) xs) a c
+extends-more k xs n m a b c ab bc = record {
+  bytes = ap (λ f. f.bytes) bc.file ∙ ap (λ l. l ++ take m (drop n xs)) ab.bytes
+      ∙ append_assoc (a.files k).bytes (take n xs) (take m (drop n xs))
+      ∙ ap (λ l. (a.files k).bytes ++ l) (sym (take-add n m xs));
+  touches = touches-trans k _ _ _ ab.touches bc.touches;
+}
+
+pub spoils-more : (k : ℕ) (more : List ℕ) (a b c : Disk) → Extends k more a b → Spoils k b c
+    → Spoils k a c
+spoils-more k more a b c ab bc = record {
+  rest = more ++ bc.rest;
+  bytes = bc.bytes ∙ ap (λ l. l ++ bc.rest) ab.bytes
+      ∙ append_assoc (a.files k).bytes more bc.rest;
+  touches = touches-trans k _ _ _ ab.touches bc.touches;
+}
+
+-- what is left after w bytes is all of the rest
+pub rest-all : (w : ℕ) (xs : List ℕ) → take (length xs - w) (drop w xs) ≡ drop w xs
+rest-all w xs = take_all _ _ (omega (arith, length-drop w xs))
+
+pub on_err : {T E : Type 0} (r : Result T E) (P : Type 0) → P → OnErr r P
+on_err (Ok x) P p = tt
+on_err (Err e) P p = p
+
+-- so far this many of the bytes are in the file
+pub record IsFilled (told : Bool) (k : ℕ) (bytes : List ℕ) (written : ℕ) (old new : Run) : Type 0
+  where
+    pub within : written ≤ length bytes
+    pub runs : told ≡ true → Passes (Touches k) (Extends k (take written bytes)) old new
+
+-- before calls that did nothing
+pub stays-after : (b : List ℕ) (a c e : Run) → Stays b a c → e ≡ c → Stays b a e
+stays-after b a c e so same = subst (λ r. Stays b a r) (sym same) so
