@@ -13,6 +13,9 @@ use std::rt::Files;
 /// The folder of a path that names none.
 const HERE: &str = ".";
 
+/// How often a write is tried that a signal interrupts, which then wrote nothing.
+const TRIES: u32 = 64;
+
 /// The calls of the system. Contracts see nothing of its disk: that it does what the trait says is
 /// trusted.
 #[derive(Drop)]
@@ -104,10 +107,14 @@ impl<R: Files<File = File>> Calls for SystemCalls<'_, R> {
     }
 
     fn write(&mut self, file: &mut File, bytes: &[u8]) -> Result<usize, CallFault> {
-        match file.write(bytes) {
-            Ok(0) if !bytes.is_empty() => Err(CallFault::Other),
-            written => told(written),
+        for _ in 0..TRIES {
+            match file.write(bytes) {
+                Err(error) if error.kind() == ErrorKind::Interrupted => {}
+                Ok(0) if !bytes.is_empty() => return Err(CallFault::Other),
+                written => return told(written),
+            }
         }
+        Err(CallFault::Other)
     }
 
     fn fsync(&mut self, file: &File) -> Result<(), CallFault> {
