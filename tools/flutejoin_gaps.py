@@ -40,8 +40,8 @@ STATE = re.compile(
     rb"|(partial) missing (\d+) conflicting (\d+) misfit (\d+))\n"
 )
 GAPS = ["gaps", "--any-size"]
-# Reads a journal to its end, and reports its faults: it chooses no object, since to look for what is
-# missing of many large ones takes long.
+# Reads a journal to its end, and reports its faults: it chooses no object, since to look for what
+# is missing of many large ones takes long.
 CHECK = [*GAPS, "--summary", "--source", "f" * 32]
 MOST_LINES = 1 << 21  # of gaps that are counted; of one datagram there may be 65,536
 MOST_BLOCKS = 1 << 16
