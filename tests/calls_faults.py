@@ -50,8 +50,7 @@ class Faults(Writing):
         beside = f"{out}.partial"
         made = next(at for at, it in enumerate(calls) if self.is_made(it, beside))
         for at, call in enumerate(calls):
-            is_look = self.may_be_none(call)
-            if is_look and (self.is_second_look(call, calls, out) or not words.startswith(WHOLLY)):
+            if self.may_be_none(call) and not words.startswith(WHOLLY):
                 continue
             if is_expected(call, out, inputs):
                 yield call, self.told(call, out, inputs, WRITE if at >= made else CREATE)
@@ -89,11 +88,6 @@ class Faults(Writing):
         injected = [(it.name, it.path) for it in calls if it.is_injected]
         self.assertEqual(injected, [(call.name, call.path)], words)
         return done, disk, calls
-
-    def is_second_look(self, call: Call, calls: list[Call], out: str) -> bool:
-        """Whether it looks if a regular file has a name: if not, OUT takes the bytes itself."""
-        looks = [it for it in calls if it.path == out and "AT_SYMLINK_NOFOLLOW" in it.flags]
-        return call in looks[1:2]
 
     def stays(self, name: str, out: str, call: Call) -> None:
         """OUT is what it was, and nothing is beside it, unless that could not be looked at."""

@@ -11,8 +11,9 @@ import run
 from calls_faults import Faults
 from calls_lost import LostPower
 from calls_order import Buffers, Order, PutAside
+from calls_overlap import Stopped
 
-__all__ = ["Order", "PutAside", "Buffers", "Faults", "LostPower"]
+__all__ = ["Order", "PutAside", "Buffers", "Faults", "LostPower", "Stopped"]
 
 if __name__ == "__main__":
     run.main("calls")

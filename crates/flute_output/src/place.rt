@@ -38,7 +38,7 @@ pub enum Place<F, D> {
 /// # Errors
 ///
 /// Those of the system; `InvalidInput` if the path is empty, and `IsADirectory` if it is a folder;
-/// and `OutOfMemory`.
+/// `WouldBlock` if another run has replaced the file meanwhile; and `OutOfMemory`.
 pub fn place_at<'a, R: Files<File = File>>(
     rt: &'a R,
     alloc: Global,
@@ -69,10 +69,12 @@ pub fn place_at<'a, R: Files<File = File>>(
     }
     let names = NamePair::new(alloc, without_links(rt, alloc, path)?)?;
     if let Some(found) = &found {
-        // A regular file without a name, as an open one that was removed, takes its bytes itself.
-        match fs::symlink_metadata(rt, &names.out) {
-            Ok(named) if FileId::of(&named) == FileId::of(found) => {}
-            _ => return Ok(Place::Device(DeviceFile::new(rt, alloc, path)?)),
+        // A regular file without a name, as an open one that was removed, takes its bytes itself. If
+        // another file has the name by now, another run has put it there.
+        match found_at(rt, names.out.as_str())? {
+            Some(named) if FileId::of(&named) == FileId::of(found) => {}
+            Some(_) => return Err(ErrorKind::WouldBlock.into()),
+            None => return Ok(Place::Device(DeviceFile::new(rt, alloc, path)?)),
         }
     }
     let wanted = Wanted {
