@@ -373,7 +373,7 @@ class Keeping(Case):
     def test_station(self) -> None:
         """That joins what a receiver left, and delivers."""
         for name, of in self.shapes():
-            self.path(name, "in").mkdir(parents=True)
+            self.path(f"{name}/in").mkdir(parents=True)
             self.datagrams(f"{name}/in/10.0.0.1.fldg", of)
             words = "--port", free_port(), "--seconds", 1, "--deliver", f"{name}.here", "-o", name
             self.costs("flutejoin-station", "--flutejoin", run.PROGRAM, *words)

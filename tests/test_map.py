@@ -9,8 +9,9 @@ sys.dont_write_bytecode = True
 import run
 from map_drawn import Blocks, Objects, Stations
 from map_left import Faults, Outputs, Signals, Streams
+from map_sparse import Sparse
 
-__all__ = ["Blocks", "Objects", "Stations", "Outputs", "Streams", "Signals", "Faults"]
+__all__ = ["Blocks", "Objects", "Stations", "Outputs", "Streams", "Signals", "Faults", "Sparse"]
 
 if __name__ == "__main__":
     run.main("map")

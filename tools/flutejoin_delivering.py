@@ -38,7 +38,7 @@ from flutejoin_rounds import Made, Once, Outcome, make
 from flutejoin_session import APART
 from flutejoin_shelves import begin_file, remove
 from flutejoin_shipping import Shipping
-from flutejoin_symbols import Symbols
+from flutejoin_symbols import Contents, Symbols
 from flutejoin_voice import Log
 
 MOST_AT_ONCE = 1 << 12  # objects that a round looks at
@@ -100,10 +100,10 @@ class Deliverer:
             each.pending.read()
             delivered = each.pending.objects.keys() & self.done.keys()
             if delivered:  # a kill may have come before they were taken away
-                each.pending.remove(delivered, self.ledger.contents)
+                each.pending.remove(delivered, self.contents)
             self.touched |= each.pending.objects.keys()
             for key, symbols in each.pending.objects.items():
-                self.union.setdefault(key, Symbols()).unite(symbols)
+                self.union[key] = symbols.beside(self.union.get(key))
         self.dirty |= self.touched
         self.is_begun = True
 
@@ -156,6 +156,10 @@ class Deliverer:
         self.dirty |= new
         return self.deliver()
 
+    def contents(self, key: Key) -> list[tuple[int, Contents]]:
+        """The contents of an object that were delivered, with their serial numbers."""
+        return self.ledger.contents(key) if key in self.done else []
+
     def take(self, arrival: Arrival) -> None:
         """Takes what came of a station. If its folder can't be read, that is told."""
         what = f"station {arrival.station.name}"
@@ -180,7 +184,7 @@ class Deliverer:
         name = arrival.station.name
         try:
             self.documents.take_instances(path)
-            came = arrival.pending.take(path, self.ledger.contents)
+            came = arrival.pending.take(path, self.contents)
         except (Fault, Cut, Failed) as fault:
             if isinstance(fault, Failed) and fault.answer.status != 1:
                 raise OSError(errno.EIO, str(fault), path) from None
@@ -193,7 +197,7 @@ class Deliverer:
         self.touched |= came.objects.keys()
         self.dirty |= came.objects.keys()
         for key, symbols in came.objects.items():
-            self.union.setdefault(key, Symbols()).unite(symbols)
+            self.union[key] = symbols.beside(self.union.get(key))
         remove(path)
 
     def deliver(self) -> int:
@@ -283,7 +287,7 @@ class Deliverer:
         self.keep(made, journals)
         for each in self.arrivals:
             if any(key in each.pending.objects for key in made):
-                each.pending.remove(made, self.ledger.contents)
+                each.pending.remove(made, self.contents)
         self.unite(made)
         self.ledger.end_waiting(made - self.union.keys())
 
@@ -294,7 +298,7 @@ class Deliverer:
             self.union.pop(key, None)
             for each in self.arrivals:
                 if key in each.pending.objects:
-                    self.union.setdefault(key, Symbols()).unite(each.pending.objects[key])
+                    self.union[key] = each.pending.objects[key].beside(self.union.get(key))
 
     def keep(self, keys: set[Key], journals: list[str]) -> None:
         """Keeps the entries of what was delivered in a journal, whose name says how long."""

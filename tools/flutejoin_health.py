@@ -98,6 +98,7 @@ def status_of(model: Model, report: Log, stations: list[StationRow]) -> dict:
         "summary": waiting_line(rows, count),
         "delivered": count,
         "not_whole": len(rows),
+        "undescribed_left": model.left(),
         "missing_bytes": sum(it.missing_bytes for it in rows),
         "free": model.free(),
         "last_fault": report.last_fault(),

@@ -18,6 +18,7 @@ from flutejoin_status import instant
 from flutejoin_symbols import Symbols, ranges
 
 MOST_RANGES = 6  # of missing bytes, that are told of a file
+MOST_UNDESCRIBED = 1 << 12  # rows of files that no FDT Instance describes; the others are counted
 MOST_STATUS = 1 << 20  # bytes of a station's status that are read
 WAITING, UNDESCRIBED, UNKNOWN, WRONG, EXPIRED = (
     "waiting",
@@ -90,18 +91,33 @@ class Model:
     def __init__(self, deliverer: Deliverer, began: float) -> None:
         self.of, self.began = deliverer, began
         self.rows: dict[Key, Row] = {}
+        self.undescribed: set[Key] = set()  # which of them have a row
         self.first: dict[Key, tuple[float, int]] = {}  # when a file was seen first, and its symbols
 
     def update(self) -> None:
         """Makes the rows anew of which something changed since the last call."""
         dirty, self.of.dirty = self.of.dirty, set()
         for key in dirty:
-            row = self.row(key)
+            row = None if self.is_left(key) else self.row(key)
             if row is None:
                 self.rows.pop(key, None)
                 self.first.pop(key, None)
             else:
                 self.rows[key] = row
+
+    def is_left(self, key: Key) -> bool:
+        """Whether an object has no row, as nothing describes it, and many others have one."""
+        if key in self.of.described.of or key not in self.of.union:
+            self.undescribed.discard(key)
+            return False
+        if key in self.undescribed or len(self.undescribed) < MOST_UNDESCRIBED:
+            self.undescribed.add(key)
+            return False
+        return True
+
+    def left(self) -> int:
+        """How many objects have no row."""
+        return max(0, len(self.of.union.keys() - self.of.described.of.keys() - self.rows.keys()))
 
     def row(self, key: Key) -> Optional[Row]:
         """The row of an object; None if it is delivered, or nothing waits."""

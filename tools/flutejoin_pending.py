@@ -152,7 +152,7 @@ class Pending:
         finally:
             os.unlink(new)
         for key, symbols in came.objects.items():
-            self.objects.setdefault(key, Symbols()).unite(symbols)
+            self.objects[key] = symbols.beside(self.objects.get(key))
         return came
 
     def join(self, new: str) -> None:

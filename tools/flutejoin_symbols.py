@@ -1,8 +1,9 @@
 """Which symbols of objects are there: as bits, and as sums of those that were delivered."""
 from __future__ import annotations
 
+import functools
 import hashlib
-from typing import Iterable, Iterator, NamedTuple, Optional, Tuple
+from typing import FrozenSet, Iterable, Iterator, NamedTuple, Optional, Tuple
 
 from flutejoin_entries import INFORMATION, SYMBOL, information_of
 from flutejoin_gaps import Numbers
@@ -17,6 +18,15 @@ def sum_of(piece: bytes) -> bytes:
     return hashlib.blake2b(piece, digest_size=SUM).digest()
 
 
+NO_NUMBERS: FrozenSet[Numbers] = frozenset()
+
+
+@functools.lru_cache(maxsize=1024)
+def together(numbers: FrozenSet[Numbers], more: Numbers) -> FrozenSet[Numbers]:
+    """These with one more. Most objects of a session have the same, which is kept once."""
+    return numbers | {more}
+
+
 class Symbols:
     """The symbols of an object, a bit for each, by their source blocks; and what is told of its
     transmission information."""
@@ -25,20 +35,32 @@ class Symbols:
 
     def __init__(self) -> None:
         self.blocks: dict[int, int] = {}
-        self.numbers: set[Numbers] = set()
+        self.numbers: FrozenSet[Numbers] = NO_NUMBERS
 
     def add(self, kind: int, more: bytes) -> None:
         """Adds an entry. One in conflict counts: one of its values may be right."""
         if kind == INFORMATION:
-            self.numbers.add(information_of(more))
+            self.numbers = together(self.numbers, information_of(more))
         elif len(more) >= 4:
             block = more[0] << 8 | more[1]
             self.blocks[block] = self.blocks.get(block, 0) | 1 << (more[2] << 8 | more[3])
 
     def unite(self, other: Symbols) -> None:
-        self.numbers |= other.numbers
+        if not self.numbers:
+            self.numbers = other.numbers
+        elif other.numbers != self.numbers:
+            self.numbers |= other.numbers
         for block, bits in other.blocks.items():
             self.blocks[block] = self.blocks.get(block, 0) | bits
+
+    def beside(self, other: Optional[Symbols]) -> Symbols:
+        """These and others together, of which neither changes; without others these themselves."""
+        if other is None:
+            return self
+        found = Symbols()
+        found.unite(other)
+        found.unite(self)
+        return found
 
     def without(self, other: Symbols) -> Symbols:
         """Those that another has not."""
