@@ -225,9 +225,7 @@ class Objects(Case):
     def test_nearly_empty(self) -> None:
         """Of 65,536 blocks each, of which one is there: each has as many gaps as there may be."""
         front = header(7, 1, lengths(1 << 16, 1, 1))
-        many = (
-            front[:12] + struct.pack(">I", toi) + front[16:] + b"\0\1\0\0x" for toi in range(1, SIZE)
-        )
+        many = (with_toi(front, toi) + b"\0\1\0\0x" for toi in range(1, SIZE))
         self.journal(many)
         self.both()
 
