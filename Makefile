@@ -100,6 +100,7 @@ test-stations:
 	tests/receiving.py "$(FLUTEJOIN)"
 	tests/station.py "$(FLUTEJOIN)"
 	tests/test_stations.py
+	tests/test_completing.py
 	tests/test_generations.py
 	tests/test_agreeing.py
 	tests/test_centre.py

@@ -48,8 +48,8 @@ _flutejoin_options() {
             echo '--port --group --from -o --split --any-checksum --as-received --help'
             ;;
         flutejoin-centre)
-            echo '--config --once --page-only --check --stations --missing --shares --file --json' \
-                '--help'
+            echo '--config --folder --once --page-only --check --stations --missing --shares' \
+                '--file --json --help'
             ;;
         flutejoin-files)
             echo '--list -o --source --tsi --fdt --most --any-size --json --delivered --resolve' \
@@ -57,17 +57,17 @@ _flutejoin_options() {
             ;;
         flutejoin-gather) echo '-o --source --as --delivered --flutejoin --help' ;;
         flutejoin-receive)
-            echo '--group --port --from --interface -o --senders --split --most --buffer' \
-                '--as-received --status --count --seconds --config --help'
+            echo '--group --port --from --interface --sdp -o --senders --split --most' \
+                '--keep-free --buffer --as-received --status --count --seconds --config --help'
             ;;
         flutejoin-repair)
             echo '-o --base --allow --symbols --source --tsi --fdt --after --spread --most' \
                 '--seconds --json --flutejoin --help'
             ;;
         flutejoin-station)
-            echo '-o --config --group --port --from --interface --senders --buffer' \
-                '--as-received --tsi --same --every --window --keep-raw --most --nightly --outbox' \
-                '--deliver --on-file --status --seconds --flutejoin --help'
+            echo '-o --config --group --port --from --interface --sdp --senders --buffer' \
+                '--keep-free --as-received --tsi --same --every --window --keep-raw --most' \
+                '--nightly --outbox --deliver --on-file --status --seconds --flutejoin --help'
             ;;
         flutejoin-map) echo '-o --text --source --tsi --toi --fdt --flutejoin --help' ;;
         flutejoin-mend) echo '-o --help' ;;
@@ -98,8 +98,8 @@ _flutejoin() {
                 *) _flutejoin_files "$word" ;;
             esac
             return ;;
-        --deliver) _flutejoin_folders "$word"; return ;;
-        --delivered | --flutejoin | --config | --status | --on-file | --gaps)
+        --deliver | --folder) _flutejoin_folders "$word"; return ;;
+        --delivered | --flutejoin | --config | --status | --on-file | --gaps | --sdp)
             _flutejoin_files "$word"
             return ;;
         --list)
@@ -118,7 +118,7 @@ _flutejoin() {
             return ;;
         --port | --group | --count | --seconds | --senders | --split | --most | --buffer)
             return ;;
-        --every | --window | --keep-raw | --nightly | --file) return ;;
+        --every | --window | --keep-raw | --keep-free | --nightly | --file) return ;;
         --base | --allow | --after | --spread) return ;;
     esac
     case $command in

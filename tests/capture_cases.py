@@ -27,6 +27,7 @@ import datagram_files
 import flutejoin_captures
 import flutejoin_datagrams
 import flutejoin_hints
+import flutejoin_inputs
 import flutejoin_files
 import flutejoin_parts
 import flutejoin_salvage
@@ -492,7 +493,7 @@ class Bounds(Cases):
         taken = unittest.mock.Mock()
         try:
             flutejoin_captures.read(self.made(made), stop, lambda: None, taken)
-        except flutejoin_captures.Fault as fault:
+        except flutejoin_inputs.Fault as fault:
             return taken.call_count, str(fault)
         finally:
             os.close(stop.wakes)
@@ -502,11 +503,11 @@ class Bounds(Cases):
         frames = [frame(packet(bytes([number % 256]) * 1000)) for number in range(3000)]
         made = gzip.compress(pcap(frames))
         self.assertEqual(self.read(made), (3000, ""))
-        with unittest.mock.patch.object(flutejoin_captures, "INFLATED", 100_000):
+        with unittest.mock.patch.object(flutejoin_inputs, "INFLATED", 100_000):
             count, told = self.read(made)
             self.assertIn("gzip: more than 100 times as many bytes come out", told)
             self.assertTrue(90 < count < 3000, count)
-        with unittest.mock.patch.object(flutejoin_captures, "PACKETS", 500):
+        with unittest.mock.patch.object(flutejoin_inputs, "PACKETS", 500):
             count, told = self.read(gzip.compress(pcap([b""] * 100_000)))
             self.assertIn("gzip: fewer than 8 bytes for a packet", told)
             self.assertTrue(500 < count < 5000, count)

@@ -5,6 +5,7 @@ import json
 import os
 import random
 import signal
+import socket
 import sys
 
 import run
@@ -247,6 +248,28 @@ class OneStation(CentreCase):
         self.holds("two lines", len(lines) == 2, lines)
         self.holds("nothing waits", not any(self.path("news/deliver").iterdir()))
         self.holds("a page", self.path("here/page/index.html").exists())
+
+    def test_at_once(self) -> None:
+        """A file is there by its last datagram: no window ends in this run."""
+        port, file = free_port(), file_of(1, 140_000)
+        words = ["--port", port, "--every", 10**8, "-o", "news", "--deliver", "here"]
+        tool = run.ROOT / "tools/flutejoin-station"
+        more = ["--interface", "127.0.0.1", "--flutejoin", run.PROGRAM]
+        child = self.start([sys.executable, tool, *words, *more], to="out", err="err")
+        self.assertTrue(run.until(lambda: b" listening " in self.read("err")))
+        sent, path = file.packets(TSI), self.path("here/files/data.example/day/00001.bin")
+        recent, documents = self.path("news/journals"), self.path("news/fdt")
+        with socket.socket(socket.AF_INET, socket.SOCK_DGRAM) as udp:
+            for packet in announced([file]) + sent[:-1]:
+                udp.sendto(packet, ("127.0.0.1", port))
+            self.assertTrue(run.until(lambda: [*recent.glob("*.journal")]))
+            self.assertTrue(run.until(lambda: [*documents.glob("*.xml")]))
+            self.holds("not before", not path.exists())
+            udp.sendto(sent[-1], ("127.0.0.1", port))
+            self.assertTrue(run.until(path.exists), self.read("err"))
+        self.same("the file", path, file.content)
+        child.send_signal(signal.SIGTERM)
+        self.holds("its status", child.wait(run.LONGEST) == 0, self.read("err"))
 
     def test_options(self) -> None:
         done = self.tool("flutejoin-station", ["-o", "news", "--port", 4001, "--on-file", "x"])

@@ -194,6 +194,16 @@ class Tells(CentreCase):
         (row,) = self.status()["files"]
         wanted = time.strftime("%Y-%m-%dT%H:%M:%SZ", time.gmtime(self.clock.now + 100))
         self.holds("in as long again", row["whole_at"] == wanted, row)
+        self.clock.now += 400  # a carousel comes round, with all but one of what lacks
+        self.push("north", sent[6:9])
+        self.work()
+        telling.tell()
+        (row,) = self.status()["files"]
+        wanted = time.strftime("%Y-%m-%dT%H:%M:%SZ", time.gmtime(self.clock.now + 400))
+        self.holds("not before the next round", row["whole_at"] == wanted, row)
+        self.clock.now += 50
+        telling.tell(at_once=True)
+        self.holds("that stays", self.status()["files"][0]["whole_at"] == wanted, row)
 
     def test_bars(self) -> None:
         found = [*bars([100, 100, 50.0, 0, 0])]
@@ -235,6 +245,15 @@ class Asks(CentreCase):
         self.holds("none", self.ask("--file", "another") == (1, []))
         status, (line,) = self.ask("--file", "00001", "--json")
         self.holds("as JSON", json.loads(line)["toi"] == 1, line)
+        for question in "--check", "--stations", "--missing", "--shares", "--file=00002":
+            by_folder = self.tool("flutejoin-centre", ["--folder", self.path("centre"), question])
+            same = by_folder.out.splitlines() == [it.encode() for it in self.ask(question)[1]]
+            self.holds(f"{question} of a folder", by_folder.status == 0 and same, by_folder)
+            told = self.ask(question, "--json")[1]
+            self.holds(f"{question} as JSON", all(isinstance(json.loads(it), dict) for it in told))
+        for words in ["--check"], ["--folder", "x"], ["--folder", "x", "--config", "y", "--check"]:
+            done = self.tool("flutejoin-centre", words)
+            self.holds(f"{words}", done.status == 2 and b"--folder" in done.err, done)
         status, (line,) = self.ask("--check", "--json")
         self.holds("the check too", json.loads(line)["status"] == 0, line)
         os.unlink(self.path("centre/page/index.html"))

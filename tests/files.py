@@ -91,7 +91,9 @@ class Sessions(Case):
         sent = self.news()
         stations = self.stations(sent)
         answer = self.files("-o", "files", *stations)
-        self.assertEqual(answer.out, "written 21, verified 21; partial 0; wrong MD5 0\n")
+        *new, last = answer.out.splitlines()
+        self.assertEqual(last, "written 21, verified 21; partial 0; wrong MD5 0")
+        self.assertEqual(sorted(new), sorted(f"new: {path}" for path in self.wanted(sent)))
         self.assertEqual(answer.err, "")
         self.assertEqual(self.tree(), self.wanted(sent))
         self.assertEqual(self.runs.read_text().split(), ["join", "extract"])
@@ -105,7 +107,7 @@ class Sessions(Case):
         answer = self.files("-o", "files", *stations)
         self.assertEqual(
             answer.out,
-            "changed: example.com/news/0/f03.txt\n"
+            "changed: example.com/news/0/f03.txt\nnew: example.com/news/0/f04.txt\n"
             "written 2, unchanged 19, verified 21; partial 0; wrong MD5 0\n",
         )
         self.assertEqual(self.tree(), self.wanted(sent))
@@ -131,13 +133,14 @@ class Sessions(Case):
         answer = self.files("-o", "files", "all", status=1)
         self.assertEqual(
             answer.out,
-            "written 1, verified 1; partial 2 (10 symbols, 14,000 bytes); wrong MD5 0\n",
+            "new: h/1\nwritten 1, verified 1; partial 2 (10 symbols, 14,000 bytes); wrong MD5 0\n",
         )
         self.assertEqual(self.tree(), {"h/1": sent[0].content})
         self.journal("more", sent[1].packets(7), sent[2].packets(7))
         answer = self.files("-o", "files", "all", "more")
         self.assertEqual(
-            answer.out, "written 2, unchanged 1, verified 3; partial 0; wrong MD5 0\n"
+            answer.out,
+            "new: h/2\nnew: h/3\nwritten 2, unchanged 1, verified 3; partial 0; wrong MD5 0\n",
         )
 
     def test_missing_and_without_information(self) -> None:
@@ -150,7 +153,8 @@ class Sessions(Case):
         self.assertIn("    3  5,000    0.0%  missing         text/plain  http://h/3\n", answer.out)
         answer = self.files("-o", "files", "all", status=1)
         self.assertEqual(
-            answer.out, "written 1, verified 1; partial 0; missing 2; wrong MD5 0\n"
+            answer.out,
+            "new: h/1\nwritten 1, verified 1; partial 0; missing 2; wrong MD5 0\n",
         )
 
     def test_two_senders_and_sessions(self) -> None:

@@ -307,7 +307,7 @@ class Content(Case):
         answer = self.files("-o", "files", "all", status=1)
         self.assertEqual(
             answer.out,
-            "not verified: h/1 (no MD5)\nnot verified: h/2 (no MD5)\n"
+            "not verified: h/1 (no MD5)\nnot verified: h/2 (no MD5)\nnew: h/3\n"
             "written 3, verified 1, not verified 2; partial 0; wrong MD5 0\n",
         )
         self.assertEqual(self.tree(), {f"h/{file.toi}": file.content for file in sent})
@@ -350,7 +350,8 @@ class Content(Case):
         ]
         self.session("all", sent)
         answer = self.files("-o", "files", "all", status=1)
-        lines = answer.out.splitlines()
+        self.assertIn("new: h/3\n", answer.out)
+        lines = [line for line in answer.out.splitlines() if not line.startswith("new: ")]
         self.assertEqual(lines[0], "wrong: h/1.unverified (gzip: more than 1,000 bytes come out)")
         self.assertEqual(lines[1], "not verified: h/2 (no MD5)")
         self.assertEqual(

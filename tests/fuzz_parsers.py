@@ -28,11 +28,13 @@ import flutejoin_containers as containers
 import flutejoin_content as content
 import flutejoin_fdt as fdt
 import flutejoin_http as http
+import flutejoin_inputs as inputs
 import flutejoin_locations as places
 import flutejoin_names as names
 import flutejoin_origins as origins
 import flutejoin_packets as packets
 import flutejoin_ranges as ranges
+import flutejoin_sdp as sdp
 from flute_sender import Sent, Shape
 from flutejoin_datagrams import Datagrams
 from flutejoin_entries import HEADER as JOURNAL
@@ -106,12 +108,12 @@ def capture(data: bytes) -> None:
 
     wanted = Datagrams({made.PORT}, set(), len(data) % 2 == 1, hand_on)
     stream = io.BufferedReader(io.BytesIO(data))  # type: ignore
-    if data.startswith(captures.GZIP):
-        stream = io.BufferedReader(captures.Inflated(stream))
+    if data.startswith(inputs.GZIP):
+        stream = io.BufferedReader(inputs.Inflated(stream))
     try:
         for packet in captures.packets(stream):
-            wanted.take(*packet)
-    except captures.Fault:
+            wanted.take(*packet[:4])
+    except inputs.Fault:
         pass
     wanted.finish()
 
@@ -381,6 +383,27 @@ def located(data: bytes) -> None:
         assert len(texts) <= places.MOST_PLACES and all(len(text) <= 2048 for text in texts)
 
 
+def of_descriptions() -> list[bytes]:
+    front = b"v=0\no=- 1 1 IN IP4 10.0.0.1\ns=-\nt=0 0\na=flute-ch:2\na=flute-tsi:7\n"
+    one = b"c=IN IP4 239.1.1.1/127/2\nm=application 4001 FLUTE/UDP 0\n"
+    six = b"m=application 4001/2 FLUTE/UDP 0\nc=IN IP6 FF3E::8000:1/2\n"
+    filters = b"a=source-filter: incl IN IP4 * 10.0.0.1\na=source-filter: incl IN * * ::1\n"
+    return [front + one + filters, front + six + filters]
+
+
+def description(data: bytes) -> None:
+    try:
+        found = sdp.described(data)
+    except ValueError as fault:
+        assert str(fault)
+        return
+    assert 0 < len(found) <= sdp.MOST_SESSIONS
+    for each in found:
+        assert 0 < each.port < 65536 and (each.group is None or each.group.is_multicast)
+        assert each.sender is None or not each.sender.is_multicast
+
+
+SDP = (b"\na=source-filter: incl IN IP4 ", b"\nm=", b"\nc=IN IP6 ", b" FLUTE/UDP ", b"/2", b"* ")
 PLACES = (b"<Alternate-Content-Location-2>", b"</Alternate-Content-Location-2>", b"<Base-URL-2 ")
 FIELDS = (b"\r\n", b"Content-Range: bytes ", b"--ab", b"Content-Length: ", b"\r\n\r\n", b"chunked")
 
@@ -395,6 +418,7 @@ PARSERS = {
     "containers": Parser(of_symbols, symbols, (b"\0\1\0\0\0\0", bytes(9), b"\0\2\0\1")),
     "urls": Parser(of_urls, urls, (b"../", b"%2e", b"//", b"http:", b"@", b"\\", b"#", b":80")),
     "places": Parser(of_places, located, (*XML, *PLACES)),
+    "descriptions": Parser(of_descriptions, description, SDP),
 }
 
 

@@ -293,7 +293,7 @@ class Sessions(Case):
     def test_settings_that_are_wrong(self) -> None:
         session = "[[session]]\nport = 4001\n"
         for text, told in (
-            ("", "the following arguments are required: --port, or --config"),
+            ("", "the following arguments are required: --port, --sdp or --config"),
             ("[[session]]\n", "a [[session]] has no port"),
             ("[[session]]\nport = 0\n", "port: '0' is not a number from 1 to 65535"),
             ("[[session]]\nport = true\n", "port: is no number and no text"),

@@ -13,11 +13,13 @@ from capture_faults import Damaged, Growing, Inputs
 from capture_forms import Forms
 from capture_mended import EachByte, Mend, MendSignals
 from capture_read import Parts, Printed, Restarts, Rows, SendingHost, There
+from capture_runs import AtOnce
 from capture_spoiled import Names, Spoiled
 
 __all__ = [
     "Rows", "Printed", "SendingHost", "Restarts", "Parts", "There", "Inputs", "Growing", "Damaged",
     "EachByte", "Mend", "MendSignals", "Names", "Spoiled", "Forms",
+    "AtOnce",
 ]
 
 if __name__ == "__main__":

@@ -6,6 +6,7 @@ usage: tests/test_package.py [CLASS[.TEST]..], with the program's path in FLUTEJ
 """
 from __future__ import annotations
 
+import gzip
 import os
 import re
 import shutil
@@ -23,6 +24,8 @@ IN_PACKAGE = (
     *("./usr/share/man/man1/flutejoin-station.1.gz", "./etc/flutejoin/example.toml"),
     "./usr/share/bash-completion/completions/flutejoin",
     *("./usr/share/flutejoin/examples/push.sh", "./usr/lib/sysusers.d/flutejoin.conf"),
+    *("./usr/share/doc/flutejoin/docs/OPERATING.md", "./usr/share/doc/flutejoin/README.md"),
+    *("./usr/share/doc/flutejoin/copyright", "./usr/share/doc/flutejoin/changelog.gz"),
     *(f"./usr/lib/systemd/system/{unit}" for unit in UNITS),
 )
 # Mounts this system below a scratch root, in a mount namespace; status 3 if that is not possible.
@@ -46,6 +49,10 @@ grep -q changed "$root/etc/flutejoin/example.toml" || exit 1
 chroot "$root" dpkg -P flutejoin > /dev/null || exit 1
 [ ! -e "$root/etc/flutejoin" ]
 """
+
+
+# What deb.sh takes of the repository
+PARTS = "packaging", "tools", "man", "docs", "examples", "completions", "Makefile", "README.md"
 
 
 def needs(program: str) -> object:
@@ -110,6 +117,43 @@ class Package(run.Case):
         self.holds("it is of root", not others, others)
         done = self.command(["dpkg-deb", "--info", self.package, "conffiles"])
         self.check("settings stay", done, 0, "/etc/flutejoin/example.toml")
+
+    def test_pages(self) -> None:
+        self.made_root()
+        pages = self.path("root/usr/share/doc/flutejoin")
+        self.holds("no licence", "No licence was chosen yet" in (pages / "copyright").read_text())
+        with gzip.open(pages / "changelog.gz", "rt") as file:
+            first = file.readline()
+        self.holds("the version", first.startswith(f"flutejoin ({self.version}) "), first)
+        wanted = (ROOT / "docs/OPERATING.md").read_bytes()
+        self.same("a page", pages / "docs/OPERATING.md", wanted)
+
+    @needs("readelf")
+    def test_stripped(self) -> None:
+        self.made_root()
+        done = self.command(["readelf", "-SW", self.path("root/usr/bin/flutejoin")])
+        self.holds("no symbols", done.status == 0 and b" .symtab " not in done.out, done)
+
+    def made_root(self) -> None:
+        done = self.command(["dpkg-deb", "--extract", self.package, self.path("root")])
+        self.assertEqual(done.status, 0, done)
+
+    def test_two_builds(self) -> None:
+        """They are equal, whoever makes them, and whatever the time of the files."""
+        first = self.package.read_bytes()
+        self.addCleanup(os.umask, os.umask(0o077))
+        words = ["cp", "-r", *(ROOT / it for it in PARTS), self.path("copy")]
+        self.path("copy").mkdir()
+        self.assertEqual(self.command(words).status, 0)
+        self.path("again").mkdir()
+        made = [self.path("copy/packaging/deb.sh"), run.PROGRAM, self.path("again")]
+        self.check("again", self.command(made, env={"TZ": "Asia/Tokyo"}), 0, None, None)
+        self.same("two builds", self.path("again") / self.package.name, first)
+
+    @needs("lintian")
+    def test_lintian(self) -> None:
+        done = self.command(["lintian", "--fail-on", "error,warning", self.package])
+        self.check("lintian", done, 0, None, None)
 
     def test_in_scratch_root(self) -> None:
         self.path("scratch").mkdir()

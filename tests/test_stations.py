@@ -12,6 +12,8 @@ import json
 import os
 import pathlib
 import random
+import signal
+import socket
 import struct
 import sys
 import unittest
@@ -23,6 +25,7 @@ import run  # before datagram_files, which it puts on the path
 import datagram_files
 import flute_sender
 from flute_sender import header
+from ports import free_port
 from run import ROOT
 
 sys.path.insert(0, str(ROOT / "tools"))
@@ -642,6 +645,34 @@ class Config(Case):
                 self.assertEqual((done.status, done.out), (2, b""), done)
                 self.assertEqual(done.err.count(b"error: "), 1, done)
                 self.assertNotIn(b"Traceback", done.err)
+
+
+class Starts(Case):
+    """What a station says of its start."""
+
+    def test_a_receiver_that_cannot_start(self) -> None:
+        done = self.tool("flutejoin-station", "--port 4001 --interface none7 -o kept")
+        self.assertEqual(done.status, 3, done)
+        self.assertIn(b"there is no interface none7\n", done.err)
+        self.assertIn(b"flutejoin-station: the receiver cannot start\n", done.err)
+        self.assertEqual(done.err.count(b"begun again"), 0, done)
+
+    def test_it_is_ready_once_it_listens(self) -> None:
+        address = str(self.path("notify"))
+        with socket.socket(socket.AF_UNIX, socket.SOCK_DGRAM) as heard:
+            heard.bind(address)
+            heard.settimeout(run.LONGEST)
+            words = ["--port", free_port(), "--interface", "127.0.0.1", "-o", "kept"]
+            tool = ROOT / "tools/flutejoin-station"
+            child = self.start(
+                [sys.executable, tool, *words, "--flutejoin", run.PROGRAM],
+                to="out", err="err", env={"NOTIFY_SOCKET": address},
+            )
+            self.assertEqual(heard.recv(4096), b"READY=1")
+            self.assertIn(b": listening ", self.read("err"))
+            child.send_signal(signal.SIGTERM)
+            self.assertEqual(child.wait(run.LONGEST), 1, self.read("err"))
+            self.assertEqual(heard.recv(4096), b"STOPPING=1")
 
 
 class Push(Case):

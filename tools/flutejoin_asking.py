@@ -25,6 +25,7 @@ def stations(status: dict, _: object) -> Iterator[tuple[dict, str]]:
     for it in status["stations"]:
         state = "silent" if it["is_silent"] else "alive"
         had = "" if it["had"] is None else f", had {it['had']} % of what was delivered"
+        had += "" if it["had"] is None else f" (lost {round(100 - it['had'], 1)} %)"
         counts = [
             f"{it[key]} {key}" for key in ("datagrams", "dropped", "refused") if it[key] is not None
         ]

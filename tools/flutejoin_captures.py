@@ -4,30 +4,25 @@ A capture is a file, or comes through a pipe.
 """
 from __future__ import annotations
 
-import contextlib
-import errno
 import io
-import os
-import select
-import signal
-import stat
 import struct
-import sys
-import time
-import zlib
-from typing import Any, BinaryIO, Callable, Iterator, NamedTuple, Optional, Tuple
+from typing import Callable, Iterator, NamedTuple, Optional, Tuple
 
-import flutejoin_files as files
+from flutejoin_inputs import (
+    BYTES_OF_EACH,
+    Damage,
+    Empty,
+    Ends,
+    Fault,
+    Inflated,
+    Input,
+    Stop,
+    Stream,
+    opened,
+)
 
 MOST_PACKET = 1 << 20  # bytes; a longer one is damage
 MOST_INTERFACES = 1 << 16  # of a section
-GRACE = 1.0  # seconds after a signal in which a capture in a pipe may send its last packets
-TICK = 1.0  # seconds between two calls of `tick`
-GZIP = b"\x1f\x8b"  # how a gzip member begins
-# What may come out of gzip: bytes, and packets, at first and then for each byte that goes in. Of a
-# few MB it could make many GB, of which nothing is worth reading.
-INFLATED, INFLATED_EACH = 1 << 30, 100
-PACKETS, BYTES_OF_EACH = 1 << 20, 8
 SECTION = b"\x0a\x0d\x0d\x0a"  # how pcapng begins
 ORDERS = {  # how pcap begins
     b"\xd4\xc3\xb2\xa1": "<",
@@ -41,29 +36,22 @@ SECTION_ORDERS = {b"\x4d\x3c\x2b\x1a": "<", b"\x1a\x2b\x3c\x4d": ">"}
 INTERFACE, OLD_PACKET, SIMPLE_PACKET, PACKET = 1, 2, 3, 6  # the blocks of pcapng that are read
 RESOLUTION = 9  # the option of an interface with the units of its timestamps
 
-# Its link type, its bytes, whether it is cut short, and its second, if that is known
-Packet = Tuple[int, bytes, bool, Optional[int]]
+
+class Record(NamedTuple):
+    """What is around a packet in a capture, but for its times: those alike may follow."""
+
+    first: bytes  # before the times
+    sizes: bytes  # behind them
+    tail: bytes  # behind the packet
 
 
-class Fault(Exception):
-    """What is wrong in a capture."""
-
-
-class Ends(Fault):
-    """A capture ends within a packet."""
-
-    def __init__(self, what: str = "a packet") -> None:
-        super().__init__(f"ends within {what}; the packets before it were read")
-
-
-class Empty(Ends):
-    def __init__(self) -> None:
-        Fault.__init__(self, "is empty")
-
-
-class Damage(Fault):
-    def __init__(self, what: str) -> None:
-        super().__init__(f"is damaged ({what}); the packets before that were read")
+# Its link type, its bytes, whether it is cut short, its second, if that is known, and what is
+# around it, if others of the same length may follow
+Packet = Tuple[int, bytes, bool, Optional[int], Optional[Record]]
+# Takes a packet
+Take = Callable[[int, bytes, bool, Optional[int]], None]
+# Takes packets that follow a packet and are like it, and returns how many
+TakeMore = Callable[[Record, int, bytes, Stream], int]
 
 
 class Interface(NamedTuple):
@@ -94,162 +82,15 @@ def units_of(order: str, body: bytes) -> int:
     return 1000000
 
 
-class Stop:
-    """How many signals asked for the end, and when the first came. A wait can include `wakes`."""
-
-    def __init__(self) -> None:
-        self.asked, self.since = 0, 0.0
-        self.wakes, wakened = os.pipe()
-        os.set_blocking(wakened, False)
-        signal.set_wakeup_fd(wakened, warn_on_full_buffer=False)
-        files.answer_stops(self.ask)
-
-    def ask(self, _number: int, _frame: object) -> None:
-        self.asked += 1
-        self.since = self.since or time.monotonic()
-
-
-class Input(io.RawIOBase):
-    """The bytes of a file or pipe, up to its end or a signal.
-
-    After a signal a pipe has a moment more: Ctrl-C also reaches the program that captures, which
-    then sends its last packets. `tick` is called at most once a second, while bytes arrive and
-    between them.
-    """
-
-    def __init__(self, file: BinaryIO, stop: Stop, tick: Callable[[], None]) -> None:
-        self.file, self.stop, self.tick = file, stop, tick
-        self.tick_at = time.monotonic() + TICK
-        self.grace = 0 if stat.S_ISREG(os.fstat(file.fileno()).st_mode) else GRACE
-        self.begin = b""
-        while len(self.begin) < 2 and self.is_ready():
-            piece = os.read(file.fileno(), 2 - len(self.begin))
-            if not piece:
-                break
-            self.begin += piece
-        self.is_gzip = self.begin == GZIP
-
-    def readable(self) -> bool:
-        return True
-
-    def is_ready(self) -> bool:
-        """Waits for bytes or the end of the file. Returns False once waiting is over."""
-        is_quiet = False
-        while not self.stop.asked:
-            left = self.tick_at - time.monotonic()
-            if left <= 0:
-                self.tick()
-                self.tick_at, left = time.monotonic() + TICK, TICK
-            timeout = None if is_quiet else left
-            ready = select.select([self.file, self.stop.wakes], [], [], timeout)[0]
-            if self.file in ready and not self.stop.asked:
-                return True
-            is_quiet = not ready
-            if is_quiet:
-                self.tick()
-        left = self.stop.since + self.grace - time.monotonic()
-        if self.stop.asked != 1 or left <= 0:
-            return False
-        return bool(select.select([self.file], [], [], left)[0])
-
-    def readinto(self, buffer: Any) -> int:
-        if self.begin:
-            size = min(len(buffer), len(self.begin))
-            buffer[:size], self.begin = self.begin[:size], self.begin[size:]
-            return size
-        return os.readv(self.file.fileno(), [buffer]) if self.is_ready() else 0
-
-
-class Inflated(io.RawIOBase):
-    """The decompressed bytes of a gzip stream, one member after another (RFC 1952).
-
-    Bytes after a member that begin no other one, as the zeros that fill a tape, are ignored, as
-    gzip does. `came` counts the bytes that go in, and `out` those that come out.
-    """
-
-    def __init__(self, stream: io.BufferedReader) -> None:
-        self.stream, self.member = stream, zlib.decompressobj(31)
-        self.fault: Optional[Damage] = None
-        self.has_garbage = False
-        self.came = self.out = 0
-
-    def readable(self) -> bool:
-        return True
-
-    def readinto(self, buffer: Any) -> int:
-        while not self.fault:
-            data = self.member.unused_data or self.member.unconsumed_tail
-            data = data or self.more()
-            if self.member.eof:
-                data = self.next_member(data)
-                if not data:
-                    return 0
-                self.member = zlib.decompressobj(31)
-            inflated = self.inflate(data, len(buffer))
-            self.out += len(inflated)
-            if self.out > INFLATED + INFLATED_EACH * self.came:
-                raise Damage(f"gzip: more than {INFLATED_EACH} times as many bytes come out")
-            if inflated:
-                buffer[: len(inflated)] = inflated
-                return len(inflated)
-            if not data and not self.member.eof and not self.stream.peek(1):
-                raise Ends("what gzip compressed")
-        raise self.fault
-
-    def more(self) -> bytes:
-        data = self.stream.read1(65536)
-        self.came += len(data)
-        return data
-
-    def may_have(self, packets: int) -> bool:
-        """Whether so many packets may have come out until now."""
-        return packets <= PACKETS + self.came // BYTES_OF_EACH
-
-    def next_member(self, data: bytes) -> bytes:
-        """The first bytes of the next member, from `data` on; empty if there is none."""
-        data = data.lstrip(b"\0")
-        while len(data) < len(GZIP):
-            more = self.more()
-            if not more:
-                break
-            data = (data + more).lstrip(b"\0")
-        if data.startswith(GZIP):
-            return data
-        self.has_garbage = bool(data)
-        return b""
-
-    def inflate(self, data: bytes, most: int) -> bytes:
-        """Returns at most `most` bytes. After a fault it returns the bytes before it first."""
-        before = self.member.copy()
-        try:
-            return self.member.decompress(data, most)
-        except zlib.error as fault:
-            self.fault = Damage(f"gzip: {fault}")
-        inflated = bytearray()
-        with contextlib.suppress(zlib.error):
-            for at in range(len(data)):
-                inflated += before.decompress(data[at : at + 1], most - len(inflated))
-        return bytes(inflated)
-
-
-def opened(name: str) -> BinaryIO:
-    """Opens a capture. Opening a pipe does not wait for its writer; reading does."""
-    if name != "-":
-        file = open(name, "rb", buffering=0, opener=files.open_at_once)
-        os.set_blocking(file.fileno(), True)
-        return file
-    if sys.stdin is None:
-        raise OSError(errno.EBADF, os.strerror(errno.EBADF), "standard input")
-    return open(0, "rb", buffering=0, closefd=False)
-
-
 def read(
     name: str,
     stop: Stop,
     tick: Callable[[], None],
-    take: Callable[[int, bytes, bool, Optional[int]], None],
+    take: Take,
+    take_more: TakeMore = lambda *_: 0,
 ) -> Optional[str]:
-    """Passes each packet of a capture to `take`, up to its end or a signal.
+    """Passes each packet of a capture to `take`, up to its end or a signal, but for those that
+    `take_more` took from the stream.
 
     Returns a note on a capture that is whole, or None. Raises `Fault` if the capture is damaged or
     cut short, and `OSError` if it cannot be read.
@@ -257,14 +98,15 @@ def read(
     with opened(name) as file:
         try:
             source = Input(file, stop, tick)
-            stream = io.BufferedReader(source, 1 << 18)
-            inflated = Inflated(stream) if source.is_gzip else None
-            if inflated:
-                stream = io.BufferedReader(inflated, 1 << 18)
-            for count, (link, frame, is_cut, when) in enumerate(packets(stream)):
+            compressed = io.BufferedReader(source, 1 << 18) if source.is_gzip else None
+            inflated = Inflated(compressed) if compressed else None
+            stream = Stream(inflated or source)
+            for count, (link, frame, is_cut, when, record) in enumerate(packets(stream)):
                 if inflated and not inflated.may_have(count):
                     raise Damage(f"gzip: fewer than {BYTES_OF_EACH} bytes for a packet")
                 take(link, frame, is_cut, when)
+                if record and not inflated:
+                    take_more(record, link, frame, stream)
         except Ends:
             if not stop.asked:
                 raise
@@ -273,10 +115,11 @@ def read(
     return None
 
 
-def packets(stream: io.BufferedReader) -> Iterator[Packet]:
+def packets(stream: Stream) -> Iterator[Packet]:
     """Yields each packet: its link type, its bytes, whether it is cut short, and its second.
 
-    The second is None if the capture does not give it.
+    The second is None if the capture does not give it. Between two packets somebody else may take
+    some from the stream.
     """
     magic = stream.read(4)
     if magic == SECTION:
@@ -300,17 +143,18 @@ def packets(stream: io.BufferedReader) -> Iterator[Packet]:
         frame = next_bytes(captured)
         if len(frame) < captured:
             raise Ends
-        yield link, frame, captured < original, when
+        record = Record(b"", head[8:], b"") if size == 16 and captured == original else None
+        yield link, frame, captured < original, when, record
 
 
-def taken(stream: io.BufferedReader, size: int, what: str = "a packet") -> bytes:
+def taken(stream: Stream, size: int, what: str = "a packet") -> bytes:
     data = stream.read(size)
     if len(data) < size:
         raise Ends(what)
     return data
 
 
-def block_packets(stream: io.BufferedReader) -> Iterator[Packet]:
+def block_packets(stream: Stream) -> Iterator[Packet]:
     """Yields the packets of a pcapng capture, of which four bytes were already read.
 
     It has sections, each with its own byte order and its own interfaces.
@@ -338,13 +182,18 @@ def block_packets(stream: io.BufferedReader) -> Iterator[Packet]:
                     raise Damage(f"more than {MOST_INTERFACES} interfaces")
                 interfaces.append(Interface.of(order, body))
             elif is_read:
-                yield block_packet(order, interfaces, number, body)
+                link, frame, is_cut, when = block_packet(order, interfaces, number, body)
+                record = None
+                if number == PACKET and not is_cut:
+                    tail = body[20 + len(frame) :] + size
+                    record = Record(kind + size + body[:4], body[12:20], tail)
+                yield link, frame, is_cut, when, record
         except (struct.error, IndexError):
             raise Damage("a block that is too short or of no interface") from None
         kind = stream.read(4)
 
 
-def block_body(stream: io.BufferedReader, length: int, is_read: bool) -> bytes:
+def block_body(stream: Stream, length: int, is_read: bool) -> bytes:
     """The bytes of a block up to its second length; empty if the block is skipped."""
     if is_read:
         return taken(stream, length)
@@ -353,7 +202,9 @@ def block_body(stream: io.BufferedReader, length: int, is_read: bool) -> bytes:
     return b""
 
 
-def block_packet(order: str, interfaces: list[Interface], number: int, body: bytes) -> Packet:
+def block_packet(
+    order: str, interfaces: list[Interface], number: int, body: bytes
+) -> tuple[int, bytes, bool, Optional[int]]:
     """The packet of a block.
 
     A simple packet block belongs to the first interface, and gives neither a time nor the length at

@@ -3,9 +3,10 @@ from __future__ import annotations
 
 import os
 import re
+from argparse import ArgumentTypeError
 from typing import Any, NamedTuple, Optional
 
-from flutejoin_files import shown
+from flutejoin_files import number_of_bytes, shown
 from flutejoin_inbox import Station
 from flutejoin_origin import NAME as ORIGIN
 from flutejoin_origin import Repairing, repairing_of, station_of as origin_of, status_of
@@ -31,6 +32,7 @@ class Settings(NamedTuple):
     on_file: Optional[str] = None
     flutejoin: Optional[str] = None
     listen: Optional[str] = None
+    most: Optional[int] = None  # bytes of the disk, beside the files
     repair: Optional[Repairing] = None
 
     def with_repair(self, repair: Repairing) -> Settings:
@@ -46,6 +48,14 @@ def duration(text: str) -> float:
     if not found:
         raise ValueError(f"{text!r} is no time, as 45s, 10m, 12h or 7d")
     return float(int(found[1]) * UNITS[found[2]])
+
+
+def size(text: str) -> int:
+    """A number of bytes, as 100G. Raises ValueError."""
+    try:
+        return number_of_bytes(text)
+    except ArgumentTypeError as fault:
+        raise ValueError(str(fault)) from None
 
 
 TIMES = {"every": "every", "keep": "keep", "keep-partial": "keep_partial", "silent": "silent"}
@@ -81,6 +91,8 @@ def settings_in(table: Any, tables: Any) -> Settings:
     for key, value in table.items():
         if key in TIMES:
             values[TIMES[key]] = duration(str(value))
+        elif key == "most":
+            values[key] = size(str(value))
         elif key not in TEXTS and key not in PATHS:
             raise ValueError(f"[centre]: there is no setting {key}")
         else:

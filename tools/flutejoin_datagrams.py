@@ -8,6 +8,7 @@ import collections
 import struct
 from typing import Callable, Container, Optional
 
+from flutejoin_checksums import sum_of
 from flutejoin_fragments import CUT, Fragments, Key
 from flutejoin_frames import (
     IP,
@@ -305,6 +306,5 @@ def checksum_fault(source: bytes, target: bytes, udp: bytes, checksum: int) -> O
     """
     if not checksum:
         return None if len(source) == 4 else NO_CHECKSUM
-    size = len(udp)
-    number = int.from_bytes(b"%b%b%b%b" % (source, target, udp, b"\0" if size & 1 else b""), "big")
-    return CHECKSUM if (number + size + UDP) % 65535 else None
+    number = sum_of(source) + sum_of(target) + sum_of(udp)
+    return CHECKSUM if (number + len(udp) + UDP) % 65535 else None

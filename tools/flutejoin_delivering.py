@@ -78,6 +78,7 @@ class Deliverer:
         self.union: dict[Key, Symbols] = {}  # the symbols that any station has
         self.done: dict[Key, set[Optional[str]]] = {}  # the described MD5s that were delivered
         self.wrong: dict[Key, str] = {}  # why a whole object is not delivered
+        self.left: set[Key] = set()  # what was delivered, and could not be taken away
         self.is_begun = False
 
     def at(self, *names: str) -> str:
@@ -149,12 +150,21 @@ class Deliverer:
             self.begin()
         self.shipping.place()
         self.shipping.tell()
+        faults: list[OSError] = []
         for each in self.arrivals:
-            self.take(each)
+            try:
+                self.take_away(each, self.left)
+                self.take(each)
+            except OSError as fault:  # what others brought may be delivered
+                faults.append(fault)
         new = self.described.look()
         self.touched |= new
         self.dirty |= new
-        return self.deliver()
+        count = self.deliver()
+        if faults:
+            raise faults[0]
+        self.left.clear()
+        return count
 
     def contents(self, key: Key) -> list[tuple[int, Contents]]:
         """The contents of an object that were delivered, with their serial numbers."""
@@ -162,9 +172,15 @@ class Deliverer:
 
     def take(self, arrival: Arrival) -> None:
         """Takes what came of a station. If its folder can't be read, that is told."""
-        what = f"station {arrival.station.name}"
+        what, paths, count = f"station {arrival.station.name}", [], 0
+        full: Optional[OSError] = None
         try:
-            paths = arrival.inbox.take()
+            try:
+                paths = arrival.inbox.take()
+            except OSError as fault:
+                full = fault if is_full(fault) else None
+                if not full:
+                    raise
             count = arrival.inbox.take_documents(self.documents.documents)
         except OSError as fault:
             self.report.fails(what, f"{what}: {fault.filename}: {fault.strerror}")
@@ -178,6 +194,8 @@ class Deliverer:
             self.ledger.come(arrival.station.name, arrival.came_at)
         for path in paths:
             self.take_journal(arrival, path)
+        if full:
+            raise full
 
     def take_journal(self, arrival: Arrival, path: str) -> None:
         """Joins a journal with what waits. One at fault is set aside."""
@@ -203,11 +221,27 @@ class Deliverer:
     def deliver(self) -> int:
         """Makes files of what may be whole."""
         ready = [key for key in sorted(self.touched) if self.may_be_whole(key)]
-        count = 0
+        count, faults = 0, []
         for begin in range(0, len(ready), MOST_AT_ONCE):
-            count += self.round(frozenset(ready[begin : begin + MOST_AT_ONCE]))
+            count += self.rounds(ready[begin : begin + MOST_AT_ONCE], faults)
+        if faults:
+            raise faults[0]
         self.touched.clear()
         return count
+
+    def rounds(self, keys: list[Key], faults: list[Exception]) -> int:
+        """Delivers those of some objects that are whole: fewer at a time where the disk has no room
+        for all, and those that it has room for."""
+        try:
+            return self.round(frozenset(keys))
+        except (OSError, gaps.Fault) as fault:
+            if not is_full(fault):
+                raise
+            if len(keys) == 1:
+                faults.append(fault)
+                return 0
+        half = len(keys) // 2
+        return self.rounds(keys[:half], faults) + self.rounds(keys[half:], faults)
 
     def may_be_whole(self, key: Key) -> bool:
         """Whether an object is described, not delivered yet, and no symbol of it lacks."""
@@ -284,12 +318,25 @@ class Deliverer:
             self.done.setdefault(key_of(it), set()).add(md5.hex() if md5 else None)
         if not made:
             return
-        self.keep(made, journals)
+        try:
+            self.keep(made, journals)
+            self.report.works("kept")
+        except OSError as fault:  # what was delivered need not be kept
+            if not is_full(fault):
+                raise
+            told = f"not all that was delivered is kept: {fault.filename}: {fault.strerror}"
+            self.report.fails("kept", told)
+        self.left |= made
         for each in self.arrivals:
-            if any(key in each.pending.objects for key in made):
-                each.pending.remove(made, self.contents)
+            self.take_away(each, made)
+        self.left -= made
         self.unite(made)
         self.ledger.end_waiting(made - self.union.keys())
+
+    def take_away(self, arrival: Arrival, keys: set[Key]) -> None:
+        """Takes what was delivered out of what waits of a station."""
+        if any(key in arrival.pending.objects for key in keys):
+            arrival.pending.remove(keys, self.contents)
 
     def unite(self, keys: Iterable[Key]) -> None:
         """Puts together anew which symbols any station has of some objects."""
@@ -329,6 +376,13 @@ def only(journal: str, keys: Container[Key]) -> Optional[str]:
             copy.add(kind, raw, more)
         copy.finish()
     return path if copy.count else None
+
+
+def is_full(fault: Exception) -> bool:
+    """Whether a fault may be that of a full disk: the program tells no more than that."""
+    if isinstance(fault, OSError):
+        return fault.errno in (errno.ENOSPC, errno.EDQUOT, errno.EIO)
+    return isinstance(fault, gaps.Fault) and fault.status == 3
 
 
 def key_of(made: Made) -> Key:

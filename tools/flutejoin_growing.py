@@ -115,6 +115,7 @@ class Growing:
 
     def write(self, block: Block) -> None:
         self.opened.make_room(on_disk(len(HEADER) + len(block.data)))  # which may end this file
+        self.opened.reserve.keep(self.folder, len(block.data))
         descriptor = self.open() if self.descriptor is None else self.descriptor
         self.opened.touch(self)
         data = block.data if self.size else HEADER + block.data

@@ -47,8 +47,11 @@ class House:
     def forget_partial(self, since: float) -> None:
         """Forgets the objects of which nothing came since a time, and tells what they lack."""
         keys = frozenset(self.of.ledger.silent(since))
-        if not keys:
-            return
+        if keys:
+            self.let_go(keys)
+
+    def let_go(self, keys: frozenset[Key]) -> None:
+        """Forgets what waits of some objects, and tells what they lack."""
         rows = [row for key in sorted(keys) if (row := self.model.row(key))]
         self.tell(rows)
         for each in self.of.arrivals:

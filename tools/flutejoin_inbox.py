@@ -11,7 +11,7 @@ import contextlib
 import fcntl
 import os
 import time
-from typing import Iterator, NamedTuple
+from typing import Iterator, NamedTuple, Optional
 
 import flutejoin_files as files
 from flutejoin_instances import (
@@ -51,6 +51,16 @@ class Inbox:
         self.station, self.taken = station, Shelf(taken)
         self.seen: dict[str, tuple[int, int, int]] = {}  # documents that were read
         self.left: list[str] = []  # what is no FDT Instance, since the last call
+        self.changed: Optional[tuple[int, ...]] = None  # when the folders were, at the last look
+
+    def has_news(self) -> bool:
+        """Whether its folders changed since the last call, by their times: a quick look."""
+        times = tuple(map(changed_at, (self.station.path(), self.documents_path())))
+        has_changed, self.changed = times != self.changed, times
+        return has_changed
+
+    def documents_path(self) -> str:
+        return os.path.join(self.station.folder, "fdt")
 
     def take(self) -> list[str]:
         """Moves what is there, and returns the paths of all that waits, the oldest first.
@@ -85,13 +95,14 @@ class Inbox:
                     fcntl.flock(folder, fcntl.LOCK_EX | fcntl.LOCK_NB)
                 yield True
             except BlockingIOError:
+                self.changed = None  # it is looked at again
                 yield False
         finally:
             os.close(folder)
 
     def take_documents(self, kept: Folder) -> int:
         """Keeps the FDT Instances that are new, and returns how many files were read."""
-        folder = os.path.join(self.station.folder, "fdt")
+        folder = self.documents_path()
         try:
             names = sorted(os.listdir(folder))
         except FileNotFoundError:
@@ -167,6 +178,14 @@ class Inbox:
         move(path, to)
         bring_to_disk(to)
         return to
+
+
+def changed_at(folder: str) -> int:
+    """When a name in a folder changed last; 0 if there is no such folder."""
+    try:
+        return os.stat(folder).st_mtime_ns
+    except OSError:
+        return 0
 
 
 def mark_of(path: str) -> tuple[int, int, int]:

@@ -11,6 +11,7 @@ import time
 from typing import Iterator, Sequence
 
 import flutejoin_files as files
+from flutejoin_completing import Completing
 from flutejoin_incoming import Part, Sender, State
 from flutejoin_joining import FULL, Answer, Failed, Program
 from flutejoin_kept import Kept, Settings
@@ -29,6 +30,11 @@ class Keeper(Kept):
     def __init__(self, folder: str, program: Program, settings: Settings, report: Log) -> None:
         super().__init__(folder, program, settings, report)
         self.counts = Counts(report, program)
+        self.completing = Completing(
+            program,
+            self.kept,
+            lambda sender, key: self.documents.known_of(sender.stem()).numbers.get(key),
+        )
         self.has_more = False  # since the last look
         self.is_adopted = False  # what versions of before left
         self.make_folders()
@@ -77,10 +83,13 @@ class Keeper(Kept):
         state, now = self.states[sender], time.monotonic()
         if has_patience and now < state.next_try and not 0 < state.wanted <= self.free():
             return False
-        every = self.settings.every if self.incoming.is_receiving else 0
+        is_waiting = self.incoming.is_receiving and not self.completing.is_due(sender, now)
+        every, joins = self.settings.every if is_waiting else 0, state.joins
         due = [part for part in parts if state.is_due(part, now, every)]
         if due:
             self.attempt(sender, lambda: self.bring(sender, self.batch(state, due)))
+        if state.joins > joins:
+            self.completing.joined(sender, now)
         self.retire(sender, parts)
         return bool(due)
 
@@ -94,6 +103,7 @@ class Keeper(Kept):
     def look(self) -> None:
         """Looks at the datagram files, and drops the states of senders that have none."""
         self.incoming.look()
+        self.completing.look(self.incoming.found)
         now = time.monotonic()
         for sender, part, told in self.incoming.faults:
             if now >= self.states[sender].next_try:

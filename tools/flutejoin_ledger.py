@@ -257,6 +257,11 @@ class Ledger:
         found = self.rows("SELECT source, tsi, toi FROM waiting WHERE seen < ?", since)
         return [Key(source, tsi, FILE, int(toi)) for source, tsi, toi in found]
 
+    def longest_silent(self) -> list[Key]:
+        """The objects that wait: first that of which nothing came for longest."""
+        found = self.rows("SELECT source, tsi, toi FROM waiting ORDER BY seen, since")
+        return [Key(source, tsi, FILE, int(toi)) for source, tsi, toi in found]
+
     def end_waiting(self, keys: Iterable[Key]) -> None:
         with self.changes() as base:
             base.executemany(

@@ -94,6 +94,7 @@ class Model:
         self.rows: dict[Key, Row] = {}
         self.undescribed: set[Key] = set()  # which of them have a row
         self.first: dict[Key, tuple[float, int]] = {}  # when a file was seen first, and its symbols
+        self.came: dict[Key, list[tuple[float, int]]] = {}  # when more came last, and what lacked
 
     def update(self) -> None:
         """Makes the rows anew of which something changed since the last call."""
@@ -103,6 +104,7 @@ class Model:
             if row is None:
                 self.rows.pop(key, None)
                 self.first.pop(key, None)
+                self.came.pop(key, None)
             else:
                 self.rows[key] = row
 
@@ -172,11 +174,20 @@ class Model:
         return shares, {name: count for name, count in only.items() if count}
 
     def whole_at(self, key: Key, missing: int, now: float) -> Optional[float]:
-        """When an object will be whole, if its symbols go on to come as they did."""
+        """When an object will be whole, if its symbols go on to come as they did.
+
+        Where they come in passes, as of a carousel, that is not before the next one.
+        """
         begun, before = self.first.setdefault(key, (now, missing))
+        came = self.came.setdefault(key, [])
+        if missing < (came[-1][1] if came else before):
+            came.append((now, missing))
+            del came[:-2]
         if not missing or missing >= before or now <= begun:
             return None
-        return now + missing * (now - begun) / (before - missing)
+        last, period = came[-1][0], came[-1][0] - (came[0][0] if len(came) > 1 else begun)
+        at_rate = last + missing * (last - begun) / (before - missing)
+        return max(at_rate, last + period)
 
     def stations(self, newest: Iterable[Delivery]) -> list[StationRow]:
         """The stations, by the files that were delivered lately and by their own status."""

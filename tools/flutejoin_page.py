@@ -7,8 +7,10 @@ import hashlib
 import html
 import json
 import urllib.parse
-from typing import Iterable, Optional, Sequence
+from typing import Callable, Iterable, Optional, Sequence
 
+from flutejoin_drawn import FOLDER
+from flutejoin_drawn import name_of as picture_name
 from flutejoin_files import shown
 from flutejoin_health import Problem, order, since, size, waiting_line
 from flutejoin_holdings import Key
@@ -77,11 +79,14 @@ def name_of(name: Optional[str], key: Key) -> str:
 class Page:
     """Makes the page. The HTML of a row is kept until the row is another."""
 
-    def __init__(self, model: Model, has_files: bool) -> None:
-        """`has_files` tells whether a folder `files` beside the page has the files."""
-        self.model, self.has_files = model, has_files
+    def __init__(
+        self, model: Model, has_files: bool, is_drawn: Callable[[Key], bool] = lambda _: False
+    ) -> None:
+        """`has_files` tells whether a folder `files` beside the page has the files, and `is_drawn`
+        of which objects there are pictures."""
+        self.model, self.has_files, self.is_drawn = model, has_files, is_drawn
         self.names = [each.station.name for each in model.of.arrivals]
-        self.made: dict[Key, tuple[Row, str]] = {}
+        self.made: dict[Key, tuple[Row, bool, str]] = {}
         self.repair: Optional[dict] = None  # what the status has of repairs
 
     def text(
@@ -133,22 +138,23 @@ class Page:
         return front + table(heads, "".join(made)) + more
 
     def row(self, row: Row) -> str:
-        known = self.made.get(row.key)
-        if known and known[0] == row:
-            return known[1]
+        known, is_drawn = self.made.get(row.key), self.is_drawn(row.key)
+        if known and known[:2] == (row, is_drawn):
+            return known[2]
         ranges = ", ".join(f"{begin:,}–{end - 1:,}" for begin, end in row.ranges[:2])
         told = ranges + (" .." if len(row.ranges) > 2 else "")
         told = told if row.state == "waiting" else f"{row.state} {row.why} {told}"
         kind = ' class="bad"' if row.state == WRONG else ""
         made = (
-            f'<tr{kind}><th scope="row">{name_of(row.name, row.key)}</th>'
+            f'<tr{kind}><th scope="row">{name_of(row.name, row.key)}'
+            f"{picture_of(row) if is_drawn else ''}</th>"
             f'<td class="n m">{size(row.bytes)}</td>'
             f'<td class="n"><b>{min(row.percent, 99.9)} %</b></td>'
             f'<td class="m">{strip(row.shares, self.names)}</td>'
             f'<td class="n m">{size(row.missing_bytes)}</td>'
             f'<td class="m r">{text(told)}</td></tr>\n'
         )
-        self.made[row.key] = row, made
+        self.made[row.key] = row, is_drawn, made
         return made
 
     def stations(self, stations: list[StationRow], files: int, now: float) -> str:
@@ -215,6 +221,13 @@ class Page:
         return f'<tr><th scope="row">{name}</th>{cells}</tr>\n'
 
 
+def picture_of(row: Row) -> str:
+    """The link to the picture of a file, with a name of its own for who hears it."""
+    told = text(f"Picture of {row.name or row.key.text()}")
+    path = f"{FOLDER}/{picture_name(row.key)}"
+    return f' <a class="r" href="{path}" aria-label="{told}">picture</a>'
+
+
 def repaired(repair: Optional[dict]) -> str:
     """What servers were asked for."""
     if repair is None:
@@ -268,7 +281,7 @@ tbody th{font-weight:500;overflow-wrap:anywhere}
 th.n,td.n{text-align:right;font-variant-numeric:tabular-nums;white-space:nowrap}
 .r{color:var(--dim);font-size:.85rem}tr.bad th,tr.bad td{color:var(--bad)}
 .dim{color:var(--dim)}.full{fill:var(--full)}.part{fill:var(--part)}.none{fill:var(--bad)}
-svg{display:block}a{color:var(--full)}
+svg{display:block}a,a.r{color:var(--full)}
 input{font:inherit;padding:.25rem .5rem;width:22rem;max-width:100%;background:var(--bg);\
 color:var(--fg);border:1px solid var(--dim);box-sizing:border-box}
 @media(max-width:40rem){th.m,td.m{display:none}}

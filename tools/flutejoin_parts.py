@@ -16,6 +16,7 @@ from flutejoin_records import HEADER, LENGTH, MOST, whole_records
 
 MOST_SENDERS = 200  # each has an open file
 MOST_ADAPTED = 4096  # senders of whose datagrams something is remembered
+MOST_JOINED = 32  # datagrams that are put together at once
 MOST_COUNTED = 1 << 16  # senders beyond these of which bytes are counted
 SENDERS = f"more than {MOST_SENDERS} senders"
 OCCUPIED = "its sender's file cannot be made"
@@ -166,6 +167,24 @@ class Files:
             part.count += 1
             if self.hints[sender].look(payload):
                 self.report.warn(f"{files.address(sender)} {TOLD}")
+            if len(part.waiting) > 65536:
+                self.flush(part)
+
+    def add_run(
+        self, sender: bytes, front: bytes, symbols: list[bytes], when: int | None
+    ) -> None:
+        """Adds datagrams of a sender that has a file: each is `front` and a symbol. None of them is
+        of an FDT Instance. The length before a datagram is in front of it."""
+        part, size = self.open[sender], (len(front) + len(symbols[0])) * len(symbols)
+        if part.count + len(symbols) > MOST or part.size + len(part.waiting) + size > self.split:
+            for symbol in symbols:
+                self.add(sender, front[LENGTH.size :] + symbol, when)
+            return
+        for begin in range(0, len(symbols), MOST_JOINED):
+            some = symbols[begin : begin + MOST_JOINED]
+            part.waiting += front
+            part.waiting += front.join(some)
+            part.count += len(some)
             if len(part.waiting) > 65536:
                 self.flush(part)
 

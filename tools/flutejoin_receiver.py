@@ -1,6 +1,7 @@
 """Runs flutejoin-receive as a child, and restarts it when it ends."""
 from __future__ import annotations
 
+import argparse
 import json
 import os
 import subprocess
@@ -11,10 +12,32 @@ from typing import Optional, Sequence
 import flutejoin_files as files
 from flutejoin_joining import die_with_parent
 from flutejoin_notes import Fault
+from flutejoin_settings import AS_RECEIVED
 
 PATH = os.path.join(os.path.dirname(os.path.realpath(__file__)), "flutejoin-receive")
 FIRST_DELAY, LONGEST_DELAY = 1, 60  # seconds until a child that ended is restarted
+BEGUN = 10  # seconds; a child that runs so long has begun to receive
 WELL = 60  # seconds; a child that ran longer is restarted after FIRST_DELAY
+# Options that the receiver takes as they are
+OF_RECEIVER = {
+    "group": "ADDRESS",
+    "port": "N",
+    "from": "SENDER",
+    "interface": "NAME_OR_ADDRESS",
+    "sdp": "FILE",
+    "senders": "N",
+    "buffer": "BYTES",
+    "keep-free": "BYTES",
+}
+
+
+def receiver_words(options: argparse.Namespace) -> list[str]:
+    words = ["--split", str(options.window)]
+    if options.config:
+        words.append(f"--config={options.config}")
+    for name in OF_RECEIVER:
+        words += [f"--{name}={value}" for value in getattr(options, name) or []]
+    return words + [f"--{AS_RECEIVED}"] * options.as_received
 
 
 class Receiver:
@@ -28,6 +51,7 @@ class Receiver:
         self.child: Optional[subprocess.Popen] = None
         self.delay, self.started_at, self.start_at = FIRST_DELAY, 0.0, float("-inf")
         self.is_stopped, self.has_run, self.status = False, False, 0
+        self.has_listened, self.mark = False, self.status_mark()
 
     def tend(self) -> None:
         """Checks whether the child runs, and starts it when that is due."""
@@ -36,6 +60,21 @@ class Receiver:
             self.end(self.child, now)
         if not self.child and not self.is_stopped and now >= self.start_at:
             self.begin(now)
+
+    def is_listening(self) -> bool:
+        """Whether a child of this run began to receive: it writes its status then, unless the disk
+        is full; one that can't start ends sooner."""
+        if not self.has_listened and self.child:
+            runs_long = time.monotonic() >= self.started_at + BEGUN
+            self.has_listened = runs_long or self.status_mark() != self.mark
+        return self.has_listened
+
+    def status_mark(self) -> Optional[tuple[int, int]]:
+        try:
+            found = os.stat(self.status_path)
+        except OSError:
+            return None
+        return found.st_ino, found.st_mtime_ns
 
     def begin(self, now: float) -> None:
         self.started_at = now
@@ -51,9 +90,13 @@ class Receiver:
             self.put_off(now, f"the receiver cannot be run: {fault}")
 
     def end(self, child: subprocess.Popen, now: float) -> None:
+        has_listened = self.is_listening()
         self.status, self.child = child.returncode, None
-        if self.status == 2 and not self.has_run:
-            raise Fault(2, "the receiver does not take its settings")
+        if not self.has_run and not has_listened and not self.is_stopped:
+            if self.status == 2:
+                raise Fault(2, "the receiver does not take its settings")
+            if self.status == 3:
+                raise Fault(3, "the receiver cannot start")
         self.has_run = True
         if not self.is_stopped:
             if now >= self.started_at + WELL:

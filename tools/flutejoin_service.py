@@ -7,6 +7,7 @@ import time
 from typing import Callable, Optional
 
 import flutejoin_gaps as gaps
+from flutejoin_bound import Bound
 from flutejoin_centre import Settings
 from flutejoin_delivering import Deliverer
 from flutejoin_fetching import Fetching
@@ -20,6 +21,8 @@ from flutejoin_voice import Log
 
 FIRST_DELAY, LONGEST_DELAY = 5, 300  # seconds until what failed is tried again
 EACH = 5  # seconds between two rounds of a single station
+# Seconds between two rounds of what came meanwhile, and times of what the first one took
+LEAST, PAUSE = 0.5, 1
 FRESH = "deliver"  # the folder of a station that has what is to be delivered
 
 
@@ -34,8 +37,9 @@ class Service:
         self.hooks = Hooks(settings.on_file, settings.files, self.deliverer.ledger, report)
         self.telling = Telling(self.deliverer, report)
         self.house = House(self.deliverer, self.telling.model, report)
+        self.bound = Bound(self.deliverer, self.house, report)
         self.fetching = self.telling.fetching = self.repairing()
-        self.delay, self.next = 0.0, float("-inf")
+        self.delay, self.next, self.soon = 0.0, float("-inf"), float("-inf")
 
     def repairing(self) -> Optional[Fetching]:
         """What repairs, if the settings have it."""
@@ -48,22 +52,36 @@ class Service:
         return self.attempt(self.round) is not None
 
     def round(self) -> bool:
-        self.deliverer.work()
-        self.house.keep_at_times()
+        try:
+            self.deliverer.work()
+        finally:  # which may make room
+            self.house.keep_at_times()
+            self.bound.keep_at_times()
         self.report.works("delivering")
         self.delay = 0
         return True
 
     def work_at_times(self, each: float = EACH) -> None:
         """The same, if it is due, and what else is to be done."""
-        now = time.monotonic()
-        if now >= self.next:
+        began = time.monotonic()
+        if began >= self.next or began >= self.soon and not self.delay and self.has_news():
             self.work()
-            self.next = time.monotonic() + max(each, self.delay)
+            now = time.monotonic()
+            self.next = now + max(each, self.delay)
+            self.soon = now + max(LEAST, PAUSE * (now - began))
         self.attempt(self.hooks.tend)
         if self.fetching:
             self.attempt(self.fetching.tend)
         self.telling.tell()
+
+    def has_news(self) -> bool:
+        """Whether a station's folder has changed since the last round."""
+        return any([each.inbox.has_news() for each in self.deliverer.arrivals])
+
+    def hurry(self) -> None:
+        """Has the next round come as soon as it may."""
+        if not self.delay:
+            self.next = min(self.next, self.soon)
 
     def attempt(self, step: Callable[[], bool]) -> Optional[bool]:
         """Takes a step. None if the system or the program refuses it, which is told."""

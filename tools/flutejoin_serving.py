@@ -10,6 +10,8 @@ import threading
 import urllib.parse
 from typing import Optional
 
+from flutejoin_drawn import FOLDER as PICTURES
+from flutejoin_drawn import NAME as PICTURE
 from flutejoin_notes import Fault
 
 NAMES = "index.html", "status.json", "metrics.prom"
@@ -44,6 +46,8 @@ class Handler(http.server.SimpleHTTPRequestHandler):
             return nothing
         if not parts or parts[0] in NAMES and len(parts) == 1:
             return os.path.join(self.directory, *(parts or ["index.html"]))
+        if parts[0] == PICTURES and len(parts) == 2 and PICTURE.fullmatch(parts[1]):
+            return os.path.join(self.directory, *parts)
         if parts[0] != FILES or len(parts) == 1:
             return nothing
         found = os.path.realpath(os.path.join(self.directory, FILES))

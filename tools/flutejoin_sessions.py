@@ -22,6 +22,7 @@ from flutejoin_records import LENGTH, Buffer
 from flutejoin_sender import Sender
 from flutejoin_senders import Senders
 from flutejoin_settings import SessionOptions
+from flutejoin_silence import AFTER, advice, on
 from flutejoin_sockets import (
     LINUX,
     Interface,
@@ -56,13 +57,15 @@ class Session:
 
     def __init__(self, options: SessionOptions, interface: Interface, senders: Senders) -> None:
         self.options, self.senders, self.interface = options, senders, interface
-        self.where, self.is_lost, self.look_at = "", False, float("-inf")
+        self.where, self.place = "", ("", False)
+        self.is_lost, self.look_at = False, float("-inf")
         self.udp = self.listen(interface)
         self.batch, self.flood = Batch(self.udp), Flood(self.udp)
         self.only = packed_for(self.udp.family, options.sender) if options.sender else None
         self.by_key: dict[bytes, Sender] = {}
         self.newcomers = senders.newcomers.by_key
         self.datagrams = self.bytes = 0
+        self.has_come, self.silent_at = False, time.monotonic() + AFTER
         self.seen_at: Optional[float] = None
         self.others = self.full = self.unlike = self.unseen = self.too_long = 0
         self.tests = self.repeats = 0
@@ -83,12 +86,19 @@ class Session:
                 hint = " (name the interface by --interface)"
             raise Fault(3, f"cannot listen at {where} port {options.port}: {error.strerror}{hint}")
         buffer = ask_for_buffer(udp, options.buffer)
-        named = options.interface and where != interface.address
-        on = f" on {options.interface}" if named else ""
+        named = bool(options.interface) and where != interface.address
+        at = f"{where} port {options.port}"
+        self.where = at + (f" on {options.interface}" if named else "")
+        self.place = at, named
         of = f" to {options.sender}" if options.sender else ""
-        self.where = f"{where} port {options.port}{on}"
-        note(f"listening{of} at {self.where}, with a receive buffer of {buffer} bytes")
+        note(f"listening{of} at {self.here()}, with a receive buffer of {buffer} bytes")
         return udp
+
+    def here(self) -> str:
+        """Where it listens, with the interface as it is now."""
+        at, named = self.place
+        options = self.options
+        return at + (on(options.interface, options.group) if named or options.group else "")
 
     def look(self, now: float) -> None:
         """Looks whether the system still receives for the socket.
@@ -157,6 +167,7 @@ class Session:
             sender.records += 1
             kept += 1
             size += length
+        self.has_come = self.has_come or came > 0
         if kept:
             self.datagrams += kept
             self.bytes += size
@@ -284,6 +295,11 @@ class Session:
 
     def each_second(self, now: float) -> None:
         self.flood.tend(self.known)
+        if now >= self.silent_at and not self.has_come:
+            self.silent_at = float("inf")
+            options = self.options
+            told = advice(options.interface, options.group, options.port)
+            note(f"nothing came in {AFTER} seconds at {self.here()}: {told}")
         for cause, count in self.left_out().items():
             self.told.tell(cause, count, now)
         for sender in set(self.by_key.values()):

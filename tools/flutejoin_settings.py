@@ -8,11 +8,14 @@ from typing import Any, Callable, Container, Iterator, Optional
 from flutejoin_adapting import WITHOUT_CHANGE
 from flutejoin_files import MOST_BYTES, CommandLine, IPAddress, shown
 from flutejoin_found import address_of
+from flutejoin_reserve import NOTHING, reserve
+from flutejoin_sdp import read as read_sdp
+from flutejoin_sdp import sessions_in
 
-OF_SESSION = "group", "port", "from", "interface", "folder"
+OF_SESSION = "group", "port", "from", "interface", "sdp", "folder"
 OF_STATION = (
-    *("every", "window", "keep-raw", "most", "nightly", "outbox", "tsi", "status", "flutejoin"),
-    *("deliver", "on-file"),
+    *("every", "window", "keep-raw", "keep-free", "most", "nightly", "outbox", "tsi", "status"),
+    *("flutejoin", "deliver", "on-file"),
 )
 
 
@@ -100,6 +103,12 @@ SETTINGS = {
         "the interface to receive on, by its name or one of its addresses (default: with --group "
         "as the system chooses, and else all)",
     ),
+    "sdp": (
+        name,
+        "FILE",
+        "take group, port and sender from a session description (RFC 8866; source filters: RFC "
+        "4570), in their place; one session for each of its media of FLUTE/UDP",
+    ),
     "folder": (
         name,
         "FOLDER",
@@ -123,6 +132,12 @@ SETTINGS = {
         "datagram that has more: the oldest files are removed before more is written (default: all "
         "are kept); then a file has a quarter of it at most",
     ),
+    "keep-free": (
+        reserve,
+        "BYTES",
+        "write nothing that leaves less of the disk free, in bytes, as 2G, or of all, as 5%% "
+        "(default: 0), so that others have room there, as the joins of a station",
+    ),
     "buffer": (
         number_within(1, (1 << 30) - 1),
         "BYTES",
@@ -134,9 +149,11 @@ SETTINGS = {
         "write there each 10 seconds what came, as JSON; SIGUSR1 tells the same",
     ),
 }
-AS_RECEIVED = "as-received"
+AS_RECEIVED, KEEP_FREE = "as-received", "keep-free"
 BUFFER = 1 << 24
-DEFAULTS = {"folder": ".", "senders": 64, "split": MOST_BYTES, "buffer": BUFFER}
+DEFAULTS = {
+    "folder": ".", "senders": 64, "split": MOST_BYTES, "buffer": BUFFER, "keep-free": NOTHING
+}
 
 
 def command_line(description: str, epilog: str) -> argparse.Namespace:
@@ -144,7 +161,7 @@ def command_line(description: str, epilog: str) -> argparse.Namespace:
     parser = CommandLine("flutejoin-receive", description, epilog)
     for key, (kind, metavar, text) in SETTINGS.items():
         word = "-o" if key == "folder" else f"--{key}"
-        action = "append" if key in ("group", "port", "from", "interface") else "store"
+        action = "append" if key in OF_SESSION[:5] else "store"
         parser.add_argument(
             word, dest=key, type=kind, metavar=metavar, help=text, action=action
         )
@@ -184,18 +201,14 @@ def complete(options: argparse.Namespace) -> None:
         raise ValueError(f"{shown(options.config)}: {AS_RECEIVED} is true or false")
     options.as_received = options.as_received or as_received
     given = {key: value_of(options.config, key, file[key]) for key in file}
-    for key in ("folder", "senders", "split", "most", "buffer", "status"):
+    for key in ("folder", "senders", "split", "most", KEEP_FREE, "buffer", "status"):
         if getattr(options, key) is None:
             setattr(options, key, given.get(key, DEFAULTS.get(key)))
     options.sessions = sessions_of(options)
     for table in tables:
-        fields = {key: value_of(options.config, key, table[key], OF_SESSION) for key in table}
-        if "port" not in fields:
-            raise ValueError(f"{shown(options.config)}: a [[session]] has no port")
-        fields["sender"] = fields.pop("from", None)
-        options.sessions.append(SessionOptions(**fields))
+        options.sessions += sessions_in_table(options.config, table)
     if not options.sessions:
-        raise ValueError("the following arguments are required: --port, or --config")
+        raise ValueError("the following arguments are required: --port, --sdp or --config")
     if options.most is not None:
         options.split = min(options.split, max(1, options.most // 4))
     for session in options.sessions:
@@ -206,12 +219,37 @@ def complete(options: argparse.Namespace) -> None:
             raise ValueError(wrong)
 
 
+def sessions_in_table(path: str, table: dict) -> list[SessionOptions]:
+    """The sessions of a table [[session]]. Raises ValueError."""
+    fields = {key: value_of(path, key, table[key], OF_SESSION) for key in table}
+    description = fields.pop("sdp", None)
+    if description is not None:
+        for key in "port", "group", "from":
+            if key in fields:
+                raise ValueError(f"{shown(path)}: a [[session]] has sdp, and {key} beside it")
+        return sessions_described(description, **fields)
+    if "port" not in fields:
+        raise ValueError(f"{shown(path)}: a [[session]] has no port")
+    fields["sender"] = fields.pop("from", None)
+    return [SessionOptions(**fields)]
+
+
+def sessions_described(
+    path: str, interface: Optional[str] = None, folder: str = ""
+) -> list[SessionOptions]:
+    """The sessions of a session description, each once. Raises ValueError."""
+    found = dict.fromkeys((it.port, it.group, it.sender) for it in read_sdp(path))
+    return [SessionOptions(*each, interface, folder) for each in found]
+
+
 def sessions_of(options: argparse.Namespace) -> list[SessionOptions]:
     """The sessions of the command line. Raises ValueError.
 
     Options that were given several times belong together in their order; an option that was given
     once belongs to all sessions.
     """
+    if options.sdp:
+        return sessions_of_descriptions(options)
     lists = {key: getattr(options, key) or [None] for key in ("port", "group", "from", "interface")}
     if lists["port"] == [None]:
         if any(values != [None] for values in lists.values()):
@@ -225,6 +263,22 @@ def sessions_of(options: argparse.Namespace) -> list[SessionOptions]:
     return [
         SessionOptions(port, group, sender, interface)
         for port, group, sender, interface in zip(*columns)
+    ]
+
+
+def sessions_of_descriptions(options: argparse.Namespace) -> list[SessionOptions]:
+    for key in "port", "group", "from":
+        if getattr(options, key):
+            raise ValueError(f"argument --{key}: not allowed with argument --sdp")
+    interfaces = options.interface or [None]
+    if len(interfaces) not in (1, len(options.sdp)):
+        told = f"is given {len(interfaces)} times, and not {len(options.sdp)}"
+        raise ValueError(f"argument --interface: {told}")
+    interfaces *= len(options.sdp) // len(interfaces)
+    return [
+        session
+        for path, interface in zip(options.sdp, interfaces)
+        for session in sessions_described(path, interface)
     ]
 
 
@@ -266,7 +320,7 @@ def with_nul(settings: dict) -> Optional[str]:
 def value_of(path: str, key: str, value: Any, keys: Container[str] = tuple(SETTINGS)) -> Any:
     """A value of the file of settings, as the option of that name takes it. Raises ValueError."""
     at = f"argument --config: {shown(path)}: {key}"
-    if key not in keys or keys is not OF_SESSION and key in OF_SESSION[:4]:
+    if key not in keys or keys is not OF_SESSION and key in OF_SESSION[:5]:
         raise ValueError(f"{at}: there is no such setting there")
     if not isinstance(value, (str, int)) or isinstance(value, bool):
         raise ValueError(f"{at}: is no number and no text")
@@ -290,6 +344,8 @@ def words_of_station(path: str) -> Iterator[str]:
     if "most" in settings or any("folder" in each for each in [settings, *tables]):
         told = "a station chooses folder by itself, and most is a setting of [station]"
         raise ValueError(f"{path}: {told}")
+    if "tsi" not in table and tables and all(isinstance(each.get("sdp"), str) for each in tables):
+        yield from (f"--tsi={tsi}" for tsi in sessions_in(each["sdp"] for each in tables))
     for senders in same_senders(path, settings.get("same", [])):
         yield f"--same={senders}"
     for key in table:

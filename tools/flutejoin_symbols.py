@@ -83,10 +83,12 @@ class Symbols:
     def missing(self, partition: Partition) -> Iterator[tuple[int, int]]:
         """Yields the runs of symbols that lack, by the places of the first and the last."""
         for block in range(partition.blocks):
-            size = partition.size(block)
-            lacking = ~self.blocks.get(block, 0) & (1 << size) - 1
-            for first, last in runs(lacking):
+            for first, last in self.runs_missing(partition, block):
                 yield partition.start(block) + first, partition.start(block) + last
+
+    def runs_missing(self, partition: Partition, block: int) -> Iterator[tuple[int, int]]:
+        """Yields the runs of symbols of a block that lack, by their numbers in it."""
+        return runs(~self.blocks.get(block, 0) & (1 << partition.size(block)) - 1)
 
     def may_be_whole(self, numbers: Iterable[Numbers]) -> bool:
         """Whether no symbol lacks, by any transmission information that is told."""

@@ -173,7 +173,7 @@ def json_lines(session: Session) -> Iterator[str]:
 
 
 def outcome_lines(session: Session) -> Iterator[str]:
-    """Yields a line for each file that was not written and verified as usual."""
+    """Yields a line for each file that is new or changed, or not verified."""
     for toi, outcome in sorted(session.outcomes.items()):
         verdict = outcome.checked.verdict
         told = f" ({outcome.checked.told})" if outcome.checked.told else ""
@@ -183,8 +183,8 @@ def outcome_lines(session: Session) -> Iterator[str]:
             yield f"not written: {outcome.path}{told}"
         elif verdict is not Verdict.VERIFIED:
             yield f"{verdict.value}: {outcome.path}{told}"
-        elif outcome.put == "changed":
-            yield f"changed: {outcome.path}"
+        elif outcome.put and toi not in session.resolved:
+            yield f"{outcome.put}: {outcome.path}"
     for toi, why in sorted(session.unresolved.items()):
         yield f"not resolved: {location(session, toi)} ({why})"
 

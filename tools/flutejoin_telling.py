@@ -8,8 +8,9 @@ import time
 from typing import Optional
 
 from flutejoin_delivering import Deliverer
+from flutejoin_drawn import SECONDS, Pictures
 from flutejoin_fetching import Fetching
-from flutejoin_health import LATELY, metrics, problems, status_of
+from flutejoin_health import LATELY, metrics, order, problems, status_of
 from flutejoin_ledger import Delivery
 from flutejoin_model import Model
 from flutejoin_page import Page
@@ -28,7 +29,8 @@ class Telling:
         self.model = Model(deliverer, deliverer.clock())
         self.next = float("-inf")
         os.makedirs(self.folder, exist_ok=True)
-        self.page = Page(self.model, self.link_files())
+        self.pictures = Pictures(self.folder, self.model)
+        self.page = Page(self.model, self.link_files(), self.pictures.has)
         self.summary = ""
         self.fetching: Optional[Fetching] = None  # what repairs
 
@@ -54,8 +56,18 @@ class Telling:
         except OSError as fault:
             self.report.fails("page", f"{fault.filename or self.folder}: {fault.strerror}")
 
-    def write(self) -> None:
+    def draw(self, seconds: float) -> None:
+        """Draws pictures. A page without them is better than none."""
+        try:
+            self.pictures.draw(sorted(self.model.rows.values(), key=order), seconds)
+            self.report.works("pictures")
+        except OSError as fault:
+            self.report.fails("pictures", f"{fault.filename or self.folder}: {fault.strerror}")
+
+    def write(self, seconds: float = SECONDS) -> None:
+        """Writes all. Drawing takes so many seconds at most."""
         self.model.update()
+        self.draw(seconds)
         newest: list[Delivery] = self.of.ledger.newest(LATELY)
         stations = self.model.stations(newest)
         found = problems(self.model, stations, self.report)

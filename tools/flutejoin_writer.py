@@ -16,6 +16,7 @@ from flutejoin_found import FLAGS
 from flutejoin_growing import Begin, Block, Growing, Order
 from flutejoin_notes import Fault, note
 from flutejoin_records import HEADER, LENGTH
+from flutejoin_reserve import NOTHING, Reserve
 
 MOST_WAITING = 1 << 26  # bytes that wait for the disk in all, at most
 MANY_WAITING = 1 << 23  # from this number on the receiving thread pauses
@@ -148,11 +149,13 @@ class Opened:
     that the files take of the disk.
     """
 
-    def __init__(self, reserved: int, make_room: Callable[[int], None]) -> None:
+    def __init__(
+        self, reserved: int, make_room: Callable[[int], None], reserve: Reserve = NOTHING
+    ) -> None:
         self.most = max(1, descriptors() - SPARE - reserved)
         self.growing: collections.OrderedDict[Growing, None] = collections.OrderedDict()
         self.is_told = False
-        self.make_room = make_room
+        self.make_room, self.reserve = make_room, reserve
         self.held = 0  # of all datagram files
 
     def open(self, path: str, flags: int) -> int:
@@ -187,10 +190,17 @@ class Opened:
 class Writer(threading.Thread):
     """The thread that writes. Only this thread uses the folders and the files in them."""
 
-    def __init__(self, folders: Iterable[Folder], most: Optional[int], reserved: int) -> None:
+    def __init__(
+        self,
+        folders: Iterable[Folder],
+        most: Optional[int],
+        reserved: int,
+        reserve: Reserve = NOTHING,
+    ) -> None:
+        """`reserved` descriptors are for other files, and `reserve` is left free on the disk."""
         super().__init__(daemon=True)
         self.folders, self.most = list(folders), most
-        self.opened = Opened(reserved, self.make_room)
+        self.opened = Opened(reserved, self.make_room, reserve)
         self.event = threading.Event()
         self.given, self.taken = 0, 0  # bytes, each counted by one thread alone
         self.todo: collections.deque[Growing] = collections.deque()
