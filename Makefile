@@ -104,6 +104,7 @@ test-stations:
 	tests/test_generations.py
 	tests/test_agreeing.py
 	tests/test_centre.py
+	tests/test_asked.py
 	tests/test_examples.py
 	tests/test_tree.py
 

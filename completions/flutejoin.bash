@@ -67,7 +67,8 @@ _flutejoin_options() {
         flutejoin-station)
             echo '-o --config --group --port --from --interface --sdp --senders --buffer' \
                 '--keep-free --as-received --tsi --same --every --window --keep-raw --most' \
-                '--nightly --outbox --deliver --on-file --status --seconds --flutejoin --help'
+                '--nightly --outbox --deliver --on-file --answer --status --seconds --flutejoin' \
+                '--help'
             ;;
         flutejoin-map) echo '-o --text --source --tsi --toi --fdt --flutejoin --help' ;;
         flutejoin-mend) echo '-o --help' ;;
@@ -98,7 +99,7 @@ _flutejoin() {
                 *) _flutejoin_files "$word" ;;
             esac
             return ;;
-        --deliver | --folder) _flutejoin_folders "$word"; return ;;
+        --deliver | --folder | --answer) _flutejoin_folders "$word"; return ;;
         --delivered | --flutejoin | --config | --status | --on-file | --gaps | --sdp)
             _flutejoin_files "$word"
             return ;;

@@ -76,6 +76,32 @@ class Delivers(CentreCase):
         self.holds("the older one comes late, and is known", self.work() == 0)
         self.holds("the newer one stays", [*self.files().values()] == [new.content])
 
+    def test_same_toi_without_md5(self) -> None:
+        """Nothing but their bytes tells that files are others."""
+        for turn in (1, 2):
+            file = file_of(1, 30_000, seed=turn)
+            file.more["Content-MD5"] = None
+            self.push("north", announced([file], turn) + packets([file]))
+            self.holds(f"file {turn} is delivered", self.work() == 1)
+            self.holds(f"file {turn} is right", [*self.files().values()] == [file.content])
+
+    def test_symbols_that_are_shared(self) -> None:
+        """A version of a file that was delivered: what both have may come alone."""
+        old = file_of(1, 30_000)
+        content = bytearray(old.content)
+        content[:1400], content[14_000:15_400] = bytes(1400), b"x" * 1400
+        new = Sent(1, bytes(content), old.location)
+        self.push("north", announced([old]) + packets([old]))
+        self.work()
+        sent = new.packets(TSI)
+        self.push("north", announced([new], 2) + sent[:4])
+        self.holds("it is not whole", self.work() == 0)
+        self.push("south", sent[4:9] + sent[11:])
+        self.holds("one that both don't have lacks", self.work() == 0)
+        self.push("north", sent[10:12])
+        self.holds("the newer is delivered", self.work() == 1)
+        self.holds("it is right", [*self.files().values()] == [new.content])
+
     def test_older_comes_late(self) -> None:
         """An older file under the name of a newer one is not written over that."""
         old, new = file_of(1, name="news"), file_of(2, name="news")

@@ -859,6 +859,36 @@ class Files(Events):
         subprocess.run([*map(str, one)], check=True, capture_output=True)
         self.assertEqual(len(self.map_of(folder / "one")), 1)
 
+    def test_fill_and_compare_with_the_fdt(self) -> None:
+        """Of an object whose packets have no transmission information symbols are asked for, and
+        stations are compared, by what the FDT tells of it."""
+        (file,) = files_of(1, [1], 90)
+        file.is_in_packets = False
+        sent, told = file.packets(7), instance(7, 1, fdt([file]))
+        for place, packets in ("a", sent[:-3] + told), ("b", sent[2:]):
+            name = self.folder / f"{SENDER}.fldg"
+            name.write_bytes(datagram_files.content(packets))
+            words = TOOLS / "flutejoin-gather", "--flutejoin", run.PROGRAM, "-o", place, name
+            subprocess.run([*map(str, words)], cwd=self.folder, check=True, capture_output=True)
+        self.program("join", "-o", "known", f"a/{SENDER}.journal", f"a/fdt/{SENDER}.journal")
+        lines = self.program("gaps", "known")
+        self.assertIn(" partial missing 3 ", lines)
+        (self.folder / "lines").write_text(lines)
+        other = f"b/{SENDER}.journal"
+        told = self.program("fill", "-o", "answer", "--gaps", "lines", "--only", other)
+        self.assertEqual(told, "entries 3\n")
+        self.program("join", "-o", "all", "known", "answer")
+        self.program("gaps", "--check", "all")
+        told = self.program("compare", "known", "all")
+        self.assertIn(f" same {len(sent) - 3} differ 0 first 0 second 3 information same", told)
+        self.assertIn(" information first", self.program("compare", "all", other))
+
+    def program(self, *words: object) -> str:
+        command = [str(run.PROGRAM), *map(str, words)]
+        done = subprocess.run(command, cwd=self.folder, capture_output=True, text=True)
+        self.assertEqual(done.returncode, 0, done)
+        return done.stdout
+
     def test_a_forged_document(self) -> None:
         """It contradicts files that are right, and is named."""
         files = files_of(1, range(1, 6))
@@ -868,6 +898,29 @@ class Files(Events):
         self.send(instance(7, 9, fdt(others, EXPIRES + 1000)) * 4)
         self.compare(files)
         self.assertRegex(self.told, rf"may be forged; its file is .*fdt/{SENDER}-7-9-.*[.]xml")
+
+    def test_a_mixed_document(self) -> None:
+        """Packets of two versions of an FDT Instance make one that is well-formed, and describes
+        files of both runs: it does no harm, since each file has an MD5 of its own."""
+        runs = [files_of(turn, range(1, 16)) for turn in (1, 2)]
+        for file, other in zip(*runs):
+            file.content = content("same length", file.toi, size=5000)
+            other.content = content("another", file.toi, size=5000)
+        told = [instance(7, 1, fdt(files, EXPIRES)) for files in runs]
+        self.assertEqual([*map(len, told[0])], [*map(len, told[1])])
+        mixed = [told[at % 2][at] for at in range(len(told[0]))]
+        self.assertGreater(len(mixed), 3)
+        sent = [[it for file in files for it in file.packets(7)] for files in runs]
+        self.send(mixed * 8 + sent[0] * 4 + mixed * 4)
+        documents = [*(self.stations[0].folder / "fdt").glob("*.xml")]
+        self.assertEqual(len(documents), 1, documents)
+        ElementTree.parse(documents[0])
+        self.send(told[0] * 8 + sent[0] + told[1] * 8 + sent[1] * 5 + mixed * 4)
+        self.assertEqual(len([*(self.stations[0].folder / "fdt").glob("*.xml")]), 3)
+        found = self.files(status=None)
+        wanted = {it.location.removeprefix("http://"): it.content for it in sum(runs, [])}
+        self.assertEqual({name: found.get(name) for name in wanted}, wanted, self.told[-3000:])
+        self.assertEqual(self.conflicts(), 0)
 
     def test_other_senders_documents(self) -> None:
         """Of senders whose journals are not given nothing is told."""

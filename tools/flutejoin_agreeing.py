@@ -175,6 +175,7 @@ class Wants:
         self.held = held
         self.by_raw = {each.key.raw(): each for each in every if not each.is_empty()}
         self.strange = 0  # symbols that came, and were not wanted, or not as they were told
+        self.came: dict[bytes, Symbols] = {}  # by objects, the sums of those that were taken
 
     @classmethod
     def of(cls, held: Held, told: Iterable[Item]) -> Wants:
@@ -206,6 +207,7 @@ class Wants:
                 replaced[wanted.chosen.number].add(wanted.key)
         taken = generations.bring_parts(parts, replaced, join, told_of(every))
         if taken.answer.status == 0:
+            self.came = came
             for wanted, symbols in every:
                 self.held.take(wanted, symbols)
         return taken

@@ -15,6 +15,7 @@ from flutejoin_settings import read_config
 DAY = 86400
 UNITS = {"": 1, "s": 1, "m": 60, "h": 3600, "d": DAY, "w": 7 * DAY}
 NAME = re.compile(r"[A-Za-z0-9][A-Za-z0-9_.-]{0,62}", re.ASCII)
+HOST = re.compile(r"[A-Za-z0-9_\[][A-Za-z0-9_.:@%\[\]-]{0,254}", re.ASCII)
 MOST_STATIONS = 64
 
 
@@ -61,7 +62,12 @@ def size(text: str) -> int:
 TIMES = {"every": "every", "keep": "keep", "keep-partial": "keep_partial", "silent": "silent"}
 TEXTS = {"on-file": "on_file", "flutejoin": "flutejoin", "listen": "listen"}
 PATHS = "folder", "files"
-OF_STATION = "name", "folder", "outbox", "status"
+OF_STATION = "name", "folder", "outbox", "status", "ssh"
+# Asks for nothing by a terminal, and ends where the other side is gone. The station's sshd runs its
+# forced command, whatever is asked for; another one would refuse these words.
+SSH = ("ssh", "-T", "-a", "-x", "-o", "BatchMode=yes")
+LIMITS = ("-o", "ConnectTimeout=15", "-o", "ServerAliveInterval=15", "-o", "ServerAliveCountMax=3")
+REMOTE = ("flutejoin-station", "--answer")
 
 
 def settings_of(path: str) -> Settings:
@@ -102,7 +108,7 @@ def settings_in(table: Any, tables: Any) -> Settings:
     values["folder"] = os.path.abspath(values["folder"])
     files = values.get("files") or os.path.join(values["folder"], "files")
     values["files"] = os.path.abspath(files)
-    stations = [station_of(each) for each in tables]
+    stations = [station_of(each, values["folder"]) for each in tables]
     names = [station.name for station, _ in stations]
     if not names:
         raise ValueError("there is no [[station]]")
@@ -120,18 +126,34 @@ def text(what: str, value: Any) -> str:
     return value
 
 
-def station_of(table: dict) -> tuple[Station, str]:
-    """A station, and the path of its status."""
+def station_of(table: dict, centre: str) -> tuple[Station, str]:
+    """A station, and the path of its status. `centre` is the folder of the centre."""
     unknown = table.keys() - {*OF_STATION}
     if unknown:
         raise ValueError(f"[[station]]: there is no setting {min(unknown)}")
-    name, folder = (text(f"[[station]]: {key}", table.get(key)) for key in ("name", "folder"))
+    name = text("[[station]]: name", table.get("name"))
     if not NAME.fullmatch(name):
         told = "is no name of letters, digits and _ . -, of at most 63"
         raise ValueError(f"[[station]]: {name!r} {told}")
+    ask = ssh_of(table["ssh"]) if "ssh" in table else ()
+    if ask and ("folder" in table or "outbox" in table):
+        raise ValueError(f"[[station]]: {name} has ssh, and so no folder")
+    own = os.path.join(centre, "asked", name) if ask else None
+    folder = os.path.abspath(own or text("[[station]]: folder", table.get("folder")))
     is_own = table.get("outbox", False)
     if not isinstance(is_own, bool):
         raise ValueError("[[station]]: outbox is true or false")
-    folder = os.path.abspath(folder)
     status = text("[[station]]: status", table.get("status", os.path.join(folder, "status.json")))
-    return Station(name, folder, is_own, "outbox" if is_own else ""), os.path.abspath(status)
+    station = Station(name, folder, is_own, "outbox" if is_own else "", ask=ask)
+    return station, os.path.abspath(status)
+
+
+def ssh_of(value: Any) -> tuple[str, ...]:
+    """The command that asks a station: `value` is user@host, or words of ssh of which that is the
+    last one."""
+    words = [value] if isinstance(value, str) else value
+    if not isinstance(words, list) or not all(isinstance(it, str) and it for it in words):
+        raise ValueError("[[station]]: ssh is user@host, or a list of words that ends in it")
+    if not words or not HOST.fullmatch(words[-1]):
+        raise ValueError(f"[[station]]: ssh: {(words or [''])[-1]!r} is no user@host")
+    return (*SSH, *words[:-1], *LIMITS, words[-1], *REMOTE)

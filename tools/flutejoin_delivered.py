@@ -12,12 +12,14 @@ from typing import BinaryIO, Iterable, Iterator, Mapping, Optional
 import flutejoin_files as files
 from flutejoin_content import ENCODINGS, Sums, Verdict
 from flutejoin_entries import FILE
+from flutejoin_files import PARTIAL
 from flutejoin_gaps import argument, options
 from flutejoin_holdings import Key
 from flutejoin_joining import Failed, Program
 from flutejoin_resolving import Budget
 
 NAME = "delivered.jsonl"
+MOST_BYTES = 1 << 24  # of a list that others add to; of a longer one the newer half stays
 MOST_HASHED = 1 << 30  # bytes by which a run finds what was delivered
 MOST_DECODED = 1 << 26  # bytes of an object that is decoded
 
@@ -55,6 +57,16 @@ def add(path: str, lines: Iterable[str]) -> None:
                 file.write(f"{line}\n".encode())
         file.flush()
         os.fsync(file.fileno())
+
+
+def trim(path: str) -> None:
+    """Removes the older half of a list that is long, in one step."""
+    if os.path.exists(path) and os.path.getsize(path) > MOST_BYTES:
+        with open(path, "rb") as file, open(path + PARTIAL, "wb") as out:
+            file.seek(-MOST_BYTES // 2, os.SEEK_END)
+            file.readline()
+            out.write(file.read())
+        os.rename(path + PARTIAL, path)
 
 
 def ends_a_line(file: BinaryIO) -> bool:

@@ -3,7 +3,8 @@
 What is in the folder:
   files/            the files, by their names
   delivered.jsonl   a line for each file that was delivered
-  pending/STATION   journals of what is not delivered yet
+  pending/STATION   journals of what is not delivered yet; gathered/: of all that are asked
+  asked/STATION     what a station that is asked told
   kept/             journals of what was delivered, until --keep is over
   fdt/              FDT Instances, of all stations
   aside/            journals at fault
@@ -20,36 +21,31 @@ import time
 from typing import Callable, Container, Iterable, Iterator, Optional
 
 import flutejoin_gaps as gaps
+from flutejoin_arrivals import Arrival
 from flutejoin_centre import Settings
 from flutejoin_described import Described
-from flutejoin_entries import FILE, HEADER
+from flutejoin_entries import FILE
 from flutejoin_files import MOST_INPUTS
+from flutejoin_gathered import Gathered
 from flutejoin_gathering import Gathering
-from flutejoin_holdings import Copy, Key
-from flutejoin_inbox import Inbox, Station
+from flutejoin_holdings import Key
+from flutejoin_inbox import Inbox, Station, put_aside
 from flutejoin_joining import Program
 from flutejoin_layers import Failed
 from flutejoin_ledger import Ledger
 from flutejoin_partition import Partition
-from flutejoin_pending import ENDING, Pending, chosen, share_of
+from flutejoin_pending import ENDING, Pending, copies, empty_in, only, share_of
 from flutejoin_places import Work
 from flutejoin_records import Cut, Fault
 from flutejoin_rounds import Made, Once, Outcome, make
 from flutejoin_session import APART
-from flutejoin_shelves import begin_file, remove
+from flutejoin_shelves import remove
 from flutejoin_shipping import Shipping
 from flutejoin_symbols import Contents, Symbols
+from flutejoin_told import Told
 from flutejoin_voice import Log
 
 MOST_AT_ONCE = 1 << 12  # objects that a round looks at
-
-
-class Arrival:
-    """A station's inbox, and what it brought that is not delivered."""
-
-    def __init__(self, station: Station, inbox: Inbox, pending: Pending) -> None:
-        self.station, self.inbox, self.pending = station, inbox, pending
-        self.came_at: Optional[float] = None  # when something of it came last
 
 
 class Deliverer:
@@ -71,7 +67,10 @@ class Deliverer:
         self.shipping = Shipping(self.folder, settings.files, self.ledger, report)
         self.described = Described(self.at("fdt"))
         self.documents = Gathering(self.folder, self.program, report)
+        self.gathered: Optional[Gathered] = None
         self.arrivals = [self.arrival(station) for station in settings.stations]
+        if any(each.told for each in self.arrivals):
+            self.gathered = Gathered(self.at("gathered"), self.program, report)
         self.once = Once(report)
         self.touched: set[Key] = set()  # objects that may have become whole
         self.dirty: set[Key] = set()  # objects of which something changed, for who shows them
@@ -79,6 +78,7 @@ class Deliverer:
         self.done: dict[Key, set[Optional[str]]] = {}  # the described MD5s that were delivered
         self.wrong: dict[Key, str] = {}  # why a whole object is not delivered
         self.left: set[Key] = set()  # what was delivered, and could not be taken away
+        self.opened: set[Key] = set()  # objects that are described anew, for who asks for them
         self.is_begun = False
 
     def at(self, *names: str) -> str:
@@ -87,7 +87,15 @@ class Deliverer:
     def arrival(self, station: Station) -> Arrival:
         inbox = Inbox(station, self.at("taken", station.name))
         pending = Pending(self.at("pending", station.name), self.program, self.report)
-        return Arrival(station, inbox, pending)
+        if not station.ask:
+            return Arrival(station, inbox, pending)
+        os.makedirs(station.folder, exist_ok=True)
+        return Arrival(station, inbox, pending, Told(os.path.join(station.folder, "told")))
+
+    def pendings(self) -> list[Pending]:
+        """What came of stations: of each that brings it, and of all that are asked."""
+        found = [each.pending for each in self.arrivals]
+        return found + ([self.gathered.pending] if self.gathered else [])
 
     def begin(self) -> None:
         """Takes up what a run before left. What waits is looked at once more."""
@@ -98,13 +106,20 @@ class Deliverer:
         self.touched |= self.described.look()
         for each in self.arrivals:
             each.came_at = self.ledger.came_at(each.station.name)
-            each.pending.read()
-            delivered = each.pending.objects.keys() & self.done.keys()
+            if each.told:
+                each.told.read()
+                self.dirty |= each.told.symbols.keys()
+                self.opened |= each.told.symbols.keys()
+        for pending in self.pendings():
+            pending.read()
+            delivered = pending.objects.keys() & self.done.keys()
             if delivered:  # a kill may have come before they were taken away
-                each.pending.remove(delivered, self.contents)
-            self.touched |= each.pending.objects.keys()
-            for key, symbols in each.pending.objects.items():
+                pending.remove(delivered, self.contents)
+            self.touched |= pending.objects.keys()
+            for key, symbols in pending.objects.items():
                 self.union[key] = symbols.beside(self.union.get(key))
+        if self.gathered:
+            self.gathered.read()
         self.dirty |= self.touched
         self.is_begun = True
 
@@ -132,11 +147,12 @@ class Deliverer:
     def set_damaged_aside(self) -> bool:
         """Sets journals of what waits aside that flutejoin refuses. Returns whether any was."""
         found = False
-        for each in self.arrivals:
-            for path in each.pending.journals():
+        for pending in self.pendings():
+            for path in pending.journals():
                 answer = self.program.run([*gaps.CHECK, path])
                 if answer.status == 1:
-                    kept = each.inbox.put_aside(path, self.at("aside"))
+                    name = os.path.basename(pending.folder)
+                    kept = put_aside(path, self.at("aside"), name)
                     told = f"{path} is damaged: {answer.told}; it is kept as {kept}"
                     self.report.fault(1, told)
                     found = True
@@ -153,13 +169,16 @@ class Deliverer:
         faults: list[OSError] = []
         for each in self.arrivals:
             try:
-                self.take_away(each, self.left)
+                self.take_away(each.pending, self.left)
                 self.take(each)
             except OSError as fault:  # what others brought may be delivered
                 faults.append(fault)
+        if self.gathered:
+            self.take_away(self.gathered.pending, self.left)
         new = self.described.look()
         self.touched |= new
         self.dirty |= new
+        self.opened |= new
         count = self.deliver()
         if faults:
             raise faults[0]
@@ -190,12 +209,16 @@ class Deliverer:
             self.once.warn(f"{path}: is no FDT Instance, and is left as it is")
         arrival.inbox.left.clear()
         if paths or count:
-            arrival.came_at = self.clock()
-            self.ledger.come(arrival.station.name, arrival.came_at)
+            self.come(arrival)
         for path in paths:
             self.take_journal(arrival, path)
         if full:
             raise full
+
+    def come(self, arrival: Arrival) -> None:
+        """Notes that something came of a station."""
+        arrival.came_at = self.clock()
+        self.ledger.come(arrival.station.name, arrival.came_at)
 
     def take_journal(self, arrival: Arrival, path: str) -> None:
         """Joins a journal with what waits. One at fault is set aside."""
@@ -206,17 +229,21 @@ class Deliverer:
         except (Fault, Cut, Failed) as fault:
             if isinstance(fault, Failed) and fault.answer.status != 1:
                 raise OSError(errno.EIO, str(fault), path) from None
-            kept = arrival.inbox.put_aside(path, self.at("aside"))
+            kept = put_aside(path, self.at("aside"), name)
             self.report.fault(1, f"station {name}: {named(fault)}; it is kept as {kept}")
             return
-        now = self.clock()
-        self.ledger.wait(came.objects, now)
-        self.ledger.see_again(now, {it: {name: share} for it, share in came.again.items()})
-        self.touched |= came.objects.keys()
-        self.dirty |= came.objects.keys()
-        for key, symbols in came.objects.items():
-            self.union[key] = symbols.beside(self.union.get(key))
+        shares = {it: {name: share} for it, share in came.again.items()}
+        self.ledger.see_again(self.clock(), shares)
+        self.note(came.objects)
         remove(path)
+
+    def note(self, came: dict[Key, Symbols]) -> None:
+        """Notes which symbols of objects came."""
+        self.ledger.wait(came, self.clock())
+        self.touched |= came.keys()
+        self.dirty |= came.keys()
+        for key, symbols in came.items():
+            self.union[key] = symbols.beside(self.union.get(key))
 
     def deliver(self) -> int:
         """Makes files of what may be whole."""
@@ -247,7 +274,17 @@ class Deliverer:
         """Whether an object is described, not delivered yet, and no symbol of it lacks."""
         if key not in self.described.of or self.is_done(key):
             return False
-        return self.union.get(key, Symbols()).may_be_whole(self.described.numbers(key))
+        symbols = self.union.get(key, Symbols())
+        return symbols.may_be_whole(self.described.numbers(key)) or self.may_share(key)
+
+    def may_share(self, key: Key) -> bool:
+        """Whether symbols that an object lacks may be those of a version that was delivered."""
+        if key not in self.done or key not in self.union:
+            return False
+        described = self.described.of.get(key, ())
+        md5s = {each.file.md5.hex() for each in described if each.file.md5}
+        is_whole = self.union[key].may_be_whole(self.described.numbers(key))
+        return not is_whole and bool(md5s - self.done[key])
 
     def is_done(self, key: Key) -> bool:
         """Whether there is nothing to make of an object, and nothing to take away."""
@@ -268,7 +305,8 @@ class Deliverer:
         folder = self.at("round")
         shutil.rmtree(folder, ignore_errors=True)
         os.makedirs(folder)
-        journals = [it for each in self.arrivals for it in each.pending.copy(keys, folder)]
+        journals = [it for each in self.pendings() for it in each.copy(keys, folder)]
+        journals += self.copy_kept(frozenset(filter(self.may_share, keys)), folder)
         journals = journals or [empty_in(folder)]
         documents = [*self.described.documents_of(set(keys))]
         with self.work_folder() as work:
@@ -279,6 +317,12 @@ class Deliverer:
         self.let_go_of(keys, outcome, journals)
         shutil.rmtree(folder, ignore_errors=True)
         return count
+
+    def copy_kept(self, keys: frozenset[Key], folder: str) -> list[str]:
+        """Writes to a folder what was delivered before of some objects, as far as it is kept."""
+        names = {name for key in keys for name in self.ledger.kept(key)}
+        paths = [path for name in sorted(names) if os.path.exists(path := self.at("kept", name))]
+        return copies(paths, keys, folder)
 
     @contextlib.contextmanager
     def work_folder(self) -> Iterator[Work]:
@@ -304,9 +348,9 @@ class Deliverer:
         partition = Partition(*made.contents.numbers)
         of = key._replace(number=key.number % APART)
         return {
-            each.station.name: share_of(each.pending.objects[of], partition)
+            each.station.name: share_of(each.symbols()[of], partition)
             for each in self.arrivals
-            if of in each.pending.objects
+            if of in each.symbols()
         }
 
     def let_go_of(self, keys: Container[Key], outcome: Outcome, journals: list[str]) -> None:
@@ -327,25 +371,37 @@ class Deliverer:
             told = f"not all that was delivered is kept: {fault.filename}: {fault.strerror}"
             self.report.fails("kept", told)
         self.left |= made
-        for each in self.arrivals:
-            self.take_away(each, made)
+        for pending in self.pendings():
+            self.take_away(pending, made)
         self.left -= made
         self.unite(made)
         self.ledger.end_waiting(made - self.union.keys())
 
-    def take_away(self, arrival: Arrival, keys: set[Key]) -> None:
-        """Takes what was delivered out of what waits of a station."""
-        if any(key in arrival.pending.objects for key in keys):
-            arrival.pending.remove(keys, self.contents)
+    def take_away(self, pending: Pending, keys: set[Key]) -> None:
+        """Takes what was delivered out of what waits of a station, or of those that are asked."""
+        if any(key in pending.objects for key in keys):
+            pending.remove(keys, self.contents)
 
     def unite(self, keys: Iterable[Key]) -> None:
         """Puts together anew which symbols any station has of some objects."""
-        for key in keys:
+        found = {*keys}
+        for key in found:
             self.dirty.add(key)
             self.union.pop(key, None)
-            for each in self.arrivals:
-                if key in each.pending.objects:
-                    self.union[key] = each.pending.objects[key].beside(self.union.get(key))
+            for pending in self.pendings():
+                if key in pending.objects:
+                    self.union[key] = pending.objects[key].beside(self.union.get(key))
+        if self.gathered:
+            self.gathered.read(found)
+
+    def forget(self, keys: Container[Key]) -> None:
+        """Lets go of what waits of some objects."""
+        for pending in self.pendings():
+            if any(key in keys for key in pending.objects):
+                pending.forget(keys)
+        for each in self.arrivals:
+            if each.told:
+                each.told.forget(keys)
 
     def keep(self, keys: set[Key], journals: list[str]) -> None:
         """Keeps the entries of what was delivered in a journal, whose name says how long."""
@@ -365,17 +421,7 @@ class Deliverer:
             answer = self.program.run(["join", "--any-size", "-o", path, *some])
             if answer.status:
                 raise OSError(errno.EIO, answer.told, path)
-
-
-def only(journal: str, keys: Container[Key]) -> Optional[str]:
-    """Writes beside a journal what it has of some objects; None if it has nothing."""
-    path = f"{journal}.kept"
-    with open(journal, "rb", buffering=0) as file, begin_file(path) as out:
-        copy = Copy(out)
-        for kind, raw, more in chosen(file, keys):
-            copy.add(kind, raw, more)
-        copy.finish()
-    return path if copy.count else None
+        self.ledger.keep(os.path.basename(path), keys)
 
 
 def is_full(fault: Exception) -> bool:
@@ -392,11 +438,3 @@ def key_of(made: Made) -> Key:
 
 def named(fault: Exception) -> str:
     return "a journal is cut" if isinstance(fault, Cut) else f"a journal is at fault: {fault}"
-
-
-def empty_in(folder: str) -> str:
-    """Makes a journal with nothing in it: of objects of no byte there may be no packet."""
-    path = os.path.join(folder, "empty.journal")
-    with open(path, "wb") as file:
-        file.write(HEADER + b"\xff" + bytes(8))
-    return path

@@ -147,7 +147,7 @@ class Fetching:
             self.of.program.path,
             dict(self.repairing.table),
             self.reserved,
-            [each.pending.folder for each in self.of.arrivals],
+            [each.folder for each in self.of.pendings()],
             self.folder,
             keys[0].source.hex(),
             [(key.tsi, key.number) for key in keys],

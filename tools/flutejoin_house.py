@@ -54,9 +54,7 @@ class House:
         """Forgets what waits of some objects, and tells what they lack."""
         rows = [row for key in sorted(keys) if (row := self.model.row(key))]
         self.tell(rows)
-        for each in self.of.arrivals:
-            if not keys.isdisjoint(each.pending.objects):
-                each.pending.forget(keys)
+        self.of.forget(keys)
         self.of.unite(keys)
         for key in keys:
             self.of.wrong.pop(key, None)
@@ -82,6 +80,7 @@ class House:
             found = KEPT.fullmatch(name)
             if found and int(found[1]) <= now:
                 remove(self.of.at("kept", name))
+                self.of.ledger.drop_kept(name)
 
     def remove_documents(self, since: float) -> None:
         """Removes the FDT Instances that expired and came last before a time, unless something

@@ -38,6 +38,7 @@ class Station(NamedTuple):
     is_own: bool = False  # whether the folder is the station's, and its documents stay
     journals: str = ""  # the folder of journals in it; empty if they are in the folder itself
     is_quiet: bool = False  # whether nothing need come of it
+    ask: tuple[str, ...] = ()  # the command that asks it; empty if it is not asked
 
     def path(self) -> str:
         return os.path.join(self.folder, self.journals) if self.journals else self.folder
@@ -171,13 +172,14 @@ class Inbox:
         if source_of(stem) is not None:
             kept.take(stem, datagrams_in(path), when)
 
-    def put_aside(self, path: str, aside: str) -> str:
-        """Moves a journal at fault away, and returns where it is."""
-        os.makedirs(aside, exist_ok=True)
-        to = Shelf(aside).next(self.station.name, ENDING)
-        move(path, to)
-        bring_to_disk(to)
-        return to
+
+def put_aside(path: str, aside: str, name: str) -> str:
+    """Moves a journal at fault of what has this name away, and returns where it is."""
+    os.makedirs(aside, exist_ok=True)
+    to = Shelf(aside).next(name, ENDING)
+    move(path, to)
+    bring_to_disk(to)
+    return to
 
 
 def changed_at(folder: str) -> int:

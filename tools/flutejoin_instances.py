@@ -22,6 +22,7 @@ from flutejoin_packets import TOI_PLACES, ZEROS, Packet, numbers_of, packet_of
 from flutejoin_partition import Partition, fault_of
 from flutejoin_places import bring_to_disk as sync_all
 from flutejoin_records import HEADER, LENGTH, Buffer, Cut, Fault, Records
+from flutejoin_stems import NAME, REST, source_of
 
 MOST_OPEN = 1 << 11  # FDT Instances that are put together at a time, of one sender
 MOST_OPEN_BYTES = 1 << 23  # bytes of their symbols
@@ -30,10 +31,7 @@ MOST_SYNCED = 16  # files that are brought to the disk one by one
 MOST_KEPT = 1 << 15  # documents of one sender that are kept, those that came last
 # Of an FDT Instance (RFC 6726, section 3.4.2), and of Cache-Control in it
 EXPIRY = re.compile(rb"""(\bExpires(?:\s*=\s*["']|>)\s*)\d{1,10}""")
-# SENDER-TSI-INSTANCE-HASH.xml
-NAME = re.compile(r"(.+)-(\d{1,15})-(\d{1,7})-([0-9a-f]{16})\.xml", re.ASCII)
 FIRST = "user.flutejoin.first"  # the extended attribute that has when a document was first received
-REST = ".fldg"  # the datagrams of those that are not whole yet, of one sender
 
 
 def may_tell_of_instance(payload: Buffer) -> bool:
@@ -347,15 +345,6 @@ class Found(NamedTuple):
     tsi: int
     number: int
     digest: str
-
-
-def source_of(stem: str) -> Optional[bytes]:
-    """The sender whose files have this stem; None if it is none."""
-    name = files.name_of(stem + REST)
-    if name is None or name.epoch > 1 or name.part > 1:
-        return None
-    packed = name.address.packed
-    return packed if len(packed) == 16 else bytes(10) + b"\xff\xff" + packed
 
 
 def documents_in(folder: str, choice: Callable[[bytes, int], bool]) -> Iterator[Found]:

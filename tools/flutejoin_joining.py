@@ -11,7 +11,9 @@ import signal
 import subprocess
 from typing import IO, Callable, Iterable, Iterator, NamedTuple, Optional, Sequence, TypeVar, Union
 
+import flutejoin_gaps as gaps
 from flutejoin_files import PARTIAL
+from flutejoin_notes import Fault
 from flutejoin_packets import header_of
 from flutejoin_records import HEADER, LENGTH, Buffer, ends
 
@@ -125,6 +127,14 @@ def in_background() -> Callable[[], None]:
         ask()
 
     return prepare
+
+
+def find(name: Optional[str]) -> str:
+    """The path of the program flutejoin. Raises Fault."""
+    try:
+        return gaps.find(name)
+    except gaps.Fault as fault:
+        raise Fault(fault.status, str(fault)) from None
 
 
 class Program:

@@ -32,8 +32,13 @@ CREATE INDEX IF NOT EXISTS of_seen ON delivered (seen);
 CREATE TABLE IF NOT EXISTS waiting (
     source BLOB NOT NULL, tsi INTEGER NOT NULL, toi TEXT NOT NULL, since REAL NOT NULL,
     seen REAL NOT NULL, PRIMARY KEY (source, tsi, toi)) WITHOUT ROWID;
+CREATE TABLE IF NOT EXISTS kept (
+    source BLOB NOT NULL, tsi INTEGER NOT NULL, toi TEXT NOT NULL, journal TEXT NOT NULL,
+    PRIMARY KEY (source, tsi, toi, journal)) WITHOUT ROWID;
+CREATE INDEX IF NOT EXISTS of_journal ON kept (journal);
 CREATE TABLE IF NOT EXISTS stations (name TEXT PRIMARY KEY, came REAL NOT NULL) WITHOUT ROWID;
 """
+SUMS = 1  # the version of the database in which sums are those of flutejoin_sums
 COLUMNS = "serial, source, tsi, toi, step, path, at, seen, told, shares"
 
 
@@ -92,6 +97,9 @@ class Ledger:
             self.base = sqlite3.connect(path, isolation_level=None, timeout=2)
             self.base.execute("PRAGMA synchronous = FULL")
             self.base.executescript(TABLES)
+            if self.base.execute("PRAGMA user_version").fetchone()[0] < SUMS:
+                self.base.execute("UPDATE delivered SET sums = NULL")  # what comes again has others
+                self.base.execute(f"PRAGMA user_version = {SUMS}")
 
     def close(self) -> None:
         self.base.close()
@@ -169,6 +177,17 @@ class Ledger:
         words = "SELECT 1 FROM delivered WHERE source = ? AND tsi = ? AND toi = ? "
         return bool(self.rows(words + "AND sums IS NOT NULL LIMIT 1", *object_of(key)))
 
+    def since(self, serial: int, most: int) -> list[tuple[int, Key, str]]:
+        """The serial number, the object and the MD5 of what was delivered after one."""
+        words = (
+            "SELECT serial, source, tsi, toi, json_extract(told, '$.md5') FROM delivered "
+            "WHERE serial > ? ORDER BY serial LIMIT ?"
+        )
+        return [
+            (number, Key(source, tsi, FILE, int(toi)), md5)
+            for number, source, tsi, toi, md5 in self.rows(words, serial, most)
+        ]
+
     def last_at(self, path: str) -> Optional[Delivery]:
         """What was delivered last under a path."""
         words = f"SELECT {COLUMNS} FROM delivered WHERE path = ? ORDER BY serial DESC LIMIT 1"
@@ -233,6 +252,23 @@ class Ledger:
     def waited(self, key: Key) -> Optional[Waited]:
         words = "SELECT since, seen FROM waiting WHERE source = ? AND tsi = ? AND toi = ?"
         return next((Waited(*row) for row in self.rows(words, *object_of(key))), None)
+
+    def keep(self, journal: str, keys: Iterable[Key]) -> None:
+        """Notes that a journal that is kept has these objects."""
+        with self.changes() as base:
+            base.executemany(
+                "INSERT OR IGNORE INTO kept VALUES (?, ?, ?, ?)",
+                [(*object_of(key), journal) for key in keys],
+            )
+
+    def kept(self, key: Key) -> list[str]:
+        """The journals that have an object that was delivered."""
+        words = "SELECT journal FROM kept WHERE source = ? AND tsi = ? AND toi = ?"
+        return [journal for (journal,) in self.rows(words, *object_of(key))]
+
+    def drop_kept(self, journal: str) -> None:
+        with self.changes() as base:
+            base.execute("DELETE FROM kept WHERE journal = ?", (journal,))
 
     def come(self, station: str, now: float) -> None:
         """Notes that something came of a station."""

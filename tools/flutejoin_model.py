@@ -161,9 +161,9 @@ class Model:
     ) -> tuple[dict[str, float], dict[str, int]]:
         """How much each station has, and how many symbols one of them alone."""
         held = {
-            each.station.name: each.pending.objects[key].blocks
+            each.station.name: each.symbols()[key].blocks
             for each in self.of.arrivals
-            if key in each.pending.objects
+            if key in each.symbols()
         }
         counts, only = dict.fromkeys(held, 0), dict.fromkeys(held, 0)
         for block in {block for blocks in held.values() for block in blocks}:
@@ -213,7 +213,7 @@ class Model:
             counts if senders else number_of(told.get("datagrams")),
             sum_of(dropped.values()) if isinstance(dropped, dict) else None,
             *(number_of(told.get(it)) for it in ("refused", "set aside", "free")),
-            fault_in(told.get("last fault")),
+            arrival.fault or fault_in(told.get("last fault")),
             int(10 * sum(shares) / len(shares)) / 10 if shares else None,
             sum(it >= 100 for it in shares),
         )

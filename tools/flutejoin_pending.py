@@ -8,11 +8,11 @@ from __future__ import annotations
 
 import itertools
 import os
-from typing import BinaryIO, Callable, Container, Iterable, Iterator, NamedTuple
+from typing import BinaryIO, Callable, Container, Iterable, Iterator, NamedTuple, Optional
 
 import flutejoin_files as files
 import flutejoin_holdings as holdings
-from flutejoin_entries import FILE
+from flutejoin_entries import FILE, HEADER
 from flutejoin_gathering import Gathering
 from flutejoin_holdings import Copy, Key, key_of
 from flutejoin_joining import Program
@@ -219,3 +219,22 @@ def chosen(file: BinaryIO, keys: Container[Key]) -> Iterator[tuple[int, bytes, m
             last, is_chosen = raw, key_of(raw) in keys
         if is_chosen:
             yield kind, raw, more
+
+
+def only(journal: str, keys: Container[Key]) -> Optional[str]:
+    """Writes beside a journal what it has of some objects; None if it has nothing."""
+    path = f"{journal}.kept"
+    with open(journal, "rb", buffering=0) as file, begin_file(path) as out:
+        copy = Copy(out)
+        for kind, raw, more in chosen(file, keys):
+            copy.add(kind, raw, more)
+        copy.finish()
+    return path if copy.count else None
+
+
+def empty_in(folder: str) -> str:
+    """Makes a journal with nothing in it: of objects of no byte there may be no packet."""
+    path = os.path.join(folder, "empty.journal")
+    with open(path, "wb") as file:
+        file.write(HEADER + b"\xff" + bytes(8))
+    return path

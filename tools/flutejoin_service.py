@@ -7,6 +7,7 @@ import time
 from typing import Callable, Optional
 
 import flutejoin_gaps as gaps
+from flutejoin_asked import Asker
 from flutejoin_bound import Bound
 from flutejoin_centre import Settings
 from flutejoin_delivering import Deliverer
@@ -39,6 +40,7 @@ class Service:
         self.house = House(self.deliverer, self.telling.model, report)
         self.bound = Bound(self.deliverer, self.house, report)
         self.fetching = self.telling.fetching = self.repairing()
+        self.asker = Asker(self.deliverer, report)
         self.delay, self.next, self.soon = 0.0, float("-inf"), float("-inf")
 
     def repairing(self) -> Optional[Fetching]:
@@ -63,6 +65,8 @@ class Service:
 
     def work_at_times(self, each: float = EACH) -> None:
         """The same, if it is due, and what else is to be done."""
+        if self.attempt(lambda: self.asker.tend(each)):
+            self.next = float("-inf")
         began = time.monotonic()
         if began >= self.next or began >= self.soon and not self.delay and self.has_news():
             self.work()
@@ -100,7 +104,7 @@ class Service:
     def finish(self, is_stopped: Callable[[], bool]) -> bool:
         """Delivers what is there, and waits for the commands until one fails or the run is stopped:
         the next run goes on with them. Returns whether it could deliver."""
-        has_worked = self.work()
+        has_worked = self.work() and self.ask_all(is_stopped)
         self.telling.tell(at_once=True)
         while self.fetching and has_worked and self.repair_now(is_stopped):
             has_worked = self.work()
@@ -125,9 +129,27 @@ class Service:
             self.attempt(self.fetching.tend)
         return True
 
+    def is_busy(self) -> bool:
+        """Whether something runs beside, whose end is to be seen soon."""
+        return bool(self.hooks.child) or any(each.call for each in self.asker.stations)
+
+    def ask_all(self, is_stopped: Callable[[], bool]) -> bool:
+        """Asks each station that is asked, until nothing is wanted, and delivers what came.
+
+        Returns whether the system and the program refused nothing.
+        """
+        has_worked = True
+        while has_worked and self.asker.is_busy() and not is_stopped():
+            came = self.attempt(lambda: self.asker.tend(float("inf")))
+            has_worked = came is not None and (not came or self.work())
+            time.sleep(0.02)
+        self.asker.stop()
+        return (self.work() and has_worked) if self.asker.stations else has_worked
+
     def stop(self) -> None:
         """Ends the commands and repairs that run: the next run begins them anew."""
         self.hooks.stop()
+        self.asker.stop()
         if self.fetching:
             self.fetching.stop()
 

@@ -2,20 +2,16 @@
 from __future__ import annotations
 
 import functools
-import hashlib
+import struct
 from typing import FrozenSet, Iterable, Iterator, NamedTuple, Optional, Tuple
 
 from flutejoin_entries import INFORMATION, SYMBOL, information_of
 from flutejoin_gaps import Numbers
 from flutejoin_partition import Partition, fault_of
+from flutejoin_sums import DISPUTED, IN_CONFLICT, NO_INFORMATION, SUM, SYMBOL_ID, Sums, sum_of
 
-SUM = 8  # bytes of a symbol's sum
 # An entry of an object in a journal: its kind, and the bytes after the object's number
 Entry = Tuple[int, bytes]
-
-
-def sum_of(piece: bytes) -> bytes:
-    return hashlib.blake2b(piece, digest_size=SUM).digest()
 
 
 NO_NUMBERS: FrozenSet[Numbers] = frozenset()
@@ -124,10 +120,44 @@ def ranges(missing: Iterable[tuple[int, int]], partition: Partition) -> Iterator
 
 
 class Contents(NamedTuple):
-    """What was delivered of an object: its transmission information, and a sum of each symbol."""
+    """What was delivered of an object: its transmission information, and a sum of each symbol; of a
+    last one that is shorter also as it is padded."""
 
     numbers: Numbers
     sums: bytes
+
+    def compare(self, told: Sums) -> tuple[int, int]:
+        """How many of these symbols are those that were delivered, and how many are not.
+
+        Those in conflict have no value.
+        """
+        length, symbol, block = self.numbers
+        own = struct.pack(">HIHI", length >> 32, length & 0xFFFFFFFF, symbol, block)
+        every = [*struct.iter_unpack(f"{SYMBOL_ID}s{SUM}s", told.symbols)]
+        valued = [each for each in every if each[1] != IN_CONFLICT]
+        if told.information not in (own, NO_INFORMATION, DISPUTED):
+            return 0, len(valued)
+        partition = Partition(*self.numbers)
+        same = sum(self.has_sum(partition, name, value) for name, value in valued)
+        return same, len(valued) - same
+
+    def has_sum(self, partition: Partition, name: bytes, value: bytes) -> bool:
+        """Whether a symbol that has this sum was delivered."""
+        place = partition.place(name)
+        if place is None:
+            return False
+        is_padded = place == partition.symbols - 1 and self.sums[SUM * (place + 1) :] == value
+        return is_padded or self.sums[SUM * place : SUM * (place + 1)] == value
+
+    def has_all(self, told: Sums) -> bool:
+        """Whether these symbols of the same object are all of these contents."""
+        same, differ = self.compare(told)
+        return same > 0 and not differ
+
+    def agrees(self, told: Sums) -> bool:
+        """Whether more of these symbols are of these contents than are not."""
+        same, differ = self.compare(told)
+        return same > differ
 
     def has(self, entries: Iterable[Entry]) -> bool:
         """Whether these entries of the same object are all of these contents."""
@@ -150,6 +180,10 @@ def contents_of(path: str, numbers: Optional[Numbers]) -> Optional[Contents]:
     """The sums of an object in a file; None if its transmission information is unknown."""
     if numbers is None or fault_of(*numbers):
         return None
+    sums = []
     with open(path, "rb") as file:
-        pieces = iter(lambda: file.read(numbers[1]), b"")
-        return Contents(numbers, b"".join(map(sum_of, pieces) if numbers[0] else []))
+        for piece in iter(lambda: file.read(numbers[1]), b"") if numbers[0] else ():
+            sums.append(sum_of(piece))
+            if len(piece) < numbers[1]:
+                sums.append(sum_of(piece.ljust(numbers[1], b"\0")))
+    return Contents(numbers, b"".join(sums))
