@@ -18,14 +18,14 @@ import errno
 import os
 import shutil
 import time
+from functools import partial
 from typing import Callable, Container, Iterable, Iterator, Optional
 
 import flutejoin_gaps as gaps
-from flutejoin_arrivals import Arrival
+from flutejoin_arrivals import Arrival, shares
 from flutejoin_centre import Settings
 from flutejoin_described import Described
 from flutejoin_entries import FILE
-from flutejoin_files import MOST_INPUTS
 from flutejoin_gathered import Gathered
 from flutejoin_gathering import Gathering
 from flutejoin_holdings import Key
@@ -33,11 +33,11 @@ from flutejoin_inbox import Inbox, Station, put_aside
 from flutejoin_joining import Program
 from flutejoin_layers import Failed
 from flutejoin_ledger import Ledger
-from flutejoin_partition import Partition
-from flutejoin_pending import ENDING, Pending, copies, empty_in, only, share_of
+from flutejoin_past import Past
+from flutejoin_pending import Pending, empty_in
 from flutejoin_places import Work
 from flutejoin_records import Cut, Fault
-from flutejoin_rounds import Made, Once, Outcome, make
+from flutejoin_rounds import Made, Once, Outcome, is_full, make
 from flutejoin_session import APART
 from flutejoin_shelves import remove
 from flutejoin_shipping import Shipping
@@ -66,6 +66,7 @@ class Deliverer:
         self.ledger = Ledger(self.at("ledger.db"))
         self.shipping = Shipping(self.folder, settings.files, self.ledger, report)
         self.described = Described(self.at("fdt"))
+        self.past = Past(self.at("kept"), settings.keep, self.program, self.ledger, self.described)
         self.documents = Gathering(self.folder, self.program, report)
         self.gathered: Optional[Gathered] = None
         self.arrivals = [self.arrival(station) for station in settings.stations]
@@ -306,23 +307,17 @@ class Deliverer:
         shutil.rmtree(folder, ignore_errors=True)
         os.makedirs(folder)
         journals = [it for each in self.pendings() for it in each.copy(keys, folder)]
-        journals += self.copy_kept(frozenset(filter(self.may_share, keys)), folder)
+        journals += self.past.copy(frozenset(filter(self.may_share, keys)), folder)
         journals = journals or [empty_in(folder)]
         documents = [*self.described.documents_of(set(keys))]
         with self.work_folder() as work:
             self.gaps.kept = (work.folder,)
             outcome = make(self.gaps, journals, work, documents, self.once)
             self.note_wrong(keys, outcome)
-            count = self.shipping.ship(outcome, self.shares, self.clock())
+            count = self.shipping.ship(outcome, partial(shares, self.arrivals), self.clock())
         self.let_go_of(keys, outcome, journals)
         shutil.rmtree(folder, ignore_errors=True)
         return count
-
-    def copy_kept(self, keys: frozenset[Key], folder: str) -> list[str]:
-        """Writes to a folder what was delivered before of some objects, as far as it is kept."""
-        names = {name for key in keys for name in self.ledger.kept(key)}
-        paths = [path for name in sorted(names) if os.path.exists(path := self.at("kept", name))]
-        return copies(paths, keys, folder)
 
     @contextlib.contextmanager
     def work_folder(self) -> Iterator[Work]:
@@ -341,18 +336,6 @@ class Deliverer:
             file = self.described.file(key)
             self.once.warn(f"{file.location if file else key.text()}: not delivered: {told}")
 
-    def shares(self, key: Key, made: Made) -> dict[str, float]:
-        """How much of an object each station has, in percent."""
-        if made.contents is None:
-            return {}
-        partition = Partition(*made.contents.numbers)
-        of = key._replace(number=key.number % APART)
-        return {
-            each.station.name: share_of(each.symbols()[of], partition)
-            for each in self.arrivals
-            if of in each.symbols()
-        }
-
     def let_go_of(self, keys: Container[Key], outcome: Outcome, journals: list[str]) -> None:
         """Takes what was delivered out of what waits, and keeps it apart."""
         made = {key_of(it) for it in outcome.made}
@@ -363,7 +346,7 @@ class Deliverer:
         if not made:
             return
         try:
-            self.keep(made, journals)
+            self.past.keep(made, journals, self.clock())
             self.report.works("kept")
         except OSError as fault:  # what was delivered need not be kept
             if not is_full(fault):
@@ -402,33 +385,6 @@ class Deliverer:
         for each in self.arrivals:
             if each.told:
                 each.told.forget(keys)
-
-    def keep(self, keys: set[Key], journals: list[str]) -> None:
-        """Keeps the entries of what was delivered in a journal, whose name says how long."""
-        now, keep = self.clock(), self.settings.keep
-        expires = [self.described.expires(key) for key in keys]
-        over = [now + keep if it is None else it for it in expires]
-        until = int(min(now + keep, max(over, default=now)))
-        if until <= now:
-            return
-        os.makedirs(self.at("kept"), exist_ok=True)
-        number = len(os.listdir(self.at("kept")))
-        while os.path.lexists(path := self.at("kept", f"{until}.{number}{ENDING}")):
-            number += 1
-        parts = [part for part in (only(journal, keys) for journal in journals) if part]
-        for begin in range(0, len(parts), MOST_INPUTS - 1):
-            some = parts[begin : begin + MOST_INPUTS - 1] + [path] * (begin > 0)
-            answer = self.program.run(["join", "--any-size", "-o", path, *some])
-            if answer.status:
-                raise OSError(errno.EIO, answer.told, path)
-        self.ledger.keep(os.path.basename(path), keys)
-
-
-def is_full(fault: Exception) -> bool:
-    """Whether a fault may be that of a full disk: the program tells no more than that."""
-    if isinstance(fault, OSError):
-        return fault.errno in (errno.ENOSPC, errno.EDQUOT, errno.EIO)
-    return isinstance(fault, gaps.Fault) and fault.status == 3
 
 
 def key_of(made: Made) -> Key:

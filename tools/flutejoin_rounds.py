@@ -1,6 +1,7 @@
 """Makes files of the objects that may have become whole: reads nothing else, and writes no more."""
 from __future__ import annotations
 
+import errno
 import os
 from typing import NamedTuple, Optional, Sequence
 
@@ -93,6 +94,13 @@ class Outcome(NamedTuple):
     made: list[Made]
     wrong: dict[tuple[bytes, int, int], str]
     catalogue: Catalogue
+
+
+def is_full(fault: Exception) -> bool:
+    """Whether a fault may be that of a full disk: the program tells no more than that."""
+    if isinstance(fault, OSError):
+        return fault.errno in (errno.ENOSPC, errno.EDQUOT, errno.EIO)
+    return isinstance(fault, gaps.Fault) and fault.status == 3
 
 
 def make(
