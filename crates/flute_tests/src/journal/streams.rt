@@ -79,7 +79,13 @@ fn a_journal_is_written_without_a_symbol(rt: HostRuntime) -> Result<(), Fail> {
     let key = file().ok_or("a key")?;
     assert!(rt; !selection.selects(&Fact::InfoConflict { key }.as_ref()));
     let journal = OwnedJournalStream::new(MemorySource::new(&whole), MANY);
-    let mut rest = Chosen::new(journal, AllBut(selection));
+    let mut rest = Chosen::new(
+        journal,
+        AllBut {
+            selection,
+            listed: None,
+        },
+    );
     let mut sink = MemorySink::new(rt.alloc());
     assert!(rt; write_stream(rt.alloc(), &mut rest, &mut sink)? == 2);
     assert!(rt; rest.others == 1);
@@ -91,7 +97,13 @@ fn a_journal_is_written_without_a_symbol(rt: HostRuntime) -> Result<(), Fail> {
 fn facts_that_are_left_are_merged(rt: HostRuntime) -> Result<(), Fail> {
     let whole = bytes(rt.alloc(), WHOLE)?;
     let journal = OwnedJournalStream::new(MemorySource::new(&whole), MANY);
-    let mut left = Chosen::new(journal, AllBut(Selection::all()));
+    let mut left = Chosen::new(
+        journal,
+        AllBut {
+            selection: Selection::all(),
+            listed: None,
+        },
+    );
     let mut one = &mut left;
     let mut sink = MemorySink::new(rt.alloc());
     let joined = merge_all::<4, 4, 4, _, _>(rt.alloc(), &mut one, &mut sink)?;
