@@ -132,25 +132,26 @@ touches-trans k a b c ab bc = record {
 }
 
 -- a file that is touched once more
-pub touched-more : (k : ℕ) (R S T : Disk → Disk → Type 0) (a b c : Run)
-    → Passes (Touches k) R a b → Passes (Touches k) S b c
-    → (R a.now b.now → Touches k a.now b.now)
-    → (R a.now b.now → S b.now c.now → T a.now c.now)
-    → Passes (Touches k) T a c
-touched-more k R S T a b c ab bc at_b both = record {
-  made = both ab.made bc.made;
-  always = always-then (Touches k a.now) (Touches k b.now) a b c ab.always bc.always
-      (λ d t. touches-trans k _ _ _ (at_b ab.made) t);
-}
+module _ (k : ℕ) (R S T : Disk → Disk → Type 0) where
+  pub touched-more : (a b c : Run) → Passes (Touches k) R a b → Passes (Touches k) S b c
+      → (R a.now b.now → Touches k a.now b.now)
+      → (R a.now b.now → S b.now c.now → T a.now c.now)
+      → Passes (Touches k) T a c
+  touched-more a b c ab bc at_b both = record {
+    made = both ab.made bc.made;
+    always = always-then (Touches k a.now) (Touches k b.now) a b c ab.always bc.always
+        (λ d t. touches-trans k _ _ _ (at_b ab.made) t);
+  }
 
-pub extends-more : (k : ℕ) (xs : List ℕ) (n m : ℕ) (a b c : Disk) → Extends k (take n xs) a b
-    → Grows k (take m (drop n xs)) b c → Extends k (take (n + m) xs) a c
-extends-more k xs n m a b c ab bc = record {
-  bytes = ap (λ f. f.bytes) bc.file ∙ ap (λ l. l ++ take m (drop n xs)) ab.bytes
-      ∙ append_assoc (a.files k).bytes (take n xs) (take m (drop n xs))
-      ∙ ap (λ l. (a.files k).bytes ++ l) (sym (take-add n m xs));
-  touches = touches-trans k _ _ _ ab.touches bc.touches;
-}
+module _ (k : ℕ) (xs : List ℕ) where
+  pub extends-more : (n m : ℕ) (a b c : Disk) → Extends k (take n xs) a b
+      → Grows k (take m (drop n xs)) b c → Extends k (take (n + m) xs) a c
+  extends-more n m a b c ab bc = record {
+    bytes = ap (λ f. f.bytes) bc.file ∙ ap (λ l. l ++ take m (drop n xs)) ab.bytes
+        ∙ append_assoc (a.files k).bytes (take n xs) (take m (drop n xs))
+        ∙ ap (λ l. (a.files k).bytes ++ l) (sym (take-add n m xs));
+    touches = touches-trans k _ _ _ ab.touches bc.touches;
+  }
 
 pub spoils-more : (k : ℕ) (more : List ℕ) (a b c : Disk) → Extends k more a b → Spoils k b c
     → Spoils k a c
