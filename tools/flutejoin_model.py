@@ -14,7 +14,6 @@ from flutejoin_ledger import Delivery
 from flutejoin_partition import Partition, fault_of
 from flutejoin_pending import share_of
 from flutejoin_session import address_of
-from flutejoin_sparse import sparse_blocks
 from flutejoin_status import instant
 from flutejoin_symbols import Symbols, ranges
 
@@ -133,8 +132,6 @@ class Model:
         if not symbols.blocks and is_over:
             return None
         partition = self.partition(key, symbols)
-        if partition and file is None and sparse_blocks(partition.numbers, symbols.count()):
-            partition = None  # to look at each block of many such would take minutes
         missing = [*symbols.missing(partition)] if partition else []
         count = sum(last - first + 1 for first, last in missing)
         every = [*ranges(missing, partition)] if partition else []

@@ -77,10 +77,20 @@ class Symbols:
         )
 
     def missing(self, partition: Partition) -> Iterator[tuple[int, int]]:
-        """Yields the runs of symbols that lack, by the places of the first and the last."""
-        for block in range(partition.blocks):
+        """Yields the runs of symbols that lack, by the places of the first and the last. Blocks of
+        which nothing is there are not looked at one by one: there may be 65,536 of them."""
+        begin = 0
+        for block in sorted(self.blocks):
+            if block >= partition.blocks:
+                break
+            start, size = partition.start(block), partition.size(block)
+            if begin < start:
+                yield begin, start - 1
             for first, last in self.runs_missing(partition, block):
-                yield partition.start(block) + first, partition.start(block) + last
+                yield start + first, start + last
+            begin = start + size
+        if begin < partition.symbols:
+            yield begin, partition.symbols - 1
 
     def runs_missing(self, partition: Partition, block: int) -> Iterator[tuple[int, int]]:
         """Yields the runs of symbols of a block that lack, by their numbers in it."""
