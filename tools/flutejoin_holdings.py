@@ -68,8 +68,9 @@ class Key(NamedTuple):
 
 
 def key_of(raw: bytes) -> Key:
-    numbers = raw[SENDER:TAG], raw[TAG : TAG + 1], raw[TAG + 1 :]
-    return Key(raw[:SENDER], *(int.from_bytes(number, "big") for number in numbers))
+    of = int.from_bytes
+    tsi, tag = of(raw[SENDER:TAG], "big"), of(raw[TAG : TAG + 1], "big")
+    return Key(raw[:SENDER], tsi, tag, of(raw[TAG + 1 :], "big"))
 
 
 class Held:
