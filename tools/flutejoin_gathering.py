@@ -156,6 +156,14 @@ class Gathering:
         """Takes the files of a journal, of each sender apart, and its FDT Instances."""
         self.checked(self.program.run([*gaps.CHECK, argument(path)]))
         self.take_instances(path)
+        self.bring_files(path)
+
+    def take_files(self, path: str) -> None:
+        """The same of a journal in which no FDT Instance is looked for. Raises as `take`."""
+        self.checked(self.program.run([*gaps.CHECK, argument(path)]))
+        self.bring_files(path)
+
+    def bring_files(self, path: str) -> None:
         for source, piece in self.by_source(path):
             self.bring(source, piece, set())
 

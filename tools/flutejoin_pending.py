@@ -158,7 +158,7 @@ class Pending:
     def join(self, new: str) -> None:
         gathering = Gathering(self.folder, self.program, self.report)
         try:
-            gathering.take(new)
+            gathering.take_files(new)  # a sieve copies files alone
         finally:
             gathering.end()
 
