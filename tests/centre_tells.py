@@ -4,6 +4,7 @@ from __future__ import annotations
 import html.parser
 import json
 import os
+import random
 import re
 import signal
 import socket
@@ -17,6 +18,8 @@ from centre_case import CentreCase, announced, file_of, packets
 sys.path.insert(0, str(run.ROOT / "tools"))
 from flutejoin_health import check
 from flutejoin_page import bars, text
+from flutejoin_partition import Partition
+from flutejoin_symbols import Symbols, ranges
 from flutejoin_telling import Telling
 
 
@@ -178,6 +181,23 @@ class Tells(CentreCase):
         self.holds("late", check(base, now + 600)[0] == 2, check(base, now + 600))
         self.holds("none", check(None)[0] == 3)
         self.holds("another", check({})[0] == 3)
+
+    def test_what_lacks(self) -> None:
+        """The bytes that lack are the same as by a look at each symbol of each block."""
+        draw = random.Random(7)
+        for _ in range(400):
+            partition = Partition(draw.randint(1, 200), draw.randint(1, 4), draw.randint(1, 20))
+            symbols, length = Symbols(), partition.numbers[1]
+            for _ in range(draw.choice((0, 1, 5, 40, 300))):
+                block, number = draw.randint(0, partition.blocks), draw.randint(0, 20)
+                symbols.blocks[block] = symbols.blocks.get(block, 0) | 1 << number
+            every = [partition.id_at(place) for place in range(partition.symbols)]
+            lacks = [not symbols.blocks.get(block, 0) >> it & 1 for block, it in every]
+            found = [*ranges(symbols.missing(partition), partition)]
+            told = {at for begin, end in found for at in range(begin, end)}
+            wanted = {at for at in range(partition.numbers[0]) if lacks[at // length]}
+            self.holds("the bytes", told == wanted, (partition.numbers, symbols.blocks, found))
+            self.holds("their count", symbols.held(partition) == lacks.count(False))
 
     def test_whole_at(self) -> None:
         """When a file will be whole, from how its symbols came."""
