@@ -26,6 +26,7 @@ from run import ROOT
 
 SIZE = 10 << 20  # bytes of an input
 SECONDS, MEMORY = 10, 256 << 10  # of the processor, and KiB
+OF_STATION = 20  # seconds of one that follows what comes, keeps it, and delivers it
 MARGIN = 2  # as other work takes caches, and a part of a processor of two threads
 SENDER = "0a000001"
 TINY = b'<FDT-Instance Expires="4000000000"/>'
@@ -68,7 +69,7 @@ class Case(run.Case):
         done = self.program(f"join --any-size --source {SENDER} -o {name} sent")
         self.assertEqual((done.status, b"refused 0\n" in done.out), (0, True), done)
 
-    def costs(self, tool: str, *words: object) -> None:
+    def costs(self, tool: str, *words: object, seconds: int = SECONDS) -> None:
         """Runs a tool, and checks what it costs."""
         command = [sys.executable, str(ROOT / "tools" / tool), *map(str, words)]
         child = subprocess.Popen(
@@ -83,8 +84,8 @@ class Case(run.Case):
         print(f"costs: {name}", flush=True)
         self.holds(f"{name}: no traceback", b"Traceback" not in told, told)
         self.holds(f"{name}: status", child.returncode in (0, 1), (child.returncode, told))
-        if took > SECONDS:
-            self.holds(f"{name}: time", took <= SECONDS * MARGIN * run.slowness())
+        if took > seconds:
+            self.holds(f"{name}: time", took <= seconds * MARGIN * run.slowness())
         self.holds(f"{name}: memory", used.ru_maxrss <= MEMORY)
 
 
@@ -374,7 +375,8 @@ class Keeping(Case):
             self.path(f"{name}/in").mkdir(parents=True)
             self.datagrams(f"{name}/in/10.0.0.1.fldg", of)
             words = "--port", free_port(), "--seconds", 1, "--deliver", f"{name}.here", "-o", name
-            self.costs("flutejoin-station", "--flutejoin", run.PROGRAM, *words)
+            program = "--flutejoin", run.PROGRAM
+            self.costs("flutejoin-station", *program, *words, seconds=OF_STATION)
 
 
 if __name__ == "__main__":
