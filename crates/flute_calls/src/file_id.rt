@@ -1,4 +1,5 @@
 //! Which file this is, whatever its names are.
+ghost use Rattle.std.specs.Prelude.{◌≡◌};
 
 use std::fs::Metadata;
 use std::os::unix::fs::MetadataExt;
@@ -12,11 +13,16 @@ pub struct FileId {
 }
 
 impl FileId {
+    /// The file with this number of a device and this number on it.
+    pub fn new(device: u64, number: u64) -> FileId
+        ensures device { result.device ≡ device }
+        ensures number { result.number ≡ number }
+    {
+        FileId { device, number }
+    }
+
     /// The file of this metadata.
     pub fn of(metadata: &Metadata) -> FileId {
-        FileId {
-            device: metadata.dev(),
-            number: metadata.ino(),
-        }
+        FileId::new(metadata.dev(), metadata.ino())
     }
 }
