@@ -15,6 +15,9 @@
 #                    and of a centre
 # make uninstall     takes away what `make install` copies
 # make deb           makes bin/flutejoin_VERSION_ARCHITECTURE.deb of it, for Debian
+# make library       proves and builds the library for C and Python, at bin/library
+# make install-library  copies it, its header and its file for pkg-config to $(PREFIX)
+# make test-library  builds it, and compares it and the package for Python with the program
 # make soak          runs stations, and the month of a centre, for longer than the gate does
 # make fuzz          gives the parsers of the tools inputs that are made up, for SECONDS (600), by
 #                    SEED (1); what one at fault is given is left here
@@ -24,12 +27,16 @@
 
 PREFIX ?= /usr/local
 PROGRAM ?= bin/flutejoin
-# They find their modules beside themselves, so bin has links to them.
+# They find the package of their modules beside themselves, so bin has links to them.
 TOOLS := flutejoin-capture flutejoin-centre flutejoin-files flutejoin-gather flutejoin-map \
 	flutejoin-mend flutejoin-receive flutejoin-repair flutejoin-station flutejoin-values
+MODULES := $(patsubst tools/%,%,$(wildcard tools/flutejoin_tools/*.py \
+	tools/flutejoin_tools/*/*.py))
 
 # What `rt ci` leaves
 BUILT := crates/flutejoin_cli/out/flutejoin_cli
+# What `rt lib` leaves
+STATIC := crates/flutejoin_c/out/libflutejoin_c.a
 
 BIN = $(DESTDIR)$(PREFIX)/bin
 LIB = $(DESTDIR)$(PREFIX)/lib/flutejoin
@@ -44,82 +51,70 @@ STARTED := flutejoin-station@.service flutejoin-centre.service
 SOURCES := crates.txt $(shell find crates -name out -prune -o -name README.md -o -type f -print)
 
 bin/flutejoin: $(SOURCES)
-	@tools/build.sh
+	@tools/dev/build.sh
 
-test test-program test-tools test-stations: export FLUTEJOIN = $(abspath $(BUILT))
+test test-program test-tools test-stations test-exports: export FLUTEJOIN = $(abspath $(BUILT))
 # `rt ci` proves one crate above another, so a processor is often free: it runs the trials, and tries
 # the wrong bodies of the crates whose libraries are built by then; also while the tests run, which
-# often wait.
+# often wait. The last lines say what each folder of tests told, and then what these did.
 test:
 	rm -rf crates/*/out/rlib
 	trap 'trap - TERM; kill 0' INT TERM; \
+	told=$$(mktemp -d) && export TOLD="$$told/tests" && : > "$$TOLD" || exit 1; \
 	rt ci & proofs=$$!; \
-	{ nice -n 19 tests/trials.sh && nice -n 19 tools/wrong_bodies.py --while $$proofs; } & \
+	{ nice -n 10 tests/trials.sh && nice -n 10 tools/dev/wrong_bodies.py --while $$proofs; } \
+		> "$$told/others" 2>&1 & \
 	others=$$!; \
 	wait $$proofs && $(MAKE) --no-print-directory --jobs=2 --output-sync=line \
-		test-program test-tools test-stations; tests=$$?; \
-	wait $$others && exit $$tests
+		test-program test-tools test-stations test-exports; tests=$$?; \
+	wait $$others; others=$$?; \
+	cat "$$TOLD"; grep -v ': refused: ' "$$told/others"; rm -r "$$told"; \
+	[ $$others = 0 ] && exit $$tests
 
 # The built program, and the pages that show it
 test-program:
-	tests/test_run.py
-	tests/test_program.py
-	tests/test_outputs.py
-	tests/test_calls.py
-	tests/large.py "$(FLUTEJOIN)"
-	tests/extract_all.py "$(FLUTEJOIN)"
-	tests/test_any_size.py
-	tests/test_memory.py
-	tests/longest_journal.py "$(FLUTEJOIN)"
-	tests/test_pages.py
-	tests/test_libraries.py
-	tests/test_man.py
-	tests/test_completion.py
-	tests/test_refused.py
+	tests/run program
+	tests/run outputs
+	tests/run calls
+	tests/run scale
+	tests/run memory
+	tests/run pages
 
-# The tools, what they are installed as, and the tool of wrong bodies
+# The tools, what they are installed as, and the repository itself
 test-tools:
-	tests/test_wrong_bodies.py
-	tests/python.py
-	tests/test_lemmas.py
-	tests/test_capture.py
-	tests/capture_cases.py
-	tests/test_adapting.py
-	tests/test_values.py
-	tests/test_fuzz.py
-	tests/test_costs.py
-	tests/files.py "$(FLUTEJOIN)"
-	tests/test_map.py
-	tests/map_cases.py
-	tests/test_repair.py
-	tests/test_package.py
+	tests/run house
+	tests/run capture
+	tests/run tools
+	tests/run files
+	tests/run map
+	tests/run repair
 
 # What receives, and stations; their tests mostly wait
 test-stations:
-	tests/test_receive.py
-	tests/receiving.py "$(FLUTEJOIN)"
-	tests/station.py "$(FLUTEJOIN)"
-	tests/test_stations.py
-	tests/test_completing.py
-	tests/test_generations.py
-	tests/test_agreeing.py
-	tests/test_centre.py
-	tests/test_asked.py
-	tests/test_examples.py
-	tests/test_tree.py
+	tests/run receive
+	tests/run station
+	tests/run centre
+	tests/run asked
+	tests/run examples
+
+# The library for C and the package for Python, over the libraries that `rt ci` has just left
+test-exports:
+	tools/dev/static_library.py "$(STATIC)"
+	STATIC="$(abspath $(STATIC))" library/build.sh bin/library
+	STATIC="$(abspath $(STATIC))" tests/run library
 
 wrong-bodies:
-	tools/wrong_bodies.py --all
+	tools/dev/wrong_bodies.py --all
 
 soak: $(PROGRAM)
-	tests/station.py "$(PROGRAM)" --soak
-	WINDOWS=700 FLUTEJOIN="$(abspath $(PROGRAM))" tests/test_centre.py Month
+	SOAK=10 FLUTEJOIN="$(abspath $(PROGRAM))" tests/run station
+	WINDOWS=700 FILES=40 FLUTEJOIN="$(abspath $(PROGRAM))" tests/run centre Month
 
 fuzz:
-	tests/fuzz.py --seconds "$(or $(SECONDS),600)" --seed "$(or $(SEED),1)"
+	python3 -m tests.tools.fuzz --seconds "$(or $(SECONDS),600)" --seed "$(or $(SEED),1)"
 
 scale: $(PROGRAM)
-	tests/scale.sh "$(PROGRAM)"
+	tests/scale/scale.sh "$(PROGRAM)"
 
 try:
 	@examples/try.sh
@@ -130,7 +125,9 @@ example: bin/flutejoin
 install: $(PROGRAM)
 	install -d "$(BIN)" "$(LIB)" "$(MAN)" "$(COMPLETIONS)" "$(EXAMPLES)" "$(UNITS)"
 	install -m 755 "$(PROGRAM)" "$(BIN)/flutejoin"
-	install -m 644 tools/flutejoin_*.py "$(LIB)"
+	for module in $(MODULES); do \
+		install -D -m 644 "tools/$$module" "$(LIB)/$$module" || exit 1; \
+	done
 	for tool in $(TOOLS); do \
 		install -m 755 "tools/$$tool" "$(LIB)/$$tool" && \
 		ln -sf "../lib/flutejoin/$$tool" "$(BIN)/$$tool" && \
@@ -154,11 +151,26 @@ uninstall:
 	rm -f $(patsubst man/%,"$(MAN)/%",$(wildcard man/*.1)) $(STARTED:%="$(UNITS)/%")
 	rm -rf "$(LIB)" "$(DESTDIR)$(PREFIX)/share/flutejoin"
 
+library:
+	@env -u STATIC library/build.sh bin/library
+
+test-library: $(PROGRAM) library
+	FLUTEJOIN="$(abspath $(PROGRAM))" STATIC="$(abspath $(STATIC))" tests/run library
+
+install-library: library
+	install -d "$(DESTDIR)$(PREFIX)/lib/pkgconfig" "$(DESTDIR)$(PREFIX)/include"
+	install -m 644 bin/library/libflutejoin.a bin/library/libflutejoin.so.0 \
+		"$(DESTDIR)$(PREFIX)/lib"
+	ln -sf libflutejoin.so.0 "$(DESTDIR)$(PREFIX)/lib/libflutejoin.so"
+	install -m 644 include/flutejoin.h "$(DESTDIR)$(PREFIX)/include"
+	sed 's|^prefix=.*|prefix=$(PREFIX)|' bin/library/flutejoin.pc \
+		> "$(DESTDIR)$(PREFIX)/lib/pkgconfig/flutejoin.pc"
+
 deb: $(PROGRAM)
 	packaging/deb.sh "$(PROGRAM)" bin
 
 clean:
 	rm -rf bin crates/*/out
 
-.PHONY: test test-program test-tools test-stations wrong-bodies soak fuzz scale try example \
-	install uninstall deb clean
+.PHONY: test test-program test-tools test-stations test-exports wrong-bodies soak fuzz scale try \
+	example install uninstall library install-library test-library deb clean

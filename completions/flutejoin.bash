@@ -21,19 +21,22 @@ _flutejoin_words() {
 _flutejoin_options() {
     case $1 in
         packet) echo '--json --help' ;;
-        show) echo '--any-size --sums --json --conflicts --source --tsi --toi --fdt --help' ;;
+        show)
+            echo '--any-size --list --sums --json --conflicts --source --tsi --toi --fdt' \
+                '--help'
+            ;;
         gaps)
-            echo '--any-size --check --summary --conflicts --ranges --json --source --tsi --toi' \
-                '--fdt --help'
+            echo '--any-size --list --check --summary --conflicts --ranges --json --source --tsi' \
+                '--toi --fdt --help'
             ;;
         compare) echo '--any-size --check --summary --json --source --tsi --toi --fdt --help' ;;
-        extract) echo '-o --all --any-size --force --source --tsi --toi --fdt --help' ;;
+        extract) echo '-o --all --any-size --force --list --source --tsi --toi --fdt --help' ;;
         info)
             echo '-o --any-size --force --list --source --tsi --toi --fdt --length --symbol' \
                 '--block --help'
             ;;
         join)
-            echo '-o --any-size --memory --force --source --tsi --toi --fdt --no-fdt' \
+            echo '-o --any-size --memory --force --source --tsi --toi --fdt --no-fdt --without' \
                 '--reasons --help'
             ;;
         merge | minus) echo '-o --any-size --force --help' ;;

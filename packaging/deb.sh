@@ -24,13 +24,14 @@ if command -v strip > /dev/null; then
 fi
 gzip -9n "$root"/usr/share/man/man1/*.1
 install -d "$root/etc/flutejoin" "$root/usr/lib/sysctl.d" "$root/usr/lib/sysusers.d" \
-    "$root/usr/share/lintian/overrides" "$root/DEBIAN" "$pages/docs" "$pages/tools"
+    "$root/usr/share/lintian/overrides" "$root/DEBIAN" "$pages/docs/pictures" "$pages/tools"
 install -m 644 packaging/example.toml "$root/etc/flutejoin/example.toml"
 install -m 644 packaging/sysctl.conf "$root/usr/lib/sysctl.d/50-flutejoin.conf"
 install -m 644 packaging/sysusers.conf "$root/usr/lib/sysusers.d/flutejoin.conf"
 install -m 644 packaging/lintian "$root/usr/share/lintian/overrides/flutejoin"
-install -m 644 README.md packaging/copyright "$pages"
+install -m 644 README.md CHANGELOG.md packaging/copyright "$pages"
 install -m 644 docs/*.md "$pages/docs"
+install -m 644 docs/pictures/*.svg "$pages/docs/pictures"
 install -m 644 tools/README.md "$pages/tools"
 sed "1s/(.*)/($version)/" packaging/changelog | gzip -9n > "$pages/changelog.gz"
 chmod 644 "$pages/changelog.gz"

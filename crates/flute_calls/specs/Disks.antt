@@ -103,10 +103,30 @@ pub record Unlinks (name : List ℕ) (old new : Disk) : Type 0 where
   pub elsewhere : (other : List ℕ) → other ≢ name → new.names other ≡ old.names other
   pub files : FilesStay old new
 
+-- the name, which led nowhere, leads to a folder that no name has led to
+pub record MakesFolder (name : List ℕ) (old new : Disk) : Type 0 where
+  pub number : ℕ
+  pub creates : Creates name number old new
+
+-- an empty file that no name has led to is made in the folder f, whose names the disk need not
+-- have; which these are is not said
+pub record CreatesWithin (f k : ℕ) (old new : Disk) : Type 0 where
+  pub fresh : (other : List ℕ) → HasHad (old.names other) k → ⊥
+  pub names : (name : List ℕ) → new.names name ≡ old.names name
+  pub others : (j : ℕ) → j ≢ f → j ≢ k → new.files j ≡ old.files j
+  pub empty : new.files k ≡ record { bytes = []; on_disk = false }
+  pub unsure : (new.files f).on_disk ≡ false
+
+-- a name in the folder f is removed
+pub record UnlinksWithin (f : ℕ) (old new : Disk) : Type 0 where
+  pub unsure : (new.files f).on_disk ≡ false
+  pub touches : Touches f old new
+
 -- the disk has the names of one folder as they are; of the other names, whether it has them is not
 -- said
 pub record Confirms (is_in : List ℕ → Bool) (old new : Disk) : Type 0 where
-  pub here : (name : List ℕ) → is_in name ≡ true → new.names name ≡ confirmed (old.names name)
+  pub here : (name : List ℕ) → is_in name ≡ true
+      → new.names name ≡ confirmed (old.names name)
   pub elsewhere : (name : List ℕ)
       → (new.names name ≡ confirmed (old.names name)) ⊎ (new.names name ≡ old.names name)
   pub files : FilesStay old new

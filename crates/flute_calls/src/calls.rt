@@ -101,7 +101,8 @@ pub trait Calls {
     ///
     /// If the call failed.
     fn open_parent(&mut self, name: &str) -> Result<Self::Folder, CallFault>
-        ensures opened { told ≡ true → IfOk result (λ folder. has_name folder name.now ≡ true) }
+        ensures opened { told ≡ true
+            → IfOk result (λ folder. has_name folder name.now ≡ true) }
         ensures same { told ≡ true → run self.new ≡ run self.old };
 
     /// Locks the file. A file system without locks is used without them.

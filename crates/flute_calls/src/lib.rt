@@ -7,8 +7,10 @@
 
 mod calls;
 mod file_id;
+mod folder_calls;
 mod system_calls;
 
 pub use calls::{CallFault, Calls, Seen};
 pub use file_id::FileId;
+pub use folder_calls::FolderCalls;
 pub use system_calls::SystemCalls;

@@ -4,6 +4,8 @@ ghost use Rattle.flute_calls.specs.Moments.{no_run};
 
 use crate::calls::{CallFault, Calls, Seen};
 use crate::file_id::FileId;
+use crate::folder_calls::FolderCalls;
+use std::alloc::Alloc;
 use std::fs::{self, File, Metadata, OpenOptions, Permissions, TryLockError};
 use std::io::{self, ErrorKind, Write};
 use std::os::unix::fs::{OpenOptionsExt, PermissionsExt};
@@ -130,16 +132,63 @@ impl<R: Files<File = File>> Calls for SystemCalls<'_, R> {
     }
 
     fn sync_folder(&mut self, folder: &Option<File>) -> Result<(), CallFault> {
-        let Some(folder) = folder else {
-            return Ok(());
-        };
-        match folder.sync_all() {
-            Err(error) => match error.kind() {
-                ErrorKind::InvalidInput | ErrorKind::Unsupported => Ok(()),
-                _ => Err(error.into()),
-            },
-            Ok(()) => Ok(()),
+        match folder {
+            Some(folder) => synced(folder),
+            None => Ok(()),
         }
+    }
+}
+
+impl<R: Files<File = File> + Alloc + Clone + Drop> FolderCalls for SystemCalls<'_, R> {
+    fn create_folder(&mut self, name: &str) -> Result<(), CallFault> {
+        told(fs::create_dir(self.rt, name))
+    }
+
+    fn is_folder(&mut self, name: &str) -> Result<Option<bool>, CallFault> {
+        match fs::symlink_metadata(self.rt, name) {
+            Ok(found) => Ok(Some(found.is_dir())),
+            Err(error) if error.kind() == ErrorKind::NotFound => Ok(None),
+            Err(error) => Err(error.into()),
+        }
+    }
+
+    fn empty_folder(&mut self, _folder: &File, name: &str) -> Result<(), CallFault> {
+        for entry in fs::read_dir(self.rt, name)? {
+            if !entry?.metadata()?.is_file() {
+                return Err(CallFault::AlreadyExists);
+            }
+        }
+        for entry in fs::read_dir(self.rt, name)? {
+            fs::remove_file(self.rt, entry?.path())?;
+        }
+        Ok(())
+    }
+
+    fn create_within(&mut self, _folder: &File, path: &str, mode: u32) -> Result<File, CallFault> {
+        self.create_new(path, mode)
+    }
+
+    fn unlink_within(&mut self, _folder: &File, path: &str) -> Result<(), CallFault> {
+        self.unlink(path)
+    }
+
+    fn sync_names(&mut self, folder: &File) -> Result<(), CallFault> {
+        synced(folder)
+    }
+
+    fn remove_folder(&mut self, name: &str) -> Result<(), CallFault> {
+        told(fs::remove_dir(self.rt, name))
+    }
+}
+
+// Waits until the disk has the names in a folder, if the file system has such a call.
+fn synced(folder: &File) -> Result<(), CallFault> {
+    match folder.sync_all() {
+        Err(error) => match error.kind() {
+            ErrorKind::InvalidInput | ErrorKind::Unsupported => Ok(()),
+            _ => Err(error.into()),
+        },
+        Ok(()) => Ok(()),
     }
 }
 

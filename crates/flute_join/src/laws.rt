@@ -7,7 +7,7 @@ ghost use Rattle.flute_join.specs.Cell.{cell_join};
 ghost use Rattle.flute_join.specs.JoinMap.{map_join, join_values, value_at, IsOrdered};
 
 use crate::join::Join;
-use crate::place::Place;
+use crate::map_key::MapKey;
 use crate::value::Value;
 
 /// Joining is commutative, associative and idempotent. To be below is an order, in which the join
@@ -36,7 +36,7 @@ pub fn joining_is_a_join<T: Join>()
 /// too. The join of two maps has, at each key, the values of the two, joined; and its keys ascend.
 /// Joining a map of one entry into another joins the values at a held key, and inserts the entry at
 /// a new one.
-pub fn cells_and_maps_are_joined<T: Value, K: Place, V: Join>()
+pub fn cells_and_maps_are_joined<T: Value, K: MapKey, V: Join>()
     ensures cells { IsJoin (cell_join T.eq) }
     ensures maps { IsJoin (map_join K.cmp V.joined) }
     ensures values { (m n : List (K × V)) (key : K) → IsOrdered K.cmp m → IsOrdered K.cmp n

@@ -24,7 +24,7 @@ mod join;
 mod join_into;
 pub mod laws;
 mod map;
-mod place;
+mod map_key;
 mod refusal;
 mod value;
 
@@ -32,6 +32,6 @@ pub use cell::Cell;
 pub use join::Join;
 pub use join_into::JoinInto;
 pub use map::{Entries, JoinMap};
-pub use place::Place;
+pub use map_key::MapKey;
 pub use refusal::JoinRefusal;
 pub use value::Value;

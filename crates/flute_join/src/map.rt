@@ -14,7 +14,7 @@ ghost use Rattle.flute_join.specs.MapLaws.{map_join_laws};
 
 use crate::join::Join;
 use crate::join_into::JoinInto;
-use crate::place::Place;
+use crate::map_key::MapKey;
 use crate::refusal::JoinRefusal;
 use std::alloc::Global;
 use std::collections::btree_map::Entry;
@@ -24,14 +24,14 @@ use std::marker::Model;
 /// A map in the order of its keys, with at most `LIMIT` of them. The limit is part of the type, so
 /// two maps that are joined have the same. Only what adds, joins or copies asks for memory.
 #[derive(Drop)]
-pub struct JoinMap<K: Place, V: Join, const LIMIT: u32> {
+pub struct JoinMap<K: MapKey, V: Join, const LIMIT: u32> {
     entries: BTreeMap<K, V>,
 }
 
 /// The entries of a map, in rising order of their keys.
 pub type Entries<'a, K, V> = btree_map::Iter<'a, K, V>;
 
-impl<K: Place, V: Join, const LIMIT: u32> Model for JoinMap<K, V, LIMIT> {
+impl<K: MapKey, V: Join, const LIMIT: u32> Model for JoinMap<K, V, LIMIT> {
     ghost use Rattle.std.specs.Prelude.{◌≤◌, List, length};
 
     // The entries in rising order of their keys.
@@ -45,7 +45,7 @@ impl<K: Place, V: Join, const LIMIT: u32> Model for JoinMap<K, V, LIMIT> {
         × (length m.entries.entries ≤ LIMIT) };
 }
 
-impl<K: Place, V: Join, const LIMIT: u32> JoinMap<K, V, LIMIT> {
+impl<K: MapKey, V: Join, const LIMIT: u32> JoinMap<K, V, LIMIT> {
     ghost use Rattle.flute_join.specs.Lends.{lends_value};
 
     /// The empty map. It takes no memory, and asks `alloc` for it as it grows.
@@ -96,7 +96,7 @@ impl<K: Place, V: Join, const LIMIT: u32> JoinMap<K, V, LIMIT> {
     /// written changes the value at that key alone.
     pub fn get_mut(&mut self, key: &K) -> Option<&mut V>
         ensures* writes_back { sem 𝓛
-            (lends_value K.row V.row LIMIT.row K.Place V.Join self.entry (K.cmp key.now) result) }
+            (lends_value K.row V.row LIMIT.row K.MapKey V.Join self.entry (K.cmp key.now) result) }
         ensures value { option_copied_mut result ≡ value_at K.cmp self.old key.now }
         ensures ordered { IsOrdered K.cmp self.old }
         ensures within { length self.old ≤ LIMIT }
@@ -220,7 +220,7 @@ impl<K: Place, V: Join, const LIMIT: u32> JoinMap<K, V, LIMIT> {
     }
 }
 
-impl<K: Place, V: Join, const LIMIT: u32> Join for JoinMap<K, V, LIMIT> {
+impl<K: MapKey, V: Join, const LIMIT: u32> Join for JoinMap<K, V, LIMIT> {
     ghost joined = { map_join K.cmp V.joined };
 
     ghost over = { MapOver K.cmp V.joined LIMIT V.over };

@@ -1,2 +1,4 @@
 pub mod Memory
+pub mod MemoryDisk
+pub mod MemoryFolders
 pub mod NewMemory

@@ -2,8 +2,8 @@
 //!
 //! [`ShortSource`] gives few bytes at a time, and fails once it has given so many; [`ShortSink`]
 //! fails once it has taken so many. [`MemoryFolder`] and [`MemoryNewFolder`] do in memory what the
-//! traits of `flute_output` ask, and fail after a given number of calls. Contracts see what they
-//! contain.
+//! traits of `flute_output` ask, and fail after a given number of calls; [`MemoryCalls`] does what
+//! the traits of `flute_calls` ask. Contracts see what they contain.
 //!
 //! A file in a folder in memory (from `flute_tests`):
 //!
@@ -18,11 +18,15 @@
 //! ```
 #![tactic(auto)]
 
+mod changes;
+mod memory_calls;
 mod memory_folder;
 mod memory_new_folder;
 mod short_sink;
 mod short_source;
 
+pub use changes::{Change, contents, target};
+pub use memory_calls::{MemoryCalls, OneFolder, OpenFile};
 pub use memory_folder::MemoryFolder;
 pub use memory_new_folder::{MemoryFile, MemoryFiles, MemoryNewFolder};
 pub use short_sink::ShortSink;

@@ -1,10 +1,11 @@
 -- How a run goes on, and what stays true of each of its moments.
-use Rattle.std.proofs.Common.{◌≡◌, ◌≢◌, ◌++◌, ℕ, List, [], ◌∷◌, refl, sym, ap, ◌∙◌, subst, append_assoc, take, drop, ◌+◌, ◌-◌, ◌≤◌, arith, length, length-drop, take_all, Bool, true, Result, Ok, Err, OnErr, OnOk}
+use Rattle.std.proofs.Common.{◌≡◌, ◌≢◌, ◌++◌, ℕ, List, [], ◌∷◌, refl, sym, ap, ◌∙◌, subst, append_assoc, take, drop, ◌+◌, ◌-◌, ◌≤◌, arith, length, length-drop, take_all, Bool, true, Result, Ok, Err, OnErr, OnOk, is_ok, Option, Some, None, IfSome}
+use Rattle.std.proofs.lemmas.Bool.{false≢true}
 use Rattle.std.proofs.Math.Seq.{take-add}
 use Rattle.std.proofs.lemmas.List.Elements.{All-append, All-weaker, All-nil, All-cons}
-use Rattle.flute_calls.specs.Disks.{Disk, HasHad, Touches, Creates, Grows, Spoils, Unlinks, OnlyTouches}
+use Rattle.flute_calls.specs.Disks.{Disk, Held, HasHad, Touches, Creates, Grows, Spoils, Syncs, Unlinks, OnlyTouches}
 use Rattle.flute_calls.specs.Moments.{Run, Always, Does, Passes, IsSame}
-use Rattle.flute_output.specs.DiskWrites.{Extends}
+use Rattle.flute_output.specs.DiskWrites.{Extends, Keeps}
 
 pub always-here : (P : Disk → Type 0) (a : Run) → P a.now → Always P a a
 always-here P a p = record { added = []; past = refl; each = All-nil P; here = p }
@@ -170,6 +171,13 @@ pub on_err : {T E : Type 0} (r : Result T E) (P : Type 0) → P → OnErr r P
 on_err (Ok x) P p = tt
 on_err (Err e) P p = p
 
+-- what a failure of one call means is so of another that fails with it
+pub on_err_same : {T E F : Type 0} (r : Result T E) (s : Result T F) (P : Type 0)
+    → is_ok r ≡ is_ok s → OnErr s P → OnErr r P
+on_err_same (Ok x) s P e p = tt
+on_err_same (Err x) (Ok y) P e p = absurd (false≢true e)
+on_err_same (Err x) (Err y) P e p = p
+
 -- so far this many of the bytes are in the file
 pub record IsFilled (told : Bool) (k : ℕ) (bytes : List ℕ) (written : ℕ) (old new : Run) : Type 0
   where
@@ -179,3 +187,42 @@ pub record IsFilled (told : Bool) (k : ℕ) (bytes : List ℕ) (written : ℕ) (
 -- before calls that did nothing
 pub stays-after : (b : List ℕ) (a c e : Run) → Stays b a c → e ≡ c → Stays b a e
 stays-after b a c e so same = subst (λ r. Stays b a r) (sym same) so
+
+abbrev settled : List ℕ → Held
+settled bytes = record { bytes = bytes; on_disk = true }
+
+keeps-more : (k : ℕ) (more : List ℕ) (a b c : Disk) → Extends k more a b → Syncs k b c
+    → Keeps k more a c
+keeps-more k more a b c ab bc = record {
+  file = bc.file ∙ ap settled ab.bytes;
+  touches = touches-trans k _ _ _ ab.touches bc.touches;
+}
+
+syncs-passes : (k : ℕ) (a b : Run) → Does (Syncs k) a b → Passes (Touches k) (Syncs k) a b
+syncs-passes k a b does = record {
+  made = does.made;
+  always = always-does (Touches k a.now) (Syncs k) a b (touches-refl k a.now) does (λ s. s.touches);
+}
+
+-- a file that got its last bytes, and is then brought to the disk
+module _ (more : List ℕ) (a b c : Run) where
+  pub kept-then : (o m : Option ℕ) → m ≡ o → IfSome o (λ k. Passes (Touches k) (Extends k more) a b)
+      → IfSome m (λ k. Does (Syncs k) b c) → IfSome o (λ k. Passes (Touches k) (Keeps k more) a c)
+  kept-then None m same first next = tt
+  kept-then (Some k) m same first next =
+      let synced = subst (λ x. IfSome x (λ j. Does (Syncs j) b c)) same next in
+      touched-more k _ _ _ a b c first (syncs-passes k b c synced) (λ r. r.touches)
+      (λ r s. keeps-more k more _ _ _ r s)
+
+-- bytes that are taken behind those that were
+module _ (xs : List ℕ) (before now next : ℕ → List ℕ) where
+  pub taken-more : (w n : ℕ) (o m : Option ℕ) → m ≡ o
+      → IfSome o (λ k. now k ≡ before k ++ take w xs)
+      → IfSome m (λ k. next k ≡ now k ++ take n (drop w xs))
+      → IfSome o (λ k. next k ≡ before k ++ take (w + n) xs)
+  taken-more w n None m same first more = tt
+  taken-more w n (Some k) m same first more =
+      subst (λ x. IfSome x (λ j. next j ≡ now j ++ take n (drop w xs))) same more
+      ∙ ap (λ l. l ++ take n (drop w xs)) first
+      ∙ append_assoc (before k) (take w xs) (take n (drop w xs))
+      ∙ ap (λ l. before k ++ l) (sym (take-add w n xs))

@@ -1,6 +1,6 @@
 //! The name OUT and the name beside it, in a folder of the system.
 
-ghost use Rattle.std.specs.Prelude.{◌≢◌, string_bytes};
+ghost use Rattle.std.specs.Prelude.{◌≡◌, ◌≢◌, ◌++◌, IfOk, codes, string_bytes};
 ghost use Rattle.std.specs.Path.{path_buf_bytes};
 
 use std::alloc::Global;
@@ -14,6 +14,9 @@ const SUFFIX: &str = ".partial";
 
 /// How often a run tries to make what is beside OUT while other runs take its name.
 pub const ATTEMPTS: u32 = 16;
+
+/// The permissions of a new file, before the user's mask.
+pub const NEW_MODE: u32 = 0o666;
 
 /// The two names. What is beside OUT gets that name once it is whole.
 #[derive(Drop)]
@@ -29,7 +32,11 @@ impl NamePair {
     /// # Errors
     ///
     /// `OutOfMemory`.
-    pub fn new(alloc: Global, out: PathBuf) -> io::Result<NamePair> {
+    pub fn new(alloc: Global, out: PathBuf) -> io::Result<NamePair>
+        ensures out { IfOk result (λ names. names.out ≡ out) }
+        ensures beside { IfOk result (λ names.
+            string_bytes names.beside ≡ path_buf_bytes out ++ codes ".partial") }
+    {
         let mut beside = String::from_str(alloc, out.as_str())?;
         beside.push_str(SUFFIX)?;
         Ok(NamePair { out, beside })

@@ -69,8 +69,8 @@ pub fn place_at<'a, R: Files<File = File>>(
     }
     let names = NamePair::new(alloc, without_links(rt, alloc, path)?)?;
     if let Some(found) = &found {
-        // A regular file without a name, as an open one that was removed, takes its bytes itself. If
-        // another file has the name by now, another run has put it there.
+        // A regular file without a name, as an open one that was removed, takes its bytes itself.
+        // If another file has the name by now, another run has put it there.
         match found_at(rt, names.out.as_str())? {
             Some(named) if FileId::of(&named) == FileId::of(found) => {}
             Some(_) => return Err(ErrorKind::WouldBlock.into()),

@@ -1,6 +1,6 @@
 //! The names of objects within a session.
 
-use flute_join::Place;
+use flute_join::MapKey;
 use std::cmp::Ordering;
 use std::marker::Model;
 
@@ -69,7 +69,7 @@ impl ObjectKey {
     /// The FDT Instance ID, below 2^20. None for a file.
     pub fn instance(&self) -> Option<u32>
         ensures value { result ≡ instance_of self.now }
-        ensures bits { IsObjectName self.now }
+        ensures name { IsObjectName self.now }
     {
         match self.name {
             ObjectName::Instance(instance) => Some(instance),
@@ -80,7 +80,7 @@ impl ObjectKey {
     /// The Transport Object Identifier, below 2^112: 0 for an FDT Instance.
     pub fn toi(&self) -> u128
         ensures value { result ≡ toi_of self.now }
-        ensures bits { IsObjectName self.now }
+        ensures name { IsObjectName self.now }
     {
         match self.name {
             ObjectName::Instance(_) => 0,
@@ -154,7 +154,7 @@ impl PartialEq for ObjectKey {
     }
 }
 
-impl Place for ObjectKey {
+impl MapKey for ObjectKey {
     ghost use Rattle.flute_parts.specs.Equality.{object_place};
 
     ghost same_where_equal = { object_place };

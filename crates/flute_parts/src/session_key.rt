@@ -1,7 +1,7 @@
 //! The names of sessions.
 
 use crate::sender::Sender;
-use flute_join::Place;
+use flute_join::MapKey;
 use std::marker::Model;
 
 /// A session, named by its sender and its Transport Session Identifier of at most 48 bits, which
@@ -58,7 +58,7 @@ impl SessionKey {
     }
 }
 
-impl Place for SessionKey {
+impl MapKey for SessionKey {
     ghost use Rattle.flute_parts.specs.Equality.{session_place};
 
     ghost same_where_equal = { session_place };

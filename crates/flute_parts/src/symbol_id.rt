@@ -1,6 +1,6 @@
 //! The numbers of encoding symbols.
 
-use flute_join::Place;
+use flute_join::MapKey;
 
 /// An encoding symbol of an object, by its source block number and its encoding symbol ID
 /// (RFC 5445, section 3.2.1). Symbols are ordered by block, then by ID.
@@ -12,7 +12,7 @@ pub struct SymbolId {
     pub esi: u16,
 }
 
-impl Place for SymbolId {
+impl MapKey for SymbolId {
     ghost use Rattle.flute_parts.specs.Equality.{symbol_id_place};
 
     ghost same_where_equal = { symbol_id_place };

@@ -13,6 +13,8 @@ ghost use Rattle.std.specs.Prelude.{
   List,
   Contains,
   is_some,
+  option_map,
+  Some,
   OnOk,
   OnErr,
   IfOk,
@@ -36,9 +38,9 @@ ghost use Rattle.flute_store.specs.WellFormed.{IsStore};
 ghost use Rattle.flute_store.specs.Held.{HasCell, HoldsObject};
 ghost use Rattle.flute_parts.specs.SymbolBytes.{HasSymbolSize};
 ghost use Rattle.flute_wire.specs.Content.{Content};
-ghost use Rattle.flute_wire.specs.Facts.{facts_of};
+ghost use Rattle.flute_wire.specs.Facts.{facts_of, key_of};
 ghost use Rattle.flute_wire.specs.Datagram.{Spells};
-ghost use Rattle.flute_wire.specs.Reading.{facts};
+ghost use Rattle.flute_wire.specs.Reading.{facts, packet};
 ghost use Rattle.flute_wire.specs.Refusals.{Refuses};
 ghost use Rattle.flute_wire.specs.declared.refusal.Refusal.{Refusal};
 
@@ -179,6 +181,8 @@ impl<const SESSIONS: u32, const OBJECTS: u32, const SYMBOLS: u32> Store<
         datagram: &[u8],
     ) -> Result<Taken, TakeFault>
         ensures ok { OnOk result (Same self.new (self.old ++ facts sender datagram.now)) }
+        ensures key { IfOk result
+            (λ taken. option_map (key_of sender) (packet datagram.now) ≡ Some taken.key) }
         ensures number { IfOk result (λ taken. taken.facts ≡ length (facts sender datagram.now)) }
         ensures err { OnErr result (self.new ≡ self.old) }
         ensures refused { (r : Refusal) → (result ≡ Err (TakeFault.Datagram r))
@@ -214,6 +218,7 @@ impl<const SESSIONS: u32, const OBJECTS: u32, const SYMBOLS: u32> Store<
     ) -> Result<Taken, JoinRefusal>
         requires read { (datagram : List ℕ) × Spells datagram packet.now }
         ensures ok { OnOk result (Same self.new (self.old ++ facts_of sender packet.now)) }
+        ensures key { IfOk result (λ taken. taken.key ≡ key_of sender packet.now) }
         ensures number { IfOk result
             (λ taken. taken.facts ≡ length (facts_of sender packet.now)) }
         ensures err { OnErr result (self.new ≡ self.old) }
@@ -224,12 +229,13 @@ impl<const SESSIONS: u32, const OBJECTS: u32, const SYMBOLS: u32> Store<
     {
         // From this the proof knows that the store is within its limits.
         let _ = &self.sessions;
+        let key = packet.key(sender);
         let Some(update) = Update::of_packet(packet) else {
-            return Ok(Taken { facts: 0 });
+            return Ok(Taken { key, facts: 0 });
         };
         let facts = update.count();
-        match self.join_update(alloc, &packet.key(sender), &update) {
-            Ok(()) => Ok(Taken { facts }),
+        match self.join_update(alloc, &key, &update) {
+            Ok(()) => Ok(Taken { key, facts }),
             Err(refusal) => Err(refusal),
         }
     }

@@ -1,11 +1,14 @@
 //! The result of a datagram that a store takes or refuses.
 
+use flute_parts::Key;
 use flute_wire::Refusal;
 use thiserror::Error;
 
 /// What a datagram added.
 #[derive(Drop)]
 pub struct Taken {
+    /// The object that it is of.
+    pub key: Key,
     /// The number of its facts: 0, 1 or 2. They are counted whether or not they were known.
     pub facts: u64,
 }

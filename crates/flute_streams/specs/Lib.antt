@@ -17,6 +17,7 @@ pub mod WalkStreams
 pub mod OwnedStreams
 pub mod Sessions
 pub mod Scopes
+pub mod Objects
 pub mod Selections
 pub mod ChosenStreams
 pub mod ScopeExamples

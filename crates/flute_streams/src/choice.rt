@@ -3,6 +3,7 @@ ghost use Rattle.std.specs.Prelude.{◌≡◌, Bool};
 ghost use Rattle.flute_parts.specs.declared.fact.Fact.{Fact};
 ghost use Rattle.flute_streams.specs.ChosenStreams.{is_passed_over};
 
+pub(crate) mod objects;
 pub(crate) mod scope;
 pub(crate) mod selection;
 pub(crate) mod sessions;

@@ -20,6 +20,7 @@ mod merge;
 mod streams;
 
 pub use choice::Choice;
+pub use choice::objects::Objects;
 pub use choice::scope::Scope;
 pub use choice::selection::{AllBut, Selection};
 pub use choice::sessions::Sessions;

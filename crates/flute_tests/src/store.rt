@@ -58,6 +58,7 @@ fn a_packet_is_taken(rt: HostRuntime) -> Result<(), Fail> {
     let mut store = Shelf::new(rt.alloc());
     let taken = store.take_packet(rt.alloc(), Sender::new(0), &packet)?;
     assert!(rt; taken.facts == 2);
+    assert!(rt; Some(taken.key) == file());
     Ok(())
 }
 
@@ -87,6 +88,7 @@ fn an_object_with_a_gap(rt: HostRuntime) -> Result<(), Fail> {
     let key = &file().ok_or("a key")?;
     let store = taken(rt.alloc())?;
     assert!(rt; store.status(key).is_some());
+    assert!(rt; store.held(key) == Some(1));
     let mut gaps = store.gaps(key)?;
     assert!(rt; gaps.next().is_some());
     assert!(rt; gaps.ticks() <= 4);

@@ -1,7 +1,8 @@
 mod lines_lemmas
 mod gaps_lemmas
 mod compare_lemmas
-mod SelectedFacts
+mod PickedFacts
+mod HeldEntries
 mod Shown
 mod Mapped
 mod join_lemmas

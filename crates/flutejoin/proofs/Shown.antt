@@ -2,11 +2,12 @@
 use Rattle.std.proofs.lemmas.Grind.{common_steps}
 use Rattle.std.proofs.Common.{rules}
 use Rattle.std.proofs.Common.{◌≡◌, ℕ, ◌+◌, ◌≤◌, Bool, true, false, List, [], ◌∷◌, ◌++◌, length}
-use Rattle.std.proofs.Common.{Option, Some, None, Result, Ok, Err, ap, sym, ◌∙◌, subst, arith}
-use Rattle.std.specs.Prelude.{IfSome, IfErr, OnOk}
+use Rattle.std.proofs.Common.{Option, Some, None, Result, Ok, Err, ap, refl, sym, ◌∙◌, subst, arith}
+use Rattle.std.specs.Prelude.{IfSome, IfErr, OnOk, filter}
 use Rattle.std.specs.Io.KnownBytes.{Appends, Consumes}
-use Rattle.std.proofs.KnownBytes.{Appends-trans}
+use Rattle.std.proofs.KnownBytes.{Appends-nil, Appends-trans}
 use Rattle.std.proofs.lemmas.List.{length-append}
+use Rattle.std.proofs.lemmas.List.Elements.{filter-append}
 use Rattle.std.proofs.lemmas.Grind.{flat_map-append}
 use Rattle.flute_parts.specs.Devices.{AppendsPart}
 use Rattle.flute_parts.proofs.Public.{AppendsPart-second}
@@ -20,10 +21,9 @@ use Rattle.flute_journal.specs.Journal.{IsJournalWithin}
 use Rattle.flute_journal.specs.JournalFraming.{journal_framing}
 use Rattle.flute_journal.specs.Framing.{is_open, GivesItem, GivesEnd, GivesFault, Gives, Sofar}
 use Rattle.flute_journal.proofs.Public.{whole-at, open_after, read_some, side-from, journal_sound}
-use Rattle.flute_journal.proofs.Public.{sofar-next, sofar-stops}
-use Rattle.flute_streams.specs.Selections.{selects}
-use Rattle.flute_streams.specs.declared.choice.selection.Selection.{Selection}
-use Rattle.flutejoin.specs.Selected.{selected}
+use Rattle.flute_journal.proofs.Public.{sofar-next, sofar-none, sofar-stops}
+use Rattle.flute_journal.specs.declared.format.version.Version.TheVariants.{Two}
+use Rattle.flute_journal.specs.declared.readers.reader_state.ReaderState.TheVariants.{Header}
 use Rattle.flutejoin.specs.Show.{entry_line, entry_lines, number_line, FailsToRead, ShowsAll, ShowsUntil, ShowsPart}
 use Rattle.flutejoin.specs.Show.{of_entries, of_journal, ShowFails}
 use Rattle.flutejoin.specs.Objects.{FailsToWrite}
@@ -31,8 +31,7 @@ use Rattle.flutejoin.specs.declared.command_fault.CommandFault.{CommandFault}
 use Rattle.flutejoin.specs.declared.command_fault.CommandFault.TheVariants.{CannotWrite, Input}
 use Rattle.flutejoin.specs.declared.limits.TheConstants.{MAX_ENTRIES}
 use Rattle.flutejoin.specs.declared.lines.show_style.ShowStyle.{ShowStyle}
-use Rattle.flutejoin.proofs.SelectedFacts.{few_selected, just_line, none_selected, one_selected}
-use Rattle.flutejoin.proofs.SelectedFacts.{selected_more}
+use Rattle.flutejoin.proofs.PickedFacts.{few_picked, just_picked, none_picked, one_picked}
 
 -- The end of a journal, after its entries.
 
@@ -42,31 +41,46 @@ pub whole : {u v w : Option (List ℕ)} {from to : ReaderState Before} {es : Lis
 whole {u = u} {w = w} {to = to} {es = es} h g =
     whole-at journal_sound MAX_ENTRIES u w es (side-from journal_sound w to None h g)
 
--- these entries were read, and the lines of those that are selected written, and nothing else
-pub record Shown (style : ShowStyle) (choice : Selection) (first now : Option (List ℕ)) (state : ReaderState Before)
+-- these entries were read, and the lines of those that are picked written, and nothing else
+pub record Shown (style : ShowStyle) (picks : Fact → Bool) (first now : Option (List ℕ)) (state : ReaderState Before)
     (old new : Option (List ℕ)) (count : ℕ) : Type 0 where
   pub entries : List Fact
   pub sofar : Sofar journal_framing MAX_ENTRIES first now state entries
-  pub counted : count ≡ length (selected choice entries)
-  pub written : Appends old new (entry_lines style (selected choice entries))
+  pub counted : count ≡ length (filter picks entries)
+  pub written : Appends old new (entry_lines style (filter picks entries))
 
-lines_more : (style : ShowStyle) (choice : Selection) (es : List Fact) (f : Fact)
-    → entry_lines style (selected choice es) ++ entry_lines style (selected choice (f ∷ []))
-    ≡ entry_lines style (selected choice (es ++ f ∷ []))
-lines_more style choice es f = search (rules, selected_more, flat_map-append)
+pub none_shown : (style : ShowStyle) (picks : Fact → Bool) (u : Option (List ℕ))
+    {v : Option (List ℕ)} {state : ReaderState Before} (written : Option (List ℕ)) → v ≡ u
+    → state ≡ Header → Shown style picks u v state written written 0
+none_shown style picks u written same new = record {
+  entries = [];
+  sofar = rw (same, new) (sofar-none journal_sound Two MAX_ENTRIES u);
+  counted = refl;
+  written = Appends-nil written;
+}
 
-module _ {style : ShowStyle} {choice : Selection} {u v : Option (List ℕ)} {from : ReaderState Before}
+lines_more : (style : ShowStyle) (picks : Fact → Bool) (es : List Fact) (f : Fact)
+    → entry_lines style (filter picks es) ++ entry_lines style (filter picks (f ∷ []))
+    ≡ entry_lines style (filter picks (es ++ f ∷ []))
+lines_more style picks es f = search (rules, filter-append, flat_map-append)
+
+-- the line of an entry that is picked
+pub just_line : (picks : Fact → Bool) (f : Fact) (style : ShowStyle) → picks f ≡ true
+    → entry_lines style (filter picks (f ∷ [])) ≡ entry_line style f
+just_line picks f style e = search (rules, just_picked)
+
+module _ {style : ShowStyle} {picks : Fact → Bool} {u v : Option (List ℕ)} {from : ReaderState Before}
     {s t : Option (List ℕ)} {count : ℕ}
-    (h : Shown style choice u v from s t count) where
+    (h : Shown style picks u v from s t count) where
   -- no more lines than entries
   pub few_shown : count ≤ 16777216
-  few_shown = search (rules, few_selected)
+  few_shown = search (rules, few_picked)
 
   module _ {w : Option (List ℕ)} {to : ReaderState Before} {f : Fact}
       (g : GivesItem journal_framing MAX_ENTRIES from to v w f) where
-    pub shown-other : selects choice f ≡ false → Shown style choice u w to s t count
+    pub shown-other : picks f ≡ false → Shown style picks u w to s t count
     shown-other other =
-        let same = sym (none_selected choice f h.entries other) in
+        let same = sym (none_picked picks f h.entries other) in
         record {
           entries = h.entries ++ f ∷ [];
           sofar = sofar-next journal_sound h.sofar g;
@@ -76,36 +90,36 @@ module _ {style : ShowStyle} {choice : Selection} {u v : Option (List ℕ)} {fro
 
   module _ {w : Option (List ℕ)} {to : ReaderState Before} {f : Fact}
       (g : GivesItem journal_framing MAX_ENTRIES from to v w f) {t' : Option (List ℕ)} where
-    pub shown-line : selects choice f ≡ true → Appends t t' (entry_line style f)
-        → Shown style choice u w to s t' (count + 1)
+    pub shown-line : picks f ≡ true → Appends t t' (entry_line style f)
+        → Shown style picks u w to s t' (count + 1)
     shown-line chosen line = record {
       entries = h.entries ++ f ∷ [];
       sofar = sofar-next journal_sound h.sofar g;
       counted =
-          let more = ap length (one_selected choice f h.entries chosen) in
-          let all = length-append (selected choice h.entries) (f ∷ []) in
+          let more = ap length (one_picked picks f h.entries chosen) in
+          let all = length-append (filter picks h.entries) (f ∷ []) in
           omega (arith, h.counted, more, all);
       written =
-          subst (λ (x : List ℕ). Appends s t' x) (lines_more style choice h.entries f)
-          (Appends-trans s t t' (entry_lines style (selected choice h.entries))
-          (entry_lines style (selected choice (f ∷ []))) h.written
-          (subst (λ (x : List ℕ). Appends t t' x) (sym (just_line choice f style chosen)) line));
+          subst (λ (x : List ℕ). Appends s t' x) (lines_more style picks h.entries f)
+          (Appends-trans s t t' (entry_lines style (filter picks h.entries))
+          (entry_lines style (filter picks (f ∷ []))) h.written
+          (subst (λ (x : List ℕ). Appends t t' x) (sym (just_line picks f style chosen)) line));
     }
 
     -- a line was written in part
-    pub shown-part : AppendsPart t t' (entry_lines style (selected choice (f ∷ [])))
-        → ShowsPart style choice u w s t'
+    pub shown-part : AppendsPart t t' (entry_lines style (filter picks (f ∷ [])))
+        → ShowsPart style picks u w s t'
     shown-part part =
         let all = sofar-next journal_sound h.sofar g in
         of_entries (h.entries ++ f ∷ []) all.are_items
         (subst (Consumes u w) (read_some journal_framing all.are_items.told h.entries f) all.read)
-        (subst (λ (x : List ℕ). AppendsPart s t' x) (lines_more style choice h.entries f)
-        (AppendsPart-second s t t' (entry_lines style (selected choice h.entries))
-        (entry_lines style (selected choice (f ∷ []))) h.written part))
+        (subst (λ (x : List ℕ). AppendsPart s t' x) (lines_more style picks h.entries f)
+        (AppendsPart-second s t t' (entry_lines style (filter picks h.entries))
+        (entry_lines style (filter picks (f ∷ []))) h.written part))
 
   -- A fault after the entries.
   pub shown-fault : {w : Option (List ℕ)} {to : ReaderState Before} {f : ReadFault}
-      → GivesFault journal_framing MAX_ENTRIES from to v w f → ShowsUntil style choice u w s t f
+      → GivesFault journal_framing MAX_ENTRIES from to v w f → ShowsUntil style picks u w s t f
   shown-fault {w = w} {to = to} {f = f} g = record {
     entries = h.entries;
     are_items = h.sofar.are_items;
@@ -115,9 +129,9 @@ module _ {style : ShowStyle} {choice : Selection} {u v : Option (List ℕ)} {fro
 
   module _ {w : Option (List ℕ)} {to : ReaderState Before}
       (g : GivesEnd journal_framing from to v w) {t' : Option (List ℕ)} where
-    pub shown-all : Appends t t' (number_line style.form count) → ShowsAll style choice u s t'
+    pub shown-all : Appends t t' (number_line style.form count) → ShowsAll style picks u s t'
     shown-all line =
-        let chosen = selected choice h.entries in
+        let chosen = filter picks h.entries in
         record {
           entries = h.entries;
           journal = whole h.sofar g;
@@ -125,9 +139,9 @@ module _ {style : ShowStyle} {choice : Selection} {u v : Option (List ℕ)} {fro
               h.written (subst (λ n. Appends t t' (number_line style.form n)) h.counted line);
         }
 
-    pub shown-cut : AppendsPart t t' (number_line style.form count) → ShowsPart style choice u w s t'
+    pub shown-cut : AppendsPart t t' (number_line style.form count) → ShowsPart style picks u w s t'
     shown-cut part =
-        let chosen = selected choice h.entries in
+        let chosen = filter picks h.entries in
         of_journal h.entries (whole h.sofar g)
         (AppendsPart-second s t t' (entry_lines style chosen) (number_line style.form (length chosen)) h.written
         (subst (λ n. AppendsPart t t' (number_line style.form n)) h.counted part))
@@ -176,10 +190,10 @@ read_failures T {u = u} {v = v} {state = state} {es = es} {r = r} {f = f} number
 pub if_done : {A B : Type 0} (r : Result (Unit {0}) CommandFault) → (A → B) → OnOk r A → OnOk r B
 if_done x0 x1 x2 = search rules
 
-module _ {A : Type 0} (style : ShowStyle) (choice : Selection) where
+module _ {A : Type 0} (style : ShowStyle) (picks : Fact → Bool) where
   pub cut_short : (u v s t : Option (List ℕ)) (r : Result (Unit {0}) CommandFault)
-      → (A → ShowsPart style choice u v s t) → IfErr r (FailsToWrite A)
-      → IfErr r (ShowFails style choice u v s t)
+      → (A → ShowsPart style picks u v s t) → IfErr r (FailsToWrite A)
+      → IfErr r (ShowFails style picks u v s t)
   cut_short u v s t (Ok x) f a = tt
   cut_short u v s t (Err CannotWrite) f a = f a
   cut_short u v s t (Err x) f a = absurd a

@@ -5,3 +5,9 @@ pub mod FilledTurns
 pub mod ReadLines
 pub mod ListSteps
 pub mod Enough
+pub mod OneListing
+pub mod GapsRise
+pub mod PrintedLines
+pub mod OwnGaps
+pub mod NothingDiffers
+pub mod OwnAnswers

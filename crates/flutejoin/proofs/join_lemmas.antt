@@ -10,4 +10,5 @@ pub mod JoinStreams
 pub mod JoinStops
 pub mod JoinTrees
 pub mod ForgetJoins
+pub mod WithoutJoins
 pub mod MinusJoins

@@ -25,19 +25,19 @@ abbrev pub is_picked : Picked → Key → Bool
 is_picked p key =
     is_sender p.sender key.session.sender && takes (listed_tsis p.sessions) key.session.tsi
 
--- the facts of these objects
-abbrev pub picked_facts : Picked → List Fact → List Fact
-picked_facts p facts = filter (λ f. is_picked p (address f).key) facts
+-- the fact is of such an object
+abbrev pub picks_fact : Picked → Fact → Bool
+picks_fact p fact = is_picked p (address fact).key
 
--- A journal within the limits was read. Of the objects that are picked, and of no
+-- A journal within the limits was read. Of the objects of the facts that are picked, and of no
 -- others, there is a file for each that is whole, and a line for each; so many files were written.
-pub record ExtractsAll (most : Limits) (input left : Option (List ℕ)) (picked : Picked)
+pub record ExtractsAll (most : Limits) (input left : Option (List ℕ)) (picks : Fact → Bool)
     (old new : Option Places) (lines_old lines_new : Option (List ℕ)) (count : ℕ) : Type 0 where
   pub entries : List Fact
   pub journal : IfSome input (λ bytes. IsJournalWithin MAX_ENTRIES bytes entries)
   pub read : IsAtEnd left
   pub within : ¬ IsOver most entries
-  pub taken : TakesAll (picked_facts picked entries) count old new lines_old lines_new
+  pub taken : TakesAll (filter picks entries) count old new lines_old lines_new
 
 -- why it failed: as the lines of `gaps` are not written; the folder or the lines failed
 abbrev pub ExtractAllFails : Limits → Option (List ℕ) → Option (List ℕ) → CommandFault

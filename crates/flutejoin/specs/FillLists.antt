@@ -2,7 +2,7 @@
 use Rattle.std.specs.Prelude.{◌≡◌, ℕ, ◌+◌, ◌-◌, ◌<◌, ◌≤◌, ◌^◌, ◌&&◌, Bool, true, false, not, List}
 use Rattle.std.specs.Prelude.{[], ◌∷◌, ◌++◌, length, Option, Some, None, if◌then◌else◌, filter}
 use Rattle.std.specs.Prelude.{nat_eq, nat_le, ⊤, ◌⊎◌}
-use Rattle.std.specs.List.{flat_map, list_any}
+use Rattle.std.specs.List.{flat_map, list_any, AllByRecursion}
 use Rattle.std.specs.declared.cmp.Ordering.TheVariants.{Less}
 use Rattle.flute_parts.specs.Addresses.{address, info_address, symbol_address}
 use Rattle.flute_parts.specs.Order.{address_cmp, key_cmp, same_key}
@@ -69,10 +69,26 @@ unfoldable pub AreInOrder : Option ListedLine → List ListedLine → Type 0
 AreInOrder before [] = ⊤
 AreInOrder before (l ∷ lines) = MayCome before l × AreInOrder (Some l) lines
 
+abbrev pub HasCounts : Status → Type 0
+HasCounts NoInformation = ⊤
+HasCounts ConflictingInformation = ⊤
+HasCounts (Partial missing conflicting misfit) =
+    (missing < 2 ^ 64) × (conflicting < 2 ^ 64) × (misfit < 2 ^ 64)
+HasCounts (Whole length) = length < 2 ^ 64
+
+abbrev pub HasIds : Gap → Type 0
+HasIds gap = (gap.sbn < 2 ^ 16) × (gap.first < 2 ^ 16) × (gap.last < 2 ^ 16)
+
+-- its numbers are within their ranges
+abbrev pub IsListed : ListedLine → Type 0
+IsListed (ObjectLine key status) = IsKey key × HasCounts status
+IsListed (GapLine key gap) = HasIds gap
+
 -- these are the bytes of lines that `gaps` can print
 pub record IsListing (bytes : List ℕ) (lines : List ListedLine) : Type 0 where
   pub text : bytes ≡ flat_map text_of lines
   pub in_order : AreInOrder None lines
+  pub listed : AllByRecursion IsListed lines
 
 -- ---- what is asked for
 
@@ -125,21 +141,6 @@ abbrev pub asked : Asking → List ListedLine → List Fact → List Fact
 asked asking lines facts = filter (asks asking lines) facts
 
 -- ---- what is no line
-
-abbrev pub HasCounts : Status → Type 0
-HasCounts NoInformation = ⊤
-HasCounts ConflictingInformation = ⊤
-HasCounts (Partial missing conflicting misfit) =
-    (missing < 2 ^ 64) × (conflicting < 2 ^ 64) × (misfit < 2 ^ 64)
-HasCounts (Whole length) = length < 2 ^ 64
-
-abbrev pub HasIds : Gap → Type 0
-HasIds gap = (gap.sbn < 2 ^ 16) × (gap.first < 2 ^ 16) × (gap.last < 2 ^ 16)
-
--- its numbers are within their ranges
-abbrev pub IsListed : ListedLine → Type 0
-IsListed (ObjectLine key status) = IsKey key × HasCounts status
-IsListed (GapLine key gap) = HasIds gap
 
 -- the last of some lines, after that one
 abbrev pub last_of : Option ListedLine → List ListedLine → Option ListedLine

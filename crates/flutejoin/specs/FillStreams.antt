@@ -3,7 +3,7 @@ use Rattle.std.specs.Prelude.{◌≡◌, ◌⊎◌, ◌+◌, ◌-◌, ◌<◌, �
 use Rattle.std.specs.Prelude.{◌∷◌, ◌++◌, ⊤}
 use Rattle.std.specs.Prelude.{length, Option, Some, None, if◌then◌else◌, IfSome, MatchOption, Result}
 use Rattle.std.specs.Prelude.{Err, codes}
-use Rattle.std.specs.List.{flat_map}
+use Rattle.std.specs.List.{flat_map, AllByRecursion}
 use Rattle.std.specs.Io.KnownBytes.{Consumes, IsAtEnd, Keeps}
 use Rattle.std.specs.Ordering.{is_le, is_lt}
 use Rattle.flute_parts.specs.Addresses.{address}
@@ -156,7 +156,7 @@ module _ {R : Type 0} (unread : R → Option (List ℕ)) (failures : R → ℕ) 
   ReadsNext old new (Held l) =
       MayCome (before_of old.last) l
       × Consumes (unread old.source) (unread new.source) (text_of l)
-      × (new.number ≡ old.number + 1)
+      × (new.number ≡ old.number + 1) × IsListed l
 
   -- why no next line was read
   abbrev pub NoNext : GapList R → GapList R → GapListFault → Type 0
@@ -171,6 +171,7 @@ module _ {R : Type 0} (unread : R → Option (List ℕ)) (failures : R → ℕ) 
     pub read : Consumes (unread start.source) (unread now.source)
         (flat_map text_of (passed ++ line_of now.last))
     pub in_order : AreInOrder None (passed ++ line_of now.last)
+    pub listed : AllByRecursion IsListed (passed ++ line_of now.last)
     pub number_is : now.number ≡ length (passed ++ line_of now.last)
     pub fails : failures now.source ≡ failures start.source
     pub unread_yet : now.last ≡ Unread → passed ≡ []

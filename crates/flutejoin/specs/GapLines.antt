@@ -3,7 +3,7 @@ use Rattle.std.specs.Prelude.{◌≡◌, ℕ, Bool, true, false, List, [], ◌++
 use Rattle.std.specs.List.{flat_map}
 use Rattle.flute_parts.specs.Information.{Information}
 use Rattle.flute_store.specs.declared.gap.Gap.{Gap}
-use Rattle.flutejoin.specs.Listing.{AreClosed, AreFew, Knows}
+use Rattle.flutejoin.specs.Listing.{AreClosed, AreSumsWithin, Knows}
 use Rattle.flutejoin.specs.Ranges.{one_range, range_line, ranges}
 use Rattle.flutejoin.specs.Styles.{gap_line_in, shown}
 use Rattle.flutejoin.specs.Told.{Told}
@@ -35,7 +35,7 @@ pub record HasLines {A : Type 0} (written : A → Option (List ℕ)) (known : Bo
     (v : GapLines A) : Type 0 where
   pub lines : List ℕ
   pub closed_are : AreClosed v.style objects lines v.closed
-  pub few : AreFew (length objects) v.closed.sums
+  pub few : AreSumsWithin (length objects) v.closed.sums
   pub lines_known : Knows known (written v.lines.now) lines
   pub gaps : List ℕ
   pub gaps_are : AreOpen v.style.form info v.style.ranges (shown v.style given) gaps v.ranges

@@ -1,30 +1,28 @@
 -- What the command `gaps` returns and writes, given a journal.
-use Rattle.std.specs.Prelude.{ℕ, ◌⊎◌, List, Option, IfSome}
+use Rattle.std.specs.Prelude.{ℕ, ◌⊎◌, Bool, List, Option, IfSome, filter}
 use Rattle.std.specs.Io.KnownBytes.{Consumes, IsAtEnd}
 use Rattle.flute_parts.specs.declared.fact.Fact.{Fact}
 use Rattle.flute_journal.specs.Frame.{AreItems}
 use Rattle.flute_journal.specs.Framing.{read_of}
 use Rattle.flute_journal.specs.Journal.{IsJournalWithin, journal_frame}
 use Rattle.flute_journal.specs.JournalFraming.{journal_framing}
-use Rattle.flute_streams.specs.declared.choice.selection.Selection.{Selection}
 use Rattle.flutejoin.specs.declared.limits.TheConstants.{MAX_ENTRIES}
 use Rattle.flutejoin.specs.declared.command_fault.CommandFault.{CommandFault}
 use Rattle.flutejoin.specs.declared.command_fault.CommandFault.TheVariants.{OutOfMemory}
 use Rattle.flutejoin.specs.declared.command_fault.CommandFault.TheVariants.{CannotWrite}
 use Rattle.flutejoin.specs.Load.{LoadFails}
-use Rattle.flutejoin.specs.Selected.{selected}
 use Rattle.flutejoin.specs.Limits.{Limits, IsOver}
 use Rattle.flutejoin.specs.Told.{AreTold, Told}
 
 -- the input is a journal within the limits, and P holds of the report of its objects, of which
--- only what is selected counts
-pub record ListsJournal (most : Limits) (s : Selection) (input : Option (List ℕ))
+-- only what is picked counts
+pub record ListsJournal (most : Limits) (picks : Fact → Bool) (input : Option (List ℕ))
     (P : List Told → Type 0) : Type 0 where
   pub entries : List Fact
   pub journal : IfSome input (λ bytes. IsJournalWithin MAX_ENTRIES bytes entries)
   pub within : ¬ IsOver most entries
   pub objects : List Told
-  pub told : AreTold (selected s entries) objects
+  pub told : AreTold (filter picks entries) objects
   pub so : P objects
 
 -- entries within the limits were read, and nothing after them but the end

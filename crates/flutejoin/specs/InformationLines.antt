@@ -55,8 +55,8 @@ pub record ListIsOver (most : Limits) (bytes : List ℕ) : Type 0 where
 
 -- why a list contains no facts: its first line at fault, or its facts
 pub data ListFails (most : Limits) (bytes : List ℕ) (fault : CommandFault) : Type 0 where
-  bad : (number : ℕ) → fault ≡ ListLine number → HasBadLine LineTells TellsNothing bytes number
-      → ListFails most bytes fault
+  bad : (number : ℕ) → fault ≡ ListLine number
+      → HasBadLine LineTells TellsNothing bytes number → ListFails most bytes fault
   invalid : (number : ℕ) (why : InfoFault) → fault ≡ ListInformation number why
       → HasLine LineTells (TellsInvalid why) bytes number → ListFails most bytes fault
   over : fault ≡ Full → ListIsOver most bytes → ListFails most bytes fault

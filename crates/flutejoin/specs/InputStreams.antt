@@ -4,10 +4,10 @@ use Rattle.flute_parts.specs.declared.fact.Fact.{Fact}
 use Rattle.flute_streams.specs.declared.streams.chosen.Chosen.{Chosen}
 use Rattle.flute_journal.specs.declared.fault.LoadFault.{LoadFault}
 use Rattle.flute_streams.specs.declared.streams.owned_journal_stream.OwnedJournalStream.{OwnedJournalStream}
-use Rattle.flute_streams.specs.declared.choice.scope.Scope.{Scope}
+use Rattle.flute_streams.specs.declared.choice.objects.Objects.{Objects}
 use Rattle.flute_streams.specs.ChosenStreams.{chosen_behaviour}
 use Rattle.flute_streams.specs.OwnedStreams.{left_in, owned_behaviour}
-use Rattle.flute_streams.specs.Scopes.{of_scope}
+use Rattle.flute_streams.specs.Objects.{of_objects}
 use Rattle.flute_streams.specs.Streams.{Behaviour}
 use Rattle.flutejoin.specs.declared.join.join_input.JoinInput.{JoinInput}
 use Rattle.flutejoin.specs.declared.join.join_input.JoinInput.TheVariants.{Journal, Datagrams}
@@ -17,7 +17,7 @@ use Rattle.flutejoin.specs.JoinInputs.{buffer_of, left}
 
 -- a journal of which some objects are taken
 abbrev pub JournalInput : Type 0 → Type 0
-JournalInput R = Chosen (OwnedJournalStream (PeekedSource R)) Scope
+JournalInput R = Chosen (OwnedJournalStream (PeekedSource R)) Objects
 
 -- how many entries of an input were passed over
 abbrev pub passed_over : {R : Type 0} → JoinInput R → ℕ
@@ -36,7 +36,7 @@ module _ {R : Type 0} (unread : R → Option (List ℕ)) (buffered : R → List 
     -- what is said of a journal as a stream
     abbrev pub journal_behaviour : Behaviour (JournalInput R)
     journal_behaviour =
-        chosen_behaviour of_scope
+        chosen_behaviour of_objects
         (owned_behaviour (left unread) (buffer_of buffered) (λ source. failures source.source))
 
     -- the entry that an input holds: no other than a journal holds any

@@ -5,7 +5,7 @@ use Rattle.std.specs.Prelude.{true, false, if◌then◌else◌, ⊤, ◌⊎◌}
 use Rattle.std.specs.List.{flat_map, count_by, sum_by, AllByRecursion}
 use Rattle.flute_parts.specs.Facts.{Same}
 use Rattle.flute_parts.specs.declared.fact.Fact.{Fact}
-use Rattle.flute_streams.specs.Scopes.{takes_key}
+use Rattle.flute_streams.specs.Objects.{is_taken}
 use Rattle.flute_journal.specs.Records.{IsFileWithin}
 use Rattle.flute_journal.specs.FileFraming.{file_framing}
 use Rattle.flute_journal.specs.Framing.{HasFault}
@@ -126,10 +126,13 @@ NamesOnly number (UnknownKind told) = told ≡ number
 NamesOnly number CannotWrite = ⊥
 NamesOnly number _ = ⊤
 
--- an input is of no known kind, or a datagram file that was not held
+-- an input is of no known kind, or a datagram file that was not held, or a journal for which there
+-- was no memory
 pub data InspectionFails (number : ℕ) (bytes : List ℕ) (fault : CommandFault) : Type 0 where
   of_kind : fault ≡ UnknownKind number → IsNeither bytes → InspectionFails number bytes fault
   of_file : HasKind kinds.Datagrams bytes → FileFails number (Some bytes) fault
+      → InspectionFails number bytes fault
+  of_journal : HasKind kinds.Journal bytes → fault ≡ OutOfMemory
       → InspectionFails number bytes fault
 
 -- an inspection failed, and all inputs before that one are known
@@ -145,7 +148,7 @@ module _ {R : Type 0} (unread : R → Option (List ℕ)) (buffered : R → List 
   IsInspected choice (Journal journal) bytes datagrams =
       (datagrams ≡ []) × HasKind kinds.Journal bytes
       × (left_of_journal unread buffered journal ≡ Some bytes)
-      × (takes_key journal.choice ≡ choice.takes)
+      × (is_taken journal.choice ≡ choice.takes)
   IsInspected choice (Datagrams source) bytes datagrams =
       IsFileWithin MAX_ENTRIES bytes datagrams
   IsInspected choice Unknown bytes datagrams = ⊥

@@ -1,13 +1,16 @@
 -- What the inputs of several stations contain together.
 use Rattle.std.specs.Prelude.{ℕ, List, [], ◌∷◌, Option, Some, None, Bool, true, false, not}
 use Rattle.std.specs.List.{flat_map, count_by}
+use Rattle.std.specs.BTreeSet.{BTreeSet}
 use Rattle.flute_parts.specs.declared.fact.Fact.{Fact}
 use Rattle.flute_parts.specs.declared.key.Key.{Key}
 use Rattle.flute_wire.specs.Content.{Content}
 use Rattle.flute_wire.specs.Facts.{key_of}
 use Rattle.flute_wire.specs.Reading.{packet, facts}
 use Rattle.flute_journal.specs.Journal.{IsJournalWithin}
-use Rattle.flute_streams.specs.Scopes.{takes_key, chosen, others_in}
+use Rattle.flute_streams.specs.Objects.{listed, takes_without}
+use Rattle.flute_streams.specs.Scopes.{chosen, others_in}
+use Rattle.flute_streams.specs.declared.choice.objects.Objects.{Objects}
 use Rattle.flute_streams.specs.declared.choice.scope.Scope.{Scope}
 use Rattle.flute_journal.specs.Records.{IsFileWithin}
 use Rattle.flutejoin.specs.Limits.{Limits, limits_of}
@@ -25,9 +28,14 @@ pub record Choice : Type 0 where
   pub sender : ℕ
   pub takes : Key → Bool
 
+-- this sender, and the objects of a scope that are not listed, within limits
+abbrev pub choice_without : Limits → ℕ → Scope → Option (BTreeSet Key) → Choice
+choice_without most sender scope without =
+    record { most = most; sender = sender; takes = takes_without without scope }
+
 -- this sender and these objects, within limits
-abbrev pub choice_of : Limits → ℕ → Scope → Choice
-choice_of most sender scope = record { most = most; sender = sender; takes = takes_key scope }
+abbrev pub choice_of : Limits → ℕ → Objects → Choice
+choice_of most sender objects = choice_without most sender objects.scope (listed objects)
 
 -- all objects, within the limits of a store
 abbrev pub everything : ℕ → Choice

@@ -37,7 +37,8 @@ NamesNone words =
 -- the objects that a line names: none, or one
 pub data LineNames (words : List ℕ) (keys : List Key) : Type 0 where
   none : NamesNone words → keys ≡ [] → LineNames words keys
-  one : (key : Key) → IsKey key → Names words key → keys ≡ key ∷ [] → LineNames words keys
+  one : (key : Key) → IsKey key → Names words key → keys ≡ key ∷ []
+      → LineNames words keys
 
 -- a line that is neither
 pub record IsNoName (words : List ℕ) : Type 0 where
@@ -62,7 +63,8 @@ KeyListFails bytes OutOfMemory = ⊤
 KeyListFails bytes _ = ⊥
 
 -- the objects of so many lines but one of a list are in a set
-pub record HoldsKeys (all left : Option (List ℕ)) (number : ℕ) (keys : BTreeSet Key) : Type 0 where
+pub record HoldsKeys (all left : Option (List ℕ)) (number : ℕ) (keys : BTreeSet Key)
+    : Type 0 where
   pub named : List Key
   pub read : HasRead LineNames all left number named
   pub keys_are : HasKeys keys named

@@ -51,11 +51,14 @@ pub mod JoinFaults
 pub mod HeldSizes
 pub mod JoinParts
 pub mod JoinTrees
+pub mod JoinWithout
 pub mod Info
 pub mod InformationLines
 pub mod InfoLists
 pub mod Listing
 pub mod Gaps
+pub mod OwnGaps
+pub mod FillExamples
 pub mod ExtractAll
 pub mod FileNames
 pub mod ObjectFiles

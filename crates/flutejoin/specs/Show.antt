@@ -1,6 +1,6 @@
 -- What the command `show` returns and writes.
 use Rattle.std.specs.Prelude.{◌≡◌, ℕ, Bool, true, false, List, ◌++◌, length, codes}
-use Rattle.std.specs.Prelude.{Option, Result, Err, IfSome}
+use Rattle.std.specs.Prelude.{Option, Result, Err, IfSome, filter}
 use Rattle.std.specs.List.{flat_map}
 use Rattle.std.specs.Io.KnownBytes.{Appends, Consumes}
 use Rattle.flute_parts.specs.Devices.{AppendsPart}
@@ -11,14 +11,12 @@ use Rattle.flute_journal.specs.Input.{Fails}
 use Rattle.flute_journal.specs.Frame.{AreItems}
 use Rattle.flute_journal.specs.Journal.{IsJournalWithin, journal_frame}
 use Rattle.flute_journal.specs.Whole.{StopsAfter}
-use Rattle.flute_streams.specs.declared.choice.selection.Selection.{Selection}
 use Rattle.flutejoin.specs.declared.limits.TheConstants.{MAX_ENTRIES}
 use Rattle.flutejoin.specs.declared.lines.form.Form.{Form}
 use Rattle.flutejoin.specs.declared.lines.form.Form.TheVariants.{Plain, Json}
 use Rattle.flutejoin.specs.declared.lines.show_style.ShowStyle.{ShowStyle}
 use Rattle.flutejoin.specs.Json.{json_count_line, json_fact_line}
 use Rattle.flutejoin.specs.Lines.{fact_line, entries_line}
-use Rattle.flutejoin.specs.Selected.{selected}
 use Rattle.flutejoin.specs.SymbolSums.{summed_line}
 use Rattle.flutejoin.specs.declared.command_fault.CommandFault.{CommandFault}
 use Rattle.flutejoin.specs.declared.command_fault.CommandFault.TheVariants.{Input, CannotWrite}
@@ -45,41 +43,41 @@ entry_lines style entries = flat_map (entry_line style) entries
 abbrev pub shown_lines : ShowStyle → List Fact → List ℕ
 shown_lines style entries = entry_lines style entries ++ number_line style.form (length entries)
 
--- a journal of these entries was read, and all lines of those that are selected were written
-pub record ShowsAll (style : ShowStyle) (s : Selection) (input old new : Option (List ℕ))
+-- a journal of these entries was read, and all lines of those that are picked were written
+pub record ShowsAll (style : ShowStyle) (picks : Fact → Bool) (input old new : Option (List ℕ))
     : Type 0 where
   pub entries : List Fact
   pub journal : IfSome input (λ bytes. IsJournalWithin MAX_ENTRIES bytes entries)
-  pub written : Appends old new (shown_lines style (selected s entries))
+  pub written : Appends old new (shown_lines style (filter picks entries))
 
--- the lines of the selected entries that were read before a fault were written, and no more
-pub record ShowsUntil (style : ShowStyle) (s : Selection) (input left old new : Option (List ℕ))
-    (fault : ReadFault) : Type 0 where
+-- the lines of the picked entries that were read before a fault were written, and no more
+pub record ShowsUntil (style : ShowStyle) (picks : Fact → Bool)
+    (input left old new : Option (List ℕ)) (fault : ReadFault) : Type 0 where
   pub entries : List Fact
   pub are_items : AreItems journal_frame MAX_ENTRIES entries
   pub stops : StopsAfter MAX_ENTRIES entries input left fault
-  pub written : Appends old new (entry_lines style (selected s entries))
+  pub written : Appends old new (entry_lines style (filter picks entries))
 
--- a proper prefix of the lines was written: of the selected entries that were read, or of those
+-- a proper prefix of the lines was written: of the picked entries that were read, or of those
 -- of a whole journal
-pub data ShowsPart (style : ShowStyle) (s : Selection) (input left old new : Option (List ℕ))
-    : Type 0 where
+pub data ShowsPart (style : ShowStyle) (picks : Fact → Bool)
+    (input left old new : Option (List ℕ)) : Type 0 where
   of_entries : (entries : List Fact) → (a : AreItems journal_frame MAX_ENTRIES entries)
       → Consumes input left (without_end_in a.told entries)
-      → AppendsPart old new (entry_lines style (selected s entries))
-      → ShowsPart style s input left old new
+      → AppendsPart old new (entry_lines style (filter picks entries))
+      → ShowsPart style picks input left old new
   of_journal : (entries : List Fact)
       → IfSome input (λ bytes. IsJournalWithin MAX_ENTRIES bytes entries)
-      → AppendsPart old new (shown_lines style (selected s entries))
-      → ShowsPart style s input left old new
+      → AppendsPart old new (shown_lines style (filter picks entries))
+      → ShowsPart style picks input left old new
 
 -- why it failed, and what was written
-abbrev pub ShowFails : ShowStyle → Selection → Option (List ℕ) → Option (List ℕ)
+abbrev pub ShowFails : ShowStyle → (Fact → Bool) → Option (List ℕ) → Option (List ℕ)
     → Option (List ℕ) → Option (List ℕ) → CommandFault → Type 0
-ShowFails style s input left old new (Input number fault) =
-    (number ≡ 1) × ShowsUntil style s input left old new fault
-ShowFails style s input left old new CannotWrite = ShowsPart style s input left old new
-ShowFails style s input left old new _ = ⊥
+ShowFails style picks input left old new (Input number fault) =
+    (number ≡ 1) × ShowsUntil style picks input left old new fault
+ShowFails style picks input left old new CannotWrite = ShowsPart style picks input left old new
+ShowFails style picks input left old new _ = ⊥
 
 -- how often the source failed in a command that gave this: only if an input was at fault
 abbrev pub FailsToRead : {T : Type 0} → ℕ → ℕ → Result T CommandFault → Type 0

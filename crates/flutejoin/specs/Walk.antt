@@ -1,6 +1,6 @@
 -- A walk over the objects of facts that come in the order of their addresses.
-use Rattle.std.specs.Prelude.{◌≡◌, ◌≤◌, ℕ, Bool, List, [], ◌∷◌, ◌++◌, Contains, Option, Some, None}
-use Rattle.std.specs.Prelude.{IfSome, filter, length}
+use Rattle.std.specs.Prelude.{◌≡◌, ◌≤◌, ℕ, List, [], ◌∷◌, ◌++◌, Contains, Option, Some, None}
+use Rattle.std.specs.Prelude.{length}
 use Rattle.std.specs.Borrow.{Bor}
 use Rattle.flute_parts.specs.Addresses.{address}
 use Rattle.flute_parts.specs.Facts.{IsRising}
@@ -8,12 +8,10 @@ use Rattle.flute_parts.specs.declared.address.Part.TheVariants.{Info as InfoPart
 use Rattle.flute_parts.specs.declared.key.Key.{Key}
 use Rattle.flute_parts.specs.declared.fact.Fact.{Fact}
 use Rattle.flute_parts.specs.declared.fact.Fact.TheVariants.{InfoConflict}
-use Rattle.flute_journal.specs.Journal.{IsJournalWithin}
 use Rattle.flute_store.specs.declared.status.Status.{Status}
 use Rattle.flute_store.specs.Scan.{Scanned}
 use Rattle.flute_store.specs.Scans.{ScanState, Scans}
 use Rattle.flute_store.specs.Status.{TellsStatus}
-use Rattle.flutejoin.specs.Limits.{Limits, IsOver}
 use Rattle.flutejoin.specs.Listing.{IsFirstOf}
 use Rattle.flutejoin.specs.Progress.{EndsAs, IsBroken, Progress, progress_of}
 use Rattle.flutejoin.specs.Told.{AreTold, Told, conflicts_of, told_of}
@@ -102,14 +100,3 @@ module _ {At V : Type 0} (Has : At → List Told → Option Progress → V → T
 -- how much is held of the object, and that all was told of it
 abbrev pub TellsAll : List Fact → Key → Status → Option Progress → Type 0
 TellsAll F key status progress = TellsStatus F key status × EndsAs (told_of F key) progress
-
--- the input is a journal within the limits, and P holds of the report of its objects, of which
--- only what is picked counts
-pub record TellsJournal (most : Limits) (picks : Fact → Bool) (input : Option (List ℕ))
-    (P : List Told → Type 0) : Type 0 where
-  pub entries : List Fact
-  pub journal : IfSome input (λ bytes. IsJournalWithin MAX_ENTRIES bytes entries)
-  pub within : ¬ IsOver most entries
-  pub objects : List Told
-  pub told : AreTold (filter picks entries) objects
-  pub so : P objects

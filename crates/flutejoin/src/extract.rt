@@ -21,7 +21,7 @@ pub(crate) mod picked;
 use crate::command_fault::{CommandFault, load_fault};
 use crate::extract::object_writer::ObjectWriter;
 use crate::limits::MAX_ENTRIES;
-use flute_journal::{JournalReader, LoadFault};
+use flute_journal::{HeldEntry, JournalReader, LoadFault};
 use flute_parts::{Key, Sink, Source, Tally};
 use std::alloc::Global;
 
@@ -95,13 +95,15 @@ fn read_into<const SESSIONS: u32, const OBJECTS: u32, const SYMBOLS: u32, R: Sou
         + times_failed writer.new.failed }
 {
     let mut tally = Tally::<SESSIONS, OBJECTS, SYMBOLS>::new();
-    let mut spare = Vec::new(alloc);
-    while let Some(fact) = reader.next_with(alloc, spare)? {
+    let mut held = HeldEntry::Nothing;
+    loop {
+        reader.next_into(alloc, &mut held)?;
+        let Some(fact) = held.fact(reader.buffer()) else {
+            return Ok(());
+        };
         if !tally.count(&fact.address()) {
             return Err(LoadFault::Full);
         }
         writer.pass(&fact, sink);
-        spare = fact.into_vec(alloc);
     }
-    Ok(())
 }

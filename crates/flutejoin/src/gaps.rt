@@ -23,17 +23,16 @@ use crate::gaps::closed_objects::ClosedObjects;
 use crate::gaps::gap_lines::GapLines;
 use crate::gaps::open_ranges::OpenRanges;
 use crate::lines::style::Style;
+use crate::picks::Picks;
 use crate::walk::walk_objects;
 use flute_parts::{Sink, Source};
-use flute_streams::Selection;
 use std::alloc::Global;
 
-/// Writes how much the selected entries of the journal that the source gives, of at most
+/// Writes how much the picked entries of the journal that the source gives, of at most
 /// 16,777,216 entries, hold of each of their objects, in the order of the keys: a line for the
 /// object, and if some symbols are missing, in conflict or of a length that does not fit, a line
 /// for each longest run of those; or what the style has in place of that, whose `check` changes
-/// nothing here. Returns whether all objects that are listed are whole. A selection of objects
-/// takes all of them or nothing.
+/// nothing here. Returns whether all objects that are listed are whole.
 /// One entry is held. The lines are put aside as `lines`, and those of the gaps of one object as
 /// `gap_lines`, both of which are empty at first; they are written once the whole journal was read.
 ///
@@ -50,12 +49,13 @@ pub fn gaps_from<
     const OBJECTS: u32,
     const SYMBOLS: u32,
     R: Source,
+    P: Picks,
     A: Aside,
     W: Sink,
 >(
     alloc: Global,
     source: &mut R,
-    selection: &Selection,
+    picks: &P,
     style: Style,
     lines: &mut A,
     gap_lines: &mut A,
@@ -63,7 +63,7 @@ pub fn gaps_from<
 ) -> Result<bool, CommandFault>
     ensures printed { A.written lines.old ≡ Some [] → A.written gap_lines.old ≡ Some []
         → IfOk result (λ all_whole. ListsJournal (at_most SESSIONS OBJECTS SYMBOLS)
-        selection.now (R.unread source.old)
+        (P.picks picks.now) (R.unread source.old)
         (λ objects. Appends (W.written sink.old) (W.written sink.new) (printed style objects)
         × (all_whole ≡ are_whole style objects))) }
     ensures end { OnOk result (IsAtEnd (R.unread source.new)) }
@@ -71,7 +71,7 @@ pub fn gaps_from<
         (R.unread source.old) (R.unread source.new)) }
     ensures part { A.written lines.old ≡ Some [] → A.written gap_lines.old ≡ Some []
         → IfErr result (λ fault. fault ≡ CannotWrite → (sink.new ≡ sink.old)
-        ⊎ ListsJournal (at_most SESSIONS OBJECTS SYMBOLS) selection.now
+        ⊎ ListsJournal (at_most SESSIONS OBJECTS SYMBOLS) (P.picks picks.now)
         (R.unread source.old)
         (λ objects. AppendsPart (W.written sink.old) (W.written sink.new)
         (printed style objects))) }
@@ -91,6 +91,6 @@ pub fn gaps_from<
         lines,
         gap_lines,
     };
-    walk_objects::<SESSIONS, OBJECTS, SYMBOLS, _, _, _>(alloc, source, selection, &mut listed)?;
+    walk_objects::<SESSIONS, OBJECTS, SYMBOLS, _, _, _>(alloc, source, picks, &mut listed)?;
     Ok(listed.finish(sink)?)
 }

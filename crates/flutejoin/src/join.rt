@@ -29,6 +29,7 @@ pub(crate) mod joined;
 pub(crate) mod peeked_source;
 pub(crate) mod reasons;
 pub(crate) mod runs;
+pub(crate) mod without;
 
 use crate::aside::Asides;
 use crate::command_fault::{CommandFault, load_fault};
@@ -40,7 +41,7 @@ use crate::nothing::Nothing;
 use flute_parts::{Sender, Sink, Source};
 use flute_store::Store;
 use flute_streams::{
-    Chained, MergedJournal, OwnedJournalStream, Scope, Stream, WalkStream, join_streams,
+    Chained, MergedJournal, Objects, OwnedJournalStream, Stream, WalkStream, join_streams,
 };
 use std::alloc::Global;
 
@@ -84,7 +85,7 @@ pub fn join_to<
     asides: &mut A,
     memory: u64,
     sender: Sender,
-    scope: &Scope,
+    objects: &Objects,
     inputs: &mut [JoinInput<R>],
     sink: &mut W,
 ) -> Result<JoinCounts, CommandFault>
@@ -93,12 +94,12 @@ pub fn join_to<
     ensures joined { A.tells asides.old ≡ true
         → (contents : List (List ℕ)) → AreInputs R.unread inputs.old contents
         → IfOk result
-        (λ counts. JoinsTo (choice_of (at_most SESSIONS OBJECTS SYMBOLS) sender scope.now)
+        (λ counts. JoinsTo (choice_of (at_most SESSIONS OBJECTS SYMBOLS) sender objects.now)
         contents counts (W.written sink.old) (W.written sink.new)) }
     ensures failed { A.tells asides.old ≡ true
         → (contents : List (List ℕ)) → AreInputs R.unread inputs.old contents
         → IfErr result (JoinToFails
-        (choice_of (at_most SESSIONS OBJECTS SYMBOLS) sender scope.now) contents) }
+        (choice_of (at_most SESSIONS OBJECTS SYMBOLS) sender objects.now) contents) }
     ensures short { IfErr result
         (λ _. AppendsNoJournal (W.written sink.old) (W.written sink.new)) }
     ensures kept { IfErr result (λ fault. fault ≡ OutOfMemory → sink.new ≡ sink.old) }
@@ -112,7 +113,7 @@ pub fn join_to<
     ensures made { Makes (A.made asides.old) (A.made asides.new) result }
 {
     let mut held: HeldFiles<SESSIONS, OBJECTS, SYMBOLS, R> = inspect_all(
-        alloc, asides, memory, sender, scope, inputs,
+        alloc, asides, memory, sender, objects, inputs,
     )?;
     if !held.fits {
         // The fault of a journal comes before this.

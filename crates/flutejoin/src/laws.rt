@@ -3,15 +3,18 @@ ghost use Rattle.std.specs.Prelude.{◌≡◌, ℕ, List, [], ◌∷◌, ◌++�
 ghost use Rattle.flute_parts.specs.Facts.{Below, Same};
 ghost use Rattle.flute_parts.specs.declared.fact.Fact.{Fact as Known};
 ghost use Rattle.flute_parts.specs.declared.key.Key.{Key};
-ghost use Rattle.flute_journal.specs.Journal.{Journal, IsJournal};
+ghost use Rattle.flute_journal.specs.Journal.{Journal, IsJournal, IsJournalWithin};
 ghost use Rattle.flute_journal.specs.Stores.{IsJournalOf};
-ghost use Rattle.flutejoin.specs.FillLists.{IsListing, asked};
+ghost use Rattle.flutejoin.specs.FillLists.{IsListing, asked, asks};
 ghost use Rattle.flutejoin.specs.Laws.{AreLeft, HaveTheRest, IsAnswer};
 ghost use Rattle.flutejoin.specs.Laws.{IsMinus, IsOfObjects, Leaves};
+ghost use Rattle.flutejoin.specs.OwnGaps.{AreAlike, AreHeldOrAsked, AreWithin, AsksFor};
+ghost use Rattle.flutejoin.specs.OwnGaps.{IsAnswerTo, IsGaps};
 ghost use Rattle.flutejoin.specs.Joined.{Choice, InputContent, TellAll, content_facts};
 ghost use Rattle.flutejoin.specs.JoinTrees.{Joined, Inputs, AreMade, bytes_of, leaf_facts};
 ghost use Rattle.flute_streams.specs.declared.choice.selection.AllBut.{AllBut as Rest};
 ghost use Rattle.flutejoin.specs.declared.fill.asking.Asking.{Asking as AskingValue};
+ghost use Rattle.flutejoin.specs.declared.fill.asking.Asking.TheVariants.{All as AskAll};
 ghost use Rattle.flutejoin.specs.declared.fill.listed_line.ListedLine.{ListedLine as LineValue};
 ghost use Rattle.flutejoin.specs.declared.forget.ForgetCounts.{ForgetCounts as Counts};
 ghost use Rattle.flutejoin.specs.declared.limits.TheConstants.{MAX_ENTRIES};
@@ -113,6 +116,42 @@ pub fn an_answer_is_enough_for_a_join()
         (held : List Known) → IsJournal asker held → IsAnswer asking journal lines answer count
         → ((listed : List LineValue) (facts : List Known) → IsListing lines listed
         → IsJournal journal facts → HaveTheRest asking listed facts held)
+        → Joined choice (asker ∷ answer ∷ others) bs
+        → Joined choice (asker ∷ journal ∷ others) cs → bs ≡ cs }
+{
+    // By this the proof knows that a datagram file contains one list of datagrams.
+    bytes_are_a_file_or_stop();
+}
+
+/// What `fill` writes by what `gaps` printed of the asker's own journal, or of some of its objects,
+/// is all that a join of that journal with it needs.
+///
+/// - `listing`: what `gaps` prints without options, or with those that select objects, is read by
+///   `fill`, and in one way.
+/// - `asked`: by that a fact is asked for, if of its object no information is held; if one is held,
+///   and its symbol is of the partition, and nothing of that is held; or if the information is in
+///   conflict, and the fact is of a symbol.
+/// - `enough`: if the asker has the value of each fact of the other journal, or asks for it so, the
+///   answer stands for that journal in a join after the asker's: the bytes are equal.
+/// - `compared`: so it is if `compare` finds nothing that differs, and no symbol that the asker
+///   lacks is outside a partition that it knows.
+pub fn an_answer_to_own_gaps_is_enough()
+    ensures listing { (asker lines : List ℕ) → IsGaps asker lines → (listed : List LineValue)
+        × IsListing lines listed
+        × ((others : List LineValue) → IsListing lines others → others ≡ listed) }
+    ensures asked { (asker lines : List ℕ) (listed : List LineValue) (held : List Known)
+        (f : Known) → IsGaps asker lines → IsListing lines listed
+        → IsJournalWithin MAX_ENTRIES asker held → AsksFor held f
+        → asks AskAll listed f ≡ true }
+    ensures enough { (choice : Choice) (asker journal answer bs cs : List ℕ)
+        (others : List (List ℕ)) (held facts : List Known) → IsAnswerTo asker journal answer
+        → IsJournalWithin MAX_ENTRIES asker held → IsJournalWithin MAX_ENTRIES journal facts
+        → AreHeldOrAsked held facts → Joined choice (asker ∷ answer ∷ others) bs
+        → Joined choice (asker ∷ journal ∷ others) cs → bs ≡ cs }
+    ensures compared { (choice : Choice) (asker journal answer bs cs : List ℕ)
+        (others : List (List ℕ)) (held facts : List Known) → IsAnswerTo asker journal answer
+        → AreAlike asker journal → IsJournalWithin MAX_ENTRIES asker held
+        → IsJournalWithin MAX_ENTRIES journal facts → AreWithin held facts
         → Joined choice (asker ∷ answer ∷ others) bs
         → Joined choice (asker ∷ journal ∷ others) cs → bs ≡ cs }
 {

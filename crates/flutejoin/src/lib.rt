@@ -12,7 +12,7 @@
 //!     &mut NoAsides::new(),
 //!     u64::MAX,
 //!     Sender::new(0),
-//!     &Scope::all(),
+//!     &Objects::of(Scope::all()),
 //!     &mut inputs,
 //!     sink,
 //! )?;
@@ -39,6 +39,7 @@ mod next_entry;
 mod nothing;
 mod output_guard;
 mod packet;
+mod picks;
 mod sender;
 mod show;
 mod walk;
@@ -66,12 +67,14 @@ pub use join::join_to;
 pub use join::joined::{Joined, JoinedShelf};
 pub use join::peeked_source::PeekedSource;
 pub use join::reasons::Reasons;
+pub use join::without::{a_join_without_objects_writes_what_is_left, objects_without};
 pub use limits::{
     ANY_OBJECTS, ANY_SESSIONS, ANY_SYMBOLS, DEFAULT_MEMORY, MAX_ENTRIES, MAX_INPUTS, MAX_MEMORY,
     MAX_OBJECTS, MAX_SESSIONS, MAX_SYMBOLS,
 };
 pub use lines::compare_style::CompareStyle;
 pub use lines::form::Form;
+pub use lines::key_list::read_keys;
 pub use lines::report::Report;
 pub use lines::report_lines::{count_to, write_words};
 pub use lines::show_style::ShowStyle;
@@ -82,5 +85,6 @@ pub use minus::{MinusInput, minus_input, minus_to};
 pub use nothing::Nothing;
 pub use output_guard::Overwrites;
 pub use packet::packet_to;
+pub use picks::{Listed, Picks};
 pub use sender::{sender_in, sender_of};
 pub use show::show_to;

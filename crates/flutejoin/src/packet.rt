@@ -10,7 +10,7 @@ ghost use Rattle.flutejoin.specs.Packet.{HasLines, FailsWith, packet_lines_in, w
 use crate::command_fault::CommandFault;
 use crate::lines::fact_lines::{push_numbers, push_object, push_symbol};
 use crate::lines::form::Form;
-use crate::lines::hex_digits::HexDigits;
+use crate::lines::hex_digits::write_hex_line;
 use crate::lines::json_lines::{push_json_information, push_json_object, push_json_symbol};
 use crate::lines::report_lines::write_words;
 use crate::lines::text::Text;
@@ -64,7 +64,7 @@ fn write_packet<W: Sink>(packet: &Packet<'_>, form: Form, sink: &mut W) -> Resul
     match form {
         Form::Plain => {
             let (head, payload) = pieces_of(packet);
-            HexDigits::new().write_line(sink, &head, payload, "\n")
+            write_hex_line(sink, &head, payload, "\n")
         }
         Form::Json => write_json(packet, sink),
     }
@@ -113,7 +113,7 @@ fn write_json<W: Sink>(packet: &Packet<'_>, sink: &mut W) -> Result<(), DeviceFa
         Some((id, bytes)) => {
             push_json_symbol(&mut text, id, bytes.len());
             text.push(",\"bytes\":\"");
-            HexDigits::new().write_line(sink, &text, bytes, "\"}}\n")
+            write_hex_line(sink, &text, bytes, "\"}}\n")
         }
         None => {
             text.push("\"symbol\":null}");

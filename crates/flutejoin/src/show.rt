@@ -11,49 +11,53 @@ pub(crate) mod entry_line;
 use crate::command_fault::{CommandFault, at_input};
 use crate::limits::MAX_ENTRIES;
 use crate::lines::form::Form;
-use crate::lines::hex_digits::HexDigits;
 use crate::lines::report_lines::{count_to, json_count_to};
 use crate::lines::show_style::ShowStyle;
+use crate::picks::Picks;
 use crate::show::entry_line::write_entry;
-use flute_journal::JournalReader;
+use flute_journal::{HeldEntry, JournalReader};
 use flute_parts::{Sink, Source};
-use flute_streams::Selection;
 use std::alloc::Global;
 
-/// Writes what is selected of the journal that the source gives: a line in this style for each
+/// Writes what is picked of the journal that the source gives: a line in this style for each
 /// entry as it is read, and then the number of these entries. The journal may have at most
 /// 16,777,216 entries.
 ///
 /// # Errors
 ///
 /// `Input` with the fault of the journal, or if the source failed or there was no memory for a
-/// symbol: the lines of the selected entries that were read before it were written, and no more.
-/// `CannotWrite` if the sink failed: it took a proper prefix of the lines of the selected entries
+/// symbol: the lines of the picked entries that were read before it were written, and no more.
+/// `CannotWrite` if the sink failed: it took a proper prefix of the lines of the picked entries
 /// that were read, or of the whole journal's.
-pub fn show_to<R: Source, W: Sink>(
+pub fn show_to<R: Source, P: Picks, W: Sink>(
     alloc: Global,
     source: &mut R,
-    selection: &Selection,
+    picks: &P,
     style: ShowStyle,
     sink: &mut W,
 ) -> Result<(), CommandFault>
-    ensures printed { OnOk result (ShowsAll style selection.now
+    ensures printed { OnOk result (ShowsAll style (P.picks picks.now)
         (R.unread source.old) (W.written sink.old) (W.written sink.new)) }
-    ensures failed { IfErr result (ShowFails style selection.now (R.unread source.old)
+    ensures failed { IfErr result (ShowFails style (P.picks picks.now) (R.unread source.old)
         (R.unread source.new) (W.written sink.old) (W.written sink.new)) }
     ensures read_failures { FailsToRead (R.failures source.old) (R.failures source.new) result }
     ensures failures { W.failures sink.new ≡ W.failures sink.old + write_failures result }
 {
-    let digits = HexDigits::new();
     let mut reader = JournalReader::new(source, MAX_ENTRIES);
     let mut count = 0;
-    let mut spare = Vec::new(alloc);
-    while let Some(fact) = at_input(1, reader.next_with(alloc, spare))? {
-        if selection.selects(&fact.as_ref()) {
-            write_entry(&digits, style, &fact, sink)?;
+    let mut held = HeldEntry::Nothing;
+    loop {
+        at_input(1, reader.next_into(alloc, &mut held))?;
+        let Some(fact) = held.fact(reader.buffer()) else {
+            break;
+        };
+        if picks.picks(&fact) {
+            let Ok(()) = write_entry(style, &fact, sink) else {
+                reader.let_go(alloc, &mut held);
+                return Err(CommandFault::CannotWrite);
+            };
             count += 1;
         }
-        spare = fact.into_vec(alloc);
     }
     write_number(style.form, count, sink)
 }

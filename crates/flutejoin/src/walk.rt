@@ -1,13 +1,11 @@
 //! A walk over the objects of a journal: the loop over its entries, which every command that goes
 //! object by object shares.
-ghost use Rattle.std.specs.Prelude.{◌≡◌, ◌+◌, [], Bool, None, IfErr, OnOk, filter};
+ghost use Rattle.std.specs.Prelude.{◌≡◌, ◌+◌, [], None, IfErr, OnOk};
 ghost use Rattle.std.specs.Io.KnownBytes.{IsAtEnd};
-ghost use Rattle.flute_parts.specs.declared.fact.Fact.{Fact as Known};
-ghost use Rattle.flutejoin.specs.Gaps.{GapsFail, ReadsWithin};
+ghost use Rattle.flutejoin.specs.Gaps.{GapsFail, ListsJournal, ReadsWithin};
 ghost use Rattle.flutejoin.specs.Limits.{at_most};
 ghost use Rattle.flutejoin.specs.Packet.{write_failures};
 ghost use Rattle.flutejoin.specs.Show.{FailsToRead};
-ghost use Rattle.flutejoin.specs.Walk.{TellsJournal};
 
 pub(crate) mod object_walk;
 pub(crate) mod visitor;
@@ -15,32 +13,12 @@ pub(crate) mod visitor;
 use crate::command_fault::CommandFault;
 use crate::limits::MAX_ENTRIES;
 use crate::next_entry::next_entry;
+use crate::picks::Picks;
 use crate::walk::object_walk::ObjectWalk;
 use crate::walk::visitor::Visitor;
-use flute_journal::JournalReader;
-use flute_parts::{Fact, Source, Tally};
-use flute_streams::Selection;
+use flute_journal::{HeldEntry, JournalReader};
+use flute_parts::{Source, Tally};
 use std::alloc::Global;
-
-/// Which facts a walk takes of a journal.
-pub trait Picks {
-    ghost picks: { Self → Known → Bool };
-
-    /// Whether it takes the fact.
-    fn picks(&self, fact: &Fact) -> bool
-        ensures { result ≡ picks self.now fact.now };
-}
-
-impl Picks for Selection {
-    ghost use Rattle.flute_streams.specs.Selections.{selects};
-
-    ghost picks = { selects };
-
-    #[inline(always)]
-    fn picks(&self, fact: &Fact) -> bool {
-        self.selects(&fact.as_ref())
-    }
-}
 
 /// Tells the visitor of the objects of the journal that the source gives, of at most 16,777,216
 /// entries, of which only those that are picked count. One entry is held.
@@ -60,7 +38,7 @@ pub fn walk_objects<
 >(alloc: Global, source: &mut R, picks: &P, visitor: &mut V) -> Result<(), CommandFault>
     requires { (at : V.At) × V.Has at [] None visitor.old }
     ensures told { (at : V.At) → V.Has at [] None visitor.old
-        → OnOk result (TellsJournal (at_most SESSIONS OBJECTS SYMBOLS) (P.picks picks.now)
+        → OnOk result (ListsJournal (at_most SESSIONS OBJECTS SYMBOLS) (P.picks picks.now)
         (R.unread source.old) (λ objects. V.Has at objects None visitor.new)) }
     ensures within { OnOk result (ReadsWithin (at_most SESSIONS OBJECTS SYMBOLS)
         (R.unread source.old) (R.unread source.new)) }
@@ -74,12 +52,18 @@ pub fn walk_objects<
     let mut walk = ObjectWalk::new();
     let mut tally = Tally::<SESSIONS, OBJECTS, SYMBOLS>::new();
     let mut reader = JournalReader::new(source, MAX_ENTRIES);
-    let mut spare = Vec::new(alloc);
-    while let Some(fact) = next_entry(alloc, &mut reader, &mut tally, spare)? {
+    let mut held = HeldEntry::Nothing;
+    loop {
+        next_entry(alloc, &mut reader, &mut held, &mut tally)?;
+        let Some(fact) = held.fact(reader.buffer()) else {
+            break;
+        };
         if picks.picks(&fact) {
-            walk.add(&fact, visitor)?;
+            let Ok(()) = walk.add(&fact, visitor) else {
+                reader.let_go(alloc, &mut held);
+                return Err(CommandFault::CannotWrite);
+            };
         }
-        spare = fact.into_vec(alloc);
     }
     walk.close(visitor)?;
     Ok(())

@@ -5,7 +5,7 @@ ghost use Rattle.flutejoin_commands.specs.Worlds.{IsNotMade};
 use crate::asides::{FileAsides, beside};
 use crate::input::{Input, Reader, input_of};
 use flute_calls::{FileId, SystemCalls};
-use flute_output::{DeviceFile, DiskFolder, DiskNewFolder, Found, Place, place_at};
+use flute_output::{DeviceFile, DiskFolder, DiskNewFolder, FileLimit, Found, Place, place_at};
 use flute_parts::Failures;
 use flutejoin::{CommandFault, Overwrites};
 use flutejoin_commands::{Inputs, World};
@@ -93,7 +93,7 @@ impl<'a> World for System<'a> {
 
     type Device = DeviceFile<'a, HostRuntime>;
 
-    type NewFolder = DiskNewFolder<'a, HostRuntime>;
+    type NewFolder = DiskNewFolder<SystemCalls<'a, HostRuntime>>;
 
     type Asides = FileAsides<'a>;
 
@@ -149,7 +149,8 @@ impl<'a> World for System<'a> {
         if out == STANDARD {
             return Err(CommandFault::CannotCreate);
         }
-        DiskNewFolder::new(self.rt, self.rt.alloc(), out).map_err(not_made)
+        let limit = FileLimit::of_process(self.rt);
+        DiskNewFolder::new(SystemCalls::new(self.rt), self.rt.alloc(), limit, out).map_err(not_made)
     }
 
     fn asides(&mut self) -> FileAsides<'a> {

@@ -3,7 +3,7 @@ use Rattle.std.proofs.Common.{◌≡◌, ◌||◌, ℕ, Bool, true, false, List,
 use Rattle.std.proofs.Common.{ap, sym, ◌∙◌}
 use Rattle.std.specs.Prelude.{not}
 use Rattle.std.specs.Io.KnownBytes.{Appends}
-use Rattle.flute_streams.specs.declared.choice.selection.Selection.{Selection}
+use Rattle.flute_parts.specs.declared.fact.Fact.{Fact}
 use Rattle.flutejoin.specs.Gaps.{ListsJournal}
 use Rattle.flutejoin.specs.Limits.{Limits}
 use Rattle.flutejoin.specs.Styles.{are_whole, passes_check, printed}
@@ -13,10 +13,10 @@ use Rattle.flutejoin.specs.declared.lines.style.Style.{Style}
 use Rattle.flutejoin_commands.specs.Prints.{IfPrinted}
 
 -- what follows of the objects
-pub and_so : {most : Limits} {choice : Selection} {u : Option (List ℕ)}
+pub and_so : {most : Limits} {picks : Fact → Bool} {u : Option (List ℕ)}
     (P Q : List Told → Type 0)
-    → ((objects : List Told) → P objects → Q objects) → ListsJournal most choice u P
-    → ListsJournal most choice u Q
+    → ((objects : List Told) → P objects → Q objects) → ListsJournal most picks u P
+    → ListsJournal most picks u Q
 and_so P Q f h = record {
   entries = h.entries;
   journal = h.journal;
@@ -33,11 +33,11 @@ if_checked X passes (Ok u) h f = (f true h.0, tt)
 if_checked X passes (Err e) h f = (tt, λ is. f false (h.1 is))
 
 -- all was printed, and they pass, if they are whole or need not be
-pub checked : {most : Limits} {choice : Selection} {u : Option (List ℕ)} (style : Style)
+pub checked : {most : Limits} {picks : Fact → Bool} {u : Option (List ℕ)} (style : Style)
     (whole p : Bool) (old new : Option (List ℕ)) → (not style.check || whole) ≡ p
-    → ListsJournal most choice u (λ objects. Appends old new (printed style objects)
+    → ListsJournal most picks u (λ objects. Appends old new (printed style objects)
     × (whole ≡ are_whole style objects))
-    → ListsJournal most choice u (λ objects. Appends old new (printed style objects)
+    → ListsJournal most picks u (λ objects. Appends old new (printed style objects)
     × (passes_check style objects ≡ p))
 checked style whole p old new e h =
     and_so (λ objects. Appends old new (printed style objects) × (whole ≡ are_whole style objects))

@@ -1,7 +1,8 @@
 -- extract_all_into: a new folder that a command makes, fills and ends (specs/Folders).
 use Rattle.std.proofs.Common.{◌≡◌, ℕ, List, [], ◌++◌, length, Option, Some, None, Result, Ok, Err}
 use Rattle.std.proofs.Common.{inl, inr, refl, sym, ap, ◌∙◌, subst}
-use Rattle.std.specs.Prelude.{◌⊎◌, IfSome, OnOk, IfOk, IfErr, codes}
+use Rattle.std.specs.Prelude.{◌⊎◌, Bool, IfSome, OnOk, IfOk, IfErr, codes}
+use Rattle.flute_parts.specs.declared.fact.Fact.{Fact}
 use Rattle.std.specs.Io.KnownBytes.{Appends}
 use Rattle.std.proofs.KnownBytes.{Appends-trans}
 use Rattle.flute_output.specs.NewFolders.{NamedFile, Places, LeadsTo, IsMade, IsReady, IsNothing}
@@ -13,7 +14,6 @@ use Rattle.flute_output.specs.declared.output.FinishFault.{FinishFault}
 use Rattle.flute_output.specs.declared.output.FinishFault.TheVariants as finish
 use Rattle.flutejoin.specs.ExtractAll.{ExtractsAll, ExtractAllFails}
 use Rattle.flutejoin.specs.Lines.{count_line}
-use Rattle.flutejoin.specs.declared.extract.picked.Picked.{Picked}
 use Rattle.flutejoin.specs.declared.command_fault.CommandFault.{CommandFault}
 use Rattle.flutejoin.specs.declared.command_fault.CommandFault.TheVariants.{CannotWrite, NotOnDisk}
 use Rattle.flutejoin.specs.Limits.{Limits}
@@ -129,20 +129,20 @@ one_always (Some o) (Some m) (Some f) (Some n) h s b = (
 )
 
 -- the journal contains the files that were written, and what is reported of its objects
-pub tells_files : {most : Limits} {input left : Option (List ℕ)} {picked : Picked}
+pub tells_files : {most : Limits} {input left : Option (List ℕ)} {picks : Fact → Bool}
     {m f : Option Places} {r r' : Option (List ℕ)} {count : ℕ}
-    (e : ExtractsAll most input left picked m f r r' count)
-    → TellsFiles most input picked e.taken.files e.taken.told
+    (e : ExtractsAll most input left picks m f r r' count)
+    → TellsFiles most input picks e.taken.files e.taken.told
 tells_files e =
     record { entries = e.entries; journal = e.journal; within = e.within; taken = e.taken.taken }
 
-pub leaves_folder : {most : Limits} {input left : Option (List ℕ)} {picked : Picked}
+pub leaves_folder : {most : Limits} {input left : Option (List ℕ)} {picks : Fact → Bool}
     (o n : Option Places) {m f : Option Places} {r r' r'' : Option (List ℕ)} {count : ℕ}
-    → LeadsTo IsMade o m → ExtractsAll most input left picked m f r r' count
+    → LeadsTo IsMade o m → ExtractsAll most input left picks m f r r' count
     → LeadsTo (λ old new. BecomesFolder (folder_of (files_beside old)) old new) f n
     → LeadsTo (λ old new. StaysThere (files_beside old) new) f n → LeadsTo NoneBeside f n
     → Appends r' r'' (count_line (codes "written") count)
-    → LeavesFolder most input picked o n r r''
+    → LeavesFolder most input picks o n r r''
 leaves_folder o n {m = m} {f = f} {r = r} {r' = r'} {r'' = r''} h e b s g line =
     let filled : IsFilled e.taken.files o m f = record { made = h; filled = e.taken.filled } in
     record {
@@ -157,24 +157,24 @@ leaves_folder o n {m = m} {f = f} {r = r} {r' = r'} {r'' = r''} h e b s g line =
     }
 
 -- OUT is there, though the command failed
-pub there_failed : {most : Limits} {input left : Option (List ℕ)} {picked : Picked}
+pub there_failed : {most : Limits} {input left : Option (List ℕ)} {picks : Fact → Bool}
     (o n : Option Places) {m f : Option Places} {r r' : Option (List ℕ)} {count : ℕ}
     {fault : CommandFault} → (fault ≡ NotOnDisk) ⊎ (fault ≡ CannotWrite)
-    → LeadsTo IsMade o m → ExtractsAll most input left picked m f r r' count
+    → LeadsTo IsMade o m → ExtractsAll most input left picks m f r r' count
     → LeadsTo (λ old new. BecomesFolder (folder_of (files_beside old)) old new) f n
-    → FolderFails most input left picked o n fault
+    → FolderFails most input left picks o n fault
 there_failed o n {m = m} {f = f} why h e b =
     of_end why e.taken.files e.taken.told (tells_files e)
     (is_folder o m f n (record { made = h; filled = e.taken.filled }) b)
 
 -- the work failed
-pub work_failed : {most : Limits} (input left : Option (List ℕ)) (picked : Picked) (o n : Option
+pub work_failed : {most : Limits} (input left : Option (List ℕ)) (picks : Fact → Bool) (o n : Option
     Places)
     (fault : CommandFault) → ExtractAllFails most input left fault ⊎ (fault ≡ CannotWrite) → LeadsTo
     IsNowhere o n
-    → FolderFails most input left picked o n fault
-work_failed input left picked o n fault (inl w) h = of_work w h
-work_failed input left picked o n fault (inr w) h = of_device w h
+    → FolderFails most input left picks o n fault
+work_failed input left picks o n fault (inl w) h = of_work w h
+work_failed input left picks o n fault (inr w) h = of_device w h
 
 pub on_ok : {T E A B : Type 0} (r : Result T E) → (A → B) → OnOk r A → OnOk r B
 on_ok (Ok x) f h = f h
@@ -197,10 +197,10 @@ on_if_ok (Ok x) f h = f x h
 on_if_ok (Err e) f h = h
 
 -- what filling a folder did: all files of the journal were written, or it failed
-pub record Filling (most : Limits) (input left : Option (List ℕ)) (picked : Picked)
+pub record Filling (most : Limits) (input left : Option (List ℕ)) (picks : Fact → Bool)
     (m f : Option Places) (r r' : Option (List ℕ)) (done : Result ℕ CommandFault) : Type 0 where
   pub stays : LeadsTo FolderStays m f
-  pub extracted : IfOk done (ExtractsAll most input left picked m f r r')
+  pub extracted : IfOk done (ExtractsAll most input left picks m f r r')
   pub failed : IfErr done (λ x. ExtractAllFails most input left x ⊎ (x ≡ CannotWrite))
 
 -- what finishing it did
@@ -211,20 +211,20 @@ pub record Finishing (f n : Option Places) (done : Result ℕ CommandFault)
   pub dropped : IfErr result (λ e. LeadsTo (EndsAt e) f n)
 
 -- the folder was not finished
-pub not_finished : {most : Limits} {input left : Option (List ℕ)} {picked : Picked}
+pub not_finished : {most : Limits} {input left : Option (List ℕ)} {picks : Fact → Bool}
     {o m f n : Option Places} {r r' : Option (List ℕ)} {done : Result ℕ CommandFault}
     {result : Result ℕ (FinishFault CommandFault)} {fault : FinishFault CommandFault}
-    → result ≡ Err fault → LeadsTo IsMade o m → Filling most input left picked m f r r' done
-    → Finishing f n done result → FolderFails most input left picked o n (finish_fault fault)
-not_finished {most} {input} {left} {picked} {o} {m} {f} {n} {r} {r'} {done} {result} {fault} is h
+    → result ≡ Err fault → LeadsTo IsMade o m → Filling most input left picks m f r r' done
+    → Finishing f n done result → FolderFails most input left picks o n (finish_fault fault)
+not_finished {most} {input} {left} {picks} {o} {m} {f} {n} {r} {r'} {done} {result} {fault} is h
     filling finishing = ended fault is
     (subst (λ x. IfErr x (λ e. IfWork e (λ y. done ≡ Err y))) is finishing.work)
     (subst (λ x. IfErr x (λ e. LeadsTo (EndsAt e) f n)) is finishing.dropped)
   where
     ended : (e : FinishFault CommandFault) → result ≡ Err e → IfWork e (λ y. done ≡ Err y)
-        → LeadsTo (EndsAt e) f n → FolderFails most input left picked o n (finish_fault e)
+        → LeadsTo (EndsAt e) f n → FolderFails most input left picks o n (finish_fault e)
     ended (finish.Work y) at y_is there =
-        work_failed input left picked o n y
+        work_failed input left picks o n y
         (subst
         (λ d. IfErr d (λ x. ExtractAllFails most input left x ⊎ (x ≡ CannotWrite))) y_is
         filling.failed)
@@ -233,5 +233,5 @@ not_finished {most} {input} {left} {picked} {o} {m} {f} {n} {r} {r'} {done} {res
     ended finish.NotOnDisk at y_is there =
         let d = done_but_disk done result finishing.fault at in
         there_failed o n (inl refl) h
-        (subst (λ x. IfOk x (ExtractsAll most input left picked m f r r')) d.1 filling.extracted)
+        (subst (λ x. IfOk x (ExtractsAll most input left picks m f r r')) d.1 filling.extracted)
         there

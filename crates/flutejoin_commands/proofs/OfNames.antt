@@ -62,7 +62,7 @@ module _ {R : Type 0} (files : Files) (unread : R → Option (List ℕ)) where
       known_content (Some bytes) at b = (bytes, sym at.0, b)
 
   -- what all of them have
-  contents_of : (names : List (List ℕ)) (opened : List (JoinInput R)) → length opened ≡ length names
+  pub contents_of : (names : List (List ℕ)) (opened : List (JoinInput R)) → length opened ≡ length names
       → ((k : ℕ) (name : List ℕ) (input : JoinInput R) → slice_get names k ≡ Some name
       → slice_get opened k ≡ Some input → IsOpened (Some files) unread name input)
       → (contents : List (List ℕ)) × AllZip (IsAt files) names contents
@@ -99,7 +99,7 @@ module _ {R : Type 0} (unread : R → Option (List ℕ)) where
   each_input (o ∷ os) (c ∷ cs) a (suc k) input bytes eo ec = each_input os cs a.1 k input bytes eo
       ec
 
-  are_inputs : (opened : List (JoinInput R)) (contents : List (List ℕ))
+  pub are_inputs : (opened : List (JoinInput R)) (contents : List (List ℕ))
       → AllZip (λ input bytes. IsInput unread input bytes) opened contents
       → AreInputs unread opened contents
   are_inputs opened contents a = record {
@@ -112,7 +112,7 @@ module _ {R : Type 0} (unread : R → Option (List ℕ)) where
     -- what join_to joined of the inputs, stated of the names
     joins_told : (files : Option Files) → AreOpened files unread (names_of line) opened
         → TellsAsides files tells → (counts : JoinCounts) (old new : Option (List ℕ))
-        → JoinsAll unread tells (join_choice line) opened counts old new
+        → JoinsAll unread tells (join_choice line None) opened counts old new
         → JoinsNames files line counts old new
     joins_told None h is counts old new j = tt
     joins_told (Some files) h is counts old new j =
@@ -121,7 +121,7 @@ module _ {R : Type 0} (unread : R → Option (List ℕ)) where
 
     fault_told : (files : Option Files) → AreOpened files unread (names_of line) opened
         → TellsAsides files tells → (fault : CommandFault)
-        → JoinAllFails unread tells (join_choice line) opened fault
+        → JoinAllFails unread tells (join_choice line None) opened fault
         → JoinNamesFails files line fault
     fault_told None h is fault j = inr (tt, subst (λ n. NamesOneOf n fault) h.as_many j.1)
     fault_told (Some files) h is fault j =
@@ -134,7 +134,7 @@ module _ {R : Type 0} (unread : R → Option (List ℕ)) where
     module _ (files : Option Files) (h : AreOpened files unread (names_of line) opened)
         (is : TellsAsides files tells) (name : List ℕ) (old new : Outside) where
       abbrev all : JoinCounts → Option (List ℕ) → Option (List ℕ) → Type 0
-      all = JoinsAll unread tells (join_choice line) opened
+      all = JoinsAll unread tells (join_choice line None) opened
 
       pub joined : (lines : JoinCounts → List ℕ) (r : Result (Unit {0}) CommandFault)
           → OnOk r (Leaves all all lines name old new)
@@ -147,7 +147,7 @@ module _ {R : Type 0} (unread : R → Option (List ℕ)) where
       joined lines (Err e) l = tt
 
       pub not_joined : (r : Result (Unit {0}) CommandFault)
-          → IfErr r (FailsToLeave all (JoinAllFails unread tells (join_choice line) opened) name
+          → IfErr r (FailsToLeave all (JoinAllFails unread tells (join_choice line None) opened) name
           old new)
           → IfErr r (FailsToLeave (JoinsNames files line)
           (JoinNamesFails files line) name old new)
@@ -156,7 +156,7 @@ module _ {R : Type 0} (unread : R → Option (List ℕ)) where
           fails_told all all (JoinsNames files line)
           (JoinsNames files line)
           (joins_told files h is) (joins_told files h is) name
-          (JoinAllFails unread tells (join_choice line) opened)
+          (JoinAllFails unread tells (join_choice line None) opened)
           (JoinNamesFails files line) old new e (fault_told files h is e) l
 
 -- ---- one input, and two

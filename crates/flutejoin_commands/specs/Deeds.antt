@@ -1,6 +1,8 @@
 -- What each command does, by its line.
-use Rattle.std.specs.Prelude.{ℕ, List, Option}
+use Rattle.std.specs.Prelude.{ℕ, List, Option, Some, None, true, not}
+use Rattle.std.specs.Borrow.{Bor}
 use Rattle.flute_output.specs.NewFolders.{Places}
+use Rattle.flute_streams.specs.Scopes.{is_all}
 use Rattle.flutejoin.specs.Lines.{entries_line}
 use Rattle.flutejoin.specs.declared.command_fault.CommandFault.{CommandFault}
 use Rattle.flutejoin.specs.declared.forget.ForgetCounts.{ForgetCounts}
@@ -12,6 +14,7 @@ use Rattle.flutejoin_commands.specs.Named.{FillOfNamesFails, FillsOfNames}
 use Rattle.flutejoin_commands.specs.Named.{ForgetsInName, ForgetInNameFails}
 use Rattle.flutejoin_commands.specs.Named.{ForgetListOfNamesFails, ForgetsListOfNames}
 use Rattle.flutejoin_commands.specs.Named.{HoldsOfName, JoinsNames, JoinNamesFails}
+use Rattle.flutejoin_commands.specs.Named.{JoinsWithoutNames, JoinWithoutFails}
 use Rattle.flutejoin_commands.specs.Named.{MergesNames, MergeNamesFails, MinusOfNames}
 use Rattle.flutejoin_commands.specs.Named.{MinusOfNamesFails, SendsName, SendNameFails}
 use Rattle.flutejoin_commands.specs.Named.{WritesOfName}
@@ -22,6 +25,7 @@ use Rattle.flutejoin_commands.specs.Printed.{ShowsName}
 use Rattle.flutejoin_commands.specs.Works.{bytes_line, datagrams_line, forget_lines, join_lines}
 use Rattle.flutejoin_commands.specs.Works.{most_of}
 use Rattle.flutejoin_commands.specs.Worlds.{FailsToLeave, Leaves, Outside}
+use Rattle.flutejoin_line.specs.CommandLine.{list_of}
 use Rattle.flutejoin_line.specs.declared.carousel_line.CarouselLine.{CarouselLine}
 use Rattle.flutejoin_line.specs.declared.compare_line.CompareLine.{CompareLine}
 use Rattle.flutejoin_line.specs.declared.extract_line.ExtractAllLine.{ExtractAllLine}
@@ -73,9 +77,22 @@ abbrev pub IsNotDone : Deed → Target → Outside → Outside → CommandFault 
 IsNotDone deed target old new fault =
     FailsToLeave (deed.writes old.files) (deed.fails old.files) target.out.now old new fault
 
+-- of all objects of the line's scope
+abbrev pub joins_all : JoinLine → Deed
+joins_all line = plain {A = JoinCounts} (λ files. JoinsNames files line)
+    (λ files. JoinNamesFails files line) (join_lines (not (is_all line.scope)) line.reasons)
+
+-- without those that a file of this name lists
+abbrev pub joins_without : JoinLine → List ℕ → Deed
+joins_without line list = plain {A = JoinCounts} (λ files. JoinsWithoutNames files line list)
+    (λ files. JoinWithoutFails files line list) (join_lines true line.reasons)
+
+abbrev pub joins_by : JoinLine → Option (Bor (List ℕ)) → Deed
+joins_by line None = joins_all line
+joins_by line (Some list) = joins_without line list.now
+
 abbrev pub joins : JoinLine → Deed
-joins line = plain {A = JoinCounts} (λ files. JoinsNames files line)
-    (λ files. JoinNamesFails files line) (join_lines line.scope line.reasons)
+joins line = joins_by line line.without
 
 abbrev pub merges : MergeLine → Deed
 merges line = plain {A = ℕ} (λ files. MergesNames files line.a.now line.b.now)
@@ -87,32 +104,36 @@ subtracts line = plain {A = ℕ} (λ files. MinusOfNames files line.first.now li
 
 abbrev pub fills : FillLine → Deed
 fills line = plain {A = ℕ}
-    (λ files. FillsOfNames files line.asking line.j.now line.gaps.now)
-    (λ files. FillOfNamesFails files line.j.now line.gaps.now) entries_line
+    (λ files. FillsOfNames files line.asking line.journal.now line.gaps.now)
+    (λ files. FillOfNamesFails files line.journal.now line.gaps.now) entries_line
 
 abbrev pub adds : InfoLine → Deed
-adds line = plain {A = ℕ} (λ files. AddsToName files line.j.now line.key line.info)
-    (λ files. AddToNameFails files (most_of line.limit) line.j.now line.key line.info) entries_line
+adds line = plain {A = ℕ} (λ files. AddsToName files line.journal.now line.key line.info)
+    (λ files. AddToNameFails files (most_of line.limit) line.journal.now line.key line.info)
+    entries_line
 
 abbrev pub adds_list : InfoListLine → Deed
-adds_list line = plain {A = ℕ} (λ files. AddsListOfNames files line.j.now line.list.now)
-    (λ files. AddListOfNamesFails files (most_of line.limit) line.j.now line.list.now) entries_line
+adds_list line = plain {A = ℕ} (λ files. AddsListOfNames files line.journal.now line.list.now)
+    (λ files. AddListOfNamesFails files (most_of line.limit) line.journal.now line.list.now)
+    entries_line
 
 abbrev pub forgets : ForgetLine → Deed
-forgets line = plain {A = ForgetCounts} (λ files. ForgetsInName files line.j.now line.selection)
-    (λ files. ForgetInNameFails files line.j.now) forget_lines
+forgets line = plain {A = ForgetCounts}
+    (λ files. ForgetsInName files line.journal.now line.selection)
+    (λ files. ForgetInNameFails files line.journal.now) forget_lines
 
 abbrev pub forgets_list : ForgetListLine → Deed
 forgets_list line = plain {A = ForgetCounts}
-    (λ files. ForgetsListOfNames files line.inputs.j.now line.inputs.list.now line.selection)
-    (λ files. ForgetListOfNamesFails files line.inputs.j.now line.inputs.list.now) forget_lines
+    (λ files. ForgetsListOfNames files line.inputs.journal.now line.inputs.list.now line.selection)
+    (λ files. ForgetListOfNamesFails files line.inputs.journal.now line.inputs.list.now)
+    forget_lines
 
 abbrev pub extracts : ExtractLine → Deed
 extracts line = record {
   Answer = ℕ;
-  writes = λ files. WritesOfName files (most_of line.limit) line.j.now line.key;
-  puts = λ files. HoldsOfName files (most_of line.limit) line.j.now line.key;
-  fails = λ files. ExtractOfNameFails files (most_of line.limit) line.j.now line.key;
+  writes = λ files. WritesOfName files (most_of line.limit) line.journal.now line.key;
+  puts = λ files. HoldsOfName files (most_of line.limit) line.journal.now line.key;
+  fails = λ files. ExtractOfNameFails files (most_of line.limit) line.journal.now line.key;
   lines = bytes_line;
 }
 
@@ -137,15 +158,18 @@ prints_packet line = record {
 
 abbrev pub shows : ShowLine → Printing
 shows line = record {
-  done = λ folders files. ShowsName files line.j.now line.style line.selection;
-  fails = λ folders files. ShowNameFails files line.j.now line.style line.selection;
+  done = λ folders files. ShowsName files line.inputs.journal.now (list_of line.inputs) line.style
+      line.selection;
+  fails = λ folders files. ShowNameFails files line.inputs.journal.now (list_of line.inputs)
+      line.style line.selection;
 }
 
 abbrev pub lists : GapsLine → Printing
 lists line = record {
-  done = λ folders files. ListsName files line.j.now (most_of line.limit) line.selection line.style;
-  fails = λ folders files. ListNameFails files line.j.now (most_of line.limit) line.selection
-      line.style;
+  done = λ folders files. ListsName files line.inputs.journal.now (list_of line.inputs)
+      (most_of line.limit) line.selection line.style;
+  fails = λ folders files. ListNameFails files line.inputs.journal.now (list_of line.inputs)
+      (most_of line.limit) line.selection line.style;
 }
 
 abbrev pub compares : CompareLine → Printing
@@ -159,8 +183,9 @@ compares line = record {
 -- and leaves a new folder
 abbrev pub extracts_all : ExtractAllLine → Printing
 extracts_all line = record {
-  done = λ folders files. LeavesFolderOfName files line.j.now (most_of line.limit) line.picked
-      (folders line.out.now);
-  fails = λ folders files old new. FolderOfNameFails files line.j.now (most_of line.limit)
-      line.picked (folders line.out.now);
+  done = λ folders files. LeavesFolderOfName files line.inputs.journal.now (list_of line.inputs)
+      (most_of line.limit) line.picked (folders line.out.now);
+  fails = λ folders files old new. FolderOfNameFails files line.inputs.journal.now
+      (list_of line.inputs)
+      (most_of line.limit) line.picked (folders line.out.now);
 }

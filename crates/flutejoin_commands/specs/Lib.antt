@@ -2,6 +2,7 @@ pub mod Closings
 pub mod Deeds
 pub mod Commands
 pub mod Files
+pub mod Lists
 pub mod Named
 pub mod Opened
 pub mod Outlets

@@ -1,6 +1,7 @@
 -- What the commands write and why they fail, stated of the names of their inputs.
 use Rattle.std.specs.Prelude.{◌≡◌, ◌⊎◌, ◌+◌, ◌<◌, ℕ, List, [], ◌∷◌, length, map, slice_get}
-use Rattle.std.specs.Prelude.{Option, Some, IfSome}
+use Rattle.std.specs.Prelude.{◌++◌, Option, Some, None, IfSome}
+use Rattle.std.specs.BTreeSet.{BTreeSet}
 use Rattle.std.specs.List.{AllZip}
 use Rattle.flute_journal.specs.declared.fault.ReadFault.TheVariants.{Read}
 use Rattle.flute_streams.specs.declared.choice.selection.Selection.{Selection}
@@ -10,6 +11,7 @@ use Rattle.flutejoin.specs.Fill.{FillFails, WritesFill}
 use Rattle.flute_streams.specs.Selections.{all_but}
 use Rattle.flutejoin.specs.Forget.{ForgetFails, ForgetListFails, ForgetsListed}
 use Rattle.flutejoin.specs.JoinFaults.{NamesOneOf}
+use Rattle.flutejoin.specs.KeyLists.{KeyListFails, ListNames}
 use Rattle.flutejoin.specs.declared.fill.asking.Asking.{Asking}
 use Rattle.flutejoin.specs.declared.forget.ForgetCounts.{ForgetCounts}
 use Rattle.flutejoin.specs.Limits.{Limits}
@@ -36,6 +38,15 @@ IsAt files name bytes = files name ≡ Some bytes
 abbrev pub OfContents : Files → List (List ℕ) → (List (List ℕ) → Type 0) → Type 0
 OfContents files names P =
     (contents : List (List ℕ)) × AllZip (IsAt files) names contents × P contents
+
+-- P of what the file of this name has
+abbrev pub OfText : Files → List ℕ → (List ℕ → Type 0) → Type 0
+OfText files name P = (text : List ℕ) × IsAt files name text × P text
+
+-- P of the objects that it lists
+abbrev pub OfKeys : Files → List ℕ → (BTreeSet Key → Type 0) → Type 0
+OfKeys files name P =
+    OfText files name (λ text. (keys : BTreeSet Key) × ListNames text keys × P keys)
 
 -- the names of the inputs of a join
 abbrev pub names_of : JoinLine → List (List ℕ)
@@ -69,14 +80,30 @@ module _ (files : Option Files) where
   abbrev pub JoinsNames : JoinLine → JoinCounts → Option (List ℕ) → Option (List ℕ)
       → Type 0
   JoinsNames line counts old new = IfFiles files (λ f. OfContents f (names_of line)
-      (λ contents. JoinsRead (join_choice line) contents counts old new))
+      (λ contents. JoinsRead (join_choice line None) contents counts old new))
 
   abbrev pub JoinNamesFails : JoinLine → CommandFault → Type 0
   JoinNamesFails line fault =
       IsBefore files (names_of line) fault
       ⊎ (IfFiles files (λ f. OfContents f (names_of line) (λ contents.
-      JoinReadFails (join_choice line) contents fault))
+      JoinReadFails (join_choice line None) contents fault))
       × NamesOneOf (length (names_of line)) fault)
+
+  -- the same without the objects that the file of another name lists
+  abbrev pub JoinsWithoutNames : JoinLine → List ℕ → JoinCounts → Option (List ℕ)
+      → Option (List ℕ) → Type 0
+  JoinsWithoutNames line list counts old new = IfFiles files (λ f. OfKeys f list
+      (λ keys. OfContents f (names_of line)
+      (λ contents. JoinsRead (join_choice line (Some keys)) contents counts old new)))
+
+  abbrev pub JoinWithoutFails : JoinLine → List ℕ → CommandFault → Type 0
+  JoinWithoutFails line list fault =
+      IsBefore files (names_of line ++ list ∷ []) fault
+      ⊎ (((fault ≡ Input (length (names_of line) + 1) Read)
+      ⊎ (IfFiles files (λ f. OfText f list (λ text. KeyListFails text fault))
+      ⊎ IfFiles files (λ f. OfKeys f list (λ keys. OfContents f (names_of line) (λ contents.
+      JoinReadFails (join_choice line (Some keys)) contents fault)))))
+      × NamesOneOf (length (names_of line) + 1) fault)
 
   -- the journal of all that the files of two names contain
   abbrev pub MergesNames : List ℕ → List ℕ → ℕ → Option (List ℕ) → Option (List ℕ)
@@ -129,8 +156,8 @@ module _ (files : Option Files) where
       IsBefore files (j ∷ []) fault ⊎ IfFiles files (λ f. ForgetFails (f j) fault)
 
   -- the same of the objects that the file of another name lists
-  abbrev pub ForgetsListOfNames : List ℕ → List ℕ → Selection → ForgetCounts → Option (List ℕ)
-      → Option (List ℕ) → Type 0
+  abbrev pub ForgetsListOfNames : List ℕ → List ℕ → Selection → ForgetCounts
+      → Option (List ℕ) → Option (List ℕ) → Type 0
   ForgetsListOfNames j list selection counts old new =
       IfFiles files (λ f. ForgetsListed selection (f list) (f j) counts old new)
 

@@ -1,5 +1,7 @@
 -- Inputs that were opened by their names.
-use Rattle.std.specs.Prelude.{◌≡◌, ◌≤◌, ◌+◌, ◌⊎◌, ℕ, List, length, slice_get, Option, Some, IfSome}
+use Rattle.std.specs.Prelude.{◌≡◌, ◌≤◌, ◌+◌, ◌⊎◌, ⊤, ℕ, List, length, slice_get, Option, Some}
+use Rattle.std.specs.Prelude.{None, IfSome, [], ◌∷◌, ◌++◌}
+use Rattle.std.specs.Borrow.{Bor}
 use Rattle.flute_journal.specs.declared.fault.ReadFault.TheVariants.{Read}
 use Rattle.flutejoin.specs.JoinInputs.{IsInput}
 use Rattle.flutejoin.specs.declared.join.join_input.JoinInput.{JoinInput}
@@ -7,6 +9,18 @@ use Rattle.flutejoin.specs.declared.command_fault.CommandFault.{CommandFault}
 use Rattle.flutejoin.specs.declared.command_fault.CommandFault.TheVariants.{CannotOpen, Input}
 use Rattle.flutejoin.specs.declared.command_fault.CommandFault.TheVariants.{OutOfMemory}
 use Rattle.flutejoin_commands.specs.Files.{Files, HasBytes, IsNoFile}
+
+-- the names of the inputs of a join, and then that of its list, if there is one
+abbrev pub names_with : List (List ℕ) → Option (Bor (List ℕ)) → List (List ℕ)
+names_with names None = names
+names_with names (Some list) = names ++ list.now ∷ []
+
+-- why the list with this number, if there is one, is not opened
+abbrev pub IsListUnopened : Option Files → ℕ → Option (Bor (List ℕ)) → CommandFault
+    → Type 0
+IsListUnopened files number None fault = ⊥
+IsListUnopened files number (Some name) fault =
+    ((fault ≡ CannotOpen number) × IsNoFile files name.now) ⊎ (fault ≡ OutOfMemory)
 
 module _ {R : Type 0} (files : Option Files) (unread : R → Option (List ℕ)) where
   -- the name was opened, and the input is what it has
@@ -26,6 +40,13 @@ module _ {R : Type 0} (files : Option Files) (unread : R → Option (List ℕ)) 
   -- all names were opened
   abbrev pub AreOpened : List (List ℕ) → List (JoinInput R) → Type 0
   AreOpened names opened = AreFirstOpened (length names) names opened
+
+  -- the list was opened, if one is named
+  abbrev pub IsListOpened : Option (Bor (List ℕ)) → Option R → Type 0
+  IsListOpened None None = ⊤
+  IsListOpened None (Some list) = ⊥
+  IsListOpened (Some name) None = ⊥
+  IsListOpened (Some name) (Some list) = HasBytes files name.now (unread list)
 
   -- the name with this number was refused, or its source failed; or there was no memory
   abbrev pub IsNotOpened : ℕ → List ℕ → CommandFault → Type 0

@@ -1,14 +1,18 @@
 -- What the works of the commands write, why they fail, and what they report.
 use Rattle.std.specs.Prelude.{◌≡◌, ◌⊎◌, ℕ, ◌<◌, ◌≤◌, ◌++◌, ◌∷◌, List, [], if◌then◌else◌}
-use Rattle.std.specs.Prelude.{length, Bool, true}
-use Rattle.std.specs.Prelude.{Option, codes, Ok, Err}
+use Rattle.std.specs.Prelude.{length, Bool, true, not, ◌||◌, ◌+◌}
+use Rattle.std.specs.Prelude.{Option, Some, None, codes, Ok, Err, IfSome}
+use Rattle.std.specs.BTreeSet.{BTreeSet}
 use Rattle.flute_parts.specs.Facts.{Same}
 use Rattle.flute_parts.specs.Information.{Information}
 use Rattle.flute_parts.specs.declared.fact.Fact.{Fact}
 use Rattle.flute_parts.specs.declared.fact.Fact.TheVariants.{Info}
 use Rattle.flute_parts.specs.declared.key.Key.{Key}
+use Rattle.flute_journal.specs.declared.fault.ReadFault.TheVariants.{Read}
 use Rattle.flute_streams.specs.Merges.{Merged}
+use Rattle.flute_streams.specs.Objects.{listed}
 use Rattle.flute_streams.specs.Scopes.{is_all}
+use Rattle.flute_streams.specs.declared.choice.objects.Objects.{Objects}
 use Rattle.flute_streams.specs.declared.choice.scope.Scope.{Scope}
 use Rattle.flute_streams.specs.declared.choice.selection.AllBut.{AllBut}
 use Rattle.flutejoin.specs.Carousel.{SendFails, SendsInput}
@@ -17,7 +21,10 @@ use Rattle.flutejoin.specs.Forget.{Forgets}
 use Rattle.flutejoin.specs.Info.{AddsFacts, InfoFails}
 use Rattle.flutejoin.specs.InfoLists.{AddListFails, AddsList}
 use Rattle.flutejoin.specs.JoinInputs.{AreInputs}
-use Rattle.flutejoin.specs.Joined.{Choice, choice_of}
+use Rattle.flutejoin.specs.JoinParts.{NamesOnly}
+use Rattle.flutejoin.specs.JoinWithout.{AreWithout}
+use Rattle.flutejoin.specs.Joined.{Choice, choice_without}
+use Rattle.flutejoin.specs.KeyLists.{KeyListFails, ListNames}
 use Rattle.flutejoin.specs.Joining.{JoinsTo}
 use Rattle.flutejoin.specs.JoinFaults.{JoinToFails, NamesOneOf}
 use Rattle.flutejoin.specs.Limits.{Limits, limits_of}
@@ -28,7 +35,7 @@ use Rattle.flutejoin.specs.declared.forget.ForgetCounts.{ForgetCounts}
 use Rattle.flutejoin.specs.declared.join.join_counts.JoinCounts.{JoinCounts}
 use Rattle.flutejoin.specs.declared.join.join_input.JoinInput.{JoinInput}
 use Rattle.flutejoin.specs.declared.command_fault.CommandFault.{CommandFault}
-use Rattle.flutejoin.specs.declared.command_fault.CommandFault.TheVariants.{Full}
+use Rattle.flutejoin.specs.declared.command_fault.CommandFault.TheVariants.{Full, Input}
 use Rattle.flutejoin.specs.declared.limits.TheConstants.{MAX_ENTRIES}
 use Rattle.flutejoin_line.specs.CommandLine.{is_any_size}
 use Rattle.flutejoin_line.specs.declared.join_line.JoinLine.{JoinLine}
@@ -41,13 +48,17 @@ bytes_line n = count_line (codes "bytes") n
 abbrev pub datagrams_line : ℕ → List ℕ
 datagrams_line n = count_line (codes "datagrams") n
 
--- the lines of a join, of all objects or of some, and perhaps with the reasons of refusals
-abbrev pub join_lines : Scope → Bool → JoinCounts → List ℕ
-join_lines scope reasons counts =
+-- what is of other objects is told, unless all are taken: those of a scope, perhaps without a list
+abbrev pub tells_others : Scope → Bool → Bool
+tells_others scope is_listed = is_listed || not (is_all scope)
+
+-- the lines of a join, perhaps with what is of other objects, and with the reasons of refusals
+abbrev pub join_lines : Bool → Bool → JoinCounts → List ℕ
+join_lines others reasons counts =
     count_line (codes "datagrams") counts.datagrams
     ++ count_line (codes "refused") counts.refused
     ++ (if reasons then reason_lines counts.reasons else [])
-    ++ (if is_all scope then [] else count_line (codes "others") counts.others)
+    ++ (if others then count_line (codes "others") counts.others else [])
     ++ count_line (codes "entries") counts.entries
 
 -- the lines of a journal of which entries were forgotten
@@ -76,9 +87,9 @@ module _ {X : Type 0} (count : X → ℕ)
 abbrev pub most_of : Limit → Limits
 most_of limit = limits_of (is_any_size limit)
 
--- what a join takes
-abbrev pub join_choice : JoinLine → Choice
-join_choice line = choice_of (most_of line.limit) line.sender line.scope
+-- what a join takes, without listed objects
+abbrev pub join_choice : JoinLine → Option (BTreeSet Key) → Choice
+join_choice line = choice_without (most_of line.limit) line.sender line.scope
 
 -- inputs with these bytes, joined to a journal that the commands read
 abbrev pub JoinsRead : Choice → List (List ℕ) → JoinCounts → Option (List ℕ)
@@ -114,6 +125,46 @@ module _ {R : Type 0} (unread : R → Option (List ℕ)) where
       (tells ≡ true → (contents : List (List ℕ)) → AreInputs unread inputs contents
       → JoinReadFails choice contents fault)
       × NamesOneOf (length inputs) fault
+
+  -- the same without the objects that a list with these bytes names
+  abbrev pub JoinsListed : Bool → (Option (BTreeSet Key) → Choice) → Option (List ℕ)
+      → List (JoinInput R) → JoinCounts → Option (List ℕ) → Option (List ℕ) → Type 0
+  JoinsListed tells choice list inputs counts old new =
+      IfSome list (λ text. (keys : BTreeSet Key) × ListNames text keys
+      × JoinsAll tells (choice (Some keys)) inputs counts old new)
+
+  -- why not: the list cannot be read, or names no object in a line; or the inputs are not joined
+  abbrev pub JoinListedFails : Bool → (Option (BTreeSet Key) → Choice) → Option (List ℕ)
+      → List (JoinInput R) → CommandFault → Type 0
+  JoinListedFails tells choice list inputs fault =
+      ((fault ≡ Input (length inputs + 1) Read)
+      ⊎ (IfSome list (λ text. KeyListFails text fault)
+      ⊎ IfSome list (λ text. (keys : BTreeSet Key) × ListNames text keys
+      × JoinAllFails tells (choice (Some keys)) inputs fault)))
+      × NamesOneOf (length inputs + 1) fault
+
+  -- these inputs, joined: without the objects of the list, if there is one
+  abbrev pub JoinsBy : Bool → (Option (BTreeSet Key) → Choice) → Option (Option (List ℕ))
+      → List (JoinInput R) → JoinCounts → Option (List ℕ) → Option (List ℕ) → Type 0
+  JoinsBy tells choice None inputs = JoinsAll tells (choice None) inputs
+  JoinsBy tells choice (Some list) inputs = JoinsListed tells choice list inputs
+
+  abbrev pub JoinByFails : Bool → (Option (BTreeSet Key) → Choice)
+      → Option (Option (List ℕ)) → List (JoinInput R) → CommandFault → Type 0
+  JoinByFails tells choice None inputs = JoinAllFails tells (choice None) inputs
+  JoinByFails tells choice (Some list) inputs = JoinListedFails tells choice list inputs
+
+-- the objects of a scope, without those that a list with these bytes names, if there is one
+abbrev pub AreObjects : Scope → Option (Option (List ℕ)) → Objects → Type 0
+AreObjects scope None objects = (objects.scope ≡ scope) × (listed objects ≡ None)
+AreObjects scope (Some list) objects = IfSome list (λ text. AreWithout text scope objects)
+
+-- why the list with this number, if there is one, names no objects
+abbrev pub ObjectsFail : ℕ → Option (Option (List ℕ)) → CommandFault → Type 0
+ObjectsFail number None fault = ⊥
+ObjectsFail number (Some list) fault =
+    ((fault ≡ Input number Read) ⊎ IfSome list (λ text. KeyListFails text fault))
+    × NamesOnly number fault
 
 -- the journal was read to its end, and the object that it makes whole was written: the same
 -- as of any other facts with the same values

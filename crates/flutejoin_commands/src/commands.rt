@@ -2,7 +2,7 @@
 ghost use Rattle.std.specs.Prelude.{◌≡◌, OnOk, IfOk, IfErr};
 ghost use Rattle.flutejoin_commands.specs.Closings.{ClosesWhole};
 ghost use Rattle.flutejoin_commands.specs.Deeds.{IsDone, IsNotDone, adds, adds_list, extracts};
-ghost use Rattle.flutejoin_commands.specs.Deeds.{joins, merges, sends};
+ghost use Rattle.flutejoin_commands.specs.Deeds.{merges, sends};
 ghost use Rattle.flutejoin_commands.specs.Named.{ForgetInNameFails, ForgetListOfNamesFails};
 ghost use Rattle.flutejoin_commands.specs.Named.{ForgetsInName, ForgetsListOfNames, MeasureFails};
 ghost use Rattle.flutejoin_commands.specs.Works.{forget_lines};
@@ -10,11 +10,10 @@ ghost use Rattle.flutejoin_commands.specs.Worlds.{FailsToLeave, IsAgain, Leaves,
 
 use crate::adding::InfoWork;
 use crate::adding_list::InfoListWork;
-use crate::beginning::{begin, begin_join, begin_with_list, begin_with_two};
+use crate::beginning::{begin, begin_with_list, begin_with_two};
 use crate::delivery::Delivery;
 use crate::extracting::ExtractWork;
 use crate::forgetting::{ForgetListWork, ForgetWork};
-use crate::joining::JoinWork;
 use crate::leaving::leave;
 use crate::merging::MergeWork;
 use crate::no_output::IfNoOutput;
@@ -25,58 +24,9 @@ use flute_parts::Sink;
 use flute_streams::Selection;
 use flutejoin::{Asides, CommandFault, forget_input, is_too_large, put_aside};
 use flutejoin_line::{
-    CarouselLine, ExtractLine, InfoLine, InfoListLine, JoinLine, ListedInputs, MergeLine, Target,
+    CarouselLine, ExtractLine, InfoLine, InfoListLine, ListedInputs, MergeLine, Target,
 };
 use std::alloc::Global;
-
-/// Joins what the files of these names tell of the chosen objects into the output, which may be one
-/// of them, and prints the numbers. About `memory` bytes of datagram files are held in memory, and
-/// the rest is put aside.
-///
-/// # Errors
-///
-/// The first input that is not opened; why OUT is not overwritten; then those of
-/// [`join_to`](flutejoin::join_to), of the output and of printing, as [`leave`] says.
-pub fn join<W: World, O: Outlet, E: Sink>(
-    world: &mut W,
-    alloc: Global,
-    line: JoinLine<'_>,
-    output: &mut O,
-    errors: &mut E,
-) -> Result<(), CommandFault>
-    ensures joined { OnOk result (IsDone (joins line.entry) line.entry.target
-        (outside (W.files world.old) (O.written output.old) (E.written errors.old))
-        (outside (W.files world.new) (O.written output.new) (E.written errors.new))) }
-    ensures handed_on { OnOk result (O.handed_on output.new ≡ O.written output.new) }
-    ensures spared { Spares line.entry.target.overwrites line.entry.target.out.now
-        (W.files world.old) (W.files world.new) }
-    ensures any_moment { ClosesWhole line.entry.target.out.now (W.files world.old)
-        (W.closed world.old) (W.closed world.new) }
-    ensures failed { IfErr result (IsNotDone (joins line.entry) line.entry.target
-        (outside (W.files world.old) (O.written output.old) (E.written errors.old))
-        (outside (W.files world.new) (O.written output.new) (E.written errors.new))) }
-{
-    let target = line.target;
-    let inputs = begin_join(world, alloc, target, line.inputs.as_slice())?;
-    let work = JoinWork {
-        alloc,
-        limit: line.limit,
-        memory: line.memory,
-        asides: world.asides(),
-        sender: line.sender,
-        scope: line.scope,
-        reasons: line.reasons,
-        inputs,
-    };
-    leave(
-        world,
-        target,
-        work,
-        Delivery::AtOnce(IfNoOutput::Try),
-        output,
-        errors,
-    )
-}
 
 /// Merges the journals of two names into the output, and prints the number of entries.
 ///
@@ -146,7 +96,7 @@ pub fn info<W: World, O: Outlet, E: Sink>(
         (outside (W.files world.new) (O.written output.new) (E.written errors.new))) }
 {
     let target = line.target;
-    let source = begin(world, target, line.j)?;
+    let source = begin(world, target, line.journal)?;
     let work = InfoWork {
         alloc,
         limit: line.limit,
@@ -192,7 +142,7 @@ pub fn info_list<W: World, O: Outlet, E: Sink>(
         (outside (W.files world.new) (O.written output.new) (E.written errors.new))) }
 {
     let target = line.target;
-    let (source, list) = begin_with_list(world, target, line.j, line.list)?;
+    let (source, list) = begin_with_list(world, target, line.journal, line.list)?;
     let work = InfoListWork {
         alloc,
         limit: line.limit,
@@ -221,13 +171,13 @@ pub fn forget<W: World, O: Outlet, E: Sink>(
     alloc: Global,
     target: Target<'_>,
     selection: Selection,
-    j: &str,
+    journal: &str,
     output: &mut O,
     errors: &mut E,
 ) -> Result<(), CommandFault>
     ensures forgot { OnOk result (Leaves
-        (ForgetsInName (W.files world.old) j.now selection)
-        (ForgetsInName (W.files world.old) j.now selection) forget_lines target.entry.out.now
+        (ForgetsInName (W.files world.old) journal.now selection)
+        (ForgetsInName (W.files world.old) journal.now selection) forget_lines target.entry.out.now
         (outside (W.files world.old) (O.written output.old) (E.written errors.old))
         (outside (W.files world.new) (O.written output.new) (E.written errors.new))) }
     ensures handed_on { OnOk result (O.handed_on output.new ≡ O.written output.new) }
@@ -236,12 +186,12 @@ pub fn forget<W: World, O: Outlet, E: Sink>(
     ensures any_moment { ClosesWhole target.entry.out.now (W.files world.old)
         (W.closed world.old) (W.closed world.new) }
     ensures failed { IfErr result (FailsToLeave
-        (ForgetsInName (W.files world.old) j.now selection)
-        (ForgetInNameFails (W.files world.old) j.now) target.entry.out.now
+        (ForgetsInName (W.files world.old) journal.now selection)
+        (ForgetInNameFails (W.files world.old) journal.now) target.entry.out.now
         (outside (W.files world.old) (O.written output.old) (E.written errors.old))
         (outside (W.files world.new) (O.written output.new) (E.written errors.new))) }
 {
-    let source = begin(world, target, j)?;
+    let source = begin(world, target, journal)?;
     let input = forget_input(source, selection);
     let work = ForgetWork { alloc, input };
     leave(
@@ -272,8 +222,10 @@ pub fn forget_list<W: World, O: Outlet, E: Sink>(
     errors: &mut E,
 ) -> Result<(), CommandFault>
     ensures forgot { OnOk result (Leaves
-        (ForgetsListOfNames (W.files world.old) inputs.entry.j.now inputs.entry.list.now selection)
-        (ForgetsListOfNames (W.files world.old) inputs.entry.j.now inputs.entry.list.now selection)
+        (ForgetsListOfNames (W.files world.old) inputs.entry.journal.now inputs.entry.list.now
+        selection)
+        (ForgetsListOfNames (W.files world.old) inputs.entry.journal.now inputs.entry.list.now
+        selection)
         forget_lines target.entry.out.now
         (outside (W.files world.old) (O.written output.old) (E.written errors.old))
         (outside (W.files world.new) (O.written output.new) (E.written errors.new))) }
@@ -283,13 +235,14 @@ pub fn forget_list<W: World, O: Outlet, E: Sink>(
     ensures any_moment { ClosesWhole target.entry.out.now (W.files world.old)
         (W.closed world.old) (W.closed world.new) }
     ensures failed { IfErr result (FailsToLeave
-        (ForgetsListOfNames (W.files world.old) inputs.entry.j.now inputs.entry.list.now selection)
-        (ForgetListOfNamesFails (W.files world.old) inputs.entry.j.now inputs.entry.list.now)
+        (ForgetsListOfNames (W.files world.old) inputs.entry.journal.now inputs.entry.list.now
+        selection)
+        (ForgetListOfNamesFails (W.files world.old) inputs.entry.journal.now inputs.entry.list.now)
         target.entry.out.now
         (outside (W.files world.old) (O.written output.old) (E.written errors.old))
         (outside (W.files world.new) (O.written output.new) (E.written errors.new))) }
 {
-    let (source, list) = begin_with_list(world, target, inputs.j, inputs.list)?;
+    let (source, list) = begin_with_list(world, target, inputs.journal, inputs.list)?;
     let input = forget_input(source, selection);
     let work = ForgetListWork { alloc, input, list };
     leave(
@@ -329,7 +282,7 @@ pub fn extract<W: World, O: Outlet, E: Sink>(
         (outside (W.files world.new) (O.written output.new) (E.written errors.new))) }
 {
     let target = line.target;
-    let source = begin(world, target, line.j)?;
+    let source = begin(world, target, line.journal)?;
     let work = ExtractWork {
         alloc,
         limit: line.limit,

@@ -15,13 +15,13 @@ use flute_output::{FinishFault, NewFolder, finish_folder};
 use flute_parts::Source;
 use flutejoin::{
     ANY_OBJECTS, ANY_SESSIONS, ANY_SYMBOLS, CommandFault, MAX_OBJECTS, MAX_SESSIONS, MAX_SYMBOLS,
-    Picked, count_to, extract_all_to,
+    Picks, count_to, extract_all_to,
 };
 use flutejoin_line::Limit;
 use std::alloc::Global;
 
-/// Leaves as OUT a new folder with a file for each object that a journal makes whole, of those that
-/// are picked, and no other file; and in the report a line for each of these objects, and the
+/// Leaves as OUT a new folder with a file for each object that the picked entries of a journal make
+/// whole, and no other file; and in the report a line for each object of these entries, and the
 /// number of files.
 ///
 /// # Errors
@@ -30,26 +30,27 @@ use std::alloc::Global;
 /// if the report or the disk failed, or the folder could not be put in its place: there is no OUT
 /// then. `NotOnDisk` if OUT is there, but the disk did not confirm that it has this name. Last,
 /// `CannotWrite` if the report failed to take the number: OUT is there then.
-pub fn extract_all_into<D: NewFolder, R: Source, P: Outlet>(
+pub fn extract_all_into<D: NewFolder, R: Source, C: Picks, P: Outlet>(
     alloc: Global,
     limit: Limit,
     folder: &mut D,
     source: &mut R,
-    picked: Picked,
+    picks: &C,
     report: &mut P,
 ) -> Result<(), CommandFault>
-    ensures extracted { OnOk result (LeavesFolder (most_of limit) (R.unread source.old) picked
-        (D.places folder.old) (D.places folder.new) (P.written report.old) (P.written report.new)) }
+    ensures extracted { OnOk result (LeavesFolder (most_of limit) (R.unread source.old)
+        (C.picks picks.now) (D.places folder.old) (D.places folder.new)
+        (P.written report.old) (P.written report.new)) }
     ensures handed_on { OnOk result (P.handed_on report.new ≡ P.written report.new) }
     ensures failed { IfErr result (FolderFails (most_of limit)
         (R.unread source.old) (R.unread source.new)
-        picked (D.places folder.old) (D.places folder.new)) }
+        (C.picks picks.now) (D.places folder.old) (D.places folder.new)) }
     ensures any_moment { IsOneFolderAlways (D.places folder.old) (D.places folder.new) }
 {
     let Ok(()) = folder.create() else {
         return Err(CommandFault::CannotCreate);
     };
-    let filled = fill(alloc, limit, folder, source, &picked, report);
+    let filled = fill(alloc, limit, folder, source, picks, report);
     match finish_folder(folder, filled) {
         Ok(count) => tell(report, count),
         Err(fault) => Err(fault_of(fault)),
@@ -68,18 +69,18 @@ fn fault_of(fault: FinishFault<CommandFault>) -> CommandFault
 }
 
 // Fills the folder, and hands the lines on: those of the objects before a fault, too.
-fn fill<D: NewFolder, R: Source, P: Outlet>(
+fn fill<D: NewFolder, R: Source, C: Picks, P: Outlet>(
     alloc: Global,
     limit: Limit,
     folder: &mut D,
     source: &mut R,
-    picked: &Picked,
+    picks: &C,
     report: &mut P,
 ) -> Result<u64, CommandFault>
     requires { IfSome (D.places folder.old) IsReady }
     ensures filled { IfOk result (ExtractsAll (most_of limit)
         (R.unread source.old) (R.unread source.new)
-        picked.now (D.places folder.old) (D.places folder.new)
+        (C.picks picks.now) (D.places folder.old) (D.places folder.new)
         (P.written report.old) (P.written report.new)) }
     ensures failed { IfErr result (λ fault.
         ExtractAllFails (most_of limit) (R.unread source.old) (R.unread source.new) fault
@@ -87,11 +88,11 @@ fn fill<D: NewFolder, R: Source, P: Outlet>(
     ensures stays { LeadsTo FolderStays (D.places folder.old) (D.places folder.new) }
 {
     let extracted = match limit {
-        Limit::AnySize => extract_all_to::<ANY_SESSIONS, ANY_OBJECTS, ANY_SYMBOLS, _, _, _>(
-            alloc, source, picked, folder, report,
+        Limit::AnySize => extract_all_to::<ANY_SESSIONS, ANY_OBJECTS, ANY_SYMBOLS, _, _, _, _>(
+            alloc, source, picks, folder, report,
         ),
-        Limit::Shelf => extract_all_to::<MAX_SESSIONS, MAX_OBJECTS, MAX_SYMBOLS, _, _, _>(
-            alloc, source, picked, folder, report,
+        Limit::Shelf => extract_all_to::<MAX_SESSIONS, MAX_OBJECTS, MAX_SYMBOLS, _, _, _, _>(
+            alloc, source, picks, folder, report,
         ),
     };
     let flushed = report.flush();

@@ -71,7 +71,7 @@ pub fn fill<W: World, O: Outlet, E: Sink>(
         (outside (W.files world.new) (O.written output.new) (E.written errors.new))) }
 {
     let target = line.target;
-    let (journal, gaps) = begin_with_list(world, target, line.j, line.gaps)?;
+    let (journal, gaps) = begin_with_list(world, target, line.journal, line.gaps)?;
     let input = fill_input(journal, gaps, line.asking);
     let work = FillWork { alloc, input };
     leave(

@@ -13,40 +13,40 @@ ghost use Rattle.flutejoin_commands.specs.Works.{most_of};
 
 use crate::outlet::Outlet;
 use flute_parts::{Sink, Source};
-use flute_streams::Selection;
 use flutejoin::{
     ANY_OBJECTS, ANY_SESSIONS, ANY_SYMBOLS, Aside, CommandFault, MAX_OBJECTS, MAX_SESSIONS,
-    MAX_SYMBOLS, Style, gaps_from,
+    MAX_SYMBOLS, Picks, Style, gaps_from,
 };
 use flutejoin_line::Limit;
 use std::alloc::Global;
 
-/// What `gaps` lists of a journal, and how.
+/// How `gaps` lists a journal.
 #[derive(Clone, Copy)]
 pub struct Listing {
     pub limit: Limit,
-    pub selection: Selection,
     pub style: Style,
 }
 
-/// Prints what is listed of the objects of a journal, as [`gaps_from`] writes it, and hands it
-/// on. The lines are put aside as `lines` and `gap_lines`, which are empty at first.
+/// Prints what is listed of the objects of the picked entries of a journal, as [`gaps_from`] writes
+/// it, and hands it on. The lines are put aside as `lines` and `gap_lines`, which are empty at
+/// first.
 ///
 /// # Errors
 ///
 /// Those of [`gaps_from`]; or `CannotWrite` if all was written and not handed on; or last, if the
 /// style asks for a check, `NotAllWhole`: all was handed on, and not all objects that are listed
 /// are whole.
-pub fn gaps_on<R: Source, A: Aside, P: Outlet>(
+pub fn gaps_on<R: Source, C: Picks, A: Aside, P: Outlet>(
     alloc: Global,
     listing: Listing,
     source: &mut R,
+    picks: &C,
     lines: &mut A,
     gap_lines: &mut A,
     report: &mut P,
 ) -> Result<(), CommandFault>
     ensures listed { A.written lines.old ≡ Some [] → A.written gap_lines.old ≡ Some []
-        → IfPrinted result (λ passes. ListsJournal (most_of listing.limit) listing.selection
+        → IfPrinted result (λ passes. ListsJournal (most_of listing.limit) (C.picks picks.now)
         (R.unread source.old)
         (λ objects. Appends (P.written report.old) (P.written report.new)
         (printed listing.style objects)
@@ -58,10 +58,10 @@ pub fn gaps_on<R: Source, A: Aside, P: Outlet>(
     ensures part { A.written lines.old ≡ Some [] → A.written gap_lines.old ≡ Some []
         → IfErr result (λ fault. fault ≡ CannotWrite
         → (P.written report.new ≡ P.written report.old)
-        ⊎ (ListsJournal (most_of listing.limit) listing.selection (R.unread source.old)
+        ⊎ (ListsJournal (most_of listing.limit) (C.picks picks.now) (R.unread source.old)
         (λ objects. AppendsPart (P.written report.old) (P.written report.new)
         (printed listing.style objects))
-        ⊎ ListsJournal (most_of listing.limit) listing.selection (R.unread source.old)
+        ⊎ ListsJournal (most_of listing.limit) (C.picks picks.now) (R.unread source.old)
         (λ objects. Appends (P.written report.old) (P.written report.new)
         (printed listing.style objects)))) }
     ensures handed_on { IfPrinted result (λ passes.
@@ -74,7 +74,7 @@ pub fn gaps_on<R: Source, A: Aside, P: Outlet>(
         < A.failures lines.new + A.failures gap_lines.new + P.failures report.new) }
 {
     let style = listing.style;
-    match list_gaps(alloc, listing, source, lines, gap_lines, report) {
+    match list_gaps(alloc, listing, source, picks, lines, gap_lines, report) {
         Ok(all_whole) => {
             hand_on(report, Ok(()))?;
             checked(style, all_whole)
@@ -84,16 +84,17 @@ pub fn gaps_on<R: Source, A: Aside, P: Outlet>(
 }
 
 // The lines of a journal of any size, or of one that a store would hold.
-fn list_gaps<R: Source, A: Aside, W: Sink>(
+fn list_gaps<R: Source, C: Picks, A: Aside, W: Sink>(
     alloc: Global,
     listing: Listing,
     source: &mut R,
+    picks: &C,
     lines: &mut A,
     gap_lines: &mut A,
     sink: &mut W,
 ) -> Result<bool, CommandFault>
     ensures printed { A.written lines.old ≡ Some [] → A.written gap_lines.old ≡ Some []
-        → IfOk result (λ all_whole. ListsJournal (most_of listing.limit) listing.selection
+        → IfOk result (λ all_whole. ListsJournal (most_of listing.limit) (C.picks picks.now)
         (R.unread source.old)
         (λ objects. Appends (W.written sink.old) (W.written sink.new)
         (printed listing.style objects)
@@ -103,7 +104,7 @@ fn list_gaps<R: Source, A: Aside, W: Sink>(
         (GapsFail (most_of listing.limit) (R.unread source.old) (R.unread source.new)) }
     ensures part { A.written lines.old ≡ Some [] → A.written gap_lines.old ≡ Some []
         → IfErr result (λ fault. fault ≡ CannotWrite → (sink.new ≡ sink.old)
-        ⊎ ListsJournal (most_of listing.limit) listing.selection (R.unread source.old)
+        ⊎ ListsJournal (most_of listing.limit) (C.picks picks.now) (R.unread source.old)
         (λ objects. AppendsPart (W.written sink.old) (W.written sink.new)
         (printed listing.style objects))) }
     ensures kept { IfErr result (λ fault. fault ≢ CannotWrite → sink.new ≡ sink.old) }
@@ -111,17 +112,13 @@ fn list_gaps<R: Source, A: Aside, W: Sink>(
         ≡ A.failures lines.old + A.failures gap_lines.old + W.failures sink.old
         + write_failures result }
 {
-    let Listing {
-        limit,
-        selection,
-        style,
-    } = listing;
+    let Listing { limit, style } = listing;
     match limit {
-        Limit::AnySize => gaps_from::<ANY_SESSIONS, ANY_OBJECTS, ANY_SYMBOLS, _, _, _>(
-            alloc, source, &selection, style, lines, gap_lines, sink,
+        Limit::AnySize => gaps_from::<ANY_SESSIONS, ANY_OBJECTS, ANY_SYMBOLS, _, _, _, _>(
+            alloc, source, picks, style, lines, gap_lines, sink,
         ),
-        Limit::Shelf => gaps_from::<MAX_SESSIONS, MAX_OBJECTS, MAX_SYMBOLS, _, _, _>(
-            alloc, source, &selection, style, lines, gap_lines, sink,
+        Limit::Shelf => gaps_from::<MAX_SESSIONS, MAX_OBJECTS, MAX_SYMBOLS, _, _, _, _>(
+            alloc, source, picks, style, lines, gap_lines, sink,
         ),
     }
 }

@@ -1,14 +1,15 @@
 -- join_of: the line of a join, and why there is none (specs/CommandLine).
 use Rattle.std.proofs.Common.{◌≡◌, ◌<◌, ◌≤◌, ℕ, List, length, map, Bor, Option, None, false, inl, inr, ap, ◌∙◌}
-use Rattle.std.proofs.Common.{codes, Bool}
+use Rattle.std.proofs.Common.{codes, Bool, ◌++◌, option_map, subst}
 use Rattle.std.specs.Prelude.{Some, is_some}
 use Rattle.std.proofs.lemmas.List.{length-map}
-use Rattle.clap.specs.Walk.{Row}
+use Rattle.clap.specs.Walk.{Row, first_of}
 use Rattle.flute_parts.specs.declared.object_key.ObjectName.{ObjectName}
 use Rattle.flute_streams.specs.Sessions.{listed_tsis}
 use Rattle.flute_streams.specs.declared.choice.scope.Scope.{Scope}
 use Rattle.flute_streams.specs.declared.choice.sessions.Sessions.{Sessions}
-use Rattle.flutejoin_line.specs.Inputs.{IsTwice, is_standard_twice}
+use Rattle.flutejoin_line.specs.CommandLine.{join_words, without_words}
+use Rattle.flutejoin_line.specs.Inputs.{IsTwice, is_standard_twice, word_if}
 use Rattle.flutejoin_line.specs.LineFaults.{AreJoinNumbers, IsInputsFault, IsJoinFault}
 use Rattle.flutejoin_line.specs.Options.{HasSessions, HasSource, IsBadNumber, IsFlag, IsInstance}
 use Rattle.flutejoin_line.specs.Options.{IsToi}
@@ -84,33 +85,46 @@ module _ (rows : List Row) where
       files = is;
     }
 
-module _ (rows : List Row) (inputs : List (Bor (List ℕ))) (are : map (λ (w : Bor (List ℕ)). w.now)
-    inputs ≡ words (codes "INPUT") rows) where
-  as_many : length (map (λ (w : Bor (List ℕ)). w.now) inputs) ≡ length inputs
+module _ (rows : List Row) (list : Option (Bor (List ℕ)))
+    (listed : option_map (λ (w : Bor (List ℕ)). w.now) list ≡ first_of (codes "without") rows)
+    (inputs : List (Bor (List ℕ)))
+    (are : map (λ (w : Bor (List ℕ)). w.now) inputs ≡ words (codes "INPUT") rows) where
+  abbrev first : List (List ℕ)
+  first = word_if (option_map (λ (w : Bor (List ℕ)). w.now) list)
+
+  abbrev texts : List (List ℕ)
+  texts = map (λ (w : Bor (List ℕ)). w.now) inputs
+
+  as_many : length texts ≡ length inputs
   as_many = length-map inputs (λ (w : Bor (List ℕ)). w.now)
 
-  pub too_many : 64 < length inputs
-      → IsInputsFault (map (λ (w : Bor (List ℕ)). w.now) inputs) TooManyInputs
+  pub too_many : 64 < length inputs → IsInputsFault first texts TooManyInputs
   too_many many = rw as_many many
 
   pub twice : (fault : CommandFault) → length inputs ≤ 64
-      → IsTwice (map (λ (w : Bor (List ℕ)). w.now) inputs) fault
-      → IsInputsFault (map (λ (w : Bor (List ℕ)). w.now) inputs) fault
+      → IsTwice (first ++ texts) fault → IsInputsFault first texts fault
   twice StandardInputTwice few is = (rw as_many few, is)
   twice _ few is = absurd is
 
-  pub no_memory : length inputs ≤ 64
-      → is_standard_twice (map (λ (w : Bor (List ℕ)). w.now) inputs) ≡ false
-      → IsInputsFault (map (λ (w : Bor (List ℕ)). w.now) inputs) OutOfMemory
+  pub no_memory : length inputs ≤ 64 → is_standard_twice (first ++ texts) ≡ false
+      → IsInputsFault first texts OutOfMemory
   no_memory few once = (rw as_many few, once)
+
+  pub once_of_all : is_standard_twice (first ++ texts) ≡ false
+      → is_standard_twice (join_words rows) ≡ false
+  once_of_all once =
+      subst (λ ws. is_standard_twice (without_words rows ++ ws) ≡ false) are
+      (subst (λ o. is_standard_twice (word_if o ++ texts) ≡ false) listed once)
 
   -- the inputs of a join are at fault, or there is no memory for them
   pub not_joined : {scope : Scope} {memory : ℕ} (fault : CommandFault) → IsScope rows scope
       → memory_in rows ≡ Some memory → ((sender : ℕ) × HasSource rows sender)
-      → IsInputsFault (map (λ (w : Bor (List ℕ)). w.now) inputs) fault → IsJoinFault rows fault
-  not_joined {scope = scope} fault taken held from why = go fault (rw are at why)
+      → IsInputsFault first texts fault → IsJoinFault rows fault
+  not_joined {scope = scope} fault taken held from why =
+      go fault (subst (λ ws. IsInputsFault (without_words rows) ws fault) are
+      (subst (λ o. IsInputsFault (word_if o) texts fault) listed why))
     where
-      go : (f : CommandFault) → IsInputsFault (words (codes "INPUT") rows) f
+      go : (f : CommandFault) → IsInputsFault (without_words rows) (words (codes "INPUT") rows) f
           → IsJoinFault rows f
       go (BadNumber option) h = absurd h
       go BadSource h = absurd h

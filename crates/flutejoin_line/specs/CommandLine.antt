@@ -1,6 +1,6 @@
 -- The command line: the arguments of each command, and what each field of its line is.
 use Rattle.std.specs.Prelude.{◌≡◌, ◌≤◌, ◌^◌, ◌&&◌, ◌||◌, ℕ, Bool, true, false, not, List, [], ◌∷◌}
-use Rattle.std.specs.Prelude.{◌++◌, length, map, codes, Option, Some, None}
+use Rattle.std.specs.Prelude.{◌++◌, length, map, codes, Option, Some, None, option_map}
 use Rattle.std.specs.List.{list_any}
 use Rattle.std.specs.Str.{bytes_eq}
 use Rattle.std.specs.Borrow.{Bor}
@@ -19,7 +19,7 @@ use Rattle.flutejoin.specs.declared.lines.form.Form.{Form}
 use Rattle.flutejoin.specs.declared.lines.form.Form.TheVariants.{Plain, Json}
 use Rattle.flutejoin.specs.declared.lines.style.Style.{Style}
 use Rattle.flutejoin.specs.declared.output_guard.Overwrites.{Overwrites}
-use Rattle.flutejoin_line.specs.Inputs.{is_standard_twice}
+use Rattle.flutejoin_line.specs.Inputs.{is_standard_twice, word_if}
 use Rattle.flutejoin_line.specs.Options.{HasSessions, HasSource, IsFlag, IsKey, IsNumber}
 use Rattle.flutejoin_line.specs.Options.{IsSourceIf, IsZero, all_form, extract_form, first_unfit}
 use Rattle.flutejoin_line.specs.Options.{fill_form, info_form, list_form, word, words}
@@ -48,6 +48,7 @@ use Rattle.flutejoin_line.specs.declared.line.Line.TheVariants.{Packet, Show, Ga
 use Rattle.flutejoin_line.specs.declared.line.Line.TheVariants.{Info, Join, Merge, Carousel}
 use Rattle.flutejoin_line.specs.declared.line.Line.TheVariants.{ExtractAll, InfoList, Forget}
 use Rattle.flutejoin_line.specs.declared.line.Line.TheVariants.{Compare, Minus, Fill, ForgetList}
+use Rattle.flutejoin_line.specs.declared.listed_journal.ListedJournal.{ListedJournal}
 use Rattle.flutejoin_line.specs.declared.merge_line.MergeLine.{MergeLine}
 use Rattle.flutejoin_line.specs.declared.minus_line.MinusLine.{MinusLine}
 use Rattle.flutejoin_line.specs.declared.packet_line.PacketLine.{PacketLine}
@@ -96,6 +97,20 @@ pub record IsPair (rows : List Row) (first second : Bor (List ℕ)) : Type 0 whe
   pub second_is : IsWord (codes "B") rows second
   pub once : is_standard_twice (pair_words rows) ≡ false
 
+-- a list, and a journal
+abbrev pub list_words : List Row → List (List ℕ)
+list_words rows = word (codes "list") rows ∷ word (codes "J") rows ∷ []
+
+-- the name of the list, if there is one
+abbrev pub list_of : ListedJournal → Option (List ℕ)
+list_of inputs = option_map (λ (list : Bor (List ℕ)). list.now) inputs.list
+
+-- standard input is one of them at most
+pub record IsListedJournal (rows : List Row) (inputs : ListedJournal) : Type 0 where
+  pub list : list_of inputs ≡ first_of (codes "list") rows
+  pub journal : IsWord (codes "J") rows inputs.journal
+  pub once : is_standard_twice (list_words rows) ≡ false
+
 -- OUT is one of two words, and not standard output
 abbrev pub is_out_among : List Row → List ℕ → List ℕ → Bool
 is_out_among rows first second =
@@ -118,20 +133,21 @@ pub record IsPacketLine (rows : List Row) (line : PacketLine) : Type 0 where
 -- its options select entries, and say what is printed of them
 abbrev pub show_rules : List Rule
 show_rules =
-    size_flag ∷ long_flag (codes "sums") ∷ long_flag (codes "json")
+    size_flag ∷ option (codes "list") ∷ long_flag (codes "sums") ∷ long_flag (codes "json")
     ∷ long_flag (codes "conflicts") ∷ object_rules ++ journal_rules
 
 pub record IsShowLine (rows : List Row) (line : ShowLine) : Type 0 where
   pub selection : IsSelection rows line.selection
   pub form : IsForm rows line.style.form
   pub sums : IsFlag (codes "sums") rows line.style.sums
-  pub j : IsWord (codes "J") rows line.j
+  pub inputs : IsListedJournal rows line.inputs
 
 -- its options select objects, and say what is printed of them
 abbrev pub gaps_rules : List Rule
 gaps_rules =
-    size_flag ∷ long_flag (codes "check") ∷ long_flag (codes "summary")
-    ∷ long_flag (codes "conflicts") ∷ long_flag (codes "ranges") ∷ long_flag (codes "json")
+    size_flag ∷ option (codes "list") ∷ long_flag (codes "check")
+    ∷ long_flag (codes "summary") ∷ long_flag (codes "conflicts")
+    ∷ long_flag (codes "ranges") ∷ long_flag (codes "json")
     ∷ object_rules ++ journal_rules
 
 -- what `gaps` selects, and how it prints that; `--conflicts` is of the second
@@ -146,7 +162,7 @@ pub record IsStyled (rows : List Row) (s : Selection) (style : Style) : Type 0 w
 pub record IsGapsLine (rows : List Row) (line : GapsLine) : Type 0 where
   pub limit : IsLimit rows line.limit
   pub styled : IsStyled rows line.selection line.style
-  pub j : IsWord (codes "J") rows line.j
+  pub inputs : IsListedJournal rows line.inputs
 
 -- its options select objects, and say what is printed of them
 abbrev pub compare_rules : List Rule
@@ -164,8 +180,9 @@ pub record IsCompareLine (rows : List Row) (line : CompareLine) : Type 0 where
 -- its options are of one object or of all
 abbrev pub extract_rules : List Rule
 extract_rules =
-    out ∷ force_flag ∷ size_flag ∷ long_flag (codes "all") ∷ option (codes "source")
-    ∷ session_list ∷ option (codes "toi") ∷ option (codes "fdt") ∷ journal_rules
+    out ∷ force_flag ∷ size_flag ∷ long_flag (codes "all") ∷ option (codes "list")
+    ∷ option (codes "source") ∷ session_list ∷ option (codes "toi") ∷ option (codes "fdt")
+    ∷ journal_rules
 
 pub record IsExtractLine (rows : List Row) (line : ExtractLine) : Type 0 where
   pub one : IsFlag (codes "all") rows false
@@ -173,7 +190,7 @@ pub record IsExtractLine (rows : List Row) (line : ExtractLine) : Type 0 where
   pub target : IsTarget overwrites_other rows line.target
   pub limit : IsLimit rows line.limit
   pub key : IsKey (HasSource rows) rows line.key
-  pub j : IsWord (codes "J") rows line.j
+  pub journal : IsWord (codes "J") rows line.journal
 
 pub record IsExtractAllLine (rows : List Row) (line : ExtractAllLine) : Type 0 where
   pub all : IsFlag (codes "all") rows true
@@ -183,7 +200,7 @@ pub record IsExtractAllLine (rows : List Row) (line : ExtractAllLine) : Type 0 w
   pub limit : IsLimit rows line.limit
   pub sender : IsSourceIf rows line.picked.sender
   pub sessions : HasSessions rows (listed_tsis line.picked.sessions)
-  pub j : IsWord (codes "J") rows line.j
+  pub inputs : IsListedJournal rows line.inputs
 
 -- of one object or of a list of them
 abbrev pub info_rules : List Rule
@@ -210,11 +227,7 @@ pub record IsInfoLine (rows : List Row) (line : InfoLine) : Type 0 where
   pub limit : IsLimit rows line.limit
   pub key : IsKey (HasSource rows) rows line.key
   pub info : AreNumbersOf rows line.info
-  pub j : IsWord (codes "J") rows line.j
-
--- its inputs
-abbrev pub list_words : List Row → List (List ℕ)
-list_words rows = word (codes "list") rows ∷ word (codes "J") rows ∷ []
+  pub journal : IsWord (codes "J") rows line.journal
 
 pub record IsInfoListLine (rows : List Row) (line : InfoListLine) : Type 0 where
   pub list : first_of (codes "list") rows ≡ Some line.list.now
@@ -222,13 +235,21 @@ pub record IsInfoListLine (rows : List Row) (line : InfoListLine) : Type 0 where
   pub once : is_standard_twice (list_words rows) ≡ false
   pub target : IsTarget overwrites_journal rows line.target
   pub limit : IsLimit rows line.limit
-  pub j : IsWord (codes "J") rows line.j
+  pub journal : IsWord (codes "J") rows line.journal
 
 abbrev pub join_rules : List Rule
 join_rules =
     out ∷ force_flag ∷ size_flag ∷ option (codes "memory") ∷ option (codes "source")
     ∷ session_list ∷ option (codes "toi") ∷ option (codes "fdt")
-    ∷ long_flag (codes "no-fdt") ∷ long_flag (codes "reasons") ∷ input_list ∷ []
+    ∷ long_flag (codes "no-fdt") ∷ option (codes "without") ∷ long_flag (codes "reasons")
+    ∷ input_list ∷ []
+
+-- the list of objects, if there is one, and the inputs
+abbrev pub without_words : List Row → List (List ℕ)
+without_words rows = word_if (first_of (codes "without") rows)
+
+abbrev pub join_words : List Row → List (List ℕ)
+join_words rows = without_words rows ++ words (codes "INPUT") rows
 
 -- of 1 to 64 inputs
 pub record IsJoinLine (rows : List Row) (line : JoinLine) : Type 0 where
@@ -237,9 +258,10 @@ pub record IsJoinLine (rows : List Row) (line : JoinLine) : Type 0 where
   pub memory : memory_in rows ≡ Some line.memory
   pub sender : HasSource rows line.sender
   pub scope : IsScope rows line.scope
+  pub without : option_map (λ text. text.now) line.without ≡ first_of (codes "without") rows
   pub reasons : IsFlag (codes "reasons") rows line.reasons
   pub inputs : map (λ input. input.now) line.inputs.items ≡ words (codes "INPUT") rows
-  pub once : is_standard_twice (words (codes "INPUT") rows) ≡ false
+  pub once : is_standard_twice (join_words rows) ≡ false
 
 abbrev pub merge_rules : List Rule
 merge_rules = out ∷ force_flag ∷ size_flag ∷ pair_rules
@@ -277,7 +299,7 @@ pub record IsFillLine (rows : List Row) (line : FillLine) : Type 0 where
   pub form : first_unfit fill_form rows ≡ None
   pub target : IsTarget overwrites_journal rows line.target
   pub gaps : IsWord (codes "gaps") rows line.gaps
-  pub j : IsWord (codes "J") rows line.j
+  pub journal : IsWord (codes "J") rows line.journal
   pub once : is_standard_twice (fill_words rows) ≡ false
   pub others : is_out_of_fill rows ≡ false
   pub only : Bool
@@ -294,14 +316,14 @@ pub record IsForgetLine (rows : List Row) (line : ForgetLine) : Type 0 where
   pub target : IsTarget overwrites_journal rows line.target
   pub selection : IsSelection rows line.selection
   pub some : is_everything line.selection ≡ false
-  pub j : IsWord (codes "J") rows line.j
+  pub journal : IsWord (codes "J") rows line.journal
 
 pub record IsForgetListLine (rows : List Row) (line : ForgetListLine) : Type 0 where
   pub list : first_of (codes "list") rows ≡ Some line.inputs.list.now
   pub once : is_standard_twice (list_words rows) ≡ false
   pub target : IsTarget overwrites_journal rows line.target
   pub selection : IsSelection rows line.selection
-  pub j : IsWord (codes "J") rows line.inputs.j
+  pub journal : IsWord (codes "J") rows line.inputs.journal
 
 abbrev pub carousel_rules : List Rule
 carousel_rules = out ∷ force_flag ∷ key_rules ++ size_rules ++ place (codes "FILE") ∷ []

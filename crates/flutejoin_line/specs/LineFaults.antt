@@ -1,7 +1,7 @@
 -- When there is no line: each fault is reported only if none of those before it in the order of
 -- faults is.
 use Rattle.std.specs.Prelude.{◌≡◌, ◌<◌, ◌≤◌, ◌⊎◌, ⊤, ℕ, true, false, List, [], length, codes}
-use Rattle.std.specs.Prelude.{Option, Some, None, is_some}
+use Rattle.std.specs.Prelude.{◌++◌, Option, Some, None, is_some}
 use Rattle.clap.specs.Kinds.{IsAmong}
 use Rattle.clap.specs.Values.{kind_of}
 use Rattle.clap.specs.Walk.{Row, first_of}
@@ -20,10 +20,11 @@ use Rattle.flutejoin.specs.declared.command_fault.CommandFault.TheVariants.{Outp
 use Rattle.flutejoin.specs.declared.command_fault.CommandFault.TheVariants.{OutOfMemory}
 use Rattle.flutejoin_line.specs.CommandLine.{AreNumbersOf, IsLine, command_in, is_out_an_input}
 use Rattle.flutejoin_line.specs.CommandLine.{fill_words, is_out_of_fill, list_words, pair_words}
-use Rattle.flutejoin_line.specs.CommandLine.{refusals_of}
+use Rattle.flutejoin_line.specs.CommandLine.{refusals_of, without_words}
 use Rattle.flutejoin_line.specs.Inputs.{IsTwice, is_standard_twice}
 use Rattle.flutejoin_line.specs.Options.{HasObject, HasSessions, HasSource, IsFlag, IsFormFault}
-use Rattle.flutejoin_line.specs.Options.{IsKey, IsZero, all_form, are_sessions, carousel_options}
+use Rattle.flutejoin_line.specs.Options.{IsKey, IsSourceIf, IsZero, all_form, are_sessions}
+use Rattle.flutejoin_line.specs.Options.{carousel_options}
 use Rattle.flutejoin_line.specs.Options.{extract_form, fill_form, first_unfit, first_wrong, info_form}
 use Rattle.flutejoin_line.specs.Options.{info_options, key_options, list_form, words}
 use Rattle.flutejoin_line.specs.Scoping.{AreScopeNumbers, IsScope, IsWrongOfScope}
@@ -42,13 +43,14 @@ IsKeyFault options IsMeant rows BadKey =
     (first_wrong options rows ≡ None) × ((sender : ℕ) × IsMeant sender) × HasObject rows None
 IsKeyFault options IsMeant rows _ = ⊥
 
--- of these inputs
-abbrev pub IsInputsFault : List (List ℕ) → CommandFault → Type 0
-IsInputsFault inputs TooManyInputs = 64 < length inputs
-IsInputsFault inputs StandardInputTwice =
-    (length inputs ≤ 64) × (is_standard_twice inputs ≡ true)
-IsInputsFault inputs OutOfMemory = (length inputs ≤ 64) × (is_standard_twice inputs ≡ false)
-IsInputsFault inputs _ = ⊥
+-- of these inputs, and of a list beside them, if there is one
+abbrev pub IsInputsFault : List (List ℕ) → List (List ℕ) → CommandFault → Type 0
+IsInputsFault list inputs TooManyInputs = 64 < length inputs
+IsInputsFault list inputs StandardInputTwice =
+    (length inputs ≤ 64) × (is_standard_twice (list ++ inputs) ≡ true)
+IsInputsFault list inputs OutOfMemory =
+    (length inputs ≤ 64) × (is_standard_twice (list ++ inputs) ≡ false)
+IsInputsFault list inputs _ = ⊥
 
 -- of a join each number is one of its range
 abbrev pub AreJoinNumbers : List Row → Type 0
@@ -75,7 +77,8 @@ IsJoinFault rows BadSource =
 IsJoinFault rows BadKey =
     AreJoinNumbers rows × ((sender : ℕ) × HasSource rows sender) × NamesObject rows None
 IsJoinFault rows fault =
-    AreJoinOptions rows × IsInputsFault (words (codes "INPUT") rows) fault
+    AreJoinOptions rows
+    × IsInputsFault (without_words rows) (words (codes "INPUT") rows) fault
 
 -- of `extract --all`, which takes no `--force`
 abbrev pub IsAllFault : List Row → CommandFault → Type 0
@@ -90,6 +93,11 @@ IsAllFault rows BadSource =
     (first_unfit all_form rows ≡ None) × IsFlag (codes "force") rows false
     × ((tsis : List ℕ) × HasSessions rows tsis)
     × ((sender : ℕ) → HasSource rows sender → ⊥)
+IsAllFault rows StandardInputTwice =
+    (first_unfit all_form rows ≡ None) × IsFlag (codes "force") rows false
+    × ((tsis : List ℕ) × HasSessions rows tsis)
+    × ((sender : Option ℕ) × IsSourceIf rows sender)
+    × (is_standard_twice (list_words rows) ≡ true)
 IsAllFault rows _ = ⊥
 
 abbrev pub IsOneFault : List Row → CommandFault → Type 0
@@ -125,6 +133,12 @@ abbrev pub IsInfoFault : List Row → CommandFault → Type 0
 IsInfoFault rows fault =
     ((is_some (first_of (codes "list") rows) ≡ true) × IsListFault rows fault)
     ⊎ ((first_of (codes "list") rows ≡ None) × IsNumbersFault rows fault)
+
+-- of a journal, or a list of its objects, of which entries are selected
+abbrev pub IsListedFault : List Row → CommandFault → Type 0
+IsListedFault rows StandardInputTwice =
+    ((s : Selection) × IsSelection rows s) × (is_standard_twice (list_words rows) ≡ true)
+IsListedFault rows fault = IsSelectionFault rows fault
 
 -- of `forget` of a list
 abbrev pub IsForgetListFault : List Row → CommandFault → Type 0
@@ -171,8 +185,8 @@ IsFault name rows fault =
     ⊎ (((name ≡ codes "fill") × IsFillFault rows fault)
     ⊎ (((name ≡ codes "compare") × IsCompareFault rows fault)
     ⊎ (((name ≡ codes "forget") × IsForgetFault rows fault)
-    ⊎ (((name ≡ codes "show") × IsSelectionFault rows fault)
-    ⊎ ((name ≡ codes "gaps") × IsSelectionFault rows fault))))))))))
+    ⊎ (((name ≡ codes "show") × IsListedFault rows fault)
+    ⊎ ((name ≡ codes "gaps") × IsListedFault rows fault))))))))))
 
 -- the line is what the parser found for its command
 abbrev pub IsLineOf : Option (List ℕ × List Row) → Line → Type 0

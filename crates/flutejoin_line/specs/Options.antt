@@ -65,7 +65,7 @@ form_of options = map (λ option. (option.0.now, option.1)) options
 
 -- `extract` of one object
 abbrev pub extract_form : List (List ℕ × ℕ)
-extract_form = (codes "tsi", 1) ∷ (codes "toi", 1) ∷ []
+extract_form = (codes "tsi", 1) ∷ (codes "toi", 1) ∷ (codes "list", 0) ∷ []
 
 -- and of all
 abbrev pub all_form : List (List ℕ × ℕ)

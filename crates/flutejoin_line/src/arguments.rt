@@ -24,6 +24,10 @@ pub const UNLIMITED: &str = "Taken as by the other commands: the limits of a sto
 /// What is told of `--conflicts` if it selects entries.
 pub const CONFLICTS: &str = "Only symbols and information of which two values were told";
 
+/// What is told of `--list` if it is of objects.
+pub const LISTED: &str = "\
+Only objects that the lines of this file begin with; - is standard input";
+
 /// What is told of `--json`.
 pub const JSON: &str = "An object of JSON a line, in ASCII";
 

@@ -17,13 +17,13 @@ use clap::{ArgMatches, Command};
 use flutejoin::{Asking, CommandFault};
 use std::alloc::{AllocError, Global};
 
-/// Write the entries of the journal `j` that the lines of the file `gaps` ask for to a journal.
+/// Write the entries of `journal` that the lines of the file `gaps` ask for to a journal.
 #[derive(Clone, Copy)]
 pub struct FillLine<'a> {
     pub target: Target<'a>,
     pub asking: Asking,
     pub gaps: &'a str,
-    pub j: &'a str,
+    pub journal: &'a str,
 }
 
 /// The command, as the parser takes it.
@@ -68,16 +68,16 @@ pub fn fill_of<'a>(matches: &ArgMatches<'a>) -> Result<Line<'a>, CommandFault>
 {
     given(matches, &[("gaps", 1)])?;
     let gaps = text(matches, "gaps");
-    let j = text(matches, "J");
-    standard_once(&[gaps, j])?;
-    if is_out_one_of(matches, j, gaps) {
+    let journal = text(matches, "J");
+    standard_once(&[gaps, journal])?;
+    if is_out_one_of(matches, journal, gaps) {
         return Err(CommandFault::OutputIsInput);
     }
     Ok(Line::Fill(FillLine {
         target: journal_target(matches),
         asking: asking(flag(matches, "only")),
         gaps,
-        j,
+        journal,
     }))
 }
 

@@ -8,8 +8,8 @@ ghost use Rattle.flutejoin_line.specs.Parser.{IsCommand};
 ghost use Rattle.flutejoin_line.specs.Selecting.{IsChoiceFault};
 
 use crate::arguments::{
-    CONFLICTS, FORCE, INSTANCE, JOURNAL, OBJECT, SOURCE, UNLIMITED, force, input, long_flag,
-    option, output, session_list,
+    CONFLICTS, FORCE, INSTANCE, JOURNAL, LISTED, OBJECT, SOURCE, UNLIMITED, force, input,
+    long_flag, option, output, session_list,
 };
 use crate::help_texts::FORGET_HELP;
 use crate::inputs::standard_once;
@@ -23,12 +23,12 @@ use flute_streams::Selection;
 use flutejoin::CommandFault;
 use std::alloc::{AllocError, Global};
 
-/// Write the entries of the journal `j` that are not selected to a journal.
+/// Write the entries of `journal` that are not selected to a journal.
 #[derive(Clone, Copy)]
 pub struct ForgetLine<'a> {
     pub target: Target<'a>,
     pub selection: Selection,
-    pub j: &'a str,
+    pub journal: &'a str,
 }
 
 /// Write the entries of a journal that are not selected, or whose objects are not in a list, to a
@@ -40,11 +40,11 @@ pub struct ForgetListLine<'a> {
     pub inputs: ListedInputs<'a>,
 }
 
-/// The journal `j`, and the file `list`, whose lines begin with names of objects.
+/// `journal`, and the file `list`, whose lines begin with names of objects.
 #[derive(Clone, Copy)]
 pub struct ListedInputs<'a> {
     pub list: &'a str,
-    pub j: &'a str,
+    pub journal: &'a str,
 }
 
 /// The command, as the parser takes it.
@@ -55,12 +55,7 @@ pub fn forget_command<'a>(alloc: Global) -> Result<Command<'a>, AllocError>
         output(alloc),
         force(alloc, FORCE),
         long_flag(alloc, "any-size", UNLIMITED),
-        option(
-            alloc,
-            "list",
-            "KEYS",
-            "Only objects that the lines of this file begin with; - is standard input",
-        ),
+        option(alloc, "list", "KEYS", LISTED),
         long_flag(alloc, "conflicts", CONFLICTS),
         option(alloc, "source", "ADDRESS", SOURCE),
         session_list(alloc),
@@ -108,12 +103,12 @@ fn forget_list<'a>(matches: &ArgMatches<'a>, list: &'a str) -> Result<Line<'a>, 
         MatchResult result (IsLine (codes "forget") rows) (IsForgetListFault rows) }
 {
     let selection = selection(matches)?;
-    let j = text(matches, "J");
-    standard_once(&[list, j])?;
+    let journal = text(matches, "J");
+    standard_once(&[list, journal])?;
     Ok(Line::ForgetList(ForgetListLine {
         target: journal_target(matches),
         selection,
-        inputs: ListedInputs { list, j },
+        inputs: ListedInputs { list, journal },
     }))
 }
 
@@ -130,6 +125,6 @@ fn forget_all<'a>(matches: &ArgMatches<'a>) -> Result<Line<'a>, CommandFault>
     Ok(Line::Forget(ForgetLine {
         target: journal_target(matches),
         selection,
-        j: text(matches, "J"),
+        journal: text(matches, "J"),
     }))
 }

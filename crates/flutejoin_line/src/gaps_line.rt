@@ -1,32 +1,35 @@
 //! The line of `gaps`.
 ghost use Rattle.std.specs.Prelude.{IfOk, MatchResult, codes};
 ghost use Rattle.flutejoin_line.specs.CommandLine.{IsLine, gaps_rules};
+ghost use Rattle.flutejoin_line.specs.LineFaults.{IsListedFault};
 ghost use Rattle.flutejoin_line.specs.Options.{found_rows};
 ghost use Rattle.flutejoin_line.specs.Parser.{IsCommand};
-ghost use Rattle.flutejoin_line.specs.Selecting.{IsSelectionFault};
 
 use crate::arguments::{
-    ANY_SIZE, INSTANCE, JOURNAL, JSON, OBJECT, SOURCE, input, long_flag, option, session_list,
+    ANY_SIZE, INSTANCE, JOURNAL, JSON, LISTED, OBJECT, SOURCE, input, long_flag, option,
+    session_list,
 };
 use crate::form::form_of;
 use crate::help_texts::GAPS_HELP;
 use crate::limit::{Limit, limit_of};
 use crate::line::Line;
+use crate::listed_journal::{ListedJournal, listed_journal};
 use crate::parser::command_with;
 use crate::selection_options::selection;
-use crate::words::{flag, text};
+use crate::words::flag;
 use clap::{ArgMatches, Command};
 use flute_streams::Selection;
 use flutejoin::{CommandFault, Style};
 use std::alloc::{AllocError, Global};
 
-/// Print how much of each selected object the journal `j` has, and what is missing, in this style.
+/// Print how much of each selected object a journal has, or of a list of its objects, and what is
+/// missing, in this style.
 #[derive(Clone, Copy)]
 pub struct GapsLine<'a> {
     pub limit: Limit,
     pub selection: Selection,
     pub style: Style,
-    pub j: &'a str,
+    pub inputs: ListedJournal<'a>,
 }
 
 /// The command, as the parser takes it.
@@ -35,6 +38,7 @@ pub fn gaps_command<'a>(alloc: Global) -> Result<Command<'a>, AllocError>
 {
     let arguments = vec![in alloc;
         long_flag(alloc, "any-size", ANY_SIZE),
+        option(alloc, "list", "KEYS", LISTED),
         long_flag(
             alloc,
             "check",
@@ -75,10 +79,10 @@ pub fn gaps_command<'a>(alloc: Global) -> Result<Command<'a>, AllocError>
 ///
 /// # Errors
 ///
-/// Those of `selection`.
+/// Those of `selection`, and of `listed_journal`.
 pub fn gaps_of<'a>(matches: &ArgMatches<'a>) -> Result<Line<'a>, CommandFault>
     ensures { let rows = found_rows matches.now in
-        MatchResult result (IsLine (codes "gaps") rows) (IsSelectionFault rows) }
+        MatchResult result (IsLine (codes "gaps") rows) (IsListedFault rows) }
 {
     let mut selection = selection(matches)?;
     let style = Style {
@@ -90,11 +94,11 @@ pub fn gaps_of<'a>(matches: &ArgMatches<'a>) -> Result<Line<'a>, CommandFault>
     };
     // An object is listed by all its entries, and not by those in conflict alone.
     selection.conflicts = false;
-    let j = text(matches, "J");
+    let inputs = listed_journal(matches)?;
     Ok(Line::Gaps(GapsLine {
         limit: limit_of(matches),
         selection,
         style,
-        j,
+        inputs,
     }))
 }

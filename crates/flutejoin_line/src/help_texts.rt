@@ -45,7 +45,8 @@ Prints a line for each entry, and then: entries N. The journal may have up to 16
 With --sums a symbol's line ends in a sum in place of its bytes, the first 8 bytes of their SHA-256:
 by it two sides compare what they have before a symbol is sent.
 With --json each line is an object of JSON: a symbol has no bytes there, but its sum with --sums.
-The options choose entries, and narrow one another. An FDT Instance is --toi 0 --fdt N.",
+The options choose entries, and narrow one another. An FDT Instance is --toi 0 --fdt N.
+With --list only entries of the objects that lines of KEYS begin with (see `forget`).",
     "show station1"
 );
 
@@ -53,6 +54,7 @@ pub const GAPS_HELP: &str = help_of!(
     "\
 Prints a line for each object: whole, partial, no information or conflicting information.
 The options choose objects, and narrow one another. An FDT Instance is --toi 0 --fdt N.
+With --list only the objects that lines of KEYS begin with (see `forget`).
 Behind partial a line for each gap follows: gap BLOCK/FIRST-LAST, and whether these symbols are
 missing, conflicting or misfit. --summary has a line for each session instead: session TSI, how many
 objects, whole, partial, the missing, conflicting and misfit symbols, and unknown, which have no or
@@ -83,6 +85,7 @@ pub const EXTRACT_HELP: &str = help_of!(
 Prints: bytes N. Of an object that is not whole nothing is written.
 With --all in place of --toi each whole object becomes a file of the new folder OUT, named by its
 sender, TSI and TOI; prints the line of `gaps` for each object, and last: written N.
+With --all and --list only the objects that lines of KEYS begin with (see `forget`).
 At `no object` another sender, TSI or TOI may have it: `gaps` lists the objects that there are.
 The journal may have as much as a store holds, or with --any-size more (flutejoin --help).",
     "extract -o out --tsi 7 --toi 1 station1"
@@ -100,8 +103,8 @@ pub const JOIN_HELP: &str = help_of!(
     "\
 Prints: datagrams N, refused N (those of them that are not taken) and entries N.
 With --tsi only these sessions are taken, with --toi only this object of each (an FDT Instance is
---toi 0 --fdt N), with --no-fdt no FDT Instance; others N then counts the entries and datagrams of
-others.
+--toi 0 --fdt N), with --no-fdt no FDT Instance, with --without no object that a line of KEYS begins
+with as `gaps` names it; others N then counts the entries and datagrams of others.
 --source is the sender of all datagram files of the call; journals keep theirs.
 SIZE is a number of bytes, and K, M or G behind it is times 1,024, 1,048,576 or 1,073,741,824.
 All inputs, at most 64, may together have as much as a store holds, or with --any-size more

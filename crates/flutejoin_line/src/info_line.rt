@@ -25,23 +25,23 @@ use flute_parts::{Info, Key, Sender};
 use flutejoin::CommandFault;
 use std::alloc::{AllocError, Global};
 
-/// Write the journal `j` with this information of the object `key` added to a journal.
+/// Write `journal` with this information of the object `key` added to a journal.
 #[derive(Clone, Copy)]
 pub struct InfoLine<'a> {
     pub target: Target<'a>,
     pub limit: Limit,
     pub key: Key,
     pub info: Info,
-    pub j: &'a str,
+    pub journal: &'a str,
 }
 
-/// Write the journal `j`, with the information in the lines of the file `list` added, to a journal.
+/// Write `journal`, with the information in the lines of the file `list` added, to a journal.
 #[derive(Clone, Copy)]
 pub struct InfoListLine<'a> {
     pub target: Target<'a>,
     pub limit: Limit,
     pub list: &'a str,
-    pub j: &'a str,
+    pub journal: &'a str,
 }
 
 /// The command, as the parser takes it.
@@ -102,13 +102,13 @@ pub fn info_list<'a>(matches: &ArgMatches<'a>, list: &'a str) -> Result<Line<'a>
         ("block", 0),
     ];
     given(matches, &without_object)?;
-    let j = text(matches, "J");
-    standard_once(&[list, j])?;
+    let journal = text(matches, "J");
+    standard_once(&[list, journal])?;
     Ok(Line::InfoList(InfoListLine {
         target: journal_target(matches),
         limit: limit_of(matches),
         list,
-        j,
+        journal,
     }))
 }
 
@@ -148,6 +148,6 @@ pub fn info_one<'a>(matches: &ArgMatches<'a>) -> Result<Line<'a>, CommandFault>
         limit: limit_of(matches),
         key,
         info,
-        j: text(matches, "J"),
+        journal: text(matches, "J"),
     }))
 }

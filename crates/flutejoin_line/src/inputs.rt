@@ -1,6 +1,6 @@
 //! Standard input, among the inputs of a command.
-ghost use Rattle.std.specs.Prelude.{◌≡◌, MatchResult, false, map};
-ghost use Rattle.flutejoin_line.specs.Inputs.{IsTwice, is_standard_twice};
+ghost use Rattle.std.specs.Prelude.{◌≡◌, ◌++◌, MatchResult, false, map, option_map};
+ghost use Rattle.flutejoin_line.specs.Inputs.{IsTwice, is_standard_twice, word_if};
 
 use flutejoin::CommandFault;
 
@@ -16,7 +16,23 @@ pub fn standard_once(inputs: &[&str]) -> Result<(), CommandFault>
     ensures { let words = map (λ input. input.now) inputs.now in
         MatchResult result (λ _. is_standard_twice words ≡ false) (IsTwice words) }
 {
-    let mut is_there = false;
+    standard_once_beside(None, inputs)
+}
+
+/// That standard input is one of these inputs, and of a list beside them if there is one, at most.
+///
+/// # Errors
+///
+/// `StandardInputTwice` if it is more of them.
+pub fn standard_once_beside(list: Option<&str>, inputs: &[&str]) -> Result<(), CommandFault>
+    ensures { let words = word_if (option_map (λ text. text.now) list.entry)
+        ++ map (λ input. input.now) inputs.now in
+        MatchResult result (λ _. is_standard_twice words ≡ false) (IsTwice words) }
+{
+    let mut is_there = match list {
+        Some(list) => list == STANDARD,
+        None => false,
+    };
     for input in inputs {
         if *input == STANDARD {
             if is_there {

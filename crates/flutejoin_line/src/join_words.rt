@@ -10,7 +10,7 @@ use crate::arguments::{
     session_list,
 };
 use crate::help_texts::JOIN_HELP;
-use crate::inputs::standard_once;
+use crate::inputs::standard_once_beside;
 use crate::join_line::JoinLine;
 use crate::limit::limit_of;
 use crate::line::Line;
@@ -19,7 +19,7 @@ use crate::objects::object;
 use crate::parser::command_with;
 use crate::sizes::memory;
 use crate::target::journal_target;
-use crate::words::flag;
+use crate::words::{flag, word};
 use clap::{ArgAction, ArgMatches, Command};
 use flute_parts::Sender;
 use flute_streams::Scope;
@@ -40,6 +40,12 @@ pub fn join_command<'a>(alloc: Global) -> Result<Command<'a>, AllocError>
         option(alloc, "toi", "N", OBJECT),
         option(alloc, "fdt", "N", INSTANCE),
         long_flag(alloc, "no-fdt", "No FDT Instances, which have the TOI 0"),
+        option(
+            alloc,
+            "without",
+            "KEYS",
+            "No objects that the lines of this file begin with; - is standard input",
+        ),
         long_flag(
             alloc,
             "reasons",
@@ -79,17 +85,19 @@ pub fn join_of<'a>(alloc: Global, matches: &ArgMatches<'a>) -> Result<Line<'a>, 
         object,
         files: flag(matches, "no-fdt"),
     };
+    let without = word(matches, "without");
     let inputs = matches.get_strs("INPUT").unwrap_or(&[]);
     if inputs.len() > MAX_INPUTS {
         return Err(CommandFault::TooManyInputs);
     }
-    standard_once(inputs)?;
+    standard_once_beside(without, inputs)?;
     Ok(Line::Join(JoinLine {
         target: journal_target(matches),
         limit: limit_of(matches),
         memory,
         sender,
         scope,
+        without,
         reasons: flag(matches, "reasons"),
         inputs: inputs.to_vec(alloc)?,
     }))

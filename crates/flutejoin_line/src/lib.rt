@@ -9,7 +9,7 @@
 //! assert!(rt;
 //!     matches!(
 //!         line_of(rt.alloc(), &words)?,
-//!         Line::Show(ShowLine { j: "J", .. })
+//!         Line::Packet(PacketLine { hex: "10", .. })
 //!     )
 //! );
 //! ```
@@ -30,6 +30,7 @@ mod join_line;
 mod join_words;
 mod limit;
 mod line;
+mod listed_journal;
 mod merge_line;
 mod minus_line;
 mod numbers;
@@ -53,6 +54,7 @@ pub use info_line::{InfoLine, InfoListLine};
 pub use join_line::JoinLine;
 pub use limit::Limit;
 pub use line::{Line, line_of};
+pub use listed_journal::ListedJournal;
 pub use merge_line::MergeLine;
 pub use minus_line::MinusLine;
 pub use packet_line::PacketLine;

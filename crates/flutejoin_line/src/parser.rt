@@ -24,7 +24,7 @@ use std::alloc::{AllocError, Global};
 
 /// What `--version` prints after the number: which journals are read and written.
 const VERSION: &str = "\
-0.1.0
+0.2.0
 Journals of versions 1 and 2 are read, and those of version 2 written.";
 
 /// The program's command, with a subcommand for each of its commands.
@@ -32,7 +32,7 @@ pub fn command<'a>(alloc: Global) -> Result<Command<'a>, AllocError>
     ensures { IfOk result (λ command. app_of command ≡ program) }
 {
     let command = Command::new(alloc, "flutejoin")
-        .version("0.1.0")
+        .version("0.2.0")
         .long_version(VERSION)
         .about("Reads FLUTE version 2 datagrams (RFC 6726), and journals of what was received")
         .after_help(PROGRAM_HELP)

@@ -9,7 +9,7 @@ use crate::no_asides::NoAsides;
 use flute_journal::laws::a_journal_is_its_content;
 use flute_journal::{ReadFault, read_store};
 use flute_parts::{MemorySink, MemorySource, Sender, Sink};
-use flute_streams::Scope;
+use flute_streams::{Objects, Scope};
 use flutejoin::{
     CommandFault, JoinCounts, JoinInput, Joined, JoinedShelf, MAX_OBJECTS, MAX_SESSIONS,
     MAX_SYMBOLS, join_to,
@@ -75,7 +75,10 @@ fn join_blobs(
         &mut NoAsides::new(),
         u64::MAX,
         sender,
-        &Scope::all(),
+        &Objects {
+            scope: Scope::all(),
+            without: None,
+        },
         &mut opened,
         sink,
     );

@@ -18,51 +18,51 @@ use Rattle.flutejoin_line.specs.declared.line.Line.TheVariants.{Fill, Forget, Fo
 use Rattle.flutejoin_line.specs.declared.target.Target.{Target}
 
 -- what a line does: it leaves what a command writes at a name, or only prints
-pub data Work : Type 1 where
-  leaves : Target → Deed → Work
-  prints : Printing → Work
+pub data Task : Type 1 where
+  leaves : Target → Deed → Task
+  prints : Printing → Task
 
-abbrev pub work_of : Line → Work
-work_of (Packet line) = prints (prints_packet line)
-work_of (Show line) = prints (shows line)
-work_of (Gaps line) = prints (lists line)
-work_of (Compare line) = prints (compares line)
-work_of (ExtractAll line) = prints (extracts_all line)
-work_of (Extract line) = leaves line.target (extracts line)
-work_of (Info line) = leaves line.target (adds line)
-work_of (InfoList line) = leaves line.target (adds_list line)
-work_of (Join line) = leaves line.target (joins line)
-work_of (Merge line) = leaves line.target (merges line)
-work_of (Minus line) = leaves line.target (subtracts line)
-work_of (Fill line) = leaves line.target (fills line)
-work_of (Forget line) = leaves line.target (forgets line)
-work_of (ForgetList line) = leaves line.target (forgets_list line)
-work_of (Carousel line) = leaves line.target (sends line)
+abbrev pub task_of : Line → Task
+task_of (Packet line) = prints (prints_packet line)
+task_of (Show line) = prints (shows line)
+task_of (Gaps line) = prints (lists line)
+task_of (Compare line) = prints (compares line)
+task_of (ExtractAll line) = prints (extracts_all line)
+task_of (Extract line) = leaves line.target (extracts line)
+task_of (Info line) = leaves line.target (adds line)
+task_of (InfoList line) = leaves line.target (adds_list line)
+task_of (Join line) = leaves line.target (joins line)
+task_of (Merge line) = leaves line.target (merges line)
+task_of (Minus line) = leaves line.target (subtracts line)
+task_of (Fill line) = leaves line.target (fills line)
+task_of (Forget line) = leaves line.target (forgets line)
+task_of (ForgetList line) = leaves line.target (forgets_list line)
+task_of (Carousel line) = leaves line.target (sends line)
 
 -- only standard output changed, and as P says
 abbrev pub OnlyPrints : Outside → Outside → Type 0 → Type 0
 OnlyPrints old new P = (new.files ≡ old.files) × (new.errors ≡ old.errors) × P
 
 -- it is done, and what is outside changes so
-abbrev pub Does : (List ℕ → Option Places) → Work → Outside → Outside → Type 0
+abbrev pub Does : (List ℕ → Option Places) → Task → Outside → Outside → Type 0
 Does folders (leaves target deed) old new = IsDone deed target old new
 Does folders (prints p) old new =
     OnlyPrints old new (p.done folders old.files old.output new.output)
 
 -- why it is not done, and what changes all the same
-abbrev pub FailsToDo : (List ℕ → Option Places) → Work → Outside → Outside → CommandFault
-    → Type 0
+abbrev pub FailsToDo : (List ℕ → Option Places) → Task → Outside → Outside
+    → CommandFault → Type 0
 FailsToDo folders (leaves target deed) old new fault = IsNotDone deed target old new fault
 FailsToDo folders (prints p) old new fault =
     OnlyPrints old new (p.fails folders old.files old.output new.output fault)
 
 -- its output, if it leaves a file, is spared
-abbrev pub SparesOut : Work → Option Files → Option Files → Type 0
+abbrev pub SparesOut : Task → Option Files → Option Files → Type 0
 SparesOut (leaves target deed) old new = Spares target.overwrites target.out.now old new
 SparesOut (prints p) old new = ⊤
 
 -- at most that output is closed, and it was whole at any moment; without one nothing is closed
-abbrev pub ClosesOut : Work → Option Files → Option (List Closing) → Option (List Closing)
+abbrev pub ClosesOut : Task → Option Files → Option (List Closing) → Option (List Closing)
     → Type 0
 ClosesOut (leaves target deed) files old new = ClosesWhole target.out.now files old new
 ClosesOut (prints p) files old new = new ≡ old
@@ -72,19 +72,19 @@ abbrev pub ClosesOutOfWords : List (List ℕ) → Option Files → Option (List 
     → Option (List Closing) → Type 0
 ClosesOutOfWords words files old new =
     (new ≡ old) ⊎ ((line : Line) × IsLineIn words line
-    × ClosesOut (work_of line) files old new)
+    × ClosesOut (task_of line) files old new)
 
 -- the words are a line, and it is done; its output was one that may be overwritten
 abbrev pub DoesWords : (List ℕ → Option Places) → List (List ℕ) → Outside → Outside
     → Type 0
 DoesWords folders words old new =
-    (line : Line) × IsLineIn words line × SparesOut (work_of line) old.files new.files
-    × Does folders (work_of line) old new
+    (line : Line) × IsLineIn words line × SparesOut (task_of line) old.files new.files
+    × Does folders (task_of line) old new
 
 -- the words are no line, and nothing changes; or they are one, and it fails
 abbrev pub FailsToDoWords : (List ℕ → Option Places) → List (List ℕ) → Outside → Outside
     → CommandFault → Type 0
 FailsToDoWords folders words old new fault =
     (IsFaultIn words fault × (new ≡ old))
-    ⊎ ((line : Line) × IsLineIn words line × SparesOut (work_of line) old.files new.files
-    × FailsToDo folders (work_of line) old new fault)
+    ⊎ ((line : Line) × IsLineIn words line × SparesOut (task_of line) old.files new.files
+    × FailsToDo folders (task_of line) old new fault)

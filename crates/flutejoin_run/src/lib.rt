@@ -18,7 +18,7 @@
 
 ghost use Rattle.std.specs.Prelude.{◌≡◌, map, string_bytes, OnOk, IfErr};
 ghost use Rattle.flutejoin_run.specs.Runs.{ClosesOut, ClosesOutOfWords, Does, DoesWords, FailsToDo};
-ghost use Rattle.flutejoin_run.specs.Runs.{FailsToDoWords, SparesOut, work_of};
+ghost use Rattle.flutejoin_run.specs.Runs.{FailsToDoWords, SparesOut, task_of};
 ghost use Rattle.flutejoin_commands.specs.Worlds.{outside};
 
 use flute_parts::Sink;
@@ -68,15 +68,15 @@ fn run_line<W: World, O: Outlet, E: Sink>(
     output: &mut O,
     errors: &mut E,
 ) -> Result<(), CommandFault>
-    ensures spared { SparesOut (work_of line.entry) (W.files world.old) (W.files world.new) }
-    ensures done { OnOk result (Does (W.folders world.old) (work_of line.entry)
+    ensures spared { SparesOut (task_of line.entry) (W.files world.old) (W.files world.new) }
+    ensures done { OnOk result (Does (W.folders world.old) (task_of line.entry)
         (outside (W.files world.old) (O.written output.old) (E.written errors.old))
         (outside (W.files world.new) (O.written output.new) (E.written errors.new))) }
     ensures handed_on { OnOk result (O.handed_on output.new ≡ O.written output.new) }
-    ensures failed { IfErr result (FailsToDo (W.folders world.old) (work_of line.entry)
+    ensures failed { IfErr result (FailsToDo (W.folders world.old) (task_of line.entry)
         (outside (W.files world.old) (O.written output.old) (E.written errors.old))
         (outside (W.files world.new) (O.written output.new) (E.written errors.new))) }
-    ensures any_moment { ClosesOut (work_of line.entry) (W.files world.old)
+    ensures any_moment { ClosesOut (task_of line.entry) (W.files world.old)
         (W.closed world.old) (W.closed world.new) }
 {
     match line {
@@ -85,24 +85,24 @@ fn run_line<W: World, O: Outlet, E: Sink>(
             ShowLine {
                 selection,
                 style,
-                j,
+                inputs,
             },
-        ) => show(world, alloc, &selection, style, j, output),
+        ) => show(world, alloc, &selection, style, inputs, output),
         Line::Gaps(
             GapsLine {
                 limit,
                 selection,
                 style,
-                j,
+                inputs,
             },
-        ) => {
-            let listing = Listing {
-                limit,
-                selection,
-                style,
-            };
-            gaps(world, alloc, listing, j, output)
-        }
+        ) => gaps(
+            world,
+            alloc,
+            &selection,
+            Listing { limit, style },
+            inputs,
+            output,
+        ),
         Line::Compare(
             CompareLine {
                 selection,
@@ -117,9 +117,9 @@ fn run_line<W: World, O: Outlet, E: Sink>(
                 out,
                 limit,
                 picked,
-                j,
+                inputs,
             },
-        ) => extract_all(world, alloc, out, limit, picked, j, output),
+        ) => extract_all(world, alloc, out, limit, picked, inputs, output),
         Line::Info(line) => info(world, alloc, line, output, errors),
         Line::InfoList(line) => info_list(world, alloc, line, output, errors),
         Line::Join(line) => join(world, alloc, line, output, errors),
@@ -130,9 +130,9 @@ fn run_line<W: World, O: Outlet, E: Sink>(
             ForgetLine {
                 target,
                 selection,
-                j,
+                journal,
             },
-        ) => forget(world, alloc, target, selection, j, output, errors),
+        ) => forget(world, alloc, target, selection, journal, output, errors),
         Line::ForgetList(
             ForgetListLine {
                 target,

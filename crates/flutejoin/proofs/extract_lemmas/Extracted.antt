@@ -88,10 +88,11 @@ module _ {a b d : ℕ} {u v w : Option (List ℕ)} {from to : ReaderState Before
     ended = (p.entries, p.counts.within, (sofar-stops p.sofar g).0);
   }
 
-  pub passing-full : (f : Fact) → GivesItem journal_framing MAX_ENTRIES from to v w f
+  pub passing-full : (f : Fact) (left : Option (List ℕ))
+      → GivesItem journal_framing MAX_ENTRIES from to v w f
       → ((F : List Fact) → IsRising (F ++ f ∷ []) → Counts a b d F tally
-      → Over (F ++ f ∷ []) a b d) → PassesAll (at_most a b d) u w writer s t (Err load.Full)
-  passing-full f g over =
+      → Over (F ++ f ∷ []) a b d) → PassesAll (at_most a b d) u left writer s t (Err load.Full)
+  passing-full f left g over =
       let more = sofar-next journal_sound p.sofar g in
       let loaded : Loaded a b d MAX_ENTRIES u v from p.entries = record {
         entries = p.entries;
@@ -132,6 +133,12 @@ pub given-end : (bound : ℕ) (v w : Option (List ℕ)) (old new : ReaderState B
 given-end bound v w old new given e h = search rules
 
 -- What the command returns.
+
+pub at_left : {most : Limits} {u v w : Option (List ℕ)} {writer : ObjectWriter}
+    {s t : Option (List ℕ)} {r : Result (Unit {0}) LoadFault} → v ≡ w
+    → PassesAll most u v writer s t r → PassesAll most u w writer s t r
+at_left {most} {u} {writer = writer} {s} {t} {r} e p =
+    subst (λ (left : Option (List ℕ)). PassesAll most u left writer s t r) e p
 
 pub of_source : {R : Type 0} {most : Limits} (unread : R → Option (List ℕ)) {x y : R}
     {left : Option (List ℕ)} {writer : ObjectWriter} {s t : Option (List ℕ)}

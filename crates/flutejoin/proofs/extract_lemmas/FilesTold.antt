@@ -1,27 +1,25 @@
 -- ObjectFiles: files and lines as a walk tells of objects (specs/ObjectFiles: HasFiles).
 use Rattle.std.proofs.Common.{◌≡◌, ℕ, ◌+◌, ◌-◌, ◌≤◌, List, [], ◌∷◌, ◌++◌, Option, Some, None}
 use Rattle.std.proofs.Common.{Result, Ok, Err, refl, sym, ap, ◌∙◌, subst, append-nil, arith, length}
-use Rattle.std.proofs.Common.{take}
+use Rattle.std.proofs.Common.{Bool, take}
 use Rattle.std.specs.Prelude.{IfSome, OnErr, OnOk, is_some, option_map}
 use Rattle.std.specs.List.{flat_map}
 use Rattle.std.specs.Io.KnownBytes.{Appends, IsAtEnd}
 use Rattle.std.proofs.KnownBytes.{Appends-nil, Appends-trans}
 use Rattle.std.proofs.lemmas.List.{flat_map_more, length-append, length-take}
 use Rattle.flute_parts.proofs.Public.{of_equal}
-use Rattle.flute_parts.specs.Addresses.{address}
 use Rattle.flute_parts.specs.Devices.{Writes}
 use Rattle.flute_parts.specs.declared.fact.Fact.{Fact}
 use Rattle.flute_output.specs.NewFolders.{Fills, FolderStays, IsReady, LeadsTo, Makes, NamedFile}
 use Rattle.flute_output.specs.NewFolders.{Places, keeps, puts, with_bytes}
-use Rattle.flutejoin.specs.ExtractAll.{ExtractsAll, is_picked}
+use Rattle.flutejoin.specs.ExtractAll.{ExtractsAll}
 use Rattle.flutejoin.specs.FileNames.{file_name}
+use Rattle.flutejoin.specs.Gaps.{ListsJournal}
 use Rattle.flutejoin.specs.Limits.{Limits}
 use Rattle.flutejoin.specs.ObjectFiles.{HasFiles, Lasting, file_so_far, first_line, lasting}
 use Rattle.flutejoin.specs.ObjectFiles.{left_so_far, named_file, object_file, one_file}
 use Rattle.flutejoin.specs.Progress.{EndsAs, Progress, with_value}
 use Rattle.flutejoin.specs.Told.{Told}
-use Rattle.flutejoin.specs.Walk.{TellsJournal}
-use Rattle.flutejoin.specs.declared.extract.picked.Picked.{Picked}
 use Rattle.flutejoin.proofs.extract_lemmas.FolderSteps.{did_stay, fills_keeps, fills_puts}
 use Rattle.flutejoin.proofs.extract_lemmas.ObjectWriters.{take-append}
 
@@ -245,13 +243,13 @@ pub of_equals : {A B C D : Type 0} (f : A → C) (g : B → D) (E : C → D → 
     → E (f x) (g y) → (x' : A) (y' : B) → x ≡ x' → y ≡ y' → E (f x') (g y')
 of_equals f g E {y = y} h x' y' e d = of_equal g (E (f x')) (of_equal f (λ c. E c (g y)) h x' e) y' d
 
-pub extracted : {most : Limits} (picked : Picked) (u left : Option (List ℕ))
+pub extracted : {most : Limits} (picks : Fact → Bool) (u left : Option (List ℕ))
     {at : Option Places × Option (List ℕ)} {places : Option Places} {lines : Option (List ℕ)}
     {written : ℕ} {open_left : Option ℕ}
-    → TellsJournal most (λ (f : Fact). is_picked picked (address f).key) u
+    → ListsJournal most picks u
     (λ objects. HasFiles at objects None places lines written open_left) → IsAtEnd left
-    → ExtractsAll most u left picked at.0 places at.1 lines written
-extracted picked u left h end = record {
+    → ExtractsAll most u left picks at.0 places at.1 lines written
+extracted picks u left h end = record {
   entries = h.entries;
   journal = h.journal;
   read = end;

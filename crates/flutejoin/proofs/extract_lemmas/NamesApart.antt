@@ -30,7 +30,7 @@ bytes_are zero n i = omega arith
 bytes_are (suc k) n zero = byte_below k n
 bytes_are (suc k) n (suc i) = bytes_are k n i
 
-senders_same : (a b : ℕ) → IsSender a → IsSender b → encode_lower (bytes_high_first 16 a) ≡
+pub senders_same : (a b : ℕ) → IsSender a → IsSender b → encode_lower (bytes_high_first 16 a) ≡
     encode_lower (bytes_high_first 16 b) → a ≡ b
 senders_same a b p q e =
     let same : bytes_high_first 16 a ≡ bytes_high_first 16 b = decode_of-same
@@ -42,7 +42,7 @@ senders_same a b p q e =
 
 -- ---- numbers
 
-numbers_same : (a b : ℕ) → a < 10 ^ 64 → b < 10 ^ 64 → decimal a ≡ decimal b → a ≡ b
+pub numbers_same : (a b : ℕ) → a < 10 ^ 64 → b < 10 ^ 64 → decimal a ≡ decimal b → a ≡ b
 numbers_same a b p q e = sym (decimal_is_IsNumeral_wide a p).1 ∙ ap (digits_value 10) e ∙
     (decimal_is_IsNumeral_wide b q).1
 
@@ -68,7 +68,7 @@ at_dash (x ∷ xs) (y ∷ ys) us vs h g e =
     let rest = at_dash xs ys us vs h.1 g.1 cc in
     (λ i. first i ∷ rest.0 i, rest.1)
 
-same_split : (xs ys us vs : List ℕ) → length xs ≡ length ys → xs ++ us ≡ ys ++ vs → (xs ≡ ys) ×
+pub same_split : (xs ys us vs : List ℕ) → length xs ≡ length ys → xs ++ us ≡ ys ++ vs → (xs ≡ ys) ×
     (us ≡ vs)
 same_split [] [] us vs l e = (refl, e)
 same_split [] (y ∷ ys) us vs l e = absurd (omega (arith, l))

@@ -82,6 +82,20 @@ enough asking listed facts held h =
 
 module _ (one : OneReading) (choice : Choice) (asking : Asking)
     {asker journal lines answer : List ℕ} {count : ℕ} (bs cs : List ℕ) where
+  pub joined_by : (others : List (List ℕ)) (held : List Fact) → IsJournal asker held
+      → (h : IsAnswer asking journal lines answer count)
+      → HaveTheRest asking h.writes.listed h.writes.facts held
+      → Joined choice (asker ∷ answer ∷ others) bs → Joined choice (asker ∷ journal ∷ others) cs
+      → bs ≡ cs
+  joined_by others held s h rest j k =
+      let w = h.writes in
+      let A = asked asking w.listed w.facts in
+      let is : answer ≡ w.writes.bytes =
+      append_cancel_left h.before answer w.writes.bytes w.writes.appended in
+      let written = written_journal answer A (subst (λ l. Journal l A) (sym is) w.writes.journal) in
+      alike one choice held A w.facts others s written (IsJournal-from_within _ w.facts w.journal_is)
+      (enough asking w.listed w.facts held rest) j k
+
   pub joined_alike : (others : List (List ℕ)) (held : List Fact) → IsJournal asker held
       → IsAnswer asking journal lines answer count
       → ((listed : List ListedLine) (facts : List Fact) → IsListing lines listed
@@ -90,10 +104,5 @@ module _ (one : OneReading) (choice : Choice) (asking : Asking)
       → bs ≡ cs
   joined_alike others held s h rest j k =
       let w = h.writes in
-      let A = asked asking w.listed w.facts in
-      let sent = IsJournal-from_within _ w.facts w.journal_is in
-      let is : answer ≡ w.writes.bytes =
-      append_cancel_left h.before answer w.writes.bytes w.writes.appended in
-      let written = written_journal answer A (subst (λ l. Journal l A) (sym is) w.writes.journal) in
-      alike one choice held A w.facts others s written sent
-      (enough asking w.listed w.facts held (rest w.listed w.facts w.lines_are sent)) j k
+      joined_by others held s h
+      (rest w.listed w.facts w.lines_are (IsJournal-from_within _ w.facts w.journal_is)) j k

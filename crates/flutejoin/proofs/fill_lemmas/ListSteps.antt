@@ -3,12 +3,13 @@ use Rattle.std.proofs.Common.{◌≡◌, ◌≢◌, ℕ, ◌+◌, ◌-◌, ◌^�
 use Rattle.std.proofs.Common.{Option, Some, None, refl, sym, ap, ◌∙◌, subst, append-nil, length}
 use Rattle.std.proofs.Common.{append_assoc, arith, length-append, take, get_or, zero, suc, inl, inr, drop, codes, take-append-drop, Result, Err, IfErr}
 use Rattle.std.specs.Prelude.{IfSome}
-use Rattle.std.specs.List.{flat_map}
+use Rattle.std.specs.List.{flat_map, AllByRecursion}
 use Rattle.std.specs.Io.KnownBytes.{Consumes, IsAtEnd}
 use Rattle.std.proofs.KnownBytes.{Consumes-nil, Consumes-trans}
 use Rattle.std.proofs.lemmas.Grind.{flat_map-append}
 use Rattle.std.proofs.lemmas.List.{take-append-le, take_all, take_more}
 use Rattle.std.proofs.lemmas.List.Elements.{All-append, All-cons, All-nil}
+use Rattle.flute_journal.proofs.Public.{all_append}
 use Rattle.flutejoin.specs.ListedLines.{IsOneLine}
 use Rattle.flutejoin.specs.FillLists.{AreInOrder, IsBadLine, IsListed, IsListing, ListsUpTo}
 use Rattle.flutejoin.specs.ListedLines.{HasNoEnd}
@@ -212,6 +213,7 @@ module _ {R : Type 0} (unread : R → Option (List ℕ)) (failures : R → ℕ) 
   stands_new s = record {
     read = Consumes-nil (unread s);
     in_order = none_in_order;
+    listed = tt;
     number_is = refl;
     fails = refl;
     unread_yet = λ e. refl;
@@ -247,6 +249,7 @@ module _ {R : Type 0} (unread : R → Option (List ℕ)) (failures : R → ℕ) 
               (Consumes-trans (unread start.source) (unread old.source) (unread mid.source)
               (flat_map text_of L) [] s.read r.1));
           in_order = subst (λ x. AreInOrder None x) (sym now) s.in_order;
+          listed = subst (AllByRecursion IsListed) (sym now) s.listed;
           number_is = number ∙ r.2 ∙ s.number_is ∙ ap length (sym now);
           fails = ap failures source ∙ f ∙ s.fails;
           unread_yet = λ e. absurd (apart (sym last ∙ e));
@@ -255,6 +258,7 @@ module _ {R : Type 0} (unread : R → Option (List ℕ)) (failures : R → ℕ) 
               (λ y n. record {
                 text = ap (λ x. flat_map text_of L ++ x) n ∙ append-nil (flat_map text_of L);
                 in_order = s.in_order;
+                listed = s.listed;
               });
           knows = subst (λ x. Knows L x) (sym object)
               (knows_last old.last passed old.object s.in_order s.knows);
@@ -273,6 +277,8 @@ module _ {R : Type 0} (unread : R → Option (List ℕ)) (failures : R → ℕ) 
               (flat_map text_of L) (text_of l) s.read r.1));
           in_order = subst (λ x. AreInOrder None x) (sym now)
               (in_order_more None L l s.in_order (subst (λ p. MayCome p l) (sym last_is) r.0));
+          listed = subst (AllByRecursion IsListed) (sym now)
+              (all_append IsListed L (l ∷ []) s.listed (r.3, tt));
           number_is = number ∙ r.2 ∙ ap (λ n. n + 1) s.number_is ∙ sym (length-append L (l ∷ []))
               ∙ ap length (sym now);
           fails = ap failures source ∙ f ∙ s.fails;

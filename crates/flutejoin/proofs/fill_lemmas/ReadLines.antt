@@ -85,7 +85,7 @@ source x y e = search rules
 session : (x y : List ℕ) → codes "gap " ++ x ≡ codes "session " ++ y → ⊥
 session x y e = search rules
 
-apart : (n : ℕ) (x y : List ℕ) → codes "gap " ++ x ≡ source_words n ++ (codes "session " ++ y) → ⊥
+pub apart : (n : ℕ) (x y : List ℕ) → codes "gap " ++ x ≡ source_words n ++ (codes "session " ++ y) → ⊥
 apart n x y e = elim (cases_Bool (n == 0)) [
   | inl h ↦ session x y (e ∙ source_none n (codes "session " ++ y) h)
   | inr h ↦ source x _ (e ∙ source_chain n (codes "session " ++ y) h)

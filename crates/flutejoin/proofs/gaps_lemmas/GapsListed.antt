@@ -6,17 +6,15 @@ use Rattle.std.specs.Prelude.{OnOk}
 use Rattle.std.specs.Io.KnownBytes.{Appends}
 use Rattle.std.specs.List.{flat_map}
 use Rattle.flute_parts.specs.declared.device.DeviceFault.{DeviceFault}
+use Rattle.flute_parts.specs.declared.fact.Fact.{Fact}
 use Rattle.flute_store.specs.declared.gap.Gap.{Gap}
-use Rattle.flute_streams.specs.Selections.{selects}
-use Rattle.flute_streams.specs.declared.choice.selection.Selection.{Selection}
 use Rattle.flutejoin.specs.GapLines.{HasLines}
 use Rattle.flutejoin.specs.Gaps.{ListsJournal}
 use Rattle.flutejoin.specs.Limits.{Limits}
-use Rattle.flutejoin.specs.Listing.{AreFew, ArePut, Knows, last_line}
+use Rattle.flutejoin.specs.Listing.{AreSumsWithin, ArePut, Knows, last_line}
 use Rattle.flutejoin.specs.Styles.{HasNoStray, are_whole, gap_lines, printed}
 use Rattle.flutejoin.specs.Told.{Told}
 use Rattle.flutejoin.specs.Progress.{IsTold}
-use Rattle.flutejoin.specs.Walk.{TellsJournal}
 use Rattle.flutejoin.specs.declared.gaps.gap_lines.GapLines.{GapLines}
 use Rattle.flutejoin.specs.declared.lines.style.Style.{Style}
 use Rattle.flutejoin.proofs.gaps_lemmas.Closing.{all_printed, no_stray, none_closed}
@@ -33,7 +31,7 @@ module _ {A : Type 0} (written : A → Option (List ℕ)) {known : Bool} (object
       (r : Result (Unit {0}) DeviceFault) → new.style ≡ old.style → new.ranges.last ≡ None
       → Knows known aside (gap_lines old.style t.info t.gaps)
       → ArePut known new.style (objects ++ t ∷ []) (gap_lines new.style t.info t.gaps) put
-      new.closed × AreFew (length objects + 1) new.closed.sums
+      new.closed × AreSumsWithin (length objects + 1) new.closed.sums
       → ((bytes : List ℕ) → aside ≡ Some bytes
       → OnOk r (Appends put (written new.lines.now) bytes × (written new.gap_lines.now ≡ Some [])))
       → OnOk r (HasLines written known (objects ++ t ∷ []) None [] new)
@@ -61,7 +59,7 @@ pub none_lined : {A : Type 0} (written : A → Option (List ℕ)) (known : Bool)
 none_lined written known v whole sums last l g = record {
   lines = [];
   closed_are = none_closed v.style v.closed [] whole sums refl;
-  few = subst (AreFew 0) (sym sums) tt;
+  few = subst (AreSumsWithin 0) (sym sums) tt;
   lines_known = l;
   gaps = [];
   gaps_are = (refl, last);
@@ -87,10 +85,10 @@ all_lined written style {objects = objects} {v = v} s h is line =
     })
 
 -- what follows of the objects
-pub lists : {most : Limits} (s : Selection) (u : Option (List ℕ)) (P Q : List Told → Type 0)
-    → ((objects : List Told) → P objects → Q objects) → TellsJournal most (selects s) u P
-    → ListsJournal most s u Q
-lists s u P Q f h = record {
+pub lists : {most : Limits} (picks : Fact → Bool) (u : Option (List ℕ)) (P Q : List Told → Type 0)
+    → ((objects : List Told) → P objects → Q objects) → ListsJournal most picks u P
+    → ListsJournal most picks u Q
+lists picks u P Q f h = record {
   entries = h.entries;
   journal = h.journal;
   within = h.within;
@@ -100,12 +98,12 @@ lists s u P Q f h = record {
 }
 
 -- what follows of the objects, unless A holds
-pub unless : {most : Limits} {A : Type 0} (s : Selection) (u : Option (List ℕ))
+pub unless : {most : Limits} {A : Type 0} (picks : Fact → Bool) (u : Option (List ℕ))
     (P Q : List Told → Type 0) → ((objects : List Told) → P objects → A ⊎ Q objects)
-    → TellsJournal most (selects s) u P → A ⊎ ListsJournal most s u Q
-unless {most = most} {A = A} s u P Q f h = go (f h.objects h.so)
+    → ListsJournal most picks u P → A ⊎ ListsJournal most picks u Q
+unless {most = most} {A = A} picks u P Q f h = go (f h.objects h.so)
   where
-    go : A ⊎ Q h.objects → A ⊎ ListsJournal most s u Q
+    go : A ⊎ Q h.objects → A ⊎ ListsJournal most picks u Q
     go (inl a) = inl a
     go (inr q) = inr (record {
       entries = h.entries;

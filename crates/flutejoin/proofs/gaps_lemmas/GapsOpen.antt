@@ -11,7 +11,7 @@ use Rattle.flute_parts.specs.Information.{Information}
 use Rattle.flute_parts.specs.declared.device.DeviceFault.{DeviceFault}
 use Rattle.flute_store.specs.declared.gap.Gap.{Gap}
 use Rattle.flutejoin.specs.GapLines.{AreOpen, HasLines}
-use Rattle.flutejoin.specs.Listing.{AreClosed, AreFew, Knows}
+use Rattle.flutejoin.specs.Listing.{AreClosed, AreSumsWithin, Knows}
 use Rattle.flutejoin.specs.Progress.{EndsAs, Progress, gaps_so_far, info_so_far}
 use Rattle.flutejoin.specs.Ranges.{ended_line, gap_range, last_range, range_lines}
 use Rattle.flutejoin.specs.Styles.{gap_line_in, gap_lines, is_shown, shown}
@@ -79,7 +79,7 @@ module _ {A : Type 0} {written : A → Option (List ℕ)} {known : Bool} {object
     closed_are = subst (λ (s : Style). AreClosed s objects h.lines new.closed) (sym k.style)
         (subst (λ (c : ClosedObjects). AreClosed old.style objects h.lines c) (sym k.closed)
         h.closed_are);
-    few = subst (λ (c : ClosedObjects). AreFew (length objects) c.sums) (sym k.closed) h.few;
+    few = subst (λ (c : ClosedObjects). AreSumsWithin (length objects) c.sums) (sym k.closed) h.few;
     lines_known = subst (λ a. Knows known (written a) h.lines) (sym k.lines) h.lines_known;
     gaps = gaps;
     gaps_are = opened;

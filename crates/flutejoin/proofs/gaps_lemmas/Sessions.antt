@@ -11,7 +11,7 @@ use Rattle.std.proofs.lemmas.Grind.{flat_map-append}
 use Rattle.std.proofs.lemmas.List.Sums.{sum_by-append}
 use Rattle.flute_parts.specs.Session.{Session}
 use Rattle.flute_parts.specs.Order.{same_session}
-use Rattle.flutejoin.specs.Listing.{AreFew, AreSummed, AreSummedUp, BeginsSession, HasSums}
+use Rattle.flutejoin.specs.Listing.{AreSumsWithin, AreSummed, AreSummedUp, BeginsSession, HasSums}
 use Rattle.flutejoin.specs.Listing.{Knows, last_line}
 use Rattle.flutejoin.specs.Sums.{AddsObject, AreWithin, IsNone, by_session}
 use Rattle.flutejoin.specs.Sums.{in_front, misfit_in, missing_in, partial_in, session_line}
@@ -201,7 +201,7 @@ next_summed {form} objects lines t old sums h apart s = record {
 pub within_more : (m n : ℕ) (sums : SessionSums) → m ≤ n → AreWithin m sums → AreWithin n sums
 within_more m n sums l h = search rules
 
-pub few_more : (m n : ℕ) (sums : Option SessionSums) → m ≤ n → AreFew m sums → AreFew n sums
+pub few_more : (m n : ℕ) (sums : Option SessionSums) → m ≤ n → AreSumsWithin m sums → AreSumsWithin n sums
 few_more x0 x1 x2 x3 x4 = search rules
 
 -- ---- and what was put aside

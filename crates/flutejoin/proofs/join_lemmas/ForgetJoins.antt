@@ -26,7 +26,7 @@ use Rattle.flutejoin.proofs.join_lemmas.MinusJoins.{told_journal}
 use Rattle.flutejoin.proofs.join_lemmas.Receptions.{IsJournal-from_within, Journal-only}
 use Rattle.flutejoin.proofs.join_lemmas.Receptions.{Same-from_journals}
 
-filter_same : (p q : Fact → Bool) → ((f : Fact) → p f ≡ q f) → (F : List Fact)
+pub filter_same : (p q : Fact → Bool) → ((f : Fact) → p f ≡ q f) → (F : List Fact)
     → filter p F ≡ filter q F
 filter_same p q same [] = refl
 filter_same p q same (f ∷ F) =
@@ -50,14 +50,14 @@ all_true true false = refl
 all_true false b = refl
 
 module _ (rest : AllBut) (of : IsOfObjects rest) where
-  stays : Key → Bool
+  pub stays : Key → Bool
   stays key = not (is_listed rest.listed key && selects_key rest.selection key)
 
   stays_by : (f : Fact) → leaves rest f ≡ is_chosen stays f
   unfolding stays
   stays_by f = search (rules, of.symbol, of.info, of.conflicts, all_true)
 
-  left_chosen : (F : List Fact) → left rest F ≡ chosen stays F
+  pub left_chosen : (F : List Fact) → left rest F ≡ chosen stays F
   left_chosen F = filter_same (leaves rest) (is_chosen stays) stays_by F
 
   abbrev facts_told : Choice → List InputContent → List Fact
@@ -82,7 +82,7 @@ module _ (rest : AllBut) (of : IsOfObjects rest) where
         (Same-sym (chosen stays (content_facts choice x)) (chosen stays (chosen choice.takes E))
         (same_chosen stays (content_facts choice x) (chosen choice.takes E) a)))
 
-  all_left : (choice : Choice) (journals written : List (List ℕ)) (xs ys : List InputContent)
+  pub all_left : (choice : Choice) (journals written : List (List ℕ)) (xs ys : List InputContent)
       → AreLeft rest journals written → TellAll journals xs → TellAll written ys
       → Same (facts_told choice ys) (chosen stays (facts_told choice xs))
   unfolding TellAll

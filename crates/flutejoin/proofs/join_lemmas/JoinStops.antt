@@ -53,6 +53,7 @@ use Rattle.flutejoin.specs.Joining.{JoinsTo}
 use Rattle.flutejoin.specs.JoinFaults.{JoinToFails, of_inputs, of_source, of_sink, of_aside}
 use Rattle.flutejoin.specs.JoinFaults.{NamesOneOf, WantsAside}
 use Rattle.flutejoin.specs.JoinParts.{InspectionFails, of_kind, of_file as of_a_file}
+use Rattle.flutejoin.specs.JoinParts.{of_journal as of_a_journal}
 use Rattle.flutejoin.specs.JoinParts.{SomeInspectionFails, IsInspected, AreInspected, IsReady}
 use Rattle.flutejoin.specs.JoinParts.{JoinsInspected, NeverStops}
 use Rattle.flutejoin.specs.Refused.{AreReasons, all_counts, is_refused}
@@ -367,6 +368,13 @@ not_inspected {choice} inputs fault h = go h.1.here
         (λ bytes. IsNeither bytes) h.0 inputs h.1 neither))
     go (of_a_file kind fails) =
         file_not_held (λ bytes. InspectionFails h.0 bytes fault) inputs h.0 h.1 fault kind fails
+    go (of_a_journal kind is) =
+        let P : CommandFault → Type 0 = λ g. JoinToFails choice inputs g in
+        subst P (sym is) (of_inputs (
+          h.0,
+          first_with HasKnownKind
+              (λ bytes. InspectionFails h.0 bytes fault) IsOfAKind h.0 inputs h.1 (inl kind),
+        ))
 
 -- inputs contain at most so many facts of other objects
 others_few : (choice : Choice) (inputs : List (List ℕ)) (told : List InputContent)

@@ -18,7 +18,8 @@ use Rattle.flute_streams.specs.Chains.{chained, taken}
 use Rattle.flute_streams.specs.FirstFaults.{TellBefore}
 use Rattle.flute_journal.specs.Journal.{IsJournalWithin}
 use Rattle.flute_journal.specs.JournalWriters.{PutsJournal}
-use Rattle.flute_streams.specs.Scopes.{takes_key, is_chosen, chosen, others_in}
+use Rattle.flute_streams.specs.Objects.{is_taken}
+use Rattle.flute_streams.specs.Scopes.{is_chosen, chosen, others_in}
 use Rattle.flute_streams.specs.StreamMerges.{all_of, EachSince, EndsMerged, IsWithinLimits}
 use Rattle.flute_streams.specs.Streams.{Behaviour, IsNew, most_of}
 use Rattle.flute_streams.specs.declared.merge.all_streams.MergedJournal.{MergedJournal}
@@ -119,8 +120,8 @@ module _ {R : Type 0} (unread : R → Option (List ℕ)) (buffered : R → List 
         let journal : IsJournalWithin MAX_ENTRIES bytes all = subst Q ready.3
         (subst P inspected.2 h.1.0) in
         let is : F ≡ chosen choice.takes all = h.2 ∙ ap (λ takes. chosen takes all) inspected.3 in
-        let few = count_by-le-length (λ f. not (is_chosen (takes_key x.choice) f)) all in
-        let count : y.others ≡ x.others + others_in (takes_key x.choice) all = h.1.1
+        let few = count_by-le-length (λ f. not (is_chosen (is_taken x.choice) f)) all in
+        let count : y.others ≡ x.others + others_in (is_taken x.choice) all = h.1.1
         (omega (arith, ready.0, few, journal.are_items.few)) in
         let same = ap (λ takes. others_in takes all) inspected.3 in
         let none = ap (count_by (is_of_others choice)) inspected.0 in

@@ -34,7 +34,7 @@ module _ (takes : Key → Bool) (a : Address) where
   of_address : (f : Fact) → same_address (address f) a ≡ true → is_chosen takes f ≡ takes a.key
   of_address f e = search rules
 
-  taken_at : (F : List Fact) → takes a.key ≡ true → fact_at (chosen takes F) a ≡ fact_at F a
+  pub taken_at : (F : List Fact) → takes a.key ≡ true → fact_at (chosen takes F) a ≡ fact_at F a
   taken_at [] t = refl
   taken_at (f ∷ F) t = elim (cases_Bool (is_chosen takes f)) [
     | inl c ↦ rw c (fact_at-cons f (chosen takes F) a
@@ -45,7 +45,7 @@ module _ (takes : Key → Bool) (a : Address) where
     ])
   ]
 
-  passed_at : (F : List Fact) → takes a.key ≡ false → fact_at (chosen takes F) a ≡ None
+  pub passed_at : (F : List Fact) → takes a.key ≡ false → fact_at (chosen takes F) a ≡ None
   passed_at [] t = fact_at-nil a
   passed_at (f ∷ F) t = elim (cases_Bool (is_chosen takes f)) [
     | inl c ↦ rw c (elim (cases_Bool (same_address (address f) a)) [

@@ -1,17 +1,20 @@
--- The hexadecimal digits of bytes, byte after byte (specs/Digits).
+-- The hexadecimal digits of bytes, byte after byte, and what they stand for (specs/Digits).
 use Rattle.std.proofs.lemmas.Grind.{common_steps}
 use Rattle.std.proofs.Common.{rules}
 use Rattle.std.proofs.Common.{◌≡◌, ℕ, zero, suc, ◌+◌, ◌*◌, ◌<◌, ◌≤◌}
 use Rattle.std.proofs.Common.{length, arith, List, [], ◌∷◌, ◌++◌, Option, refl, sym, ap}
-use Rattle.std.proofs.Common.{subst, ◌∙◌, take, drop, append_assoc, slice_index, ◌/◌}
-use Rattle.std.proofs.Common.{◌%◌}
+use Rattle.std.proofs.Common.{subst, ◌∙◌, take, drop, append_assoc, append-nil, map}
+use Rattle.std.proofs.Common.{slice_index, slice_set, ◌/◌, ◌%◌}
 use Rattle.std.specs.Io.KnownBytes.{Appends}
 use Rattle.std.proofs.KnownBytes.{Appends-trans}
 use Rattle.std.proofs.lemmas.List.{take-append-drop, length-append, length-drop}
+use Rattle.std.proofs.lemmas.List.{drop_all, drop_more, take_all}
 use Rattle.hex.proofs.HexLemmas.{length-encode_with}
+use Rattle.hex.proofs.Pairs.{take-two_writes}
 use Rattle.flute_parts.specs.Devices.{AppendsPart}
 use Rattle.flute_parts.proofs.Public.{AppendsPart-first, AppendsPart-second}
 use Rattle.hex.specs.Hex.{encode_with, encode_lower, lower_digits}
+use Rattle.flutejoin.specs.Digits.{halves}
 
 encode_with-append : (t xs ys : List ℕ)
     → encode_with t (xs ++ ys) ≡ encode_with t xs ++ encode_with t ys
@@ -67,11 +70,42 @@ room_kept piece digits room is fits =
       len,
     )
 
--- the two digits of byte k are at 2 * k and after it
-pub encode_at : (t xs : List ℕ) (k : ℕ) → k < length xs
-    → (slice_index (encode_with t xs) (2 * k) ≡ slice_index t (slice_index xs k / 16))
-    × (slice_index (encode_with t xs) (2 * k + 1) ≡ slice_index t (slice_index xs k % 16))
-unfolding encode_with
-encode_at t [] k h = absurd (omega arith)
-encode_at t (x ∷ xs) zero h = (refl, refl)
-encode_at t (x ∷ xs) (suc k) h = search (rules, encode_at t xs k (omega arith))
+-- the halves of what is left, from one byte on
+halves-drop : (xs : List ℕ) (i : ℕ) → i < length xs
+    → halves (drop i xs)
+    ≡ slice_index xs i / 16 ∷ slice_index xs i % 16 ∷ halves (drop (i + 1) xs)
+unfolding halves
+halves-drop xs i h = rw (drop_more xs i 0 h) refl
+
+-- one byte more was halved
+pub halved-more : (xs room : List ℕ) (i : ℕ) → i < length xs → 2 * i + 1 < length room
+    → take (2 * i) room ++ halves (drop i xs) ≡ halves xs
+    → take (2 * (i + 1)) (slice_set (slice_set room (2 * i) (slice_index xs i / 16)) (2 * i + 1)
+    (slice_index xs i % 16)) ++ halves (drop (i + 1) xs) ≡ halves xs
+halved-more xs room i h fits so_far =
+    let two : 2 * (i + 1) ≡ 2 * i + 2 = omega arith in
+    let front = take-two_writes room (2 * i) (slice_index xs i / 16) (slice_index xs i % 16) fits in
+    rw (two, front, append_assoc) (rw (halves-drop xs i h) at so_far)
+
+-- all bytes were halved
+pub halved-all : (xs room : List ℕ) (i : ℕ) → length xs ≤ i → length room ≡ 2 * length xs
+    → take (2 * i) room ++ halves (drop i xs) ≡ halves xs → room ≡ halves xs
+unfolding halves
+halved-all xs room i h len so_far =
+    rw (drop_all i xs h, take_all (2 * i) room (omega arith), append-nil) at so_far
+
+-- each half has its digit
+pub digits-halves : (xs : List ℕ)
+    → map (λ half. slice_index lower_digits half) (halves xs) ≡ encode_lower xs
+unfolding halves encode_with
+digits-halves [] = refl
+digits-halves (x ∷ xs) = rw (digits-halves xs) refl
+
+-- a half is below 16
+pub halves-below : (xs : List ℕ) → ((k : ℕ) → slice_index xs k < 256) → (k : ℕ)
+    → slice_index (halves xs) k < 16
+unfolding halves
+halves-below [] h k = omega arith
+halves-below (x ∷ xs) h zero = let e : x < 256 = h 0 in omega (arith, e)
+halves-below (x ∷ xs) h (suc zero) = omega arith
+halves-below (x ∷ xs) h (suc (suc k)) = halves-below xs (λ j. h (suc j)) k

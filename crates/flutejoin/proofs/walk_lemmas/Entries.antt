@@ -2,7 +2,7 @@
 use Rattle.std.proofs.Common.{◌≡◌, ℕ, List, [], ◌∷◌, ◌++◌, Option, Some, None, Result, Ok}
 use Rattle.std.proofs.Common.{Err, refl, subst, sym, ap, ◌∙◌, arith}
 use Rattle.std.specs.Prelude.{IfSome}
-use Rattle.std.specs.Io.KnownBytes.{Consumes}
+use Rattle.std.specs.Io.KnownBytes.{Consumes, IsAtEnd}
 use Rattle.flute_parts.specs.Facts.{IsRising}
 use Rattle.flute_parts.specs.Limits.{Over}
 use Rattle.flute_parts.specs.Tally.{Counts}
@@ -28,7 +28,14 @@ use Rattle.flute_journal.specs.declared.fault.ReadFault.{ReadFault}
 use Rattle.flute_journal.specs.declared.readers.journal_reader.JournalReader.{JournalReader}
 use Rattle.flute_journal.proofs.Public.{journal_sound, open_after, read_some, side-from, sofar-next}
 use Rattle.flute_journal.proofs.Public.{sofar-none, sofar-stops, whole-at}
-use Rattle.flutejoin.specs.NextEntry.{HasRead, ReadsOn}
+use Rattle.flute_journal.proofs.Public.{left_all}
+use Rattle.flute_journal.specs.HeldEntries.{fact_held, fact_of_held, left_behind}
+use Rattle.flute_journal.specs.Whole.{StopsAfter}
+use Rattle.flute_journal.specs.declared.readers.held_entry.HeldEntry.TheVariants as held
+use Rattle.flute_streams.specs.JournalStreams.{JournalState, reading_of, unread_of}
+use Rattle.flute_streams.proofs.Public.{nothing_held}
+use Rattle.flutejoin.proofs.Shown.{fails_same}
+use Rattle.flutejoin.specs.NextEntry.{HasRead, HoldsOn, ReadsOn, holding}
 
 begins-over : {s o y : ℕ} (u w : Option (List ℕ)) (F : List Fact) (f : Fact)
     → (a : AreItems journal_frame MAX_ENTRIES (F ++ f ∷ []))
@@ -40,37 +47,41 @@ begins-over (Some x) (Some z) F f a h over =
     (F ++ f ∷ [], record { are_items = a; rest = z; whole = h }, over)
 
 -- before the first entry
-pub none_read : {R : Type 0} (unread : R → Option (List ℕ)) {s o y : ℕ} {x : R}
-    {reader : JournalReader R} {tally : Tally s o y} → (source_of reader).now ≡ x
+pub none_read : {R : Type 0} (unread : R → Option (List ℕ)) (buffered : R → List ℕ) {s o y : ℕ}
+    {x : R} {reader : JournalReader R} {tally : Tally s o y} → (source_of reader).now ≡ x
     → limit_of reader ≡ MAX_ENTRIES → state_of reader ≡ ReaderState.Header → Counts s o y [] tally
-    → HasRead unread (unread x) [] reader tally
-none_read unread {reader = reader} now limit state c = record {
-  sofar = subst (λ (v : Option (List ℕ)). Sofar journal_framing MAX_ENTRIES v
-      (unread (source_of reader).now) (state_of reader) []) (ap unread now)
-      (subst (λ (x : State Before). Sofar journal_framing MAX_ENTRIES (unread (source_of reader).now)
-      (unread (source_of reader).now) x []) (sym state)
-      (sofar-none journal_sound Two MAX_ENTRIES (unread (source_of reader).now)));
-  counts = c;
-  limit = limit;
-}
+    → HasRead unread buffered (unread x) [] (holding reader held.Nothing) tally
+none_read unread buffered {reader = reader} now limit state c =
+    let u = unread (source_of reader).now in
+    record {
+      sofar = subst (λ (v : Option (List ℕ)). Sofar journal_framing MAX_ENTRIES v
+          (left_behind [] u) (state_of reader) []) (ap unread now)
+          (subst (λ (w : Option (List ℕ)). Sofar journal_framing MAX_ENTRIES u w (state_of reader)
+          []) (sym (left_all u))
+          (subst (λ (x : State Before). Sofar journal_framing MAX_ENTRIES u u x []) (sym state)
+          (sofar-none journal_sound Two MAX_ENTRIES u)));
+      counts = c;
+      limit = limit;
+    }
 
-module _ {R : Type 0} {unread : R → Option (List ℕ)} {s o y : ℕ}
-    {u : Option (List ℕ)} {F : List Fact} {from : JournalReader R}
-    {tally : Tally s o y} (h : HasRead unread u F from tally) where
-  abbrev Gave : JournalReader R → Result (Option Fact) ReadFault → Type 0
-  Gave to r = Gives journal_framing (limit_of from) (state_of from) (state_of to)
-      (unread (source_of from).now) (unread (source_of to).now) r
+module _ {R : Type 0} {unread : R → Option (List ℕ)} {buffered : R → List ℕ} {s o y : ℕ}
+    {u : Option (List ℕ)} {F : List Fact} {from : JournalState R}
+    {tally : Tally s o y} (h : HasRead unread buffered u F from tally) where
+  abbrev Gave : JournalState R → Result (Option Fact) ReadFault → Type 0
+  Gave to r = Gives journal_framing (limit_of from.reader) (state_of from.reader)
+      (state_of to.reader) (unread_of unread buffered from) (unread_of unread buffered to) r
 
-  within_most : (to : JournalReader R) (r : Result (Option Fact) ReadFault) → Gave to r
-      → Gives journal_framing MAX_ENTRIES (state_of from) (state_of to) (unread (source_of from).now)
-      (unread (source_of to).now) r
-  within_most to r g = subst (λ n. Gives journal_framing n (state_of from) (state_of to)
-      (unread (source_of from).now) (unread (source_of to).now) r) h.limit g
+  within_most : (to : JournalState R) (r : Result (Option Fact) ReadFault) → Gave to r
+      → Gives journal_framing MAX_ENTRIES (state_of from.reader) (state_of to.reader)
+      (unread_of unread buffered from) (unread_of unread buffered to) r
+  within_most to r g = subst (λ n. Gives journal_framing n (state_of from.reader)
+      (state_of to.reader) (unread_of unread buffered from) (unread_of unread buffered to) r)
+      h.limit g
 
-  pub entry_read : (to : JournalReader R) (next : Tally s o y) (f : Fact) → Gave to (Ok (Some f))
-      → limit_of to ≡ limit_of from
+  pub entry_read : (to : JournalState R) (next : Tally s o y) (f : Fact) → Gave to (Ok (Some f))
+      → limit_of to.reader ≡ limit_of from.reader
       → ((F : List Fact) → IsRising (F ++ f ∷ []) → Counts s o y F tally
-      → Counts s o y (F ++ f ∷ []) next) → HasRead unread u (F ++ f ∷ []) to next
+      → Counts s o y (F ++ f ∷ []) next) → HasRead unread buffered u (F ++ f ∷ []) to next
   entry_read to next f g l c =
       let more = sofar-next journal_sound h.sofar (within_most to (Ok (Some f)) g) in
       record {
@@ -79,34 +90,47 @@ module _ {R : Type 0} {unread : R → Option (List ℕ)} {s o y : ℕ}
         limit = l ∙ h.limit;
       }
 
-  pub entry_beyond : (to : JournalReader R) (next : Tally s o y) (f : Fact) → Gave to (Ok (Some f))
+  pub entry_beyond : (to : JournalState R) (next : Tally s o y) (f : Fact) → Gave to (Ok (Some f))
       → ((F : List Fact) → IsRising (F ++ f ∷ []) → Counts s o y F tally
-      → Over (F ++ f ∷ []) s o y) → ReadsOn unread u F to next (Err Full)
+      → Over (F ++ f ∷ []) s o y) → ReadsOn unread buffered u F to next (Err Full)
   entry_beyond to next f g over =
       let more = sofar-next journal_sound h.sofar (within_most to (Ok (Some f)) g) in
-      let left = unread (source_of to).now in
+      let left = unread_of unread buffered to in
       begins-over u left F f more.are_items
       (subst (Consumes u left) (read_some journal_framing more.are_items.told F f) more.read)
       (over F more.are_items.in_order h.counts)
 
-  pub end_read : (to : JournalReader R) (next : Tally s o y) → Gave to (Ok None)
-      → ReadsOn unread u F to next (Ok None)
-  end_read to next g =
-      let end = side-from journal_sound (unread (source_of to).now) (state_of to) None h.sofar
+  pub end_read : (to : JournalState R) (next : Tally s o y)
+      → fact_of_held buffered (reading_of to) ≡ None → Gave to (Ok None)
+      → HoldsOn unread buffered u F to next None
+  end_read to next none g =
+      let v = unread (source_of to.reader).now in
+      let all = nothing_held (buffered (source_of to.reader).now) to.held v none in
+      let left = unread_of unread buffered to in
+      let end = side-from journal_sound left (state_of to.reader) None h.sofar
       (within_most to (Ok None) g) in
-      (whole-at journal_sound MAX_ENTRIES u (unread (source_of to).now) F end, end.at_end)
+      (whole-at journal_sound MAX_ENTRIES u left F end, subst IsAtEnd all end.at_end)
 
-  pub fault_read : (to : JournalReader R) (next : Tally s o y) (f : ReadFault) → Gave to (Err f)
-      → ReadsOn unread u F to next (Err (Input 1 f))
-  fault_read to next f g = (
-    refl,
-    (F, h.counts.within, (sofar-stops h.sofar (within_most to (Err f) g)).0),
-  )
+  pub fault_read : (to : JournalState R) (next : Tally s o y) (f : ReadFault)
+      → to.held ≡ held.Nothing → Gave to (Err f)
+      → ReadsOn unread buffered u F to next (Err (Input 1 f))
+  fault_read to next f none g =
+      let v = unread (source_of to.reader).now in
+      let all : unread_of unread buffered to ≡ v =
+      nothing_held (buffered (source_of to.reader).now) to.held v (ap (fact_held _) none) in (
+        refl,
+        (
+          F,
+          h.counts.within,
+          subst (λ (w : Option (List ℕ)). StopsAfter MAX_ENTRIES F u w f) all
+              (sofar-stops h.sofar (within_most to (Err f) g)).0,
+        ),
+      )
 
   pub fails_now : (f : ReadFault) (n m : ℕ)
-      → FailsIf {T = Option Fact} (is_open (state_of from)) n m (Err f)
-      → FailsToRead {T = Option Fact} n m (Err (Input 1 f))
+      → FailsIf {T = Option Fact} (is_open (state_of from.reader)) n m (Err f)
+      → FailsToRead {T = Unit {0}} n m (Err (Input 1 f))
   fails_now f n m e =
-      let opened = open_after MAX_ENTRIES u (unread (source_of from).now) (state_of from) F
-      h.sofar in
-      grind arith
+      let opened = open_after MAX_ENTRIES u (unread_of unread buffered from)
+      (state_of from.reader) F h.sofar in
+      fails_same (Option Fact) (Unit {0}) f n m (grind arith)

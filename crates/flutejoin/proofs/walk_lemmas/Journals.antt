@@ -1,10 +1,8 @@
 -- walk_objects: a journal whose objects are told as it is read (specs/Gaps).
-use Rattle.std.proofs.Common.{◌≡◌, ◌≤◌, ℕ, Bool, true, false, List, [], ◌∷◌, ◌++◌, Option, None, Ok}
-use Rattle.std.proofs.Common.{Err, inl, inr, refl, length, arith, ap, sym, ◌∙◌, ◌-◌, ◌<◌, subst}
-use Rattle.std.proofs.Common.{append-nil, length-append}
+use Rattle.std.proofs.Common.{◌≡◌, ◌≤◌, ℕ, Bool, true, List, [], ◌∷◌, ◌++◌, Option, None, Ok}
+use Rattle.std.proofs.Common.{Err, inl, inr, refl, length, arith, ap, ◌∙◌, ◌-◌, ◌<◌, subst}
+use Rattle.std.proofs.Common.{length-append}
 use Rattle.std.specs.Prelude.{filter}
-use Rattle.std.proofs.lemmas.List.Elements.{filter-append}
-use Rattle.std.proofs.lemmas.List.Sums.{count_by-le-length, length-filter}
 use Rattle.flute_parts.specs.Facts.{IsRising}
 use Rattle.flute_parts.specs.declared.fact.Fact.{Fact}
 use Rattle.flute_parts.specs.declared.tally.Tally.{Tally}
@@ -12,11 +10,14 @@ use Rattle.flute_journal.specs.Readers.{source_of, state_of}
 use Rattle.flute_journal.specs.Framing.{state_at}
 use Rattle.flute_journal.specs.JournalFraming.{journal_framing}
 use Rattle.flute_journal.specs.declared.format.version.Version.{Version}
-use Rattle.flute_journal.specs.declared.readers.journal_reader.JournalReader.{JournalReader}
 use Rattle.flute_journal.proofs.Public.{entries_at}
 use Rattle.flutejoin.specs.Progress.{Progress}
-use Rattle.flutejoin.specs.Gaps.{GapsFail, ReadsWithin}
-use Rattle.flutejoin.specs.NextEntry.{HasRead, NotRead, ReadsOn}
+use Rattle.flutejoin.specs.Gaps.{GapsFail, ListsJournal, ReadsWithin}
+use Rattle.flutejoin.specs.NextEntry.{HasRead, HoldsOn, NotRead}
+use Rattle.flute_streams.specs.JournalStreams.{JournalState, reading_of}
+use Rattle.flute_journal.specs.HeldEntries.{spelled_of}
+use Rattle.flutejoin.proofs.HeldEntries.{let_go_after}
+use Rattle.std.specs.Io.KnownBytes.{Consumes}
 use Rattle.flutejoin.specs.Limits.{Limits, at_most}
 use Rattle.flutejoin.specs.declared.command_fault.CommandFault.TheVariants.{CannotWrite, Input}
 use Rattle.flutejoin.specs.declared.command_fault.CommandFault.TheVariants.{OutOfMemory}
@@ -24,33 +25,10 @@ use Rattle.flutejoin.specs.Packet.{write_failures}
 use Rattle.flutejoin.specs.Show.{FailsToRead}
 use Rattle.flutejoin.specs.Told.{AreTold, Told}
 use Rattle.flutejoin.specs.declared.command_fault.CommandFault.{CommandFault}
-use Rattle.flutejoin.specs.Walk.{CanAdd, IsAt, Stands, TellsJournal}
+use Rattle.flutejoin.specs.Walk.{CanAdd, IsAt, Stands}
 use Rattle.flutejoin.specs.declared.limits.TheConstants.{MAX_ENTRIES}
 use Rattle.flutejoin.specs.declared.walk.object_walk.OpenObject.{OpenObject}
-use Rattle.flutejoin.proofs.SelectedFacts.{rising_picked}
-use Rattle.flutejoin.proofs.Shown.{fails_same}
-
--- ---- the facts that are picked
-
-module _ (picks : Fact → Bool) where
-  pub few_picked : (F : List Fact) → length (filter picks F) ≤ length F
-  few_picked F = subst (λ n. n ≤ length F) (sym (length-filter picks F))
-      (count_by-le-length picks F)
-
-  module _ (f : Fact) (F : List Fact) where
-    pub one_picked : picks f ≡ true → filter picks (F ++ f ∷ []) ≡ filter picks F ++ f ∷ []
-    one_picked e =
-        let one : filter picks (f ∷ []) ≡ f ∷ [] = rw e refl in
-        filter-append picks F (f ∷ []) ∙ ap (λ l. filter picks F ++ l) one
-
-    pub none_picked : picks f ≡ false → filter picks (F ++ f ∷ []) ≡ filter picks F
-    none_picked e =
-        let none : filter picks (f ∷ []) ≡ [] = rw e refl in
-        filter-append picks F (f ∷ []) ∙ ap (λ l. filter picks F ++ l) none
-        ∙ append-nil (filter picks F)
-
-    pub picked_rises : picks f ≡ true → IsRising (F ++ f ∷ []) → IsRising (filter picks F ++ f ∷ [])
-    picked_rises e r = subst IsRising (one_picked e) (rising_picked picks (F ++ f ∷ []) r)
+use Rattle.flutejoin.proofs.PickedFacts.{few_picked, picked_rises, rising_picked}
 
 -- ---- what was read
 
@@ -67,20 +45,17 @@ module _ (most : Limits) (input left : Option (List ℕ)) where
   none_written f r = refl
 
 -- how often the source failed
-pub fails_same_too : (f : CommandFault) {n : ℕ} (m : ℕ) {k : ℕ} → n ≡ k
-    → FailsToRead {T = Option Fact} n m (Err f) → FailsToRead {T = Unit {0}} k m (Err f)
-fails_same_too (Input number f) {n} m e h =
-    subst (λ (x : ℕ). FailsToRead {T = Unit {0}} x m (Err (Input number f))) e
-    (fails_same (Option Fact) (Unit {0}) f n m h)
-fails_same_too f m e h = h ∙ e
+pub fails_since : (f : CommandFault) {n : ℕ} (m : ℕ) {k : ℕ} → n ≡ k
+    → FailsToRead {T = Unit {0}} n m (Err f) → FailsToRead {T = Unit {0}} k m (Err f)
+fails_since f m e h = subst (λ (x : ℕ). FailsToRead {T = Unit {0}} x m (Err f)) e h
 
 -- entries were read within the limits, and the visitor was told of those that are picked
-pub record WalksRead {R : Type 0} (unread : R → Option (List ℕ)) {s o y : ℕ} {At V : Type 0}
-    (Has : At → List Told → Option Progress → V → Type 0) (picks : Fact → Bool) (input : Option (List ℕ))
-    (reader : JournalReader R) (tally : Tally s o y) (walk : Option OpenObject)
-    (first now : V) : Type 0 where
+pub record WalksRead {R : Type 0} (unread : R → Option (List ℕ)) (buffered : R → List ℕ)
+    {s o y : ℕ} {At V : Type 0} (Has : At → List Told → Option Progress → V → Type 0)
+    (picks : Fact → Bool) (input : Option (List ℕ)) (journal : JournalState R) (tally : Tally s o y)
+    (walk : Option OpenObject) (first now : V) : Type 0 where
   pub entries : List Fact
-  pub read : HasRead unread input entries reader tally
+  pub read : HasRead unread buffered input entries journal tally
   pub stands : (at : At) → Has at [] None first
       → Stands Has at (filter picks entries) walk now
 
@@ -88,12 +63,13 @@ counted : (F : List Fact) (told : Version) → entries_at (state_at journal_fram
 counted [] told = refl
 counted (f ∷ F) told = refl
 
-module _ {R : Type 0} {unread : R → Option (List ℕ)} {s o y : ℕ} {At V : Type 0}
-    {Has : At → List Told → Option Progress → V → Type 0} {picks : Fact → Bool} {u : Option (List ℕ)}
-    {reader : JournalReader R} {tally : Tally s o y} {walk : Option OpenObject} {first now : V}
-    (h : WalksRead unread Has picks u reader tally walk first now) where
+module _ {R : Type 0} {unread : R → Option (List ℕ)} {buffered : R → List ℕ} {s o y : ℕ}
+    {At V : Type 0} {Has : At → List Told → Option Progress → V → Type 0} {picks : Fact → Bool}
+    {u : Option (List ℕ)} {journal : JournalState R} {tally : Tally s o y}
+    {walk : Option OpenObject} {first now : V}
+    (h : WalksRead unread buffered Has picks u journal tally walk first now) where
   -- how many entries were read
-  pub read_count : entries_at (state_of reader) ≡ length h.entries
+  pub read_count : entries_at (state_of journal.reader) ≡ length h.entries
   read_count = ap entries_at h.read.sofar.state_is
       ∙ counted h.entries h.read.sofar.are_items.told
 
@@ -115,12 +91,13 @@ module _ {R : Type 0} {unread : R → Option (List ℕ)} {s o y : ℕ} {At V : T
         has = l.has;
       }
 
-  module _ {to : JournalReader R} {next : Tally s o y} (f : Fact)
-      (more : HasRead unread u (h.entries ++ f ∷ []) to next) where
-    pub fewer : MAX_ENTRIES - entries_at (state_of to) < MAX_ENTRIES - entries_at (state_of reader)
+  module _ {to : JournalState R} {next : Tally s o y} (f : Fact)
+      (more : HasRead unread buffered u (h.entries ++ f ∷ []) to next) where
+    pub fewer : MAX_ENTRIES - entries_at (state_of to.reader)
+        < MAX_ENTRIES - entries_at (state_of journal.reader)
     fewer =
         let few : length (h.entries ++ f ∷ []) ≤ MAX_ENTRIES = more.sofar.are_items.few in
-        let now : entries_at (state_of to) ≡ length (h.entries ++ f ∷ []) =
+        let now : entries_at (state_of to.reader) ≡ length (h.entries ++ f ∷ []) =
         ap entries_at more.sofar.state_is
         ∙ counted (h.entries ++ f ∷ []) more.sofar.are_items.told in
         omega (arith, few, now, read_count, length-append h.entries (f ∷ []))
@@ -134,24 +111,26 @@ module _ {R : Type 0} {unread : R → Option (List ℕ)} {s o y : ℕ} {At V : T
     pub one_more : {walk' : Option OpenObject} {now' : V}
         → ((at : At) → Stands Has at (filter picks h.entries) walk now
         → Stands Has at (filter picks (h.entries ++ f ∷ [])) walk' now')
-        → WalksRead unread Has picks u to next walk' first now'
+        → WalksRead unread buffered Has picks u to next walk' first now'
     one_more l = record {
       entries = h.entries ++ f ∷ [];
       read = more;
       stands = λ known none. l known (h.stands known none);
     }
 
-    pub reads_within : ReadsWithin (at_most s o y) u (unread (source_of to).now)
-    reads_within = record {
+    -- and the entry was let go of
+    pub reads_within : (left : Option (List ℕ)) → Consumes (unread (source_of to.reader).now) left
+        (spelled_of buffered (reading_of to)) → ReadsWithin (at_most s o y) u left
+    reads_within left taken = record {
       entries = h.entries ++ f ∷ [];
       are_items = more.sofar.are_items;
       within = more.counts.within;
-      read = inl more.sofar.read;
+      read = inl (let_go_after u (unread (source_of to.reader).now) left _ _ taken more.sofar.read);
     }
 
-  module _ (to : JournalReader R) (next : Tally s o y)
-      (end : ReadsOn unread u h.entries to next (Ok None)) where
-    pub whole_within : ReadsWithin (at_most s o y) u (unread (source_of to).now)
+  module _ (to : JournalState R) (next : Tally s o y)
+      (end : HoldsOn unread buffered u h.entries to next None) where
+    pub whole_within : ReadsWithin (at_most s o y) u (unread (source_of to.reader).now)
     whole_within = record {
       entries = h.entries;
       are_items = h.read.sofar.are_items;
@@ -161,7 +140,7 @@ module _ {R : Type 0} {unread : R → Option (List ℕ)} {s o y : ℕ} {At V : T
 
     pub all_read : {P : List Told → Type 0} (objects : List Told)
         → AreTold (filter picks h.entries) objects → P objects
-        → TellsJournal (at_most s o y) picks u P
+        → ListsJournal (at_most s o y) picks u P
     all_read objects l p = record {
       entries = h.entries;
       journal = end.0;

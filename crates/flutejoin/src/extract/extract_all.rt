@@ -9,15 +9,15 @@ ghost use Rattle.flutejoin.specs.Show.{FailsToRead};
 
 use crate::command_fault::CommandFault;
 use crate::extract::object_files::ObjectFiles;
-use crate::extract::picked::Picked;
+use crate::picks::Picks;
 use crate::walk::walk_objects;
 use flute_output::NewFolder;
 use flute_parts::{Sink, Source};
 use std::alloc::Global;
 
-/// Writes each object that a journal of at most 16,777,216 entries makes whole, of those that are
-/// picked, as a file of the folder, and returns how many; and for each of these objects, in the
-/// order of their keys, a line that says how much of it is held. Files and lines are written as
+/// Writes each object that the picked entries of a journal, of at most 16,777,216 entries, make
+/// whole as a file of the folder, and returns how many; and for each object of these entries, in
+/// the order of their keys, a line that says how much of it is held. Files and lines are written as
 /// the journal is read, and one entry is held.
 ///
 /// # Errors
@@ -30,19 +30,20 @@ pub fn extract_all_to<
     const OBJECTS: u32,
     const SYMBOLS: u32,
     R: Source,
+    P: Picks,
     D: NewFolder,
     W: Sink,
 >(
     alloc: Global,
     source: &mut R,
-    picked: &Picked,
+    picks: &P,
     folder: &mut D,
     lines: &mut W,
 ) -> Result<u64, CommandFault>
     requires { IfSome (D.places folder.old) IsReady }
     ensures extracted { IfOk result (ExtractsAll (at_most SESSIONS OBJECTS SYMBOLS)
         (R.unread source.old) (R.unread source.new)
-        picked.now (D.places folder.old) (D.places folder.new)
+        (P.picks picks.now) (D.places folder.old) (D.places folder.new)
         (W.written lines.old) (W.written lines.new)) }
     ensures failed { IfErr result
         (ExtractAllFails (at_most SESSIONS OBJECTS SYMBOLS)
@@ -58,6 +59,6 @@ pub fn extract_all_to<
         written: 0,
         left: None,
     };
-    walk_objects::<SESSIONS, OBJECTS, SYMBOLS, _, _, _>(alloc, source, picked, &mut files)?;
+    walk_objects::<SESSIONS, OBJECTS, SYMBOLS, _, _, _>(alloc, source, picks, &mut files)?;
     Ok(files.written)
 }

@@ -1,7 +1,7 @@
 //! An object that is written as what is known of it passes, in the order of a journal.
 ghost use Rattle.std.specs.Prelude.{◌≡◌, ◌+◌, ℕ, false, List, []};
 ghost use Rattle.std.specs.Prelude.{◌∷◌, ◌++◌, Option, IfErr};
-ghost use Rattle.flute_parts.specs.Addresses.{address};
+ghost use Rattle.flute_parts.specs.Addresses.{address, fact_of};
 ghost use Rattle.flute_parts.specs.Facts.{IsRising};
 ghost use Rattle.flute_parts.specs.declared.fact.Fact.{Fact as Known};
 ghost use Rattle.flute_parts.specs.declared.key.Key.{Key as Name};
@@ -12,7 +12,7 @@ ghost use Rattle.flutejoin.specs.ObjectWriters.{WritesNothing, Stands, Scanning,
 ghost use Rattle.flutejoin.specs.ObjectWriters.{TellsUntouched, FailedBy, information_fact};
 
 use crate::command_fault::CommandFault;
-use flute_parts::{Fact, Info, Key, Sink, SymbolId};
+use flute_parts::{FactRef, Info, Key, Sink, SymbolId};
 use flute_store::{ObjectScan, Turn};
 
 /// Writes the symbols of an object as the facts of a journal pass, for as long as it may be whole.
@@ -66,10 +66,11 @@ impl ObjectWriter {
 
     /// Takes the next fact, and writes the symbol of the object that it contains.
     #[inline(always)]
-    pub fn pass<W: Sink>(&mut self, fact: &Fact, sink: &mut W)
+    pub fn pass<W: Sink>(&mut self, fact: &FactRef<'_>, sink: &mut W)
         ensures passed { (P : List Known) (start : Option (List ℕ))
-            → IsRising (P ++ fact.now ∷ []) → Stands P self.old start (W.written sink.old)
-            → Stands (P ++ fact.now ∷ []) self.new start (W.written sink.new) }
+            → IsRising (P ++ fact_of fact.now ∷ [])
+            → Stands P self.old start (W.written sink.old)
+            → Stands (P ++ fact_of fact.now ∷ []) self.new start (W.written sink.new) }
         ensures key { self.new.key ≡ self.old.key }
         ensures untouched { WritesNothing self.new.found
             → WritesNothing self.old.found × (sink.new ≡ sink.old) }
@@ -78,10 +79,10 @@ impl ObjectWriter {
     {
         if fact.address().key == self.key {
             match fact {
-                Fact::Info { info, .. } => self.information(Some(*info)),
-                Fact::InfoConflict { .. } => self.information(None),
-                Fact::Symbol { id, bytes, .. } => self.symbol(*id, Some(bytes.as_slice()), sink),
-                Fact::SymbolConflict { id, .. } => self.symbol(*id, None, sink),
+                FactRef::Info { info, .. } => self.information(Some(*info)),
+                FactRef::InfoConflict { .. } => self.information(None),
+                FactRef::Symbol { id, bytes, .. } => self.symbol(*id, Some(*bytes), sink),
+                FactRef::SymbolConflict { id, .. } => self.symbol(*id, None, sink),
             }
         }
     }

@@ -1,9 +1,9 @@
 //! The objects that are extracted.
 ghost use Rattle.std.specs.Prelude.{◌≡◌};
-ghost use Rattle.flutejoin.specs.ExtractAll.{is_picked};
+ghost use Rattle.flutejoin.specs.ExtractAll.{is_picked, picks_fact};
 
-use crate::walk::Picks;
-use flute_parts::{Fact, Key, Sender};
+use crate::picks::Picks;
+use flute_parts::{FactRef, Key, Sender};
 use flute_streams::Sessions;
 
 /// The objects of one sender, or of all, and of some sessions.
@@ -14,12 +14,10 @@ pub struct Picked {
 }
 
 impl Picks for Picked {
-    ghost use Rattle.flute_parts.specs.Addresses.{address};
-
-    ghost picks = { λ picked fact. is_picked picked (address fact).key };
+    ghost picks = { picks_fact };
 
     #[inline(always)]
-    fn picks(&self, fact: &Fact) -> bool {
+    fn picks(&self, fact: &FactRef<'_>) -> bool {
         self.has(&fact.address().key)
     }
 }

@@ -19,6 +19,7 @@ use flute_store::{Gap, Reason, Status};
 /// The line that these words are, without a line feed, if `gaps` can print it after that one, or
 /// as its first line. It takes no memory.
 pub(crate) fn read_listed(words: &[u8], before: Option<&ListedLine>) -> Option<ListedLine>
+    ensures valid { IfSome result IsListed }
     ensures found { IfSome result (λ l. (line words.now ≡ text_of l)
         × MayCome (option_copied before.entry) l) }
     ensures finds { (l : LineValue) → IsListed l → MayCome (option_copied before.entry) l
@@ -34,6 +35,7 @@ pub(crate) fn read_listed(words: &[u8], before: Option<&ListedLine>) -> Option<L
 
 // The line that these words are, of which the object of a gap is that of the line before.
 fn listed_after(words: &[u8], before: Option<&ListedLine>) -> Option<ListedLine>
+    ensures valid { IfSome result IsListed }
     ensures found { IfSome result (λ l. line words.now ≡ text_of l) }
     ensures finds { (l : LineValue) → IsListed l → MayCome (option_copied before.entry) l
         → line words.now ≡ text_of l → MatchOption result ⊥ (λ r. r ≡ l) }
@@ -55,6 +57,7 @@ fn listed_after(words: &[u8], before: Option<&ListedLine>) -> Option<ListedLine>
 
 // The gap whose line these words are.
 fn read_gap(words: &[u8]) -> Option<Gap>
+    ensures valid { IfSome result HasIds }
     ensures found { IfSome result (λ gap. line words.now ≡ gap_line gap) }
     ensures finds { (gap : GapValue) → HasIds gap → line words.now ≡ gap_line gap
         → MatchOption result ⊥ (λ g. g ≡ gap) }
@@ -72,6 +75,7 @@ fn read_gap(words: &[u8]) -> Option<Gap>
 
 // The numbers of a gap in a text, and its reason by the length of the word.
 fn gap_in(text: &[u8]) -> Option<Gap>
+    ensures valid { IfSome result HasIds }
     ensures finds { (gap : GapValue) → HasIds gap → line text.now ≡ gap_line gap
         → MatchOption result ⊥ (λ g. g ≡ gap) }
 {
@@ -109,6 +113,7 @@ fn reason_of(words: &[u8]) -> Reason
 
 // The object, and how much is held of it, whose line these words are.
 fn read_status(words: &[u8]) -> Option<(Key, Status)>
+    ensures valid { IfSome result (λ r. IsKey r.0 × HasCounts r.1) }
     ensures found { IfSome result (λ r. line words.now ≡ status_line r.0 r.1) }
     ensures finds { (key : KeyValue) (status : StatusValue) → IsKey key → HasCounts status
         → line words.now ≡ status_line key status
@@ -136,6 +141,7 @@ fn read_status(words: &[u8]) -> Option<(Key, Status)>
 
 // How much is held, by the second byte of a text and its numbers.
 fn status_in(text: &[u8]) -> Option<Status>
+    ensures valid { IfSome result HasCounts }
     ensures finds { (status : StatusValue) → HasCounts status
         → text.now ≡ codes " " ++ status_words status
         → MatchOption result ⊥ (λ s. s ≡ status) }
@@ -151,6 +157,7 @@ fn status_in(text: &[u8]) -> Option<Status>
 
 // The length of a whole object.
 fn whole_in(text: &[u8]) -> Option<Status>
+    ensures valid { IfSome result HasCounts }
     ensures finds { (length : ℕ) → HasCounts (Whole length)
         → text.now ≡ codes " " ++ status_words (Whole length)
         → MatchOption result ⊥ (λ s. s ≡ Whole length) }
@@ -169,6 +176,7 @@ fn whole_in(text: &[u8]) -> Option<Status>
 
 // How many symbols of an object are missing, in conflict or of a length that does not fit.
 fn partial_in(text: &[u8]) -> Option<Status>
+    ensures valid { IfSome result HasCounts }
     ensures finds { (missing conflicting misfit : ℕ)
         → HasCounts (Partial missing conflicting misfit)
         → text.now ≡ codes " " ++ status_words (Partial missing conflicting misfit)

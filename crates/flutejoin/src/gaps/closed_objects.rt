@@ -3,7 +3,7 @@ ghost use Rattle.std.specs.Prelude.{◌≡◌, ◌+◌, ◌∷◌, ◌++◌, [],
 ghost use Rattle.std.specs.Prelude.{None};
 ghost use Rattle.std.specs.Prelude.{if◌then◌else◌, is_ok};
 ghost use Rattle.std.specs.Io.KnownBytes.{Appends};
-ghost use Rattle.flutejoin.specs.Listing.{AreClosed, AreFew, ArePut};
+ghost use Rattle.flutejoin.specs.Listing.{AreClosed, AreSumsWithin, ArePut};
 ghost use Rattle.flutejoin.specs.Listing.{CanClose, Knows, last_line};
 ghost use Rattle.flutejoin.specs.Styles.{HasNoStray, gap_lines};
 ghost use Rattle.flutejoin.specs.Told.{Told};
@@ -47,8 +47,8 @@ impl ClosedObjects {
             → AreClosed style objects bytes self.old → Knows known (A.written lines.old) bytes
             → OnOk result (ArePut known style (objects ++ t ∷ [])
             (gap_lines style t.info t.gaps) (A.written lines.new) self.new) }
-        ensures few { (n : ℕ) → AreFew n self.old.sums
-            → OnOk result (AreFew (n + 1) self.new.sums) }
+        ensures few { (n : ℕ) → AreSumsWithin n self.old.sums
+            → OnOk result (AreSumsWithin (n + 1) self.new.sums) }
         ensures failures { A.failures lines.new
             ≡ A.failures lines.old + (if is_ok result then 0 else 1) }
     {

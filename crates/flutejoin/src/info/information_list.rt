@@ -33,7 +33,8 @@ pub(crate) fn read_list<const SESSIONS: u32, const OBJECTS: u32, const SYMBOLS: 
     source: &mut R,
 ) -> Result<Store<SESSIONS, OBJECTS, SYMBOLS>, CommandFault>
     ensures told { IfOk result (λ shelf. IfSome (R.unread source.old)
-        (λ bytes. (facts : List FactValue) × ListTells LineTells bytes facts × Same shelf facts)) }
+        (λ bytes. (facts : List FactValue)
+        × ListTells LineTells bytes facts × Same shelf facts)) }
     ensures failed { IfErr result (λ fault. (fault ≡ Input 2 Read)
         ⊎ IfSome (R.unread source.old)
         (λ bytes. ListFails (at_most SESSIONS OBJECTS SYMBOLS) bytes fault)) }

@@ -23,7 +23,7 @@ use flute_journal::laws::a_file_is_read_record_by_record;
 use flute_journal::{DatagramReader, write_store};
 use flute_parts::{Sender, Source};
 use flute_store::Store;
-use flute_streams::{OwnedJournalStream, Scope};
+use flute_streams::{Objects, OwnedJournalStream};
 use flute_wire::read;
 use std::alloc::Global;
 
@@ -80,13 +80,13 @@ impl<const SESSIONS: u32, const OBJECTS: u32, const SYMBOLS: u32, R: Source + Dr
         &mut self,
         alloc: Global,
         sender: Sender,
-        scope: &Scope,
+        objects: &Objects,
         datagram: &[u8],
     ) -> Result<(), CommandFault>
         requires room { self.now.told.datagrams + 1 < 2 ^ 64 }
         requires sound { IsSound R.unread R.buffered R.failures self.now }
         ensures taken { OnOk result (HoldsMore R.unread R.buffered
-            (choice_of (at_most SESSIONS OBJECTS SYMBOLS) sender scope.now) self.old self.new
+            (choice_of (at_most SESSIONS OBJECTS SYMBOLS) sender objects.now) self.old self.new
             (datagram.now ∷ [])) }
         ensures few { OnOk result (CountsUpTo R.unread R.buffered R.failures 1 self.old self.new) }
         ensures some { OnOk result (self.new.fits ≡ true → 0 < self.new.told.datagrams) }
@@ -96,7 +96,7 @@ impl<const SESSIONS: u32, const OBJECTS: u32, const SYMBOLS: u32, R: Source + Dr
             return Ok(());
         }
         match read(datagram) {
-            Ok(packet) if scope.takes(&packet.key(sender)) => {
+            Ok(packet) if objects.takes(&packet.key(sender)) => {
                 match self.told.store.take_packet(alloc, sender, &packet) {
                     Ok(taken) => self
                         .size
@@ -198,7 +198,7 @@ impl<const SESSIONS: u32, const OBJECTS: u32, const SYMBOLS: u32, R: Source + Dr
         asides: &mut A,
         number: usize,
         sender: Sender,
-        scope: &Scope,
+        objects: &Objects,
         source: &mut S,
     ) -> Result<(), CommandFault>
         requires countable { IsCountable SESSIONS OBJECTS SYMBOLS }
@@ -207,7 +207,7 @@ impl<const SESSIONS: u32, const OBJECTS: u32, const SYMBOLS: u32, R: Source + Dr
         ensures held { A.tells asides.old ≡ true → OnOk result (IfSome (S.unread source.old)
             (λ bytes. (datagrams : List (List ℕ)) × IsFileWithin MAX_ENTRIES bytes datagrams
             × HoldsMore R.unread R.buffered (choice_of (at_most SESSIONS OBJECTS SYMBOLS) sender
-            scope.now)
+            objects.now)
             self.old self.new datagrams)) }
         ensures few { OnOk result (CountsUpTo R.unread R.buffered R.failures MAX_ENTRIES self.old
             self.new) }
@@ -221,7 +221,7 @@ impl<const SESSIONS: u32, const OBJECTS: u32, const SYMBOLS: u32, R: Source + Dr
         let mut reader = DatagramReader::new(source, MAX_ENTRIES);
         let mut spare = Vec::new(alloc);
         while let Some(datagram) = at_input(number, reader.next_with(alloc, spare))? {
-            self.take(alloc, sender, scope, datagram.as_slice())?;
+            self.take(alloc, sender, objects, datagram.as_slice())?;
             spare = datagram.into_vec();
             self.make_room(alloc, asides)?;
         }

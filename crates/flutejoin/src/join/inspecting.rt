@@ -24,7 +24,7 @@ use crate::join::held_files::HeldFiles;
 use crate::join::join_input::JoinInput;
 use crate::limits::MAX_ENTRIES;
 use flute_parts::{Sender, Source};
-use flute_streams::Scope;
+use flute_streams::Objects;
 use std::alloc::Global;
 
 /// Reads the datagram files among inputs, in their order, and holds their facts of these
@@ -47,7 +47,7 @@ pub(crate) fn inspect_all<
     asides: &mut A,
     memory: u64,
     sender: Sender,
-    scope: &Scope,
+    objects: &Objects,
     inputs: &mut [JoinInput<R>],
 ) -> Result<HeldFiles<SESSIONS, OBJECTS, SYMBOLS, R>, CommandFault>
     requires few { length inputs.old ≤ 64 }
@@ -58,7 +58,7 @@ pub(crate) fn inspect_all<
     ensures inspected { A.tells asides.old ≡ true
         → (contents : List (List ℕ)) → AreInputs R.unread inputs.old contents
         → IfOk result (Finds R.unread R.buffered
-        (choice_of (at_most SESSIONS OBJECTS SYMBOLS) sender scope.now) inputs.new contents) }
+        (choice_of (at_most SESSIONS OBJECTS SYMBOLS) sender objects.now) inputs.new contents) }
     ensures failed { A.tells asides.old ≡ true
         → (contents : List (List ℕ)) → AreInputs R.unread inputs.old contents
         → IfErr result (SomeInspectionFails contents) }
@@ -77,7 +77,7 @@ pub(crate) fn inspect_all<
             asides,
             k + 1,
             sender,
-            scope,
+            objects,
             &mut inputs[k],
             &mut held,
         )?;
@@ -98,7 +98,7 @@ fn inspect<
     asides: &mut A,
     number: usize,
     sender: Sender,
-    scope: &Scope,
+    objects: &Objects,
     input: &mut JoinInput<R>,
     held: &mut HeldFiles<SESSIONS, OBJECTS, SYMBOLS, R>,
 ) -> Result<(), CommandFault>
@@ -110,10 +110,10 @@ fn inspect<
         → (bytes : List ℕ) → IsInput R.unread input.old bytes
         → OnOk result ((datagrams : List (List ℕ))
         × IsInspected R.unread R.buffered (choice_of (at_most SESSIONS OBJECTS SYMBOLS) sender
-        scope.now)
+        objects.now)
         input.new bytes datagrams
         × HoldsMore R.unread R.buffered (choice_of (at_most SESSIONS OBJECTS SYMBOLS) sender
-        scope.now)
+        objects.now)
         held.old held.new datagrams) }
     ensures few { OnOk result (CountsUpTo R.unread R.buffered R.failures MAX_ENTRIES held.old
         held.new) }
@@ -127,12 +127,17 @@ fn inspect<
 {
     match input {
         JoinInput::Journal(journal) => {
-            journal.choice = *scope;
+            let Ok(own) = objects.share() else {
+                return Err(CommandFault::OutOfMemory);
+            };
+            journal.choice = own;
             journal.others = 0;
             journal.stream.restart(MAX_ENTRIES);
             Ok(())
         }
-        JoinInput::Datagrams(source) => { held.read(alloc, asides, number, sender, scope, source) }
+        JoinInput::Datagrams(source) => {
+            held.read(alloc, asides, number, sender, objects, source)
+        }
         JoinInput::Unknown => Err(CommandFault::UnknownKind(number)),
     }
 }

@@ -7,11 +7,11 @@ use crate::join::peeked_source::PeekedSource;
 use crate::limits::MAX_ENTRIES;
 use flute_journal::{Kind, LoadFault, ReadFault, kind_of};
 use flute_parts::{Address, FactRef, Source};
-use flute_streams::{Chosen, OwnedJournalStream, Scope, Stream};
+use flute_streams::{Chosen, Objects, OwnedJournalStream, Scope, Stream};
 use std::alloc::Global;
 
 /// A journal of which some objects are taken.
-pub type JournalInput<R> = Chosen<OwnedJournalStream<PeekedSource<R>>, Scope>;
+pub type JournalInput<R> = Chosen<OwnedJournalStream<PeekedSource<R>>, Objects>;
 
 /// An input of a join, of the kind that its first four bytes say.
 #[derive(Drop)]
@@ -39,7 +39,8 @@ impl<R: Source + Drop> JoinInput<R> {
         match kind_of(source.first()) {
             Some(Kind::Journal) => {
                 let journal = OwnedJournalStream::new(source, MAX_ENTRIES);
-                Ok(JoinInput::Journal(Chosen::new(journal, Scope::all())))
+                let all = Objects::of(Scope::all());
+                Ok(JoinInput::Journal(Chosen::new(journal, all)))
             }
             Some(Kind::Datagrams) => Ok(JoinInput::Datagrams(source)),
             None => Ok(JoinInput::Unknown),

@@ -33,15 +33,14 @@ use std::collections::BTreeSet;
 /// The first that is met: `ListLine` with the number, from 1, of the first line that names no
 /// object and is not passed over, or has no line feed within 512 bytes; `OutOfMemory` if there is
 /// none for the names; and `Input`, as input 2, with `Read` if the source failed.
-pub(crate) fn read_keys<R: Source>(
-    alloc: Global,
-    source: &mut R,
-) -> Result<BTreeSet<Key>, CommandFault>
+pub fn read_keys<R: Source>(alloc: Global, source: &mut R) -> Result<BTreeSet<Key>, CommandFault>
     ensures named { IfOk result (λ keys. IfSome (R.unread source.old)
         (λ bytes. ListNames bytes keys)) }
     ensures failed { IfErr result (λ fault. (fault ≡ Input 2 Read)
         ⊎ IfSome (R.unread source.old) (λ bytes. KeyListFails bytes fault)) }
     ensures names { IfErr result (NamesOnly 2) }
+    ensures kinds { IfErr result (λ fault. (fault ≡ Input 2 Read) ⊎ ((fault ≡ OutOfMemory)
+        ⊎ ((line : ℕ) × (fault ≡ ListLine line)))) }
     ensures failures { FailsToRead (R.failures source.old) (R.failures source.new) result }
 {
     let mut keys = BTreeSet::new(alloc);
@@ -59,7 +58,8 @@ pub(crate) fn read_keys<R: Source>(
 // Adds the object that the line with this number names, if it names one.
 fn add_named(keys: &mut BTreeSet<Key>, words: &[u8], number: u64) -> Result<(), CommandFault>
     ensures added { OnOk result ((named : List KeyValue) → HasKeys keys.old named
-        → (here : List KeyValue) × LineNames words.now here × HasKeys keys.new (named ++ here)) }
+        → (here : List KeyValue) × LineNames words.now here
+        × HasKeys keys.new (named ++ here)) }
     ensures failed { IfErr result (λ fault. (fault ≡ OutOfMemory)
         ⊎ ((fault ≡ ListLine number) × IsNoName words.now)) }
 {

@@ -3,6 +3,7 @@ ghost use Rattle.std.specs.Prelude.{◌≡◌, ℕ, ◌<◌, ◌≤◌, ◌^◌,
 ghost use Rattle.std.specs.Prelude.{length, slice_index, codes, decimal, IfSome, MatchOption};
 ghost use Rattle.std.specs.Char.{is_ascii_digit};
 ghost use Rattle.flute_parts.specs.ObjectName.{IsObjectName};
+ghost use Rattle.flute_parts.specs.Ranges.{IsKey};
 ghost use Rattle.flute_parts.specs.Session.{Session, IsSession};
 ghost use Rattle.flute_parts.specs.declared.key.Key.{Key as KeyValue};
 ghost use Rattle.flute_parts.specs.declared.object_key.ObjectName.{ObjectName as NameValue};
@@ -128,6 +129,7 @@ pub(crate) fn object_in(text: &[u8]) -> Option<(ObjectName, &[u8])>
 
 // The key of this session and object.
 pub(crate) fn key_of(sender: u128, tsi: u128, name: ObjectName) -> Option<Key>
+    ensures valid { IfSome result IsKey }
     ensures finds { (key : KeyValue) → IsSession key.session → IsObjectName key.object
         → sender ≡ key.session.sender → tsi ≡ key.session.tsi → name ≡ key.object
         → MatchOption result ⊥ (λ k. k ≡ key) }

@@ -4,7 +4,7 @@ ghost use Rattle.std.specs.Prelude.{if◌then◌else◌, is_ok};
 ghost use Rattle.flute_parts.specs.declared.fact.Fact.{Fact as Known};
 ghost use Rattle.flute_parts.specs.declared.fact.Fact.TheVariants.{Info as InfoFact};
 ghost use Rattle.flute_parts.specs.declared.key.Key.{Key as Name};
-ghost use Rattle.flute_parts.specs.Addresses.{address};
+ghost use Rattle.flute_parts.specs.Addresses.{address, fact_of};
 ghost use Rattle.flute_parts.specs.Facts.{IsRising};
 ghost use Rattle.flute_store.specs.Scan.{Scanned, next_fact, CanFollow};
 ghost use Rattle.flute_store.specs.Scans.{Scans};
@@ -17,7 +17,7 @@ ghost use Rattle.flutejoin.specs.Walk.{CanAdd, HasAll, IsAt, StateIs, Stands, Te
 ghost use Rattle.flutejoin.specs.Walk.{conflicts_in};
 
 use crate::walk::visitor::Visitor;
-use flute_parts::{DeviceFault, Fact, Info, Key, SymbolId};
+use flute_parts::{DeviceFault, FactRef, Info, Key, SymbolId};
 use flute_store::{ObjectScan, Status, Turn};
 
 /// A walk over objects: their facts come one by one in the order of their addresses, and none of
@@ -59,22 +59,27 @@ impl ObjectWalk {
     ///
     /// That of the visitor.
     #[inline(always)]
-    pub fn add<V: Visitor>(&mut self, fact: &Fact, visitor: &mut V) -> Result<(), DeviceFault>
-        requires { CanAdd V.Has fact.now self.old.open visitor.old }
-        ensures added { (at : V.At) (F : List Known) → IsRising (F ++ fact.now ∷ [])
+    pub fn add<V: Visitor>(
+        &mut self,
+        fact: &FactRef<'_>,
+        visitor: &mut V,
+    ) -> Result<(), DeviceFault>
+        requires { CanAdd V.Has (fact_of fact.now) self.old.open visitor.old }
+        ensures added { (at : V.At) (F : List Known) → IsRising (F ++ fact_of fact.now ∷ [])
             → Stands V.Has at F self.old.open visitor.old
-            → OnOk result (Stands V.Has at (F ++ fact.now ∷ []) self.new.open visitor.new) }
+            → OnOk result
+            (Stands V.Has at (F ++ fact_of fact.now ∷ []) self.new.open visitor.new) }
         ensures kept { V.kept visitor.new ≡ V.kept visitor.old }
         ensures failures { V.fails visitor.new
             ≡ V.fails visitor.old + (if is_ok result then 0 else 1) }
     {
         match fact {
-            Fact::Symbol { key, id, bytes } => {
-                self.add_symbol(key, *id, Some(bytes.as_slice()), visitor)
+            FactRef::Symbol { key, id, bytes } => {
+                self.add_symbol(key, *id, Some(*bytes), visitor)
             }
-            Fact::SymbolConflict { key, id } => self.add_symbol(key, *id, None, visitor),
-            Fact::Info { key, info } => self.begin_known(key, info, visitor),
-            Fact::InfoConflict { key } => {
+            FactRef::SymbolConflict { key, id } => self.add_symbol(key, *id, None, visitor),
+            FactRef::Info { key, info } => self.begin_known(key, info, visitor),
+            FactRef::InfoConflict { key } => {
                 self.begin(*key, ObjectState::ConflictingInformation, 0, visitor)
             }
         }

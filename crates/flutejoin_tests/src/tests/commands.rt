@@ -4,22 +4,22 @@ use super::*;
 use flute_parts::{Info, MemorySink, MemorySource, SymbolId};
 use flute_streams::Selection;
 use flutejoin::{
-    Asking, CommandFault, CompareStyle, Form, MAX_OBJECTS, MAX_SESSIONS, MAX_SYMBOLS, ShowStyle,
-    Style, compare_from, compare_input, extract_to, fill_input, fill_to, forget_input,
+    Asking, CommandFault, CompareStyle, Form, Listed, MAX_OBJECTS, MAX_SESSIONS, MAX_SYMBOLS,
+    ShowStyle, Style, compare_from, compare_input, extract_to, fill_input, fill_to, forget_input,
     forget_list_to, forget_to, gaps_from, info_to, merge_to, minus_input, minus_to, packet_to,
-    sender_of, show_to,
+    read_keys, sender_of, show_to,
 };
-use flutejoin_line::{Line, ShowLine, line_of};
+use flutejoin_line::{Line, PacketLine, line_of};
 use flutejoin_replicas::{MemoryAside, gaps_to, load, save_to};
 use test_vectors::{bytes, journals};
 
 #[test]
 fn a_line_is_read(rt: HostRuntime) -> Result<(), Fail> {
-    let words = ["show".to_string(rt.alloc())?, "J".to_string(rt.alloc())?];
+    let words = ["packet".to_string(rt.alloc())?, "10".to_string(rt.alloc())?];
     assert!(rt;
         matches!(
             line_of(rt.alloc(), &words)?,
-            Line::Show(ShowLine { j: "J", .. })
+            Line::Packet(PacketLine { hex: "10", .. })
         )
     );
     Ok(())
@@ -61,6 +61,29 @@ fn a_journal_is_shown(rt: HostRuntime) -> Result<(), Fail> {
 }
 
 #[test]
+fn an_object_of_a_list_is_shown(rt: HostRuntime) -> Result<(), Fail> {
+    let journal = bytes(rt.alloc(), journals::CONFLICT)?;
+    let mut list = MemorySource::new(b"session 7 object 2\n");
+    let picks = Listed {
+        listed: Some(read_keys(rt.alloc(), &mut list)?),
+        picks: Selection::all(),
+    };
+    let mut sink = MemorySink::new(rt.alloc());
+    show_to(
+        rt.alloc(),
+        &mut MemorySource::new(&journal),
+        &picks,
+        ShowStyle {
+            form: Form::Plain,
+            sums: false,
+        },
+        &mut sink,
+    )?;
+    assert_eq!(rt; sink.as_slice(), b"entries 0\n".as_slice());
+    Ok(())
+}
+
+#[test]
 fn a_journal_is_loaded(rt: HostRuntime) -> Result<(), Fail> {
     let journal = bytes(rt.alloc(), journals::WHOLE)?;
     let shelf = load(rt.alloc(), &mut MemorySource::new(&journal))?;
@@ -77,7 +100,7 @@ fn gaps_are_printed_as_the_journal_is_read(rt: HostRuntime) -> Result<(), Fail> 
     let mut lines = MemoryAside::new(rt.alloc());
     let mut gap_lines = MemoryAside::new(rt.alloc());
     let mut source = MemorySource::new(&journal);
-    let all_whole = gaps_from::<MAX_SESSIONS, MAX_OBJECTS, MAX_SYMBOLS, _, _, _>(
+    let all_whole = gaps_from::<MAX_SESSIONS, MAX_OBJECTS, MAX_SYMBOLS, _, _, _, _>(
         rt.alloc(),
         &mut source,
         &Selection::all(),
@@ -110,7 +133,7 @@ fn ranges_are_printed(rt: HostRuntime) -> Result<(), Fail> {
             ranges: true,
             form,
         };
-        let all_whole = gaps_from::<MAX_SESSIONS, MAX_OBJECTS, MAX_SYMBOLS, _, _, _>(
+        let all_whole = gaps_from::<MAX_SESSIONS, MAX_OBJECTS, MAX_SYMBOLS, _, _, _, _>(
             rt.alloc(),
             &mut MemorySource::new(&journal),
             &Selection::all(),
@@ -141,7 +164,7 @@ fn sums_are_printed_of_a_session(rt: HostRuntime) -> Result<(), Fail> {
         ranges: false,
         form: Form::Plain,
     };
-    let all_whole = gaps_from::<MAX_SESSIONS, MAX_OBJECTS, MAX_SYMBOLS, _, _, _>(
+    let all_whole = gaps_from::<MAX_SESSIONS, MAX_OBJECTS, MAX_SYMBOLS, _, _, _, _>(
         rt.alloc(),
         &mut MemorySource::new(&journal),
         &Selection::all(),

@@ -2,7 +2,7 @@
 
 use super::*;
 use flute_parts::{MemorySink, MemorySource};
-use flute_streams::Scope;
+use flute_streams::{Objects, Scope};
 use flute_wire::Refusal;
 use flutejoin::{
     JoinCounts, JoinInput, MAX_INPUTS, MAX_OBJECTS, MAX_SESSIONS, MAX_SYMBOLS, Reasons, Report,
@@ -55,7 +55,7 @@ fn join_file(alloc: Global, file: &[u8], sink: &mut MemorySink) -> Result<JoinCo
         &mut NoAsides::new(),
         u64::MAX,
         Sender::new(0),
-        &Scope::all(),
+        &Objects::of(Scope::all()),
         &mut inputs,
         sink,
     )?;

@@ -4,7 +4,8 @@ use super::*;
 use flute_parts::{MemorySink, MemorySource};
 use flute_wire::Datagram;
 use flutejoin::laws::{
-    an_answer_is_enough_for_a_join, forgetting_leaves_the_rest, minus_is_enough_for_a_join,
+    an_answer_is_enough_for_a_join, an_answer_to_own_gaps_is_enough, forgetting_leaves_the_rest,
+    minus_is_enough_for_a_join,
 };
 use flutejoin::{MAX_OBJECTS, MAX_SESSIONS, MAX_SYMBOLS};
 use flutejoin_replicas::{Blob, Replicas, Step, journal_after, laws, object_after, run};
@@ -99,4 +100,5 @@ fn laws_stand() {
     forgetting_leaves_the_rest();
     minus_is_enough_for_a_join();
     an_answer_is_enough_for_a_join();
+    an_answer_to_own_gaps_is_enough();
 }

@@ -11,7 +11,7 @@ use Rattle.flute_join.proofs.laws.cells_and_maps_are_joined.Goals as goal
 pub returns : goal.returns
 returns g c = record {
   cells = cell_join_laws g.met.T.Eq.laws g.met.T.Value.same_where_equal;
-  maps = map_join_laws g.met.K.Ord.total g.met.K.Place.same_where_equal g.met.V.Join.join_laws;
+  maps = map_join_laws g.met.K.Ord.total g.met.K.MapKey.same_where_equal g.met.V.Join.join_laws;
   values = value_at-map_join g.met.K.Ord.total g.V.Join.joined;
   ordered = ordered-map_join g.met.K.Ord.total g.V.Join.joined;
   held = single_held g.met.K.Ord.total g.met.V.Join.join_laws;

@@ -1,5 +1,5 @@
 use Rattle.std.proofs.Common.{◌∙◌}
-use Rattle.flute_output.proofs.Runs.{stays-same, stays-later, stays-unlink}
+use Rattle.flute_output.proofs.Runs.{stays-same, stays-later}
 use Rattle.flute_output.proofs.beside.remove_leftover.Goals as goal
 
 pub returns-in_err-found : goal.returns-in_err-found
@@ -13,25 +13,11 @@ returns-then-not-found g c = record { any_moment = λ t. stays-same _ _ _ (c.loo
 
 pub returns-in_err-leftover : goal.returns-in_err-leftover
 returns-in_err-leftover g c = record {
-  any_moment = λ t.
-      stays-same _ _ _ (c.open.ensures.same t ∙ c.look.ensures.same t);
-}
-
-pub returns-in_err-lock : goal.returns-in_err-lock
-returns-in_err-lock g c = record {
-  any_moment = λ t.
-      stays-same _ _ _ (c.lock.ensures.same t ∙ c.open.ensures.same t ∙ c.look.ensures.same t);
-}
-
-pub returns-in_err-check_name : goal.returns-in_err-check_name
-returns-in_err-check_name g c = record {
-  any_moment = λ t. stays-same _ _ _
-      (c.check_name.ensures.same t ∙ c.lock.ensures.same t ∙ c.open.ensures.same t ∙ c.look.ensures.same t);
+  any_moment = λ t. stays-same _ _ _ (c.open.ensures.same t ∙ c.look.ensures.same t);
 }
 
 pub returns : goal.returns
 returns g c = record {
-  any_moment = λ t. stays-later _ _ _ _
-      (c.check_name.ensures.same t ∙ c.lock.ensures.same t ∙ c.open.ensures.same t ∙ c.look.ensures.same t)
-      (stays-unlink _ _ _ _ (c.unlink.ensures.removed t) (c.unlink.ensures.refused t));
+  any_moment = λ t. stays-later _ _ _ _ (c.open.ensures.same t ∙ c.look.ensures.same t)
+      (c.remove.ensures.any_moment t);
 }

@@ -27,7 +27,7 @@ returns-clause-printed g c = λ none no_gaps.
     let W = g.W.Sink.written in
     let before = W c.args.sink.now in
     let after = W c.finish.new.sink in
-    lists c.args.selection.now (g.R.Source.unread c.args.source.now)
+    lists (g.P.Picks.picks c.args.picks.now) (g.R.Source.unread c.args.source.now)
     (λ objects. HasLines written true objects None [] x)
     (λ objects. Appends before after (printed c.args.style objects)
     × (c.in_ok-finish.field-0 ≡ are_whole c.args.style objects))
@@ -47,7 +47,7 @@ returns-in_err-finish-clause-part g c = λ none no_gaps.
     let W = g.W.Sink.written in
     let part : List Told → Type 0 =
     λ objects. AppendsPart (W c.args.sink.now) (W c.finish.new.sink) (printed c.args.style objects) in
-    rw (e.1 ∙ ap Err e.2) (λ is. unless c.args.selection.now
+    rw (e.1 ∙ ap Err e.2) (λ is. unless (g.P.Picks.picks c.args.picks.now)
     (g.R.Source.unread c.args.source.now) (λ objects. HasLines written true objects None [] x) part
     (λ objects h. subst (λ (s : Style). c.finish.new.sink ≡ c.args.sink.now
     ⊎ AppendsPart (W c.args.sink.now) (W c.finish.new.sink) (printed s objects)) same

@@ -19,8 +19,8 @@ returns-in-Some-clause-lines g c =
       c.json_head-text.ensures.head,
     ) refl in
     symbol_written packet (g.W.Sink.written c.args.sink.now)
-    (g.W.Sink.written c.write_line.new.sink) c.in-Some.id c.in-Some.bytes.now c.write_line.result is
-    words c.write_line.ensures.line
+    (g.W.Sink.written c.write_hex_line.new.sink) c.in-Some.id c.in-Some.bytes.now c.write_hex_line.result is
+    words c.write_hex_line.ensures.line
 
 pub returns-in-None-clause-lines : goal.returns-in-None-clause-lines
 returns-in-None-clause-lines g c =

@@ -16,7 +16,7 @@ returns-clause-extracted g c =
     (g.O.Sink.written c.leave.new.output) (g.E.Sink.written c.leave.new.errors) in
     left_of (λ (k : Option (List ℕ)). WritesObject (most_of a.line.limit) k a.line.key)
     (λ (k : Option (List ℕ)). Held (WritesObject (most_of a.line.limit) k a.line.key))
-    (λ (k : Option (List ℕ)). FailsHeld (ExtractFails (most_of a.line.limit) k a.line.key)) files a.line.j.now
+    (λ (k : Option (List ℕ)). FailsHeld (ExtractFails (most_of a.line.limit) k a.line.key)) files a.line.journal.now
     (unread c.in_ok-source.source)
     c.in_ok-source.ensures.opened
     a.line.target.out.now (outside files (g.O.Sink.written a.output.now) (g.E.Sink.written a.errors.now)) new
@@ -38,7 +38,7 @@ returns-clause-failed g c =
     (g.O.Sink.written c.leave.new.output) (g.E.Sink.written c.leave.new.errors) in
     not_left_of (λ (k : Option (List ℕ)). WritesObject (most_of a.line.limit) k a.line.key)
     (λ (k : Option (List ℕ)). Held (WritesObject (most_of a.line.limit) k a.line.key))
-    (λ (k : Option (List ℕ)). FailsHeld (ExtractFails (most_of a.line.limit) k a.line.key)) files a.line.j.now
+    (λ (k : Option (List ℕ)). FailsHeld (ExtractFails (most_of a.line.limit) k a.line.key)) files a.line.journal.now
     (unread c.in_ok-source.source)
     c.in_ok-source.ensures.opened
     a.line.target.out.now (outside files (g.O.Sink.written a.output.now) (g.E.Sink.written a.errors.now)) new

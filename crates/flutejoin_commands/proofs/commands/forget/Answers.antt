@@ -27,13 +27,13 @@ returns-clause-forgot g c =
     let e = g.E.Sink.written a.errors.now in
     let new = outside (g.W.Inputs.files c.leave.new.world) (g.O.Sink.written c.leave.new.output)
     (g.E.Sink.written c.leave.new.errors) in
-    subst (λ (r : AllBut). OnOk c.leave.result (Leaves (forgets_in files a.j.now r)
-    (forgets_in files a.j.now r) forget_lines a.target.out.now (outside files o e) new))
+    subst (λ (r : AllBut). OnOk c.leave.result (Leaves (forgets_in files a.journal.now r)
+    (forgets_in files a.journal.now r) forget_lines a.target.out.now (outside files o e) new))
     c.forget_input-input.ensures.choice
     (left_of (λ (k : Option (List ℕ)). ForgetsIn k input.choice)
     (λ (k : Option (List ℕ)). ForgetsIn k input.choice)
-    (λ (k : Option (List ℕ)). ForgetFails k) files a.j.now x
-    (subst (λ s. HasBytes files a.j.now (unread s)) (sym c.forget_input-input.ensures.source)
+    (λ (k : Option (List ℕ)). ForgetFails k) files a.journal.now x
+    (subst (λ s. HasBytes files a.journal.now (unread s)) (sym c.forget_input-input.ensures.source)
     c.in_ok-source.ensures.opened)
     a.target.out.now (outside files o e) new forget_lines c.leave.result
     (subst (λ f. OnOk c.leave.result (Leaves (ForgetsIn x input.choice)
@@ -52,13 +52,13 @@ returns-clause-failed g c =
     let e = g.E.Sink.written a.errors.now in
     let new = outside (g.W.Inputs.files c.leave.new.world) (g.O.Sink.written c.leave.new.output)
     (g.E.Sink.written c.leave.new.errors) in
-    subst (λ (r : AllBut). IfErr c.leave.result (FailsToLeave (forgets_in files a.j.now r)
-    (ForgetInNameFails files a.j.now) a.target.out.now (outside files o e) new))
+    subst (λ (r : AllBut). IfErr c.leave.result (FailsToLeave (forgets_in files a.journal.now r)
+    (ForgetInNameFails files a.journal.now) a.target.out.now (outside files o e) new))
     c.forget_input-input.ensures.choice
     (not_left_of (λ (k : Option (List ℕ)). ForgetsIn k input.choice)
     (λ (k : Option (List ℕ)). ForgetsIn k input.choice)
-    (λ (k : Option (List ℕ)). ForgetFails k) files a.j.now x
-    (subst (λ s. HasBytes files a.j.now (unread s)) (sym c.forget_input-input.ensures.source)
+    (λ (k : Option (List ℕ)). ForgetFails k) files a.journal.now x
+    (subst (λ s. HasBytes files a.journal.now (unread s)) (sym c.forget_input-input.ensures.source)
     c.in_ok-source.ensures.opened)
     a.target.out.now (outside files o e) new c.leave.result
     (subst (λ f. IfErr c.leave.result (FailsToLeave (ForgetsIn x input.choice)

@@ -24,13 +24,13 @@ returns-clause-forgot g c =
     let new = outside (g.W.Inputs.files c.leave.new.world) (g.O.Sink.written c.leave.new.output)
     (g.E.Sink.written c.leave.new.errors) in
     subst (λ (s : Selection). OnOk c.leave.result (Leaves
-    (ForgetsListOfNames files a.inputs.j.now a.inputs.list.now s)
-    (ForgetsListOfNames files a.inputs.j.now a.inputs.list.now s) forget_lines a.target.out.now
+    (ForgetsListOfNames files a.inputs.journal.now a.inputs.list.now s)
+    (ForgetsListOfNames files a.inputs.journal.now a.inputs.list.now s) forget_lines a.target.out.now
     (outside files o e) new))
     (ap (λ r. r.selection) c.forget_input-input.ensures.choice)
     (left_of_two (λ (k l : Option (List ℕ)). ForgetsListed s l k)
-    (λ (k l : Option (List ℕ)). ForgetListFails l k) files a.inputs.j.now a.inputs.list.now x y
-    (subst (λ s. HasBytes files a.inputs.j.now (unread s)) (sym c.forget_input-input.ensures.source)
+    (λ (k l : Option (List ℕ)). ForgetListFails l k) files a.inputs.journal.now a.inputs.list.now x y
+    (subst (λ s. HasBytes files a.inputs.journal.now (unread s)) (sym c.forget_input-input.ensures.source)
     c.in_ok-source.ensures.opened.0)
     c.in_ok-source.ensures.opened.1
     a.target.out.now (outside files o e) new forget_lines c.leave.result
@@ -54,13 +54,13 @@ returns-clause-failed g c =
     let new = outside (g.W.Inputs.files c.leave.new.world) (g.O.Sink.written c.leave.new.output)
     (g.E.Sink.written c.leave.new.errors) in
     subst (λ (s : Selection). IfErr c.leave.result (FailsToLeave
-    (ForgetsListOfNames files a.inputs.j.now a.inputs.list.now s)
-    (ForgetListOfNamesFails files a.inputs.j.now a.inputs.list.now) a.target.out.now
+    (ForgetsListOfNames files a.inputs.journal.now a.inputs.list.now s)
+    (ForgetListOfNamesFails files a.inputs.journal.now a.inputs.list.now) a.target.out.now
     (outside files o e) new))
     (ap (λ r. r.selection) c.forget_input-input.ensures.choice)
     (not_left_of_two (λ (k l : Option (List ℕ)). ForgetsListed s l k)
-    (λ (k l : Option (List ℕ)). ForgetListFails l k) files a.inputs.j.now a.inputs.list.now x y
-    (subst (λ s. HasBytes files a.inputs.j.now (unread s)) (sym c.forget_input-input.ensures.source)
+    (λ (k l : Option (List ℕ)). ForgetListFails l k) files a.inputs.journal.now a.inputs.list.now x y
+    (subst (λ s. HasBytes files a.inputs.journal.now (unread s)) (sym c.forget_input-input.ensures.source)
     c.in_ok-source.ensures.opened.0)
     c.in_ok-source.ensures.opened.1
     a.target.out.now (outside files o e) new c.leave.result

@@ -16,7 +16,7 @@ returns-clause-added g c =
     (g.E.Sink.written c.leave.new.errors) in
     left_of (λ (k : Option (List ℕ)). AddsInformation k a.line.key a.line.info)
     (λ (k : Option (List ℕ)). AddsInformation k a.line.key a.line.info)
-    (λ (k : Option (List ℕ)). AddFails (most_of a.line.limit) k a.line.key a.line.info) files a.line.j.now
+    (λ (k : Option (List ℕ)). AddFails (most_of a.line.limit) k a.line.key a.line.info) files a.line.journal.now
     (unread c.in_ok-source.source)
     c.in_ok-source.ensures.opened
     a.line.target.out.now (outside files (g.O.Sink.written a.output.now) (g.E.Sink.written a.errors.now)) new
@@ -37,7 +37,7 @@ returns-clause-failed g c =
     (g.E.Sink.written c.leave.new.errors) in
     not_left_of (λ (k : Option (List ℕ)). AddsInformation k a.line.key a.line.info)
     (λ (k : Option (List ℕ)). AddsInformation k a.line.key a.line.info)
-    (λ (k : Option (List ℕ)). AddFails (most_of a.line.limit) k a.line.key a.line.info) files a.line.j.now
+    (λ (k : Option (List ℕ)). AddFails (most_of a.line.limit) k a.line.key a.line.info) files a.line.journal.now
     (unread c.in_ok-source.source)
     c.in_ok-source.ensures.opened
     a.line.target.out.now (outside files (g.O.Sink.written a.output.now) (g.E.Sink.written a.errors.now)) new

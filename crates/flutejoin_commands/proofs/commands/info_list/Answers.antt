@@ -16,7 +16,7 @@ returns-clause-added g c =
     let y = unread c.in_ok-source.list in
     let new = outside (g.W.Inputs.files c.leave.new.world) (g.O.Sink.written c.leave.new.output)
     (g.E.Sink.written c.leave.new.errors) in
-    left_of_two AddsListRead (AddListReadFails (most_of a.line.limit)) files a.line.j.now a.line.list.now x y
+    left_of_two AddsListRead (AddListReadFails (most_of a.line.limit)) files a.line.journal.now a.line.list.now x y
     c.in_ok-source.ensures.opened.0
     c.in_ok-source.ensures.opened.1
     a.line.target.out.now (outside files (g.O.Sink.written a.output.now) (g.E.Sink.written a.errors.now)) new
@@ -38,7 +38,7 @@ returns-clause-failed g c =
     let new = outside (g.W.Inputs.files c.leave.new.world) (g.O.Sink.written c.leave.new.output)
     (g.E.Sink.written c.leave.new.errors) in
     not_left_of_two AddsListRead (AddListReadFails (most_of a.line.limit)) files
-    a.line.j.now a.line.list.now x y
+    a.line.journal.now a.line.list.now x y
     c.in_ok-source.ensures.opened.0
     c.in_ok-source.ensures.opened.1
     a.line.target.out.now (outside files (g.O.Sink.written a.output.now) (g.E.Sink.written a.errors.now)) new

@@ -35,11 +35,11 @@ returns-in-Ok-finish_folder-clause-extracted g c =
     let n = g.D.NewFolder.places c.finish_folder.new.folder in
     let u = g.R.Source.unread c.args.source.now in
     let w = g.R.Source.unread c.fill-filled.new.source in
-    let picked = c.args.picked in
+    let picks = g.C.Picks.picks c.args.picks.now in
     let r = g.P.Sink.written c.args.report.now in
     let r' = g.P.Sink.written c.fill-filled.new.report in
     let e = subst (λ (x : Result ℕ CommandFault). IfOk x
-    (ExtractsAll (most_of c.args.limit) u w picked m f r r'))
+    (ExtractsAll (most_of c.args.limit) u w picks m f r r'))
     c.in-Ok-finish_folder.ensures.done c.fill-filled.ensures.filled in
     on_ok c.tell.result (λ line. leaves_folder o n h e
     c.in-Ok-finish_folder.ensures.kept c.in-Ok-finish_folder.ensures.lasts
@@ -54,11 +54,11 @@ returns-in-Ok-finish_folder-clause-failed g c =
     let n = g.D.NewFolder.places c.finish_folder.new.folder in
     let u = g.R.Source.unread c.args.source.now in
     let w = g.R.Source.unread c.fill-filled.new.source in
-    let picked = c.args.picked in
+    let picks = g.C.Picks.picks c.args.picks.now in
     let r = g.P.Sink.written c.args.report.now in
     let r' = g.P.Sink.written c.fill-filled.new.report in
     let e = subst (λ (x : Result ℕ CommandFault). IfOk x
-    (ExtractsAll (most_of c.args.limit) u w picked m f r r'))
+    (ExtractsAll (most_of c.args.limit) u w picks m f r r'))
     c.in-Ok-finish_folder.ensures.done c.fill-filled.ensures.filled in
     if_err c.tell.result
     (λ fault is. there_failed o n (inr is) h e c.in-Ok-finish_folder.ensures.kept)
@@ -84,7 +84,8 @@ returns-in-Err-clause-failed g c =
     let f = g.D.NewFolder.places c.fill-filled.new.folder in
     let r = g.P.Sink.written c.args.report.now in
     let r' = g.P.Sink.written c.fill-filled.new.report in
-    let filling : Filling (most_of c.args.limit) u w c.args.picked m f r r'
+    let picks = g.C.Picks.picks c.args.picks.now in
+    let filling : Filling (most_of c.args.limit) u w picks m f r r'
     c.fill-filled.result = record {
       stays = c.fill-filled.ensures.stays;
       extracted = c.fill-filled.ensures.filled;
@@ -97,7 +98,7 @@ returns-in-Err-clause-failed g c =
       dropped = c.finish_folder.ensures.dropped;
     } in
     let e = not_finished c.in-Err.is h filling finishing in
-    subst (λ x. FolderFails (most_of c.args.limit) u w c.args.picked o
+    subst (λ x. FolderFails (most_of c.args.limit) u w picks o
     (g.D.NewFolder.places c.finish_folder.new.folder)
     x) (sym c.fault_of.ensures) e
 

@@ -21,8 +21,8 @@ returns-clause-filled g c =
     let e = g.E.Sink.written a.errors.now in
     let new = outside (g.W.Inputs.files c.leave.new.world) (g.O.Sink.written c.leave.new.output)
     (g.E.Sink.written c.leave.new.errors) in
-    left_of_two (WritesFill asking) FillFails files a.line.j.now a.line.gaps.now x y
-    (subst (λ s. HasBytes files a.line.j.now (unread s))
+    left_of_two (WritesFill asking) FillFails files a.line.journal.now a.line.gaps.now x y
+    (subst (λ s. HasBytes files a.line.journal.now (unread s))
     (sym c.fill_input-input.ensures.journal) c.in_ok-journal.ensures.opened.0)
     (subst (λ s. HasBytes files a.line.gaps.now (unread s))
     (sym c.fill_input-input.ensures.lines) c.in_ok-journal.ensures.opened.1)
@@ -47,8 +47,8 @@ returns-clause-failed g c =
     let e = g.E.Sink.written a.errors.now in
     let new = outside (g.W.Inputs.files c.leave.new.world) (g.O.Sink.written c.leave.new.output)
     (g.E.Sink.written c.leave.new.errors) in
-    not_left_of_two (WritesFill asking) FillFails files a.line.j.now a.line.gaps.now x y
-    (subst (λ s. HasBytes files a.line.j.now (unread s))
+    not_left_of_two (WritesFill asking) FillFails files a.line.journal.now a.line.gaps.now x y
+    (subst (λ s. HasBytes files a.line.journal.now (unread s))
     (sym c.fill_input-input.ensures.journal) c.in_ok-journal.ensures.opened.0)
     (subst (λ s. HasBytes files a.line.gaps.now (unread s))
     (sym c.fill_input-input.ensures.lines) c.in_ok-journal.ensures.opened.1)

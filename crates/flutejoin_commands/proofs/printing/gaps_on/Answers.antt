@@ -19,12 +19,13 @@ returns-in_ok-hand_on-in-Ok-clause-listed g c = λ e f.
     let old = g.P.Sink.written c.args.report.now in
     let new = g.P.Sink.written c.hand_on.new.report in
     let whole = c.in-Ok.all_whole in
+    let picks = g.C.Picks.picks c.args.picks.now in
     let all = subst (λ (x : Option (List ℕ)). ListsJournal (most_of c.args.listing.limit)
-    c.args.listing.selection input
+    picks input
     (λ objects. Appends old x (printed style objects) × (whole ≡ are_whole style objects)))
     (sym c.hand_on.ensures.same) (c.in-Ok.ensures.printed e f) in
     if_checked (λ p. ListsJournal (most_of c.args.listing.limit)
-    c.args.listing.selection input
+    picks input
     (λ objects. Appends old new (printed style objects) × (passes_check style objects ≡ p)))
     _ c.checked.result c.checked.ensures.passes (λ p is. checked style whole p old new is all)
 
@@ -34,8 +35,9 @@ returns-in_err-hand_on-in-Ok-clause-part g c = λ e f.
     let input = g.R.Source.unread c.args.source.now in
     let old = g.P.Sink.written c.args.report.now in
     let whole = c.in-Ok.all_whole in
+    let picks = g.C.Picks.picks c.args.picks.now in
     let all = subst (λ (x : Option (List ℕ)). ListsJournal (most_of c.args.listing.limit)
-    c.args.listing.selection input
+    picks input
     (λ objects. Appends old x (printed style objects) × (whole ≡ are_whole style objects)))
     (sym c.hand_on.ensures.same) (c.in-Ok.ensures.printed e f) in
     let P : List Told → Type 0 = λ objects. Appends old (g.P.Sink.written c.hand_on.new.report)
@@ -47,14 +49,14 @@ returns-in_err-hand_on-in-Ok-clause-part g c = λ e f.
 pub returns-in-Err-clause-part : goal.returns-in-Err-clause-part
 returns-in-Err-clause-part g c = λ e f.
     let style = c.args.listing.style in
-    let s = c.args.listing.selection in
+    let picks = g.C.Picks.picks c.args.picks.now in
     let input = g.R.Source.unread c.args.source.now in
     let old = g.P.Sink.written c.args.report.now in
     let new = g.P.Sink.written c.hand_on-in-Err.new.report in
     let same = c.hand_on-in-Err.ensures.same in
-    let Part : Option (List ℕ) → Type 0 = λ x. ListsJournal (most_of c.args.listing.limit) s input
+    let Part : Option (List ℕ) → Type 0 = λ x. ListsJournal (most_of c.args.listing.limit) picks input
     (λ objects. AppendsPart old x (printed style objects)) in
-    let All : Type 0 = ListsJournal (most_of c.args.listing.limit) s input
+    let All : Type 0 = ListsJournal (most_of c.args.listing.limit) picks input
     (λ objects. Appends old new (printed style objects)) in
     let Q : Result (Unit {0}) CommandFault → Type 0 = λ r. IfErr r (λ fault. fault ≡ CannotWrite
     → (new ≡ old) ⊎ (Part new ⊎ All)) in

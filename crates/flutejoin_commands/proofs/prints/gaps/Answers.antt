@@ -1,4 +1,4 @@
--- gaps: why nothing was listed, stated of the name of the journal.
+-- gaps: what was listed, and why nothing was, stated of the names of the journal and its list.
 use Rattle.std.proofs.Common.{◌≡◌, ◌≢◌, ◌⊎◌, List, ℕ, Option, Bool, true, false, Result, IfErr}
 use Rattle.std.proofs.Common.{inl, inr, subst, ◌∙◌}
 use Rattle.std.specs.Io.KnownBytes.{Appends, IsAtEnd}
@@ -8,6 +8,7 @@ use Rattle.flutejoin.specs.declared.command_fault.CommandFault.{CommandFault}
 use Rattle.flutejoin.specs.declared.command_fault.CommandFault.TheVariants.{CannotWrite}
 use Rattle.flutejoin.specs.declared.command_fault.CommandFault.TheVariants.{NotAllWhole}
 use Rattle.flutejoin_commands.specs.Files.{Files}
+use Rattle.flutejoin_commands.specs.Printed.{chosen}
 use Rattle.flutejoin_commands.specs.Prints.{FailsToFlush, IfPrinted}
 use Rattle.flutejoin_commands.specs.Works.{most_of}
 use Rattle.flutejoin_commands.specs.Worlds.{TellsAsides}
@@ -19,31 +20,40 @@ pub returns-clause-listed : goal.returns-clause-listed
 returns-clause-listed g c =
     let files = g.W.Inputs.files c.args.world.now in
     let style = c.args.listing.style in
+    let listed = c.in_ok-source.listed in
+    let are_listed = c.in_ok-source.ensures.listed in
     let old = g.P.Sink.written c.args.output.now in
     let new = g.P.Sink.written c.gaps_on.new.report in
     let known = g.W.Input.Source.unread c.in_ok-source.source in
     let a = g.W.Asides.Aside.Sink.written c.in_ok-lines.lines in
     let b = g.W.Asides.Aside.Sink.written c.in_ok-gap_lines.gap_lines in
     let r = c.gaps_on.result in
-    let same = c.open.ensures.same_files in
+    let same = c.open_listed.ensures.same_files in
     let Lists : Bool → Option (List ℕ) → Type 0 = λ p k.
-    ListsJournal (most_of c.args.listing.limit) c.args.listing.selection k
+    ListsJournal (most_of c.args.listing.limit) (chosen c.args.selection.now listed) k
     (λ objects. Appends old new (printed style objects) × (passes_check style objects ≡ p)) in
     let tells = g.W.Asides.Asides.tells c.asides-asides.result in
     let told =
     subst (λ (x : Option Files). TellsAsides x tells) same c.asides-asides.ensures.tells in
     let first = c.in_ok-lines.ensures.empty in
-    by_done r (λ is. if_told files c.args.j.now known c.in_ok-source.ensures.opened (Lists true)
-    (if_empty files (Lists true known) told first
-    (λ t. c.in_ok-gap_lines.ensures.empty (c.aside.ensures.same_tells ∙ t)) (λ e f. (subst
-    (λ (x : Result (Unit {0}) CommandFault). IfPrinted x (λ p. Lists p known)) is
-    (c.gaps_on.ensures.listed e f)).0)))
+    let opened = c.in_ok-source.ensures.opened in
+    by_done r (λ is. (
+      listed,
+      are_listed,
+      if_told files c.args.inputs.journal.now known opened (Lists true)
+          (if_empty files (Lists true known) told first
+          (λ t. c.in_ok-gap_lines.ensures.empty (c.aside.ensures.same_tells ∙ t)) (λ e f. (subst
+          (λ (x : Result (Unit {0}) CommandFault). IfPrinted x (λ p. Lists p known)) is
+          (c.gaps_on.ensures.listed e f)).0)),
+    ))
 
 pub returns-clause-failed : goal.returns-clause-failed
 returns-clause-failed g c =
     let files = g.W.Inputs.files c.args.world.now in
     let style = c.args.listing.style in
-    let name = c.args.j.now in
+    let listed = c.in_ok-source.listed in
+    let are_listed = c.in_ok-source.ensures.listed in
+    let name = c.args.inputs.journal.now in
     let old = g.P.Sink.written c.args.output.now in
     let new = g.P.Sink.written c.gaps_on.new.report in
     let known = g.W.Input.Source.unread c.in_ok-source.source in
@@ -52,9 +62,9 @@ returns-clause-failed g c =
     let a = g.W.Asides.Aside.Sink.written c.in_ok-lines.lines in
     let b = g.W.Asides.Aside.Sink.written c.in_ok-gap_lines.gap_lines in
     let r = c.gaps_on.result in
-    let same = c.open.ensures.same_files in
+    let same = c.open_listed.ensures.same_files in
     let Lists : Bool → Option (List ℕ) → Type 0 = λ p k.
-    ListsJournal (most_of c.args.listing.limit) c.args.listing.selection k
+    ListsJournal (most_of c.args.listing.limit) (chosen c.args.selection.now listed) k
     (λ objects. Appends old new (printed style objects) × (passes_check style objects ≡ p)) in
     let tells = g.W.Asides.Asides.tells c.asides-asides.result in
     let told =
@@ -68,16 +78,24 @@ returns-clause-failed g c =
     c.gaps_on.ensures.failed) [
       | inl n ↦ inl (
         n,
-        if_told files name known opened (Lists false)
-            (if_empty files (Lists false known) told first
-            (λ t. c.in_ok-gap_lines.ensures.empty (c.aside.ensures.same_tells ∙ t)) (λ e f.
-            (subst
-            (λ (x : Result (Unit {0}) CommandFault). IfPrinted x (λ p. Lists p known)) is
-            (c.gaps_on.ensures.listed e f)).1 n)),
+        (
+          listed,
+          are_listed,
+          if_told files name known opened (Lists false)
+              (if_empty files (Lists false known) told first
+              (λ t. c.in_ok-gap_lines.ensures.empty (c.aside.ensures.same_tells ∙ t)) (λ e f.
+              (subst
+              (λ (x : Result (Unit {0}) CommandFault). IfPrinted x (λ p. Lists p known)) is
+              (c.gaps_on.ensures.listed e f)).1 n)),
+        ),
       )
       | inr p ↦ inr (
-        inr (told_of files name known opened
-            (λ k. (l : Option (List ℕ)) × fails k l fault) (left, p.0)),
+        inr (
+          listed,
+          are_listed,
+          told_of files name known opened
+              (λ k. (l : Option (List ℕ)) × fails k l fault) (left, p.0),
+        ),
         p.1,
       )
     ])

@@ -5,8 +5,8 @@ use Rattle.flutejoin_line.specs.Options.{found_rows}
 use Rattle.flutejoin.specs.declared.command_fault.CommandFault.TheVariants.{OutOfMemory}
 use Rattle.flutejoin.specs.declared.command_fault.CommandFault.TheVariants.{TooManyInputs}
 use Rattle.flutejoin_line.proofs.CommandWords.{words_read}
-use Rattle.flutejoin_line.proofs.JoinLines.{inputs_taken, no_memory, not_joined, right_scope}
-use Rattle.flutejoin_line.proofs.JoinLines.{too_many, twice}
+use Rattle.flutejoin_line.proofs.JoinLines.{inputs_taken, no_memory, not_joined, once_of_all}
+use Rattle.flutejoin_line.proofs.JoinLines.{right_scope, too_many, twice}
 use Rattle.flutejoin_line.proofs.JoinLines.{wrong_key, wrong_memory, wrong_object, wrong_sender}
 use Rattle.flutejoin_line.proofs.JoinLines.{wrong_sessions}
 use Rattle.flutejoin_line.proofs.Options.{handed_on}
@@ -76,12 +76,13 @@ returns-then-inputs-gt-MAX_INPUTS c =
     c.in_ok-toi.ensures.number c.in_ok-instance.ensures.number c.in_ok-sessions.sessions
     c.in_ok-object.object c.flag.result c.in_ok-sessions.ensures c.in_ok-object.ensures
     c.flag.ensures in
-    not_joined rows c.unwrap_or-inputs.result.now are TooManyInputs scope
+    not_joined rows c.word-without.result c.word-without.ensures c.unwrap_or-inputs.result.now are TooManyInputs scope
     c.in_ok-memory.ensures (_, c.in_ok-source.ensures.or_zero)
-    (too_many rows c.unwrap_or-inputs.result.now are c.if-inputs-gt-MAX_INPUTS.true)
+    (too_many rows c.word-without.result c.word-without.ensures c.unwrap_or-inputs.result.now are
+    c.if-inputs-gt-MAX_INPUTS.true)
 
-pub returns-in_err-standard_once : goal.returns-in_err-standard_once
-returns-in_err-standard_once c =
+pub returns-in_err-standard_once_beside : goal.returns-in_err-standard_once_beside
+returns-in_err-standard_once_beside c =
     let rows = found_rows c.args.matches.now in
     let are = words_read c.args.matches.now _ c.get_strs.result _ c.unwrap_or-inputs.result
     c.get_strs.ensures c.unwrap_or-inputs.ensures refl in
@@ -89,13 +90,13 @@ returns-in_err-standard_once c =
     c.in_ok-toi.ensures.number c.in_ok-instance.ensures.number c.in_ok-sessions.sessions
     c.in_ok-object.object c.flag.result c.in_ok-sessions.ensures c.in_ok-object.ensures
     c.flag.ensures in
-    let fault = c.in_err-standard_once.field-0.0 in
-    handed_on c.from_residual-in_err-standard_once.result fault _ _
-    c.from_residual-in_err-standard_once.ensures.1
-    (not_joined rows c.unwrap_or-inputs.result.now are fault scope
+    let fault = c.in_err-standard_once_beside.field-0.0 in
+    handed_on c.from_residual-in_err-standard_once_beside.result fault _ _
+    c.from_residual-in_err-standard_once_beside.ensures.1
+    (not_joined rows c.word-without.result c.word-without.ensures c.unwrap_or-inputs.result.now are fault scope
     c.in_ok-memory.ensures (_, c.in_ok-source.ensures.or_zero)
-    (twice rows c.unwrap_or-inputs.result.now are fault (omega arith)
-    c.in_err-standard_once.ensures))
+    (twice rows c.word-without.result c.word-without.ensures c.unwrap_or-inputs.result.now are fault (omega arith)
+    c.in_err-standard_once_beside.ensures))
 
 pub returns-in_err-to_vec : goal.returns-in_err-to_vec
 returns-in_err-to_vec c =
@@ -108,10 +109,10 @@ returns-in_err-to_vec c =
     c.flag.ensures in
     handed_on c.from_residual-in_err-to_vec.result OutOfMemory _ _
     c.from_residual-in_err-to_vec.ensures.1
-    (not_joined rows c.unwrap_or-inputs.result.now are OutOfMemory scope
+    (not_joined rows c.word-without.result c.word-without.ensures c.unwrap_or-inputs.result.now are OutOfMemory scope
     c.in_ok-memory.ensures (_, c.in_ok-source.ensures.or_zero)
-    (no_memory rows c.unwrap_or-inputs.result.now are (omega arith)
-    c.in_ok-standard_once.ensures))
+    (no_memory rows c.word-without.result c.word-without.ensures c.unwrap_or-inputs.result.now are (omega arith)
+    c.in_ok-standard_once_beside.ensures))
 
 pub returns : goal.returns
 returns c =
@@ -131,7 +132,10 @@ returns c =
             c.in_ok-instance.ensures.number c.in_ok-sessions.sessions c.in_ok-object.object
             c.flag.result c.in_ok-sessions.ensures c.in_ok-object.ensures c.flag.ensures;
         reasons = c.flag-2.ensures;
-        inputs = inputs_taken rows c.unwrap_or-inputs.result.now are _ same;
-        once = rw (← are) c.in_ok-standard_once.ensures;
+        inputs = inputs_taken rows c.word-without.result c.word-without.ensures
+            c.unwrap_or-inputs.result.now are _ same;
+        without = c.word-without.ensures;
+        once = once_of_all rows c.word-without.result c.word-without.ensures c.unwrap_or-inputs.result.now are
+            c.in_ok-standard_once_beside.ensures;
       },
     )

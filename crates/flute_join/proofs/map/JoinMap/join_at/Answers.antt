@@ -33,31 +33,31 @@ returns-in-Some-clause-below_join g c = held_below g.met.K.Ord.total g.met.V.Joi
 
 pub returns-in-Some-clause-within : goal.returns-in-Some-clause-within
 returns-in-Some-clause-within g c = on_ok_weaker c.join_from.result (not_over_held g.met.K.Ord.total
-    g.met.V.Join.join_laws g.met.K.Place.same_where_equal g.row.LIMIT g.V.Join.over c.args.self.now
+    g.met.V.Join.join_laws g.met.K.MapKey.same_where_equal g.row.LIMIT g.V.Join.over c.args.self.now
     c.args.key _ c.args.value.now c.in-Some.ensures.ordered c.in-Some.ensures.within
     (sym c.in-Some.ensures.value)) c.join_from.ensures.within
 
 pub returns-then-len-clause-above_old : goal.returns-then-len-clause-above_old
 returns-then-len-clause-above_old g c = below_self
-    (map_join_laws g.met.K.Ord.total g.met.K.Place.same_where_equal g.met.V.Join.join_laws) _
+    (map_join_laws g.met.K.Ord.total g.met.K.MapKey.same_where_equal g.met.V.Join.join_laws) _
 
 pub returns-then-len-clause-below_join : goal.returns-then-len-clause-below_join
 returns-then-len-clause-below_join g c = below_join
-    (map_join_laws g.met.K.Ord.total g.met.K.Place.same_where_equal g.met.V.Join.join_laws) _ _
+    (map_join_laws g.met.K.Ord.total g.met.K.MapKey.same_where_equal g.met.V.Join.join_laws) _ _
 
 pub returns-in_err-copy-clause-above_old : goal.returns-in_err-copy-clause-above_old
 returns-in_err-copy-clause-above_old g c = below_self
-    (map_join_laws g.met.K.Ord.total g.met.K.Place.same_where_equal g.met.V.Join.join_laws) _
+    (map_join_laws g.met.K.Ord.total g.met.K.MapKey.same_where_equal g.met.V.Join.join_laws) _
 
 pub returns-in_err-copy-clause-below_join : goal.returns-in_err-copy-clause-below_join
 returns-in_err-copy-clause-below_join g c = below_join
-    (map_join_laws g.met.K.Ord.total g.met.K.Place.same_where_equal g.met.V.Join.join_laws) _ _
+    (map_join_laws g.met.K.Ord.total g.met.K.MapKey.same_where_equal g.met.V.Join.join_laws) _ _
 
 pub returns-then-len-clause-full : goal.returns-then-len-clause-full
 returns-then-len-clause-full g c =
     let absent = sym c.in_default.ensures.value in
     let full = sym c.len.ensures.value ∙ c.if-len.true in
-    λ _. over_new g.met.K.Ord.total g.met.V.Join.join_laws g.met.K.Place.same_where_equal
+    λ _. over_new g.met.K.Ord.total g.met.V.Join.join_laws g.met.K.MapKey.same_where_equal
     g.row.LIMIT g.V.Join.over c.args.self.now c.args.key c.args.value.now full absent
 
 pub returns-clause-ok : goal.returns-clause-ok
@@ -65,7 +65,7 @@ returns-clause-ok g c = rw c.in_ok-copy.ensures.equal at c.add_new.ensures.joins
 
 pub returns-clause-above_old : goal.returns-clause-above_old
 returns-clause-above_old g c =
-    let laws = map_join_laws g.met.K.Ord.total g.met.K.Place.same_where_equal g.met.V.Join.join_laws
+    let laws = map_join_laws g.met.K.Ord.total g.met.K.MapKey.same_where_equal g.met.V.Join.join_laws
     in
     let es = c.args.self.now in
     by_outcome (IsBelow (map_join g.K.Ord.cmp g.V.Join.joined) es) c.add_new.result
@@ -73,7 +73,7 @@ returns-clause-above_old g c =
 
 pub returns-clause-below_join : goal.returns-clause-below_join
 returns-clause-below_join g c =
-    let laws = map_join_laws g.met.K.Ord.total g.met.K.Place.same_where_equal g.met.V.Join.join_laws
+    let laws = map_join_laws g.met.K.Ord.total g.met.K.MapKey.same_where_equal g.met.V.Join.join_laws
     in
     let es = c.args.self.now in
     let joined = map_join g.K.Ord.cmp g.V.Join.joined es ((c.args.key, c.args.value.now) ∷ []) in
@@ -85,7 +85,7 @@ returns-clause-within g c =
     let room : length c.args.self.now < g.row.LIMIT = omega
     (arith, c.len.ensures.value, c.len.ensures.within, c.if-len.false) in on_ok_weaker
     c.add_new.result (λ _. not_over_new g.met.K.Ord.total g.met.V.Join.join_laws
-    g.met.K.Place.same_where_equal g.row.LIMIT g.V.Join.over c.args.self.now c.args.key
+    g.met.K.MapKey.same_where_equal g.row.LIMIT g.V.Join.over c.args.self.now c.args.key
     c.args.value.now room (sym c.in_default.ensures.value)) c.add_new.ensures.ok
 
 pub returns-in-Some-clause-each : goal.returns-in-Some-clause-each

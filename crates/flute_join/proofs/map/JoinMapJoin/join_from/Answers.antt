@@ -18,7 +18,7 @@ use Rattle.flute_join.proofs.map.JoinMapJoin.join_from.Goals as goal
 
 pub loop-key-init : goal.loop-key-init
 loop-key-init g c =
-    let laws = map_join_laws g.met.K.Ord.total g.met.K.Place.same_where_equal
+    let laws = map_join_laws g.met.K.Ord.total g.met.K.MapKey.same_where_equal
     g.met.V.Join.join_laws in
     let es = c.args.self.now in
     let all = c.into_iter-key-iterator.ensures.into_iter_gives ∙ c.iter-key-items.ensures.rest in
@@ -39,7 +39,7 @@ loop-key-init g c =
 pub loop-key-preserved : goal.loop-key-preserved
 loop-key-preserved g c =
     let order = g.met.K.Ord.total in
-    let same = g.met.K.Place.same_where_equal in
+    let same = g.met.K.MapKey.same_where_equal in
     let inner = g.met.V.Join.join_laws in
     let laws = map_join_laws order same inner in
     let es = c.loop-key.self in
@@ -78,14 +78,14 @@ loop-key-preserved g c =
 
 pub returns-in_err-join_at-clause-above_old : goal.returns-in_err-join_at-clause-above_old
 returns-in_err-join_at-clause-above_old g c =
-    let laws = map_join_laws g.met.K.Ord.total g.met.K.Place.same_where_equal g.met.V.Join.join_laws
+    let laws = map_join_laws g.met.K.Ord.total g.met.K.MapKey.same_where_equal g.met.V.Join.join_laws
     in below_trans laws c.args.self.now c.loop-key.self c.join_at.new.self
     c.loop-key.invariant.above_old c.join_at.ensures.above_old
 
 pub returns-in_err-join_at-clause-below_join : goal.returns-in_err-join_at-clause-below_join
 returns-in_err-join_at-clause-below_join g c =
     let order = g.met.K.Ord.total in
-    let same = g.met.K.Place.same_where_equal in
+    let same = g.met.K.MapKey.same_where_equal in
     let inner = g.met.V.Join.join_laws in
     let laws = map_join_laws order same inner in
     let es = c.loop-key.self in
@@ -102,7 +102,7 @@ returns-in_err-join_at-clause-below_join g c =
 pub returns-in_err-join_at-clause-full : goal.returns-in_err-join_at-clause-full
 returns-in_err-join_at-clause-full g c =
     let order = g.met.K.Ord.total in
-    let same = g.met.K.Place.same_where_equal in
+    let same = g.met.K.MapKey.same_where_equal in
     let inner = g.met.V.Join.join_laws in
     let p : g.row.K.Denot × g.row.V.Denot = (c.in-Some.key.now, c.in-Some.value.now) in
     let before = rw c.in-Some.ensures.steps at c.loop-key.invariant in
@@ -118,14 +118,14 @@ returns-clause-ok g c =
 
 pub returns-clause-below_join : goal.returns-clause-below_join
 returns-clause-below_join g c =
-    let laws = map_join_laws g.met.K.Ord.total g.met.K.Place.same_where_equal g.met.V.Join.join_laws
+    let laws = map_join_laws g.met.K.Ord.total g.met.K.MapKey.same_where_equal g.met.V.Join.join_laws
     in subst (IsBelow (map_join g.K.Ord.cmp g.V.Join.joined) c.loop-key.self)
     (returns-clause-ok g c) (below_self laws c.loop-key.self)
 
 pub returns-clause-within : goal.returns-clause-within
 returns-clause-within g c =
     let after = rw c.in-None.ensures.steps.0 at c.loop-key.invariant in
-    λ o. not_over_nothing g.met.K.Ord.total g.met.K.Place.same_where_equal g.met.V.Join.join_laws
+    λ o. not_over_nothing g.met.K.Ord.total g.met.K.MapKey.same_where_equal g.met.V.Join.join_laws
     g.row.LIMIT g.V.Join.over c.loop-key.self (rw c.self.view_is at c.self.invariant.1)
     (after.forbids o)
 
@@ -140,7 +140,7 @@ returns-in_err-join_at-clause-ordered g c =
     let p : g.row.K.Denot × g.row.V.Denot = (c.in-Some.key.now, c.in-Some.value.now) in
     ordered_between g.met.K.Ord.total g.V.Join.joined c.loop-key.self
     (p ∷ []) c.join_at.new.self c.join_at.ensures.below_join c.join_at.ensures.ordered
-    (ordered_one g.met.K.Ord.total g.met.K.Place.same_where_equal g.met.V.Join.join_laws p)
+    (ordered_one g.met.K.Ord.total g.met.K.MapKey.same_where_equal g.met.V.Join.join_laws p)
 
 pub returns-clause-each : goal.returns-clause-each
 returns-clause-each g c = λ x y. (c.loop-key.invariant.each x y).0
@@ -169,7 +169,7 @@ pub returns-in_err-join_at-clause-stops : goal.returns-in_err-join_at-clause-sto
 returns-in_err-join_at-clause-stops g c =
     let cmp = g.K.Ord.cmp in
     let order = g.met.K.Ord.total in
-    let same = g.met.K.Place.same_where_equal in
+    let same = g.met.K.MapKey.same_where_equal in
     let inner = g.met.V.Join.join_laws in
     let join = map_join cmp g.V.Join.joined in
     let es = c.loop-key.self in
@@ -222,7 +222,7 @@ returns-in_err-join_at-clause-memory g c =
     c.loop-key.self c.loop-key.invariant.above_old c.join_at.ensures.ordered in
     let past : value_at cmp c.loop-key.self p.0 ≡ value_at cmp c.args.self.now p.0 = ap
     (λ m. value_at cmp m p.0) c.loop-key.invariant.done ∙ value_past order
-    g.met.K.Place.same_where_equal g.met.V.Join.join_laws c.args.self.now so_far p rest start whole
+    g.met.K.MapKey.same_where_equal g.met.V.Join.join_laws c.args.self.now so_far p rest start whole
     in
     let found : value_at cmp c.args.other.now p.0 ≡ Some p.1 = ap (λ l. value_at cmp l p.0)
     (sym parts) ∙ value_there order so_far p rest whole in

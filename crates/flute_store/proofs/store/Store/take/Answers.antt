@@ -1,6 +1,6 @@
 -- Store::take: each clause for a datagram that is refused, or read as a packet.
 use Rattle.std.proofs.Common.{◌≡◌, [], Err, ap, refl}
-use Rattle.flute_wire.proofs.Public.{facts-refused, facts-Spells}
+use Rattle.flute_wire.proofs.Public.{facts-refused, facts-Spells, packet-iff}
 use Rattle.flute_store.proofs.Common.{facts}
 use Rattle.flute_store.proofs.Counting.{not_over_more}
 use Rattle.flute_store.proofs.Refused.{not_full}
@@ -25,6 +25,12 @@ returns-in-Ok-take_packet-clause-ok g c =
     let told = facts-Spells c.args.sender c.args.datagram.now c.in-Ok.packet
     c.in-Ok.ensures.spelled in
     rw told c.in-Ok-take_packet.ensures.ok
+
+pub returns-in-Ok-take_packet-clause-key : goal.returns-in-Ok-take_packet-clause-key
+returns-in-Ok-take_packet-clause-key g c =
+    let read = (packet-iff c.args.datagram.now c.in-Ok.packet).1 c.in-Ok.ensures.spelled in
+    let key = c.in-Ok-take_packet.ensures.key in
+    rw read cc
 
 pub returns-in-Ok-take_packet-clause-number : goal.returns-in-Ok-take_packet-clause-number
 returns-in-Ok-take_packet-clause-number g c =

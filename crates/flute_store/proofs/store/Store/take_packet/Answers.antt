@@ -21,13 +21,13 @@ returns-in_default-clause-full g c =
 
 pub returns-in-Ok-clause-full : goal.returns-in-Ok-clause-full
 returns-in-Ok-clause-full g c =
-    let update = ap (λ key. update_facts key c.in-Some.update) c.key.ensures
+    let update = ap (λ key. update_facts key c.in-Some.update) c.key-key.ensures
     ∙ c.in-Some.ensures.facts c.args.sender in
     rw (← update) (not_full _ _ _ _ _ c.in-Ok.ensures.full)
 
 pub returns-in-Err-clause-full : goal.returns-in-Err-clause-full
 returns-in-Err-clause-full g c =
-    let update = ap (λ key. update_facts key c.in-Some.update) c.key.ensures
+    let update = ap (λ key. update_facts key c.in-Some.update) c.key-key.ensures
     ∙ c.in-Some.ensures.facts c.args.sender in
     let full = c.in-Err.ensures.full in
     rw (← update) ((λ e. full.0 cc), (λ over. let e = full.1 over in cc))

@@ -10,57 +10,48 @@ use Rattle.flutejoin.proofs.fill.reading_lines.gap_in.Goals.{else-sbn-via-then-s
 use Rattle.flutejoin.proofs.fill.reading_lines.gap_in.Goals.{else-sbn-via-then-sbn+else-first}
 use Rattle.flutejoin.proofs.fill.reading_lines.gap_in.Goals.{else-sbn-via-else-sbn}
 
-pub returns-in_default : goal.returns-in_default
-returns-in_default c = record {
-  finds = λ g ids is. c.in_default.ensures.finds g.sbn (from_first g) (omega (arith, ids.0)) refl
-      (gap_is c.args.text.now g is);
-}
+pub returns-in_default-clause-finds : goal.returns-in_default-clause-finds
+returns-in_default-clause-finds c = λ g ids is.
+    c.in_default.ensures.finds g.sbn (from_first g) (omega (arith, ids.0)) refl
+    (gap_is c.args.text.now g is)
 
-pub returns-in_default-number_after : goal.returns-in_default-number_after
-returns-in_default-number_after c = record {
-  finds = λ g ids is.
-      let a = c.in-Some.ensures.finds g.sbn (from_first g) (omega (arith, ids.0)) refl
-      (gap_is c.args.text.now g is) in
-      c.in_default-number_after.ensures.finds g.first (from_last g) (omega (arith, ids.1)) refl
-      a.1;
-}
+pub returns-in_default-number_after-clause-finds : goal.returns-in_default-number_after-clause-finds
+returns-in_default-number_after-clause-finds c = λ g ids is.
+    let a = c.in-Some.ensures.finds g.sbn (from_first g) (omega (arith, ids.0)) refl
+    (gap_is c.args.text.now g is) in
+    c.in_default-number_after.ensures.finds g.first (from_last g) (omega (arith, ids.1)) refl
+    a.1
 
-pub returns-in_default-number_after-2 : goal.returns-in_default-number_after-2
-returns-in_default-number_after-2 c = record {
-  finds = λ g ids is.
-      let a = c.in-Some.ensures.finds g.sbn (from_first g) (omega (arith, ids.0)) refl
-      (gap_is c.args.text.now g is) in
-      let b = c.in-Some-number_after.ensures.finds g.first (from_last g) (omega (arith, ids.1))
-      refl a.1 in
-      c.in_default-number_after-2.ensures.finds g.last (reason_words g.reason)
-      (omega (arith, ids.2)) (reason_stops g.reason) b.1;
-}
+pub returns-in_default-number_after-2-clause-finds : goal.returns-in_default-number_after-2-clause-finds
+returns-in_default-number_after-2-clause-finds c = λ g ids is.
+    let a = c.in-Some.ensures.finds g.sbn (from_first g) (omega (arith, ids.0)) refl
+    (gap_is c.args.text.now g is) in
+    let b = c.in-Some-number_after.ensures.finds g.first (from_last g) (omega (arith, ids.1))
+    refl a.1 in
+    c.in_default-number_after-2.ensures.finds g.last (reason_words g.reason)
+    (omega (arith, ids.2)) (reason_stops g.reason) b.1
 
-pub returns-then-last : goal.returns-then-last
-returns-then-last c = record {
-  finds = λ g ids is.
-      let a = c.in-Some.ensures.finds g.sbn (from_first g) (omega (arith, ids.0)) refl
-      (gap_is c.args.text.now g is) in
-      let b = c.in-Some-number_after.ensures.finds g.first (from_last g) (omega (arith, ids.1))
-      refl a.1 in
-      let d = c.in-Some-number_after-2.ensures.finds g.last (reason_words g.reason)
-      (omega (arith, ids.2)) (reason_stops g.reason) b.1 in
-      gap_same g c.in-Some.sbn c.in-Some-number_after.first c.in-Some-number_after-2.last
-      c.reason_of.result a.0 b.0 d.0 (c.reason_of.ensures g.reason d.1);
-}
+pub returns-then-last-clause-finds : goal.returns-then-last-clause-finds
+returns-then-last-clause-finds c = λ g ids is.
+    let a = c.in-Some.ensures.finds g.sbn (from_first g) (omega (arith, ids.0)) refl
+    (gap_is c.args.text.now g is) in
+    let b = c.in-Some-number_after.ensures.finds g.first (from_last g) (omega (arith, ids.1))
+    refl a.1 in
+    let d = c.in-Some-number_after-2.ensures.finds g.last (reason_words g.reason)
+    (omega (arith, ids.2)) (reason_stops g.reason) b.1 in
+    gap_same g c.in-Some.sbn c.in-Some-number_after.first c.in-Some-number_after-2.last
+    c.reason_of.result a.0 b.0 d.0 (c.reason_of.ensures g.reason d.1)
 
-pub returns-else-sbn : goal.returns-else-sbn
-returns-else-sbn c = record {
-  finds = λ g ids is.
-      let a = c.in-Some.ensures.finds g.sbn (from_first g) (omega (arith, ids.0)) refl
-      (gap_is c.args.text.now g is) in
-      let b = c.in-Some-number_after.ensures.finds g.first (from_last g) (omega (arith, ids.1))
-      refl a.1 in
-      let d = c.in-Some-number_after-2.ensures.finds g.last (reason_words g.reason)
-      (omega (arith, ids.2)) (reason_stops g.reason) b.1 in
-      elim c.else-sbn.branch [
-        | else-sbn-via-then-sbn+then-first+else-last w ↦ omega (arith, d.0, ids.2, w.if-last.false)
-        | else-sbn-via-then-sbn+else-first w ↦ omega (arith, b.0, ids.1, w.if-first.false)
-        | else-sbn-via-else-sbn w ↦ omega (arith, a.0, ids.0, w.if-sbn.false)
-      ];
-}
+pub returns-else-sbn-clause-finds : goal.returns-else-sbn-clause-finds
+returns-else-sbn-clause-finds c = λ g ids is.
+    let a = c.in-Some.ensures.finds g.sbn (from_first g) (omega (arith, ids.0)) refl
+    (gap_is c.args.text.now g is) in
+    let b = c.in-Some-number_after.ensures.finds g.first (from_last g) (omega (arith, ids.1))
+    refl a.1 in
+    let d = c.in-Some-number_after-2.ensures.finds g.last (reason_words g.reason)
+    (omega (arith, ids.2)) (reason_stops g.reason) b.1 in
+    elim c.else-sbn.branch [
+      | else-sbn-via-then-sbn+then-first+else-last w ↦ omega (arith, d.0, ids.2, w.if-last.false)
+      | else-sbn-via-then-sbn+else-first w ↦ omega (arith, b.0, ids.1, w.if-first.false)
+      | else-sbn-via-else-sbn w ↦ omega (arith, a.0, ids.0, w.if-sbn.false)
+    ]

@@ -31,49 +31,41 @@ module _ (m d f : ℕ) where
   same_counts : (a b e : ℕ) → a ≡ m → b ≡ d → e ≡ f → Partial a b e ≡ Partial m d f
   same_counts a b e x y z = search rules
 
-pub returns-in_default : goal.returns-in_default
-returns-in_default c = record {
-  finds = λ m d f h is. c.in_default.ensures.finds m (from_conflicting d f) (omega (arith, h.0)) refl (is ∙ partial_chain m d f);
-}
+pub returns-in_default-clause-finds : goal.returns-in_default-clause-finds
+returns-in_default-clause-finds c = λ m d f h is.
+    c.in_default.ensures.finds m (from_conflicting d f) (omega (arith, h.0)) refl
+    (is ∙ partial_chain m d f)
 
-pub returns-in_default-number_after : goal.returns-in_default-number_after
-returns-in_default-number_after c = record {
-  finds = λ m d f h is.
-      let a = c.in-Some.ensures.finds m (from_conflicting d f) (omega (arith, h.0)) refl (is ∙ partial_chain m d f) in
-      c.in_default-number_after.ensures.finds d (from_misfit f) (omega (arith, h.1)) refl a.1;
-}
+pub returns-in_default-number_after-clause-finds : goal.returns-in_default-number_after-clause-finds
+returns-in_default-number_after-clause-finds c = λ m d f h is.
+    let a = c.in-Some.ensures.finds m (from_conflicting d f) (omega (arith, h.0)) refl (is ∙ partial_chain m d f) in
+    c.in_default-number_after.ensures.finds d (from_misfit f) (omega (arith, h.1)) refl a.1
 
-pub returns-in_default-number_after-2 : goal.returns-in_default-number_after-2
-returns-in_default-number_after-2 c = record {
-  finds = λ m d f h is.
-      let a = c.in-Some.ensures.finds m (from_conflicting d f) (omega (arith, h.0)) refl (is ∙ partial_chain m d f) in
-      let b = c.in-Some-number_after.ensures.finds d (from_misfit f) (omega (arith, h.1)) refl a.1 in
-      c.in_default-number_after-2.ensures.finds f [] (omega (arith, h.2)) refl
-      (b.1 ∙ with_nil f);
-}
+pub returns-in_default-number_after-2-clause-finds : goal.returns-in_default-number_after-2-clause-finds
+returns-in_default-number_after-2-clause-finds c = λ m d f h is.
+    let a = c.in-Some.ensures.finds m (from_conflicting d f) (omega (arith, h.0)) refl (is ∙ partial_chain m d f) in
+    let b = c.in-Some-number_after.ensures.finds d (from_misfit f) (omega (arith, h.1)) refl a.1 in
+    c.in_default-number_after-2.ensures.finds f [] (omega (arith, h.2)) refl
+    (b.1 ∙ with_nil f)
 
-pub returns-then-misfit : goal.returns-then-misfit
-returns-then-misfit c = record {
-  finds = λ m d f h is.
-      let a = c.in-Some.ensures.finds m (from_conflicting d f) (omega (arith, h.0)) refl (is ∙ partial_chain m d f) in
-      let b = c.in-Some-number_after.ensures.finds d (from_misfit f) (omega (arith, h.1)) refl a.1 in
-      let e = c.in-Some-number_after-2.ensures.finds f [] (omega (arith, h.2)) refl
-      (b.1 ∙ with_nil f) in
-      same_counts m d f _ _ _ a.0 b.0 e.0;
-}
+pub returns-then-misfit-clause-finds : goal.returns-then-misfit-clause-finds
+returns-then-misfit-clause-finds c = λ m d f h is.
+    let a = c.in-Some.ensures.finds m (from_conflicting d f) (omega (arith, h.0)) refl (is ∙ partial_chain m d f) in
+    let b = c.in-Some-number_after.ensures.finds d (from_misfit f) (omega (arith, h.1)) refl a.1 in
+    let e = c.in-Some-number_after-2.ensures.finds f [] (omega (arith, h.2)) refl
+    (b.1 ∙ with_nil f) in
+    same_counts m d f _ _ _ a.0 b.0 e.0
 
-pub returns-else-missing : goal.returns-else-missing
-returns-else-missing c = record {
-  finds = λ m d f h is.
-      let a = c.in-Some.ensures.finds m (from_conflicting d f) (omega (arith, h.0)) refl (is ∙ partial_chain m d f) in
-      let b = c.in-Some-number_after.ensures.finds d (from_misfit f) (omega (arith, h.1)) refl a.1 in
-      let e = c.in-Some-number_after-2.ensures.finds f [] (omega (arith, h.2)) refl
-      (b.1 ∙ with_nil f) in
-      elim c.else-missing.branch [
-        | else-missing-via-then-missing+then-conflicting+else-misfit w ↦ omega
-            (arith, e.0, h.2, w.if-misfit.false)
-        | else-missing-via-then-missing+else-conflicting w ↦ omega
-            (arith, b.0, h.1, w.if-conflicting.false)
-        | else-missing-via-else-missing w ↦ omega (arith, a.0, h.0, w.if-missing.false)
-      ];
-}
+pub returns-else-missing-clause-finds : goal.returns-else-missing-clause-finds
+returns-else-missing-clause-finds c = λ m d f h is.
+    let a = c.in-Some.ensures.finds m (from_conflicting d f) (omega (arith, h.0)) refl (is ∙ partial_chain m d f) in
+    let b = c.in-Some-number_after.ensures.finds d (from_misfit f) (omega (arith, h.1)) refl a.1 in
+    let e = c.in-Some-number_after-2.ensures.finds f [] (omega (arith, h.2)) refl
+    (b.1 ∙ with_nil f) in
+    elim c.else-missing.branch [
+      | else-missing-via-then-missing+then-conflicting+else-misfit w ↦ omega
+          (arith, e.0, h.2, w.if-misfit.false)
+      | else-missing-via-then-missing+else-conflicting w ↦ omega
+          (arith, b.0, h.1, w.if-conflicting.false)
+      | else-missing-via-else-missing w ↦ omega (arith, a.0, h.0, w.if-missing.false)
+    ]

@@ -8,7 +8,7 @@ use Rattle.flutejoin.proofs.join.inspecting.inspect_all.Given as goal
 abbrev pub invariant-loop-k : goal.invariant-loop-k
 invariant-loop-k g l = record {
   inspected : InspectedSoFar
-      (choice_of (at_most g.row.SESSIONS g.row.OBJECTS g.row.SYMBOLS) l.fn.sender l.fn.scope)
+      (choice_of (at_most g.row.SESSIONS g.row.OBJECTS g.row.SYMBOLS) l.fn.sender l.fn.objects)
       g.R.Source.unread g.R.Source.buffered g.R.Source.failures (g.A.Asides.tells l.fn.asides)
       l.fn.inputs l.inputs l.held l.k;
   same_tells : g.A.Asides.tells l.asides ≡ g.A.Asides.tells l.fn.asides;

@@ -1,5 +1,6 @@
 -- json_text: the members of each kind of fact, in braces (specs/Json).
 use Rattle.std.proofs.Common.{◌≡◌, ◌++◌, append_assoc, codes, length, refl}
+use Rattle.flute_parts.specs.Addresses.{fact_of}
 use Rattle.flutejoin.specs.Json.{fact_members, json_id, json_information, json_name, json_sum}
 use Rattle.flutejoin.specs.Json.{json_symbol}
 use Rattle.flutejoin.proofs.lines_lemmas.JsonPieces.{members3, members4, members5}
@@ -10,7 +11,7 @@ use Rattle.flutejoin.proofs.show.entry_line.json_text.Goals.{in-SymbolConflict}
 pub returns-clause-members : goal.returns-clause-members
 returns-clause-members c =
     let told : c.match-fact.text
-    ≡ codes "{" ++ fact_members c.args.style.sums c.args.fact.now = elim
+    ≡ codes "{" ++ fact_members c.args.style.sums (fact_of c.args.fact.now) = elim
     c.match-fact.branch [
       | in-Info w ↦ rw (
         w.in-Info.is,
@@ -44,11 +45,9 @@ returns-clause-members c =
         w.push_json_name-in-Symbol.ensures.text,
         c.push.ensures.text,
         c.new-text.ensures,
-        w.as_slice.ensures.value,
-        w.as_slice-in-Symbol.ensures.value,
       ) (members5 (codes "{") (json_name w.in-Symbol.key) (codes ",")
-          (json_symbol w.in-Symbol.id (length w.in-Symbol.bytes))
-          (json_sum c.args.style.sums w.in-Symbol.bytes) (codes "}"))
+          (json_symbol w.in-Symbol.id (length w.in-Symbol.bytes.now))
+          (json_sum c.args.style.sums w.in-Symbol.bytes.now) (codes "}"))
       | in-SymbolConflict w ↦ rw (
         w.in-SymbolConflict.is,
         w.text-is,

@@ -1,7 +1,7 @@
 -- ObjectWriter::pass: what was found, after a fact of the object of each kind, or of another.
 use Rattle.std.proofs.Common.{rules}
 use Rattle.std.proofs.Common.{◌≡◌, [], ◌∷◌, ◌++◌, sym, ap, ◌∙◌, subst}
-use Rattle.flute_parts.specs.Addresses.{address}
+use Rattle.flute_parts.specs.Addresses.{address, fact_of}
 use Rattle.flute_parts.specs.Facts.{IsRising}
 use Rattle.flute_parts.specs.declared.address.Address.{Address}
 use Rattle.flute_parts.specs.declared.fact.Fact.{Fact}
@@ -21,47 +21,46 @@ own fact is same = search rules
 
 pub returns-in-Info-clause-passed : goal.returns-in-Info-clause-passed
 returns-in-Info-clause-passed g c = λ P start. let w = g.W.Sink.written c.args.sink.now in
-    let same = own c.args.fact.now c.address.ensures
+    let same = own (fact_of c.args.fact.now) c.address.ensures
     (equal_keys c.address.result.key c.args.self.now.key c.if-eq.ensures) in
-    let is = c.in-Info.is ∙ ap (λ k. Info k c.in-Info.info)
-    (ap (λ f. (address f).key) (sym c.in-Info.is) ∙ same) in
+    let is = ap fact_of c.in-Info.is ∙ ap (λ k. Info k c.in-Info.info)
+    (ap (λ f. (address f).key) (sym (ap fact_of c.in-Info.is)) ∙ same) in
     let Q : Fact → Type 0 = λ f. IsRising (P ++ f ∷ []) → Stands P c.args.self.now start w → Stands
     (P ++ f ∷ []) c.information.new.self start w in subst Q (sym is)
     (c.information.ensures.passed P start w)
 
 pub returns-in-InfoConflict-clause-passed : goal.returns-in-InfoConflict-clause-passed
 returns-in-InfoConflict-clause-passed g c = λ P start. let w = g.W.Sink.written c.args.sink.now in
-    let same = own c.args.fact.now c.address.ensures
+    let same = own (fact_of c.args.fact.now) c.address.ensures
     (equal_keys c.address.result.key c.args.self.now.key c.if-eq.ensures) in
-    let is = c.in-InfoConflict.is ∙ ap InfoConflict
-    (ap (λ f. (address f).key) (sym c.in-InfoConflict.is) ∙ same) in
+    let is = ap fact_of c.in-InfoConflict.is ∙ ap InfoConflict
+    (ap (λ f. (address f).key) (sym (ap fact_of c.in-InfoConflict.is)) ∙ same) in
     let Q : Fact → Type 0 = λ f. IsRising (P ++ f ∷ []) → Stands P c.args.self.now start w → Stands
     (P ++ f ∷ []) c.information-in-InfoConflict.new.self start w in subst Q (sym is)
     (c.information-in-InfoConflict.ensures.passed P start w)
 
 pub returns-in-Symbol-clause-passed : goal.returns-in-Symbol-clause-passed
 returns-in-Symbol-clause-passed g c = λ P start. let w = g.W.Sink.written c.args.sink.now in
-    let same = own c.args.fact.now c.address.ensures
+    let same = own (fact_of c.args.fact.now) c.address.ensures
     (equal_keys c.address.result.key c.args.self.now.key c.if-eq.ensures) in
     let w' = g.W.Sink.written c.symbol.new.sink in
-    let is = c.in-Symbol.is ∙ ap (λ k. Symbol k c.in-Symbol.id c.in-Symbol.bytes)
-    (ap (λ f. (address f).key) (sym c.in-Symbol.is) ∙ same) in
+    let is = ap fact_of c.in-Symbol.is ∙ ap (λ k. Symbol k c.in-Symbol.id c.in-Symbol.bytes.now)
+    (ap (λ f. (address f).key) (sym (ap fact_of c.in-Symbol.is)) ∙ same) in
     let Q : Fact → Type 0 = λ f. IsRising (P ++ f ∷ []) → Stands P c.args.self.now start w → Stands
-    (P ++ f ∷ []) c.symbol.new.self start w' in subst Q
-    (ap (Symbol c.args.self.now.key c.in-Symbol.id) c.as_slice.ensures.value ∙ sym is)
+    (P ++ f ∷ []) c.symbol.new.self start w' in subst Q (sym is)
     (c.symbol.ensures.passed P start)
 
 pub returns-in-SymbolConflict-clause-passed : goal.returns-in-SymbolConflict-clause-passed
 returns-in-SymbolConflict-clause-passed g c = λ P start. let w = g.W.Sink.written c.args.sink.now in
-    let same = own c.args.fact.now c.address.ensures
+    let same = own (fact_of c.args.fact.now) c.address.ensures
     (equal_keys c.address.result.key c.args.self.now.key c.if-eq.ensures) in
     let w' = g.W.Sink.written c.symbol-in-SymbolConflict.new.sink in
-    let is = c.in-SymbolConflict.is ∙ ap (λ k. SymbolConflict k c.in-SymbolConflict.id)
-    (ap (λ f. (address f).key) (sym c.in-SymbolConflict.is) ∙ same) in
+    let is = ap fact_of c.in-SymbolConflict.is ∙ ap (λ k. SymbolConflict k c.in-SymbolConflict.id)
+    (ap (λ f. (address f).key) (sym (ap fact_of c.in-SymbolConflict.is)) ∙ same) in
     let Q : Fact → Type 0 = λ f. IsRising (P ++ f ∷ []) → Stands P c.args.self.now start w → Stands
     (P ++ f ∷ []) c.symbol-in-SymbolConflict.new.self start w' in subst Q (sym is)
     (c.symbol-in-SymbolConflict.ensures.passed P start)
 
 pub returns-else-eq-clause-passed : goal.returns-else-eq-clause-passed
-returns-else-eq-clause-passed g c = λ P start r h. other-passes P c.args.fact.now _ start _ _
+returns-else-eq-clause-passed g c = λ P start r h. other-passes P (fact_of c.args.fact.now) _ start _ _
     (λ e. not-same _ _ c.if-eq.ensures (ap (λ (a : Address). a.key) c.address.ensures ∙ e)) h

@@ -24,7 +24,7 @@ loop-datagram-init g c =
         λ told before holds.
             subst
             (λ l. HoldsDatagrams g.R.Source.unread g.R.Source.buffered (choice_of most
-            c.args.sender c.args.scope.now)
+            c.args.sender c.args.objects.now)
             c.args.self.now l)
             (sym (append-nil before)) holds,
         omega arith,
@@ -59,7 +59,7 @@ pub loop-datagram-preserved : goal.loop-datagram-preserved
 loop-datagram-preserved g c =
     let choice =
     choice_of (at_most g.row.SESSIONS g.row.OBJECTS g.row.SYMBOLS) c.args.sender
-    c.args.scope.now in
+    c.args.objects.now in
     let is =
     read_some c.args.number c.next_with.result c.at_input.result c.in-Some.datagram
     c.at_input.ensures (c.in_ok-datagram.was ∙ ap Ok c.in-Some.is) in

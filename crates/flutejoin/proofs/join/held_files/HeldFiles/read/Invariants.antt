@@ -13,7 +13,7 @@ invariant-loop-datagram g l = record {
       (g.S.Source.unread l.fn.source) (g.S.Source.unread l.reader.source.now) l.reader.state
       datagrams
       × (g.A.Asides.tells l.fn.asides ≡ true → HoldsMore g.R.Source.unread g.R.Source.buffered
-      (choice_of (at_most g.row.SESSIONS g.row.OBJECTS g.row.SYMBOLS) l.fn.sender l.fn.scope)
+      (choice_of (at_most g.row.SESSIONS g.row.OBJECTS g.row.SYMBOLS) l.fn.sender l.fn.objects)
       l.fn.self l.self datagrams)
       × (l.self.told.datagrams ≤ l.fn.self.told.datagrams + length datagrams);
   sound : IsSound g.R.Source.unread g.R.Source.buffered g.R.Source.failures l.self;

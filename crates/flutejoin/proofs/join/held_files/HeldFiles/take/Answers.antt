@@ -1,7 +1,7 @@
 -- HeldFiles::take: a datagram more, whether or not there was room for it.
 use Rattle.std.proofs.Common.{refl, sym, ◌∙◌, inl, ap, Err, append-nil}
 use Rattle.flute_parts.proofs.Public.{Same-itself}
-use Rattle.flute_streams.specs.Scopes.{takes_key}
+use Rattle.flute_streams.specs.Objects.{is_taken}
 use Rattle.flutejoin.specs.Joined.{choice_of}
 use Rattle.flutejoin.specs.Limits.{at_most}
 use Rattle.flutejoin.proofs.join_lemmas.Held.{holds_past, holds_over, holds_passed, holds_taken}
@@ -19,10 +19,10 @@ pub returns-in-Err-Full-clause-taken : goal.returns-in-Err-Full-clause-taken
 returns-in-Err-Full-clause-taken g c = λ ds h.
     let choice =
     choice_of (at_most g.row.SESSIONS g.row.OBJECTS g.row.SYMBOLS) c.args.sender
-    c.args.scope.now in
+    c.args.objects.now in
     let t =
     packet_taken choice c.args.datagram.now c.in-Ok.packet c.in-Ok.ensures.spelled
-    (ap (takes_key c.args.scope.now) (sym c.key.ensures) ∙ sym c.takes.ensures
+    (ap (is_taken c.args.objects.now) (sym c.key.ensures) ∙ sym c.takes.ensures
     ∙ c.if-takes.true) in
     holds_over c.args.datagram.now c.if-not-self.false refl t.told
     (inl (
@@ -33,13 +33,13 @@ returns-in-Err-Full-clause-taken g c = λ ds h.
 pub returns-clause-taken : goal.returns-clause-taken
 returns-clause-taken g c = λ ds h.
     let d = c.args.datagram.now in
-    let takes = takes_key c.args.scope.now in
+    let takes = is_taken c.args.objects.now in
     let store = c.args.self.now.told.store in
     let reasons = c.args.self.now.reasons in
     let fits = c.if-not-self.false in
     let choice =
     choice_of (at_most g.row.SESSIONS g.row.OBJECTS g.row.SYMBOLS) c.args.sender
-    c.args.scope.now in
+    c.args.objects.now in
     elim c.match-read.branch [
       | in-Ok+in-Ok-take_packet w ↦
           let t =

@@ -1,6 +1,6 @@
 -- ObjectWalk::add: the state after the next fact, of a conflict of information.
 use Rattle.std.proofs.Common.{None, [], ◌∷◌, ap, sym, subst}
-use Rattle.flute_parts.specs.Addresses.{address}
+use Rattle.flute_parts.specs.Addresses.{address, fact_of}
 use Rattle.flute_parts.specs.declared.fact.Fact.{Fact}
 use Rattle.flutejoin.specs.Told.{conflict_in}
 use Rattle.flutejoin.specs.Walk.{StateIs}
@@ -11,8 +11,8 @@ use Rattle.flutejoin.proofs.walk.object_walk.ObjectWalk.add.Goals as goal
 pub returns-in-InfoConflict-clause-added : goal.returns-in-InfoConflict-clause-added
 returns-in-InfoConflict-clause-added g c = λ at F r l.
     let key = c.in-InfoConflict.key in
-    let is = c.in-InfoConflict.is in
-    c.begin.ensures.begun at F c.args.fact.now r l (first_information F c.args.fact.now key r
-    (ap address is)) (ap (λ f. (address f).key) is)
+    let fact = fact_of c.args.fact.now in
+    let is = ap fact_of c.in-InfoConflict.is in
+    c.begin.ensures.begun at F fact r l (first_information F fact key r (ap address is)) (ap (λ f. (address f).key) is)
     (subst (λ (f : Fact). StateIs key (f ∷ []) None ConflictingInformation) (sym is)
     (begins_conflict key)) (sym (ap (conflict_in key) is))

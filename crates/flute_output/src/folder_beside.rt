@@ -1,0 +1,148 @@
+//! The folder beside OUT: made, locked, and emptied of what a killed run left.
+ghost use Rattle.std.specs.Prelude.{◌≡◌, true, None, Some, IfOk, IfSome, IsSome, OnOk};
+ghost use Rattle.std.specs.Prelude.{option_map, string_bytes};
+ghost use Rattle.std.specs.Path.{path_buf_bytes};
+ghost use Rattle.flute_calls.specs.Disks.{Renames, Syncs};
+ghost use Rattle.flute_calls.specs.Moments.{Does};
+
+use crate::beside::check_name;
+use crate::name_pair::{ATTEMPTS, NamePair};
+use flute_calls::{CallFault, FolderCalls};
+
+/// Makes the folder beside OUT, without files, and locked. What a killed run left there is taken
+/// over, and its files are removed.
+///
+/// # Errors
+///
+/// If a call failed, OUT is there, whatever it is, or what has the name beside it is not a folder
+/// that contains only files, or a running program has that locked.
+pub fn make_folder<C: FolderCalls>(calls: &mut C, names: &NamePair) -> Result<C::File, CallFault>
+    ensures made { C.told ≡ true → IfOk result (λ folder.
+        ((C.run calls.new).now.names (string_bytes names.now.beside)).leads
+        ≡ Some (C.number folder)) }
+{
+    for _ in 0..ATTEMPTS {
+        match make_folder_once(calls, names) {
+            Err(CallFault::NotFound) => {}
+            made => return made,
+        }
+    }
+    Err(CallFault::AlreadyExists)
+}
+
+// `NotFound` if another run has taken the name away meanwhile.
+fn make_folder_once<C: FolderCalls>(calls: &mut C, names: &NamePair) -> Result<C::File, CallFault>
+    ensures made { C.told ≡ true → IfOk result (λ folder.
+        ((C.run calls.new).now.names (string_bytes names.now.beside)).leads
+        ≡ Some (C.number folder)) }
+{
+    if calls.look(names.out.as_str())?.is_some() {
+        return Err(CallFault::AlreadyExists);
+    }
+    match calls.create_folder(&names.beside) {
+        Ok(()) | Err(CallFault::AlreadyExists) => {}
+        Err(fault) => return Err(fault),
+    }
+    if calls.is_folder(&names.beside)? == Some(false) {
+        return Err(CallFault::AlreadyExists);
+    }
+    let folder = calls.open(&names.beside)?;
+    calls.lock(&folder)?;
+    check_name(calls, &names.beside, &folder)?;
+    calls.empty_folder(&folder, &names.beside)?;
+    Ok(folder)
+}
+
+/// Checks that the open folder has the name beside OUT still.
+///
+/// # Errors
+///
+/// If a call failed, and `NotFound` if no folder is open, or another run has taken its name away.
+pub fn check_folder<C: FolderCalls>(
+    calls: &mut C,
+    names: &NamePair,
+    folder: &Option<C::File>,
+) -> Result<(), CallFault>
+    ensures here { C.told ≡ true → OnOk result (
+        ((C.run calls.old).now.names (string_bytes names.now.beside)).leads
+        ≡ option_map C.number folder.now) }
+    ensures open { OnOk result (IsSome folder.now) }
+    ensures same { C.told ≡ true → C.run calls.new ≡ C.run calls.old }
+{
+    match folder {
+        Some(folder) => check_name(calls, &names.beside, folder),
+        None => Err(CallFault::NotFound),
+    }
+}
+
+/// Waits until the disk has the names of the files in the folder.
+///
+/// # Errors
+///
+/// If the call failed, or no folder is open.
+pub fn sync_names<C: FolderCalls>(calls: &mut C, folder: &Option<C::File>) -> Result<(), CallFault>
+    ensures synced { C.told ≡ true → OnOk result (
+        IfSome (option_map C.number folder.now) (λ f.
+        Does (Syncs f) (C.run calls.old) (C.run calls.new))) }
+    ensures open { OnOk result (IsSome folder.now) }
+{
+    match folder {
+        Some(folder) => calls.sync_names(folder),
+        None => Err(CallFault::Other),
+    }
+}
+
+/// Names the folder OUT.
+///
+/// # Errors
+///
+/// If a call failed; `AlreadyExists` if OUT is there; and `NotFound` if no folder is open, or it
+/// has not the name beside OUT. Both names are as before.
+pub fn rename_folder<C: FolderCalls>(
+    calls: &mut C,
+    names: &NamePair,
+    folder: &Option<C::File>,
+) -> Result<(), CallFault>
+    ensures put { C.told ≡ true → OnOk result (
+        Does (Renames (string_bytes names.now.beside) (path_buf_bytes names.now.out))
+        (C.run calls.old) (C.run calls.new)) }
+    ensures checked { C.told ≡ true → OnOk result (
+        ((C.run calls.old).now.names (string_bytes names.now.beside)).leads
+        ≡ option_map C.number folder.now) }
+    ensures free { C.told ≡ true → OnOk result (
+        ((C.run calls.old).now.names (path_buf_bytes names.now.out)).leads ≡ None) }
+    ensures open { OnOk result (IsSome folder.now) }
+{
+    // A rename would replace an empty folder.
+    let there = calls.look(names.out.as_str())?;
+    if there.is_some() {
+        return Err(CallFault::AlreadyExists);
+    }
+    check_folder(calls, names, folder)?;
+    calls.rename(&names.beside, names.out.as_str())
+}
+
+/// Removes the folder beside OUT with all files in it.
+///
+/// # Errors
+///
+/// If a call failed, and `NotFound` if no folder is open, or it has not the name beside OUT.
+pub fn take_folder_away<C: FolderCalls>(
+    calls: &mut C,
+    names: &NamePair,
+    folder: &Option<C::File>,
+) -> Result<(), CallFault>
+    ensures removed { C.told ≡ true → OnOk result (
+        ((C.run calls.new).now.names (string_bytes names.now.beside)).leads ≡ None) }
+    ensures checked { C.told ≡ true → OnOk result (
+        ((C.run calls.old).now.names (string_bytes names.now.beside)).leads
+        ≡ option_map C.number folder.now) }
+    ensures open { OnOk result (IsSome folder.now) }
+{
+    let Some(folder) = folder else {
+        return Err(CallFault::NotFound);
+    };
+    check_name(calls, &names.beside, folder)?;
+    calls.empty_folder(folder, &names.beside)?;
+    calls.remove_folder(&names.beside)
+}

@@ -1,0 +1,5 @@
+mod AllSelected
+mod Extracted
+mod Loads
+mod Opened
+mod Symbols

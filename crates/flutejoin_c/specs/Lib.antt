@@ -1,0 +1,9 @@
+pub mod Calls
+pub mod Codes
+pub mod Gives
+pub mod Joins
+pub mod Lists
+pub mod Names
+pub mod Objects
+pub mod Packets
+pub mod Statuses

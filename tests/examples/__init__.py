@@ -1,0 +1,1 @@
+"""Tests the examples that join many inputs: levels, reductions, and a tree of make."""

@@ -1,0 +1,1 @@
+"""Tests the library for C, and the package for Python over it."""

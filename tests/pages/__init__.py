@@ -1,0 +1,1 @@
+"""Tests what is written for users: the sessions of pages, pictures, man pages, the completion."""

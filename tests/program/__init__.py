@@ -1,0 +1,1 @@
+"""Runs the built program as a user would, and compares its output, its faults and its status."""

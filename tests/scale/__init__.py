@@ -1,0 +1,1 @@
+"""Runs the built program on sizes that no other test reaches."""

@@ -1,0 +1,1 @@
+"""flutejoin-capture: packet captures become datagram files."""

@@ -1,0 +1,230 @@
+"""The bytes of captures: of a file or a pipe, as far as they come, also compressed by gzip."""
+from __future__ import annotations
+
+import contextlib
+import errno
+import io
+import os
+import select
+import signal
+import stat
+import sys
+import time
+import zlib
+from typing import Any, BinaryIO, Callable, Optional
+
+from flutejoin_tools.common.opening import open_at_once
+from flutejoin_tools.common.signals import answer_stops
+
+GRACE = 1.0  # seconds after a signal in which a capture in a pipe may send its last packets
+TICK = 1.0  # seconds between two calls of `tick`
+GZIP = b"\x1f\x8b"  # how a gzip member begins
+# What may come out of gzip: bytes, and packets, at first and then for each byte that goes in. Of a
+# few MB it could make many GB, of which nothing is worth reading.
+INFLATED, INFLATED_EACH = 1 << 30, 100
+PACKETS, BYTES_OF_EACH = 1 << 20, 8
+BUFFER = 1 << 20  # bytes of a capture that are read at once
+
+
+class CaptureFault(Exception):
+    """What is wrong in a capture."""
+
+
+class Ends(CaptureFault):
+    """A capture ends within a packet."""
+
+    def __init__(self, what: str = "a packet") -> None:
+        super().__init__(f"ends within {what}; the packets before it were read")
+
+
+class Empty(Ends):
+    def __init__(self) -> None:
+        CaptureFault.__init__(self, "is empty")
+
+
+class Damage(CaptureFault):
+    def __init__(self, what: str) -> None:
+        super().__init__(f"is damaged ({what}); the packets before that were read")
+
+
+class Stop:
+    """How many signals asked for the end, and when the first came. A wait can include `wakes`."""
+
+    def __init__(self) -> None:
+        self.asked, self.since = 0, 0.0
+        self.wakes, signal_pipe = os.pipe()
+        os.set_blocking(signal_pipe, False)
+        signal.set_wakeup_fd(signal_pipe, warn_on_full_buffer=False)
+        answer_stops(self.ask)
+
+    def ask(self, _number: int, _frame: object) -> None:
+        self.asked += 1
+        self.since = self.since or time.monotonic()
+
+
+class Input(io.RawIOBase):
+    """The bytes of a file or pipe, up to its end or a signal.
+
+    After a signal a pipe has a moment more: Ctrl-C also reaches the program that captures, which
+    then sends its last packets. `tick` is called at most once a second, while bytes arrive and
+    between them.
+    """
+
+    def __init__(self, file: BinaryIO, stop: Stop, tick: Callable[[], None]) -> None:
+        self.file, self.stop, self.tick = file, stop, tick
+        self.tick_at = time.monotonic() + TICK
+        self.grace = 0 if stat.S_ISREG(os.fstat(file.fileno()).st_mode) else GRACE
+        self.begin = b""
+        while len(self.begin) < 2 and self.is_ready():
+            piece = os.read(file.fileno(), 2 - len(self.begin))
+            if not piece:
+                break
+            self.begin += piece
+        self.is_gzip = self.begin == GZIP
+
+    def readable(self) -> bool:
+        return True
+
+    def is_ready(self) -> bool:
+        """Waits for bytes or the end of the file. Returns False once waiting is over."""
+        is_quiet = False
+        while not self.stop.asked:
+            left = self.tick_at - time.monotonic()
+            if left <= 0:
+                self.tick()
+                self.tick_at, left = time.monotonic() + TICK, TICK
+            timeout = None if is_quiet else left
+            ready = select.select([self.file, self.stop.wakes], [], [], timeout)[0]
+            if self.file in ready and not self.stop.asked:
+                return True
+            is_quiet = not ready
+            if is_quiet:
+                self.tick()
+        left = self.stop.since + self.grace - time.monotonic()
+        if self.stop.asked != 1 or left <= 0:
+            return False
+        return bool(select.select([self.file], [], [], left)[0])
+
+    def readinto(self, buffer: Any) -> int:
+        if self.begin:
+            size = min(len(buffer), len(self.begin))
+            buffer[:size], self.begin = self.begin[:size], self.begin[size:]
+            return size
+        return os.readv(self.file.fileno(), [buffer]) if self.is_ready() else 0
+
+
+class Stream:
+    """The bytes of an input, a buffer at a time. Those that are in the buffer may be looked at, and
+    skipped, without a copy."""
+
+    def __init__(self, source: io.RawIOBase) -> None:
+        self.source, self.buffer = source, memoryview(bytearray(BUFFER))
+        self.at = self.end = 0
+
+    def read(self, size: int) -> bytes:
+        """So many bytes; fewer at the end of the input alone."""
+        at, end = self.at, self.at + size
+        if end <= self.end:
+            self.at = end
+            return bytes(self.buffer[at:end])
+        found = bytearray()
+        while len(found) < size and (self.at < self.end or self.fill()):
+            piece = self.buffer[self.at : min(self.end, self.at + size - len(found))]
+            found += piece
+            self.at += len(piece)
+        return bytes(found)
+
+    def fill(self) -> int:
+        self.at, self.end = 0, self.source.readinto(self.buffer) or 0
+        return self.end
+
+    def view(self) -> memoryview:
+        """What is in the buffer, until the next call."""
+        return self.buffer[self.at : self.end]
+
+    def skip(self, size: int) -> None:
+        """Takes bytes that `view` has."""
+        self.at += size
+
+
+class Inflated(io.RawIOBase):
+    """The decompressed bytes of a gzip stream, one member after another (RFC 1952).
+
+    Bytes after a member that begin no other one, as the zeros that fill a tape, are ignored, as
+    gzip does. `came` counts the bytes that go in, and `out` those that come out.
+    """
+
+    def __init__(self, stream: io.BufferedReader) -> None:
+        self.stream, self.member = stream, zlib.decompressobj(31)
+        self.fault: Optional[Damage] = None
+        self.has_garbage = False
+        self.came = self.out = 0
+
+    def readable(self) -> bool:
+        return True
+
+    def readinto(self, buffer: Any) -> int:
+        while not self.fault:
+            data = self.member.unused_data or self.member.unconsumed_tail
+            data = data or self.more()
+            if self.member.eof:
+                data = self.next_member(data)
+                if not data:
+                    return 0
+                self.member = zlib.decompressobj(31)
+            inflated = self.inflate(data, len(buffer))
+            self.out += len(inflated)
+            if self.out > INFLATED + INFLATED_EACH * self.came:
+                raise Damage(f"gzip: more than {INFLATED_EACH} times as many bytes come out")
+            if inflated:
+                buffer[: len(inflated)] = inflated
+                return len(inflated)
+            if not data and not self.member.eof and not self.stream.peek(1):
+                raise Ends("what gzip compressed")
+        raise self.fault
+
+    def more(self) -> bytes:
+        data = self.stream.read1(65536)
+        self.came += len(data)
+        return data
+
+    def may_have(self, packets: int) -> bool:
+        """Whether so many packets may have come out until now."""
+        return packets <= PACKETS + self.came // BYTES_OF_EACH
+
+    def next_member(self, data: bytes) -> bytes:
+        """The first bytes of the next member, from `data` on; empty if there is none."""
+        data = data.lstrip(b"\0")
+        while len(data) < len(GZIP):
+            more = self.more()
+            if not more:
+                break
+            data = (data + more).lstrip(b"\0")
+        if data.startswith(GZIP):
+            return data
+        self.has_garbage = bool(data)
+        return b""
+
+    def inflate(self, data: bytes, most: int) -> bytes:
+        """Returns at most `most` bytes. After a fault it returns the bytes before it first."""
+        before = self.member.copy()
+        try:
+            return self.member.decompress(data, most)
+        except zlib.error as fault:
+            self.fault = Damage(f"gzip: {fault}")
+        inflated = bytearray()
+        with contextlib.suppress(zlib.error):
+            for at in range(len(data)):
+                inflated += before.decompress(data[at : at + 1], most - len(inflated))
+        return bytes(inflated)
+
+
+def opened(name: str) -> BinaryIO:
+    """Opens a capture. Opening a pipe does not wait for its writer; reading does."""
+    if name != "-":
+        file = open(name, "rb", buffering=0, opener=open_at_once)
+        os.set_blocking(file.fileno(), True)
+        return file
+    if sys.stdin is None:
+        raise OSError(errno.EBADF, os.strerror(errno.EBADF), "standard input")
+    return open(0, "rb", buffering=0, closefd=False)

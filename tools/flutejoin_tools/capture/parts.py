@@ -1,0 +1,292 @@
+"""The datagram files that flutejoin-capture writes: one or several for each sender.
+
+A file gets its name once it is whole.
+"""
+from __future__ import annotations
+
+import collections
+import errno
+import os
+from typing import Iterator
+
+from flutejoin_tools.common import file_names
+from flutejoin_tools.common.addresses import address_text
+from flutejoin_tools.common.file_names import PARTIAL, file_name
+from flutejoin_tools.common.log import Log
+from flutejoin_tools.common.outputs import give_name
+from flutejoin_tools.common.shell import gather_lines, join_lines
+from flutejoin_tools.fdt.hints import TOLD, Hint
+from flutejoin_tools.formats.adapting import Adapting
+from flutejoin_tools.formats.records import HEADER, LENGTH, MOST, whole_records
+
+MOST_SENDERS = 200  # each has an open file
+MOST_ADAPTED = 4096  # senders of whose datagrams something is remembered
+MOST_JOINED = 32  # datagrams that are put together at once
+MOST_COUNTED = 1 << 16  # senders beyond these of which bytes are counted
+SENDERS = f"more than {MOST_SENDERS} senders"
+OCCUPIED = "its sender's file cannot be made"
+
+
+def bring_names_to_disk(folder: str) -> None:
+    """Syncs the names in a folder. Raises OSError, unless the file system can't do so."""
+    try:
+        descriptor = os.open(folder, os.O_RDONLY | os.O_DIRECTORY)
+    except PermissionError:  # it may be one that can be written and not read
+        return
+    try:
+        os.fsync(descriptor)
+    except OSError as fault:
+        if fault.errno not in (errno.EINVAL, errno.ENOTSUP):
+            raise
+    finally:
+        os.close(descriptor)
+
+
+class Unwritable(Exception):
+    """An output cannot be made or written."""
+
+
+class Part:
+    """A datagram file that is being written under another name.
+
+    The bytes that wait to be written begin with a whole record.
+    """
+
+    def __init__(self, path: str) -> None:
+        self.path, self.size, self.count = path, 0, 0
+        if os.path.lexists(path):
+            raise FileExistsError(errno.EEXIST, "is there already", path)
+        self.file = open(path + PARTIAL, "xb", buffering=0)
+        self.waiting = bytearray(HEADER)
+
+    def flush(self) -> None:
+        """Writes the bytes that wait.
+
+        If that fails, the file ends after the last record that was written whole.
+        """
+        written = 0
+        try:
+            while written < len(self.waiting):
+                written += self.file.write(self.waiting[written:] if written else self.waiting)
+            self.size += written
+        except OSError:
+            self.keep_whole(written)
+            raise
+        finally:
+            self.waiting.clear()
+
+    def keep_whole(self, written: int) -> None:
+        """After a write of only `written` bytes: cuts the file after its last whole record."""
+        begin = 0 if self.size else len(HEADER)
+        with memoryview(self.waiting) as waiting:
+            whole, records = whole_records(waiting[begin:written])
+            self.count += records - whole_records(waiting[begin:])[1]
+        self.size += begin + whole
+        self.file.truncate(self.size)
+
+    def finish(self) -> None:
+        """Brings the file to the disk, with its name. A file without records is removed.
+
+        Raises FileExistsError if there is another file of that name by now.
+        """
+        with self.file:
+            if self.count:
+                os.fsync(self.file.fileno())
+        if self.count:
+            give_name(self.path + PARTIAL, self.path)
+            bring_names_to_disk(os.path.dirname(self.path) or ".")
+        else:
+            os.remove(self.path + PARTIAL)
+
+
+class Files:
+    """The datagram files of a folder: of each sender one, or several."""
+
+    def __init__(self, folder: str, split: int, report: Log) -> None:
+        self.folder, self.split, self.report = folder, split, report
+        self.open: dict[bytes, Part] = {}
+        self.refused: set[bytes] = set()
+        self.left_out: collections.Counter[str] = collections.Counter()
+        # The bytes of senders that have no file, since there are too many
+        self.beyond: collections.Counter[bytes] = collections.Counter()
+        self.hints: dict[bytes, Hint] = {}  # of each sender
+        self.adapting: dict[bytes, Adapting] = {}
+        self.parts: collections.Counter[bytes] = collections.Counter()  # how many files it has
+        self.is_made = False
+
+    def make_folder(self) -> None:
+        """Makes the folder, if it is missing, and checks that files can be made in it.
+
+        Raises Unwritable.
+        """
+        try:
+            if not os.path.isdir(self.folder):
+                os.mkdir(self.folder)
+                self.is_made = True
+                bring_names_to_disk(os.path.dirname(os.path.abspath(self.folder)))
+        except OSError as fault:
+            raise Unwritable(f"cannot make the folder {self.folder}: {fault.strerror}") from None
+        if not os.access(self.folder, os.W_OK | os.X_OK):
+            raise Unwritable(f"cannot make files in the folder {self.folder}")
+
+    def path(self, sender: bytes, part: int) -> str:
+        return os.path.join(self.folder, file_name(address_text(sender), part))
+
+    def take(self, sender: bytes, payload: bytes, when: int | None = None) -> None:
+        """Adds a datagram in the form that flutejoin reads, or counts it as left out."""
+        if sender not in self.hints and len(self.hints) >= MOST_SENDERS:
+            self.add(sender, payload, when)  # which counts it as left out
+            return
+        adapting = self.adapting.get(sender) or Adapting()
+        if len(self.adapting) < MOST_ADAPTED:
+            self.adapting[sender] = adapting
+        if adapting.is_plain(payload):
+            self.add(sender, payload, when)
+            return
+        taken = adapting.take(payload)
+        if taken.left_out:
+            self.left_out[taken.left_out] += 1
+        for written in taken.datagrams:
+            self.add(sender, bytes(written), when)
+
+    def tell(self) -> None:
+        """Reports in which forms datagrams came, for each sender once."""
+        for sender, adapting in self.adapting.items():
+            for line in adapting.lines(0):
+                self.report.warn(f"{address_text(sender)} {line}")
+
+    def add(self, sender: bytes, payload: bytes, when: int | None = None) -> None:
+        """Adds a datagram. `when` is the second at which it came, if that is known."""
+        part = self.open.get(sender)
+        size = len(payload) + 2
+        is_full = part and (
+            part.count >= MOST or part.size + len(part.waiting) + size > self.split
+        )
+        if is_full:
+            self.close(sender)
+            part = None
+        part = part or self.begin(sender, size)
+        if part:
+            part.waiting += LENGTH.pack(size - 2)
+            part.waiting += payload
+            part.count += 1
+            if self.hints[sender].look(payload):
+                self.report.warn(f"{address_text(sender)} {TOLD}")
+            if len(part.waiting) > 65536:
+                self.flush(part)
+
+    def add_run(
+        self, sender: bytes, front: bytes, symbols: list[bytes], when: int | None
+    ) -> None:
+        """Adds datagrams of a sender that has a file: each is `front` and a symbol. None of them is
+        of an FDT Instance. The length before a datagram is in front of it."""
+        part, size = self.open[sender], (len(front) + len(symbols[0])) * len(symbols)
+        if part.count + len(symbols) > MOST or part.size + len(part.waiting) + size > self.split:
+            for symbol in symbols:
+                self.add(sender, front[LENGTH.size :] + symbol, when)
+            return
+        for begin in range(0, len(symbols), MOST_JOINED):
+            some = symbols[begin : begin + MOST_JOINED]
+            part.waiting += front
+            part.waiting += front.join(some)
+            part.count += len(some)
+            if len(part.waiting) > 65536:
+                self.flush(part)
+
+    def count_beyond(self, sender: bytes, size: int) -> None:
+        """Counts a datagram of a sender that has no file. Those of fewest bytes are forgotten."""
+        self.left_out[SENDERS] += 1
+        if sender not in self.beyond and len(self.beyond) >= MOST_COUNTED:
+            most = self.beyond.most_common(MOST_COUNTED // 2)
+            self.beyond = collections.Counter(dict(most))
+        self.beyond[sender] += size
+
+    def largest_beyond(self) -> list[bytes]:
+        """Of the senders that have no file those that sent most."""
+        return [sender for sender, _ in self.beyond.most_common(MOST_SENDERS)]
+
+    def begin(self, sender: bytes, size: int) -> Part | None:
+        """Begins the next file of a sender, for a record of this size, and returns it.
+
+        Returns None if the sender can have none, and reports that the first time.
+        """
+        if sender in self.refused:
+            self.left_out[OCCUPIED] += 1
+            return None
+        if sender not in self.hints and len(self.hints) >= MOST_SENDERS:
+            self.count_beyond(sender, size)
+            return None
+        self.hints.setdefault(sender, Hint())
+        path = self.path(sender, self.parts[sender] + 1)
+        try:
+            self.open[sender] = Part(path)
+        except FileExistsError as fault:
+            hint = ""
+            if fault.filename.endswith(PARTIAL):
+                hint = "; rename what a killed run left, or flutejoin-mend it if it is cut"
+            self.report.fault(
+                3,
+                f"{fault.filename}: is there already, and is left as it is; "
+                f"no other file is written for its sender{hint}",
+            )
+            self.refused.add(sender)
+            self.hints.pop(sender)
+            self.left_out[OCCUPIED] += 1
+        except OSError as fault:
+            raise Unwritable(f"{path}: cannot be made: {fault.strerror}") from None
+        return self.open.get(sender)
+
+    def flush(self, part: Part) -> None:
+        try:
+            part.flush()
+        except OSError as fault:
+            raise Unwritable(
+                f"{part.path}: cannot write: {fault.strerror}; what was written whole is kept"
+            ) from None
+
+    def flush_all(self) -> None:
+        self.tell()
+        for part in self.open.values():
+            self.flush(part)
+
+    def close(self, sender: bytes) -> None:
+        """Finishes a sender's file, and prints its line."""
+        part = self.open.pop(sender)
+        try:
+            try:
+                self.flush(part)
+            except Unwritable as fault:
+                self.report.fault(3, str(fault))
+            part.finish()
+        except OSError as fault:
+            partial = part.path + PARTIAL
+            self.report.fault(3, f"{partial}: cannot become {part.path}: {fault.strerror}")
+            self.refused.add(sender)
+            return
+        if part.count:
+            self.parts[sender] += 1
+            self.report.say(f"{part.path}: {part.count} datagrams from {address_text(sender)}")
+
+    def finish(self) -> None:
+        self.tell()
+        for sender in list(self.open):
+            self.close(sender)
+        if self.is_made and not self.is_used():
+            try:
+                os.rmdir(self.folder)
+            except OSError:
+                pass  # others have put something into it
+
+    def is_used(self) -> bool:
+        return any(self.parts.values())
+
+    def join_lines(self) -> Iterator[str]:
+        """Yields the commands that join the files of each sender."""
+        for sender, parts in self.parts.items():
+            paths = [self.path(sender, part + 1) for part in range(parts)]
+            if paths and self.hints[sender].has_changed:
+                yield from gather_lines(self.folder, paths)
+            elif paths:
+                stem = file_names.stem(address_text(sender))
+                journal = os.path.join(self.folder, stem + ".journal")
+                yield from join_lines(sender, journal, paths)

@@ -1,0 +1,323 @@
+"""What was delivered, and what waits: a database of one folder, in steps that a kill may cut.
+
+A file that is delivered goes through steps, each of which is on the disk before the next one
+begins: it is ready beside its place, it has its name, its line is in the log of what was
+delivered, and its command has run. So after a kill each step is done that was not, and none twice
+but the command, which nobody can tell to have ended.
+"""
+from __future__ import annotations
+
+import contextlib
+import errno
+import json
+import sqlite3
+from typing import Any, Collection, Iterable, Iterator, NamedTuple, Optional
+
+from flutejoin_tools.centre.symbols import Contents
+from flutejoin_tools.common.gaps import Numbers
+from flutejoin_tools.formats.entries import FILE
+from flutejoin_tools.journals.holdings import Key
+
+READY, PLACED, TOLD, DONE = range(4)  # steps
+
+TABLES = """
+CREATE TABLE IF NOT EXISTS delivered (
+    serial INTEGER PRIMARY KEY AUTOINCREMENT, source BLOB NOT NULL, tsi INTEGER NOT NULL,
+    toi TEXT NOT NULL, step INTEGER NOT NULL, path TEXT, at REAL NOT NULL, seen REAL NOT NULL,
+    told TEXT NOT NULL, shares TEXT NOT NULL, numbers TEXT, sums BLOB);
+CREATE INDEX IF NOT EXISTS of_object ON delivered (source, tsi, toi);
+CREATE INDEX IF NOT EXISTS of_path ON delivered (path);
+CREATE INDEX IF NOT EXISTS of_step ON delivered (step) WHERE step < 3;
+CREATE INDEX IF NOT EXISTS of_seen ON delivered (seen);
+CREATE TABLE IF NOT EXISTS waiting (
+    source BLOB NOT NULL, tsi INTEGER NOT NULL, toi TEXT NOT NULL, since REAL NOT NULL,
+    seen REAL NOT NULL, PRIMARY KEY (source, tsi, toi)) WITHOUT ROWID;
+CREATE TABLE IF NOT EXISTS kept (
+    source BLOB NOT NULL, tsi INTEGER NOT NULL, toi TEXT NOT NULL, journal TEXT NOT NULL,
+    PRIMARY KEY (source, tsi, toi, journal)) WITHOUT ROWID;
+CREATE INDEX IF NOT EXISTS of_journal ON kept (journal);
+CREATE TABLE IF NOT EXISTS stations (name TEXT PRIMARY KEY, came REAL NOT NULL) WITHOUT ROWID;
+"""
+SUMS = 1  # the version of the database in which sums are those of `sums`
+COLUMNS = "serial, source, tsi, toi, step, path, at, seen, told, shares"
+
+
+class Told(NamedTuple):
+    """What is told of a file: its description and its bytes."""
+
+    name: str
+    type: str
+    bytes: int
+    md5: str  # of the file, in hexadecimal digits
+    described: Optional[str]  # the MD5 of its FDT Instance, which may be that of the encoded bytes
+    verdict: str
+    rank: tuple[int, int]  # of its FDT Instance
+    expires: Optional[int]  # seconds since 1970
+
+
+class Delivery(NamedTuple):
+    """A file that was delivered, or is being delivered."""
+
+    serial: int
+    key: Key
+    step: int
+    path: Optional[str]  # below the folder of files; None if a newer file has the name
+    at: float
+    seen: float  # when something of its object came last
+    told: Told
+    shares: dict[str, float]  # of the object's symbols, in percent, by the names of stations
+
+
+class Waited(NamedTuple):
+    """Since when an object waits, and when something of it came last."""
+
+    since: float
+    seen: float
+
+
+def delivery_of(row: tuple[Any, ...]) -> Delivery:
+    serial, source, tsi, toi, step, path, at, seen, told, shares = row
+    fields = json.loads(told)
+    fields["rank"] = tuple(fields["rank"])
+    key = Key(source, tsi, FILE, int(toi))
+    return Delivery(serial, key, step, path, at, seen, Told(**fields), json.loads(shares))
+
+
+def object_of(key: Key) -> tuple[bytes, int, str]:
+    """An object as the columns of a table: a TOI has more bits than a number there."""
+    return key.source, key.tsi, str(key.number)
+
+
+class Ledger:
+    """The database. Its faults are raised as OSError, and leave it as it was."""
+
+    def __init__(self, path: str) -> None:
+        self.path = path
+        with self.faults():
+            self.base = sqlite3.connect(path, isolation_level=None, timeout=2)
+            self.base.execute("PRAGMA synchronous = FULL")
+            self.base.executescript(TABLES)
+            if self.base.execute("PRAGMA user_version").fetchone()[0] < SUMS:
+                self.base.execute("UPDATE delivered SET sums = NULL")  # what comes again has others
+                self.base.execute(f"PRAGMA user_version = {SUMS}")
+
+    def close(self) -> None:
+        self.base.close()
+
+    @contextlib.contextmanager
+    def faults(self) -> Iterator[None]:
+        try:
+            yield
+        except sqlite3.Error as fault:
+            raise OSError(errno.EIO, str(fault), self.path) from None
+
+    @contextlib.contextmanager
+    def changes(self) -> Iterator[sqlite3.Connection]:
+        """A context whose changes are on the disk together at its end, or are not made."""
+        with self.faults():
+            self.base.execute("BEGIN IMMEDIATE")
+            try:
+                yield self.base
+                self.base.execute("COMMIT")
+            except BaseException:
+                with contextlib.suppress(sqlite3.Error):
+                    self.base.execute("ROLLBACK")
+                raise
+
+    def rows(self, words: str, *values: object) -> list[tuple[Any, ...]]:
+        with self.faults():
+            return self.base.execute(words, values).fetchall()
+
+    def next_serial(self) -> int:
+        rows = self.rows("SELECT seq FROM sqlite_sequence WHERE name = 'delivered'")
+        return int(rows[0][0]) + 1 if rows else 1
+
+    def add(self, deliveries: Iterable[tuple[Delivery, Optional[Contents]]]) -> None:
+        with self.changes() as base:
+            for it, contents in deliveries:
+                numbers = json.dumps(contents.numbers) if contents else None
+                base.execute(
+                    f"INSERT INTO delivered ({COLUMNS}, numbers, sums) "
+                    "VALUES (?, ?, ?, ?, ?, ?, ?, ?, ?, ?, ?, ?)",
+                    (
+                        *(it.serial, *object_of(it.key), it.step, it.path, it.at, it.seen),
+                        *(json.dumps(it.told._asdict()), json.dumps(it.shares)),
+                        *(numbers, contents and contents.sums),
+                    ),
+                )
+
+    def step(self, serials: Iterable[int], step: int) -> None:
+        with self.changes() as base:
+            base.executemany(
+                "UPDATE delivered SET step = ? WHERE serial = ?", [(step, it) for it in serials]
+            )
+
+    def at_step(self, step: int, most: int = 1 << 16) -> list[Delivery]:
+        words = f"SELECT {COLUMNS} FROM delivered WHERE step = ? ORDER BY serial LIMIT ?"
+        return [*map(delivery_of, self.rows(words, step, most))]
+
+    def of(self, key: Key) -> list[Delivery]:
+        """What was delivered of an object, the oldest first."""
+        words = f"SELECT {COLUMNS} FROM delivered WHERE source = ? AND tsi = ? AND toi = ? "
+        return [*map(delivery_of, self.rows(words + "ORDER BY serial", *object_of(key)))]
+
+    def contents(self, key: Key) -> list[tuple[int, Contents]]:
+        """The contents of an object that were delivered, with their serial numbers."""
+        words = (
+            "SELECT serial, numbers, sums FROM delivered "
+            "WHERE source = ? AND tsi = ? AND toi = ? AND sums IS NOT NULL"
+        )
+        delivered_rows = self.rows(words, *object_of(key))
+        return [
+            (serial, Contents(numbers_of(json.loads(numbers)), sums))
+            for serial, numbers, sums in delivered_rows
+        ]
+
+    def has_sums(self, key: Key) -> bool:
+        words = "SELECT 1 FROM delivered WHERE source = ? AND tsi = ? AND toi = ? "
+        return bool(self.rows(words + "AND sums IS NOT NULL LIMIT 1", *object_of(key)))
+
+    def since(self, serial: int, most: int) -> list[tuple[int, Key, str]]:
+        """The serial number, the object and the MD5 of what was delivered after one."""
+        words = (
+            "SELECT serial, source, tsi, toi, json_extract(told, '$.md5') FROM delivered "
+            "WHERE serial > ? ORDER BY serial LIMIT ?"
+        )
+        return [
+            (number, Key(source, tsi, FILE, int(toi)), md5)
+            for number, source, tsi, toi, md5 in self.rows(words, serial, most)
+        ]
+
+    def last_at(self, path: str) -> Optional[Delivery]:
+        """What was delivered last under a path."""
+        words = f"SELECT {COLUMNS} FROM delivered WHERE path = ? ORDER BY serial DESC LIMIT 1"
+        return next(map(delivery_of, self.rows(words, path)), None)
+
+    def newest(self, most: int) -> list[Delivery]:
+        words = f"SELECT {COLUMNS} FROM delivered ORDER BY serial DESC LIMIT ?"
+        return [*map(delivery_of, self.rows(words, most))]
+
+    def named(self, name: str, most: int = 1000) -> list[Delivery]:
+        """The files in whose name or path a text is, the newest first."""
+        words = (
+            f"SELECT {COLUMNS} FROM delivered WHERE instr(json_extract(told, '$.name'), ?) > 0 "
+            "OR instr(path, ?) > 0 ORDER BY serial DESC LIMIT ?"
+        )
+        return [*map(delivery_of, self.rows(words, name, name, most))]
+
+    def count(self) -> int:
+        """How many files were delivered, ever."""
+        return self.next_serial() - 1
+
+    def see_again(self, now: float, again: dict[int, dict[str, float]]) -> None:
+        """Notes that objects came again, and the shares of stations, by serial numbers."""
+        if not again:
+            return
+        with self.changes() as base:
+            for serial, shares in again.items():
+                words = "SELECT shares FROM delivered WHERE serial = ?"
+                delivered_rows = base.execute(words, (serial,)).fetchall()
+                for (text,) in delivered_rows:
+                    known = json.loads(text)
+                    more = {name: max(it, known.get(name, 0)) for name, it in shares.items()}
+                    base.execute(
+                        "UPDATE delivered SET seen = ?, shares = ? WHERE serial = ?",
+                        (now, json.dumps({**known, **more}), serial),
+                    )
+
+    def renew(self, serial: int, contents: Contents, now: float) -> None:
+        """Notes the sums of what came again, which may be forgotten."""
+        with self.changes() as base:
+            base.execute(
+                "UPDATE delivered SET seen = ?, numbers = ?, sums = ? WHERE serial = ?",
+                (now, json.dumps(contents.numbers), contents.sums, serial),
+            )
+
+    def forget(self, sums: float, rows: float) -> None:
+        """Forgets the sums of what came last before a time, and all of it before another."""
+        with self.changes() as base:
+            base.execute(
+                "UPDATE delivered SET sums = NULL WHERE seen < ? AND sums IS NOT NULL", (sums,)
+            )
+            base.execute("DELETE FROM delivered WHERE seen < ? AND step = ?", (rows, DONE))
+
+    def wait(self, keys: Iterable[Key], now: float) -> None:
+        """Notes that something of these objects came."""
+        with self.changes() as base:
+            base.executemany(
+                "INSERT INTO waiting VALUES (?, ?, ?, ?, ?) "
+                "ON CONFLICT DO UPDATE SET seen = excluded.seen",
+                [(source, tsi, str(toi), now, now) for source, tsi, _, toi in keys],
+            )
+
+    def waited(self, keys: Collection[Key]) -> dict[Key, Waited]:
+        """Since when some objects wait."""
+        waiting: dict[Key, Waited] = {}
+        # One by one, under one lock: for a list of objects the database reads the whole table.
+        words = "SELECT since, seen FROM waiting WHERE source = ? AND tsi = ? AND toi = ?"
+        with self.faults():
+            self.base.execute("BEGIN")
+            try:
+                for key in keys:
+                    for times in self.base.execute(words, object_of(key)):
+                        waiting[key] = Waited(*times)
+            finally:
+                self.base.execute("COMMIT")
+        return waiting
+
+    def keep(self, journal: str, keys: Iterable[Key]) -> None:
+        """Notes that a journal that is kept has these objects."""
+        with self.changes() as base:
+            base.executemany(
+                "INSERT OR IGNORE INTO kept VALUES (?, ?, ?, ?)",
+                [(*object_of(key), journal) for key in keys],
+            )
+
+    def kept(self, key: Key) -> list[str]:
+        """The journals that have an object that was delivered."""
+        words = "SELECT journal FROM kept WHERE source = ? AND tsi = ? AND toi = ?"
+        return [journal for (journal,) in self.rows(words, *object_of(key))]
+
+    def drop_kept(self, journal: str) -> None:
+        with self.changes() as base:
+            base.execute("DELETE FROM kept WHERE journal = ?", (journal,))
+
+    def come(self, station: str, now: float) -> None:
+        """Notes that something came of a station."""
+        with self.changes() as base:
+            base.execute(
+                "INSERT INTO stations VALUES (?, ?) ON CONFLICT DO UPDATE SET came = excluded.came",
+                (station, now),
+            )
+
+    def came_at(self, station: str) -> Optional[float]:
+        rows = self.rows("SELECT came FROM stations WHERE name = ?", station)
+        return rows[0][0] if rows else None
+
+    def described(self) -> Iterator[tuple[Key, Optional[str]]]:
+        """Each object of which a file was delivered, and the MD5 of its description."""
+        words = "SELECT source, tsi, toi, json_extract(told, '$.described') FROM delivered"
+        for source, tsi, toi, described in self.rows(words):
+            yield Key(source, tsi, FILE, int(toi)), described
+
+    def silent(self, since: float) -> list[Key]:
+        """The objects of which nothing came since a time."""
+        rows = self.rows("SELECT source, tsi, toi FROM waiting WHERE seen < ?", since)
+        return [Key(source, tsi, FILE, int(toi)) for source, tsi, toi in rows]
+
+    def longest_silent(self) -> list[Key]:
+        """The objects that wait: first that of which nothing came for longest."""
+        rows = self.rows("SELECT source, tsi, toi FROM waiting ORDER BY seen, since")
+        return [Key(source, tsi, FILE, int(toi)) for source, tsi, toi in rows]
+
+    def end_waiting(self, keys: Iterable[Key]) -> None:
+        with self.changes() as base:
+            base.executemany(
+                "DELETE FROM waiting WHERE source = ? AND tsi = ? AND toi = ?",
+                [object_of(key) for key in keys],
+            )
+
+
+def numbers_of(of: list[int]) -> Numbers:
+    length, symbol, block = of
+    return length, symbol, block

@@ -1,0 +1,1 @@
+"""What a centre and the stations that it asks tell each other."""

@@ -1,0 +1,1 @@
+"""FDT Instances, as documents and as descriptions of files."""

@@ -1,0 +1,1 @@
+"""flutejoin-files: the files of sessions are written under their names."""

@@ -1,0 +1,1 @@
+"""The forms of bytes: packets, datagram files, journals and source blocks."""

@@ -1,0 +1,1 @@
+"""flutejoin-gather: journals are joined by what agrees."""

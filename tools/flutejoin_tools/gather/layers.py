@@ -1,0 +1,132 @@
+"""Takes datagrams apart by time, of objects of which one batch has several values."""
+from __future__ import annotations
+
+import contextlib
+import os
+from typing import AbstractSet, BinaryIO, Callable, Collection, Iterable, Iterator, NamedTuple
+from typing import Optional
+
+from flutejoin_tools.common.file_names import PARTIAL
+from flutejoin_tools.common.program import Answer, Failed
+from flutejoin_tools.common.shelves import begin_file, remove
+from flutejoin_tools.formats.entries import FILE
+from flutejoin_tools.formats.packets import packet_of
+from flutejoin_tools.formats.records import HEADER, LENGTH
+from flutejoin_tools.gather.generations import Contents, contents_of
+from flutejoin_tools.journals.holdings import Key
+
+MOST_LAYERS = 8  # of an object
+
+
+class Layer:
+    """What came of an object in a batch without a contradiction."""
+
+    def __init__(self) -> None:
+        self.values: dict[bytes, int] = {}  # hashes of symbols, and of transmission information
+
+    def takes(self, told: dict[bytes, int]) -> bool:
+        return all(self.values.get(place, value) == value for place, value in told.items())
+
+    def has(self, told: dict[bytes, int]) -> bool:
+        return all(self.values.get(place) == value for place, value in told.items())
+
+
+class Layers:
+    """Datagrams of objects of which a batch has several values, taken apart by time.
+
+    A sender that starts again contradicts what it sent before, and from then on sends the other
+    values; a forged datagram is one alone. So what contradicts begins a layer, unless it came in
+    one before, which goes on then. Which of them are joined is decided as for any others.
+    """
+
+    def __init__(self, keys: Iterable[Key], front: str) -> None:
+        self.front = front
+        self.objects = {(key.tsi, key.number): [Layer()] for key in keys if key.tag == FILE}
+        self.current = dict.fromkeys(self.objects, 0)
+        self.files: list[BinaryIO] = []
+        self.dropped = 0
+
+    def take(self, datagram: bytes) -> None:
+        packet = packet_of(datagram)
+        layers = self.objects.get((packet.tsi, packet.toi)) if packet else None
+        if packet is None or layers is None:
+            return
+        told = {}
+        if packet.information is not None:
+            told[b""] = hash(packet.information)
+        if packet.symbol:
+            told[packet.payload_id] = hash(packet.symbol)
+        of = packet.tsi, packet.toi
+        number = self.choose(layers, self.current[of], told)
+        if number is None:
+            self.dropped += 1
+            return
+        self.current[of] = number
+        layers[number].values.update(told)
+        while len(self.files) <= number:
+            path = f"{self.front}.layer{len(self.files)}{PARTIAL}"
+            self.files.append(begin_file(path))
+            self.files[-1].write(HEADER)
+        self.files[number].write(LENGTH.pack(len(datagram)) + datagram)
+
+    @staticmethod
+    def choose(layers: list[Layer], current: int, told: dict[bytes, int]) -> Optional[int]:
+        if layers[current].takes(told):
+            return current
+        for number, layer in enumerate(layers):
+            if layer.has(told):
+                return number
+        if len(layers) < MOST_LAYERS:
+            layers.append(Layer())
+            return len(layers) - 1
+        return next((at for at, layer in enumerate(layers) if layer.takes(told)), None)
+
+    def finish(self) -> list[str]:
+        for file in self.files:
+            file.close()
+        return [file.name for file in self.files]
+
+    def remove(self) -> None:
+        for path in self.finish():
+            with contextlib.suppress(FileNotFoundError):
+                os.unlink(path)
+
+
+class Piece(NamedTuple):
+    """A journal, the objects that are not taken of it, and what it contains, if that is known."""
+
+    path: str
+    without: AbstractSet[Key] = frozenset()
+    found: Optional[Contents] = None
+
+
+def pieces_of(
+    new: str,
+    join: Callable[[str, str], Answer],
+    datagrams: Callable[[], Iterable[bytes]],
+    known: Collection[Key],
+) -> Iterator[Piece]:
+    """Yields journals in which nothing is in conflict, of a journal that was joined of datagrams.
+
+    The first is that one, without the objects in conflict; `known` are those whose transmission
+    information is told. The others are removed when the next is asked for. Raises Failed.
+    """
+    found = contents_of(new, known)
+    yield Piece(new, found.disputed, found)
+    if not found.disputed:
+        return
+    layers = Layers(found.disputed, new.removesuffix(PARTIAL))
+    try:
+        for datagram in datagrams():
+            layers.take(datagram)
+        for number, path in enumerate(layers.finish()):
+            journal = f"{new.removesuffix(PARTIAL)}.{number}{PARTIAL}"
+            answer = join(journal, path)
+            if answer.status:
+                raise Failed(answer)
+            try:
+                yield Piece(journal)
+            finally:
+                remove(journal)
+    finally:
+        layers.remove()

@@ -1,0 +1,1 @@
+"""What journals have of objects, and how those that differ are put together."""

@@ -1,0 +1,1 @@
+"""flutejoin-map: pictures of what is there and what is missing."""

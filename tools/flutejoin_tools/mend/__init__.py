@@ -1,0 +1,1 @@
+"""flutejoin-mend and flutejoin-values: damaged files and wrong values."""

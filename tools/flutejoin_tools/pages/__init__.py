@@ -1,0 +1,1 @@
+"""What a centre tells of itself: its page, metrics, pictures and answers."""

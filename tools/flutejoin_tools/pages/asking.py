@@ -1,0 +1,104 @@
+"""Everyday questions to a centre, each answered in a few lines, or as JSON."""
+from __future__ import annotations
+
+import json
+import os
+from typing import Any, Dict, Iterator, Optional
+
+from flutejoin_tools.centre.ledger import Delivery, Ledger
+from flutejoin_tools.centre.shipping import line_of
+from flutejoin_tools.common.texts import shown
+from flutejoin_tools.pages.health import check, size
+from flutejoin_tools.pages.model import read_file
+
+FEW = 6  # stations in a line
+Told = Dict[str, Any]  # of the status
+
+
+def status_in(folder: str) -> Optional[Told]:
+    """The status that a centre wrote last; None if there is none."""
+    told = read_file(os.path.join(folder, "page", "status.json"), 1 << 26)
+    return told if told else None
+
+
+def stations(status: Told, _: object) -> Iterator[tuple[Told, str]]:
+    """Which stations are alive, and how much each had of what was delivered."""
+    for it in status["stations"]:
+        state = "silent" if it["is_silent"] else "alive"
+        had = "" if it["had"] is None else f", had {it['had']} % of what was delivered"
+        had += "" if it["had"] is None else f" (lost {round(100 - it['had'], 1)} %)"
+        counts = [
+            f"{it[key]} {key}" for key in ("datagrams", "dropped", "refused") if it[key] is not None
+        ]
+        told = f", {', '.join(counts)}" if counts else ""
+        fault = f"; {it['fault']}" if it["fault"] else ""
+        yield it, f"{it['name']}: {state}, heard {it['seen'] or 'never'}{had}{told}{fault}"
+
+
+def missing(status: Told, _: object) -> Iterator[tuple[Told, str]]:
+    """What is missing, by name."""
+    for it in status["files"]:
+        bytes_ = ", ".join(f"{begin}-{end - 1}" for begin, end in it["ranges"])
+        told = f" (bytes {bytes_})" if bytes_ else ""
+        lacks = f"{symbols(it['missing_symbols'])}, {size(it['missing_bytes'])}{told}"
+        yield it, f"{named(it)}: {it['state']}, {it['percent']} %, missing {lacks}"
+
+
+def shares(status: Told, _: object) -> Iterator[tuple[Told, str]]:
+    """How much of each file that is not whole each station has, and what only it had."""
+    for it in status["files"]:
+        parts = []
+        for name, share in it["stations"].items():
+            only = it["only"].get(name)
+            parts.append(f"{name} {share} %" + (f" ({symbols(only)} alone)" if only else ""))
+        yield it, f"{named(it)}: {', '.join(parts) or 'no station has any'}"
+
+
+def file(status: Told, name: str, ledger: Ledger) -> Iterator[tuple[Told, str]]:
+    """Whether a file is complete, and when it likely will be."""
+    for it in ledger.named(name):
+        told = f"delivered {line_of(it)['time']} as {it.path}, {it.told.bytes} bytes"
+        yield line_of(it), f"{it.told.name}: {told}, {it.told.verdict}{from_stations(it)}"
+    for row in status["files"]:
+        if row["name"] and name in row["name"]:
+            at = f"; at this rate whole {row['whole_at']}" if row["whole_at"] else ""
+            told = f"{row['state']}, {row['percent']} %, {symbols(row['missing_symbols'])} missing"
+            yield row, f"{named(row)}: {told}{at}"
+
+
+def from_stations(it: Delivery) -> str:
+    told = [f"{name} {share} %" for name, share in it.shares.items()]
+    more = ", .." * (len(told) > FEW)
+    return f" (of {', '.join(told[:FEW])}{more})" if told else ""
+
+
+def symbols(count: int) -> str:
+    return f"{count} symbol{'s' * (count != 1)}"
+
+
+def named(it: Told) -> str:
+    return it["name"] or f"sender {it['sender']} session {it['tsi']} object {it['toi']}"
+
+
+QUESTIONS = {"stations": stations, "missing": missing, "shares": shares}
+
+
+def answer(folder: str, question: str, name: Optional[str], is_json: bool) -> tuple[int, list[str]]:
+    """The status and the lines of an answer. Raises OSError."""
+    status = status_in(folder)
+    if question == "check":
+        level, line = check(status)
+        return level, [json.dumps({"status": level, "line": line}) if is_json else shown(line)]
+    if status is None:
+        return 3, []
+    try:
+        if question == "file":
+            ledger = Ledger(os.path.join(folder, "ledger.db"))
+            answers = [*file(status, name or "", ledger)]
+            ledger.close()
+        else:
+            answers = [*QUESTIONS[question](status, None)]
+    except (KeyError, TypeError):
+        return 3, []
+    lines = [json.dumps(told) if is_json else line for told, line in answers]
+    return (1 if question == "file" and not lines else 0), lines

@@ -1,0 +1,1 @@
+"""flutejoin-receive: datagrams of the network are kept as datagram files."""

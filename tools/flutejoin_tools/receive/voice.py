@@ -1,0 +1,20 @@
+"""What a receiver says, in all of its modules and both of its threads."""
+from __future__ import annotations
+
+from flutejoin_tools.common.service_log import EACH, ServiceLog
+
+LOG = ServiceLog("flutejoin-receive", most=None)
+note = LOG.warn
+
+
+class EachMinute:
+    """Reports counts that rise: at once, and then once a minute while they rise."""
+
+    def __init__(self) -> None:
+        self.told: dict[str, tuple[float, int]] = {}
+
+    def tell(self, cause: str, count: int, now: float, text: str = "left out {}: {}") -> None:
+        at, before = self.told.get(cause, (float("-inf"), 0))
+        if count > before and now >= at + EACH:
+            note(text.format(count - before, cause))
+            self.told[cause] = now, count

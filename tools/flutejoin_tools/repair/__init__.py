@@ -1,0 +1,1 @@
+"""flutejoin-repair: what is missing of files is fetched by HTTP."""

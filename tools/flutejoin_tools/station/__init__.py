@@ -1,0 +1,1 @@
+"""flutejoin-station: a station that receives and joins by itself."""
