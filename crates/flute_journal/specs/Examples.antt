@@ -28,23 +28,23 @@ key = record { session = session 0 7; object = File 1 }
 abbrev other_key : Key
 other_key = record { session = session (65535 * 2 ^ 32 + 0x0A000001) 7; object = File 1 }
 
-abbrev id : ℕ → SymbolId
-id n = record { sbn = 0; esi = n }
+abbrev symbol_id : ℕ → SymbolId
+symbol_id n = record { sbn = 0; esi = n }
 
 abbrev info : Fact
 info = Info key (information 5 4 2)
 
 abbrev hell : Fact
-hell = Symbol key (id 0) (0x68 ∷ 0x65 ∷ 0x6C ∷ 0x6C ∷ [])
+hell = Symbol key (symbol_id 0) (0x68 ∷ 0x65 ∷ 0x6C ∷ 0x6C ∷ [])
 
 abbrev letter_o : Fact
-letter_o = Symbol key (id 1) (0x6F ∷ [])
+letter_o = Symbol key (symbol_id 1) (0x6F ∷ [])
 
 abbrev padded_o : Fact
-padded_o = Symbol key (id 1) (0x6F ∷ 0 ∷ 0 ∷ 0 ∷ [])
+padded_o = Symbol key (symbol_id 1) (0x6F ∷ 0 ∷ 0 ∷ 0 ∷ [])
 
 abbrev letter_x : Fact
-letter_x = Symbol key (id 2) (0x78 ∷ [])
+letter_x = Symbol key (symbol_id 2) (0x78 ∷ [])
 
 -- its key, in version 1
 abbrev k : List ℕ
@@ -121,7 +121,7 @@ conflict : spelling (InfoConflict key ∷ []) ≡ header ++ 2 ∷ k₂ ++ end_by
 unfolding sender_size
 conflict = refl
 
-joined : spelling (info ∷ hell ∷ SymbolConflict key (id 1) ∷ letter_x ∷ [])
+joined : spelling (info ∷ hell ∷ SymbolConflict key (symbol_id 1) ∷ letter_x ∷ [])
     ≡ header ++ 1 ∷ k₂ ++ info_rest ++ 3 ∷ k₂ ++ hell_rest ++ 4 ∷ k₂ ++ 0 ∷ 0 ∷ 0 ∷ 1 ∷ 3 ∷ k₂
     ++ letter_x_rest ++ end_bytes 4
 unfolding sender_size
@@ -135,19 +135,19 @@ both_senders = refl
 
 sizes : (length (old (info ∷ hell ∷ letter_o ∷ [])) ≡ 110)
     × (length (spelling (info ∷ hell ∷ letter_o ∷ [])) ≡ 158)
-    × (length (spelling (info ∷ hell ∷ SymbolConflict key (id 1) ∷ letter_x ∷ [])) ≡ 200)
+    × (length (spelling (info ∷ hell ∷ SymbolConflict key (symbol_id 1) ∷ letter_x ∷ [])) ≡ 200)
 unfolding sender_size
 sizes = (refl, refl, refl)
 
 -- The entries of the last are in order, and are those of the two joined.
 
-joined-rising : IsRising (info ∷ hell ∷ SymbolConflict key (id 1) ∷ letter_x ∷ [])
+joined-rising : IsRising (info ∷ hell ∷ SymbolConflict key (symbol_id 1) ∷ letter_x ∷ [])
 joined-rising = ((refl, (refl, (refl, tt))), ((refl, (refl, tt)), ((refl, tt), (tt, tt))))
 
 joined-conflict :
     fact_at ((info ∷ hell ∷ letter_o ∷ []) ++ (hell ∷ padded_o ∷ letter_x ∷ []))
-    (record { key = key; part = SymbolPart (id 1) })
-    ≡ Some (SymbolConflict key (id 1))
+    (record { key = key; part = SymbolPart (symbol_id 1) })
+    ≡ Some (SymbolConflict key (symbol_id 1))
 unfolding fact_at
 joined-conflict = refl
 

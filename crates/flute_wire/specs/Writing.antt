@@ -24,7 +24,7 @@ packet_at key info symbol = record {
   symbol = symbol;
 }
 
--- the facts of such a datagram
+-- the facts that this packet sends
 abbrev pub outgoing_facts : Key → Option Information → Option (SymbolId × List ℕ) → List Fact
 outgoing_facts key info symbol = info_facts key info ++ symbol_facts key symbol
 

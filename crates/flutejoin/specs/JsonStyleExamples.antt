@@ -46,8 +46,8 @@ partial = record {
   conflicts = 1;
 }
 
-abbrev unknown : Told
-unknown = record {
+abbrev no_information : Told
+no_information = record {
   key = record { session = session 0 7; object = Instance 3 };
   status = NoInformation;
   info = None;
@@ -56,8 +56,8 @@ unknown = record {
   conflicts = 2;
 }
 
-abbrev conflict : Told
-conflict = record unknown { status = ConflictingInformation; conflicts = 0 }
+abbrev conflicting_information : Told
+conflicting_information = record no_information { status = ConflictingInformation; conflicts = 0 }
 
 abbrev style : Bool → Bool → Style
 style summary conflicts = record {
@@ -68,7 +68,8 @@ style summary conflicts = record {
   form = Json;
 }
 
-pub objects : printed (style false false) (partial ∷ unknown ∷ conflict ∷ whole ∷ [])
+pub objects : printed (style false false)
+    (partial ∷ no_information ∷ conflicting_information ∷ whole ∷ [])
     ≡ codes "{\"tsi\":7,\"fdt\":2,\"status\":\"partial\","
     ++ codes "\"missing\":2,\"conflicting\":1,\"misfit\":1}\n"
     ++ codes "{\"sbn\":0,\"first\":2,\"last\":3,\"reason\":\"missing\"}\n"
@@ -81,12 +82,12 @@ pub objects : printed (style false false) (partial ∷ unknown ∷ conflict ∷ 
 unfolding digits encode_with printed told_lines object_line_in json_object_line json_gap_line
 objects = refl
 
-pub unplaced : printed (style false true) (unknown ∷ [])
+pub unplaced : printed (style false true) (no_information ∷ [])
     ≡ codes "{\"tsi\":7,\"fdt\":3,\"status\":\"no information\",\"unplaced\":2}\n"
 unfolding digits printed told_lines object_line_in json_object_line
 unplaced = refl
 
-pub sessions : printed (style true false) (partial ∷ unknown ∷ [])
+pub sessions : printed (style true false) (partial ∷ no_information ∷ [])
     ≡ codes "{\"tsi\":7,\"objects\":2,\"whole\":0,\"partial\":1,\"missing\":2,"
     ++ codes "\"conflicting\":3,\"misfit\":1,\"unknown\":1}\n"
 unfolding digits printed by_session sums_line
