@@ -63,11 +63,12 @@ pub record Touches (k : ℕ) (old new : Disk) : Type 0 where
   pub names : (name : List ℕ) → new.names name ≡ old.names name
   pub others : (j : ℕ) → j ≢ k → new.files j ≡ old.files j
 
--- the name, which led nowhere, leads to an empty file that no name has led to; nothing else is
--- touched
+-- the name, which led nowhere, leads to an empty file that no name has led to, and that was nothing
+-- before; nothing else is touched
 pub record Creates (name : List ℕ) (k : ℕ) (old new : Disk) : Type 0 where
   pub free : (old.names name).leads ≡ None
   pub fresh : (other : List ℕ) → HasHad (old.names other) k → ⊥
+  pub unused : old.files k ≡ record { bytes = []; on_disk = false }
   pub here : new.names name ≡ led_to (Some k) (old.names name)
   pub elsewhere : (other : List ℕ) → other ≢ name → new.names other ≡ old.names other
   pub others : (j : ℕ) → j ≢ k → new.files j ≡ old.files j
@@ -108,10 +109,11 @@ pub record MakesFolder (name : List ℕ) (old new : Disk) : Type 0 where
   pub number : ℕ
   pub creates : Creates name number old new
 
--- an empty file that no name has led to is made in the folder f, whose names the disk need not
--- have; which these are is not said
+-- an empty file that no name has led to, and that was nothing before, is made in the folder f,
+-- whose names the disk need not have; which these are is not said
 pub record CreatesWithin (f k : ℕ) (old new : Disk) : Type 0 where
   pub fresh : (other : List ℕ) → HasHad (old.names other) k → ⊥
+  pub unused : old.files k ≡ record { bytes = []; on_disk = false }
   pub names : (name : List ℕ) → new.names name ≡ old.names name
   pub others : (j : ℕ) → j ≢ f → j ≢ k → new.files j ≡ old.files j
   pub empty : new.files k ≡ record { bytes = []; on_disk = false }

@@ -1,5 +1,5 @@
 -- The disk of the calls in memory: what their changes make of an empty one.
-use Rattle.std.specs.Prelude.{◌≡◌, ℕ, List, [], ◌∷◌, ◌++◌, length, true, false}
+use Rattle.std.specs.Prelude.{◌≡◌, ℕ, ◌<◌, ◌≤◌, ⊤, List, [], ◌∷◌, ◌++◌, length, true, false}
 use Rattle.std.specs.Prelude.{Option, Some, None, if◌then◌else◌}
 use Rattle.std.specs.Str.{bytes_eq}
 use Rattle.std.specs.Bool.{nat_eq}
@@ -78,3 +78,16 @@ LeadsBack change name earlier = (r : Run) → leads (next r change) name ≡ lea
 abbrev pub LeadsTo : Change → ℕ → List ℕ → Option ℕ → Type 0
 LeadsTo change number name target =
     (r : Run) → length r.past ≡ number → leads (next r change) name ≡ target
+
+-- the files and folders that it is of are among the first k
+abbrev pub IsOfEarlier : Change → ℕ → Type 0
+IsOfEarlier (MadeWithin folder name) k = folder < k
+IsOfEarlier (Written file bytes) k = file < k
+IsOfEarlier (Synced file) k = file < k
+IsOfEarlier (RemovedWithin folder name) k = folder < k
+IsOfEarlier (Emptied folder) k = folder < k
+IsOfEarlier change k = ⊤
+
+-- no file from the k-th on was anything
+abbrev pub AreUnused : ℕ → Disk → Type 0
+AreUnused k d = (j : ℕ) → k ≤ j → d.files j ≡ empty

@@ -1,7 +1,8 @@
 //! The calls of a system whose disk is in memory.
-ghost use Rattle.std.specs.Prelude.{◌≡◌, ◌++◌, ◌∷◌, [], true, Some, IfOk, OnOk, OnErr};
+ghost use Rattle.std.specs.Prelude.{◌≡◌, ◌++◌, ◌∷◌, [], ◌<◌, length, true, Some};
+ghost use Rattle.std.specs.Prelude.{IfOk, OnOk, OnErr};
 ghost use Rattle.flute_calls.specs.Moments.{no_run};
-ghost use Rattle.flute_memory.specs.MemoryDisk.{run_of, leads};
+ghost use Rattle.flute_memory.specs.MemoryDisk.{run_of, leads, AreUnused, IsOfEarlier};
 
 mod folders;
 
@@ -32,6 +33,7 @@ pub struct MemoryCalls {
     changes: Vec<Change>,
     good: usize,
     bad: usize,
+    ghost unused: { AreUnused (length changes.items) (run_of changes.items).now },
 }
 
 impl MemoryCalls {
@@ -81,6 +83,7 @@ impl MemoryCalls {
 
     // Does this.
     fn note(&mut self, change: Change) -> Result<(), CallFault>
+        requires { IsOfEarlier change (length self.old.changes.items) }
         ensures noted { OnOk result (self.new.changes.items
             ≡ self.old.changes.items ++ change ∷ []) }
         ensures refused { OnErr result (self.new.changes.items ≡ self.old.changes.items) }
@@ -88,6 +91,17 @@ impl MemoryCalls {
         match self.changes.push(change) {
             Ok(()) => Ok(()),
             Err(_) => Err(CallFault::Other),
+        }
+    }
+
+    // Checks that a change made this file or folder.
+    fn check_file(&self, file: &OpenFile) -> Result<(), CallFault>
+        ensures { OnOk result (file.now.number < length self.now.changes.items) }
+    {
+        if file.number < self.changes.len() {
+            Ok(())
+        } else {
+            Err(CallFault::NotFound)
         }
     }
 
@@ -222,6 +236,7 @@ impl Calls for MemoryCalls {
 
     fn write(&mut self, file: &mut OpenFile, bytes: &[u8]) -> Result<usize, CallFault> {
         self.turn()?;
+        self.check_file(file)?;
         if self.has_folder(file.number) {
             return Err(CallFault::Other);
         }
@@ -236,6 +251,7 @@ impl Calls for MemoryCalls {
 
     fn fsync(&mut self, file: &OpenFile) -> Result<(), CallFault> {
         self.turn()?;
+        self.check_file(file)?;
         self.note(Change::Synced { file: file.number })?;
         Ok(())
     }

@@ -242,11 +242,11 @@ pub fn sync_parent<C: Calls>(calls: &mut C, folder: &Option<C::Folder>) -> Resul
     }
 }
 
-/// Names the file OUT.
+/// Names the file, or the folder, OUT.
 ///
 /// # Errors
 ///
-/// If a call failed, and `NotFound` if the file is not open, or has not the name beside OUT. Both
+/// If a call failed, and `NotFound` if it is not open, or has not the name beside OUT. Both
 /// names are as before.
 pub fn rename<C: Calls>(
     calls: &mut C,

@@ -5,7 +5,7 @@ ghost use Rattle.std.specs.Path.{path_buf_bytes};
 ghost use Rattle.flute_calls.specs.Disks.{Renames, Syncs};
 ghost use Rattle.flute_calls.specs.Moments.{Does};
 
-use crate::beside::check_name;
+use crate::beside::{check_name, rename};
 use crate::name_pair::{ATTEMPTS, NamePair};
 use flute_calls::{CallFault, FolderCalls};
 
@@ -53,28 +53,6 @@ fn make_folder_once<C: FolderCalls>(calls: &mut C, names: &NamePair) -> Result<C
     Ok(folder)
 }
 
-/// Checks that the open folder has the name beside OUT still.
-///
-/// # Errors
-///
-/// If a call failed, and `NotFound` if no folder is open, or another run has taken its name away.
-pub fn check_folder<C: FolderCalls>(
-    calls: &mut C,
-    names: &NamePair,
-    folder: &Option<C::File>,
-) -> Result<(), CallFault>
-    ensures here { C.told ≡ true → OnOk result (
-        ((C.run calls.old).now.names (string_bytes names.now.beside)).leads
-        ≡ option_map C.number folder.now) }
-    ensures open { OnOk result (IsSome folder.now) }
-    ensures same { C.told ≡ true → C.run calls.new ≡ C.run calls.old }
-{
-    match folder {
-        Some(folder) => check_name(calls, &names.beside, folder),
-        None => Err(CallFault::NotFound),
-    }
-}
-
 /// Waits until the disk has the names of the files in the folder.
 ///
 /// # Errors
@@ -118,8 +96,7 @@ pub fn rename_folder<C: FolderCalls>(
     if there.is_some() {
         return Err(CallFault::AlreadyExists);
     }
-    check_folder(calls, names, folder)?;
-    calls.rename(&names.beside, names.out.as_str())
+    rename(calls, names, folder)
 }
 
 /// Removes the folder beside OUT with all files in it.

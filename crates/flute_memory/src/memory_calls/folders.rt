@@ -1,12 +1,17 @@
 //! The calls for a folder in memory that is made, and filled with files.
 
+ghost use Rattle.std.specs.Prelude.{◌<◌, length, OnOk};
+
 use super::{MemoryCalls, OpenFile};
 use crate::changes::{Change, has_files, target_within};
 use flute_calls::{CallFault, FolderCalls};
 
 impl MemoryCalls {
     // Checks that this open folder has the name.
-    fn check_folder(&self, folder: &OpenFile, name: &str) -> Result<(), CallFault> {
+    fn check_folder(&self, folder: &OpenFile, name: &str) -> Result<(), CallFault>
+        ensures { OnOk result (folder.now.number < length self.now.changes.items) }
+    {
+        self.check_file(folder)?;
         if self.find(name) == Some(folder.number) && self.has_folder(folder.number) {
             Ok(())
         } else {
@@ -15,7 +20,9 @@ impl MemoryCalls {
     }
 
     // What this path is called in the open folder.
-    fn name_within<'a>(&self, folder: &OpenFile, path: &'a str) -> Result<&'a str, CallFault> {
+    fn name_within<'a>(&self, folder: &OpenFile, path: &'a str) -> Result<&'a str, CallFault>
+        ensures { OnOk result (folder.now.number < length self.now.changes.items) }
+    {
         let Some((before, name)) = path.rsplit_once('/') else {
             return Err(CallFault::NotFound);
         };
@@ -88,6 +95,7 @@ impl FolderCalls for MemoryCalls {
 
     fn sync_names(&mut self, folder: &OpenFile) -> Result<(), CallFault> {
         self.turn()?;
+        self.check_file(folder)?;
         self.note(Change::Synced {
             file: folder.number,
         })?;
