@@ -5,12 +5,12 @@ use Rattle.std.specs.Bool.{nat_eq}
 use Rattle.std.proofs.lemmas.Slice.Eq.{bytes_eq-Decides}
 use Rattle.std.proofs.lemmas.Bool.{false_from_ne_true}
 use Rattle.std.proofs.lemmas.Bool.Decides.{Decides-eqb}
-use Rattle.std.proofs.lemmas.List.{take_more}
+use Rattle.std.proofs.lemmas.List.{take_more, length_push}
 use Rattle.std.proofs.lemmas.Option.{none-some, same_Some}
 use Rattle.std.proofs.lemmas.List.Elements.{All-nil, All-cons}
 use Rattle.flute_calls.specs.Disks.{Disk, Entry, Held, Touches, Creates, CreatesWithin, Grows, Syncs, Renames, Unlinks, UnlinksWithin, Confirms, HasHad, led_to}
 use Rattle.flute_calls.specs.Moments.{Run, Does, Passes, no_run}
-use Rattle.flute_memory.specs.MemoryDisk.{with_name, with_file, empty, unsure, after, next, run_from, run_of}
+use Rattle.flute_memory.specs.MemoryDisk.{with_name, with_file, empty, unsure, after, next, run_from, run_of, AreUnused, IsOfEarlier}
 use Rattle.flute_memory.specs.MemoryFolders.{led_within, within_from, within, AddsBytes}
 use Rattle.flute_memory.specs.declared.changes.Change.{Change}
 use Rattle.flute_memory.specs.declared.changes.Change.TheVariants.{Made, FolderMade, MadeWithin, Written, Synced, Renamed, Removed, RemovedWithin, Emptied, Confirmed}
@@ -116,18 +116,62 @@ pub does-push : (R : Disk → Disk → Type 0) (cs new : List Change) (c : Chang
 does-push R cs new c is made = subst (λ r. Does R (run_of cs) r)
     (sym (ap run_of is ∙ of-push cs c)) (record { made = made; past = refl })
 
+file_unused : (k i : ℕ) (file : Held) (files : ℕ → Held) → i < k
+    → ((j : ℕ) → k ≤ j → files j ≡ empty) → (j : ℕ) → k ≤ j → with_file i file files j ≡ empty
+file_unused k i file files lt unused j le =
+    file_elsewhere i file files j (λ e. omega (arith, e, lt, le)) ∙ unused j le
+
+unused_later : (k : ℕ) (d : Disk) → AreUnused k d → AreUnused (suc k) d
+unused_later k d unused j le = unused j (omega (arith, le))
+
+unused-after : (c : Change) (k : ℕ) (d : Disk) → IsOfEarlier c k → AreUnused k d
+    → AreUnused (suc k) (after c k d)
+unused-after (Made name) k d earlier unused =
+    file_unused (suc k) k empty d.files (omega arith) (unused_later k d unused)
+unused-after (FolderMade name) k d earlier unused =
+    file_unused (suc k) k empty d.files (omega arith) (unused_later k d unused)
+unused-after (MadeWithin folder name) k d earlier unused =
+    file_unused (suc k) k empty (unsure folder d.files) (omega arith)
+    (file_unused (suc k) folder _ d.files (omega (arith, earlier)) (unused_later k d unused))
+unused-after (Written file bytes) k d earlier unused =
+    file_unused (suc k) file _ d.files (omega (arith, earlier)) (unused_later k d unused)
+unused-after (Synced file) k d earlier unused =
+    file_unused (suc k) file _ d.files (omega (arith, earlier)) (unused_later k d unused)
+unused-after (Renamed source target) k d earlier unused = unused_later k d unused
+unused-after (Removed name) k d earlier unused = unused_later k d unused
+unused-after (RemovedWithin folder name) k d earlier unused =
+    file_unused (suc k) folder _ d.files (omega (arith, earlier)) (unused_later k d unused)
+unused-after (Emptied folder) k d earlier unused =
+    file_unused (suc k) folder _ d.files (omega (arith, earlier)) (unused_later k d unused)
+unused-after Confirmed k d earlier unused = unused_later k d unused
+
+-- the log with one change more, if memory was found for it
+pub unused-pushed : (b : Bool) (cs new : List Change) (c : Change)
+    → new ≡ (if b then cs ++ c ∷ [] else cs) → IsOfEarlier c (length cs)
+    → AreUnused (length cs) (run_of cs).now → AreUnused (length new) (run_of new).now
+unused-pushed true cs new c is earlier unused =
+    let count : suc (length cs) ≡ length (cs ++ c ∷ []) = omega (arith, length_push cs c) in
+    subst (λ l. AreUnused (length l) (run_of l).now) (sym is)
+    (subst (λ n. AreUnused n (run_of (cs ++ c ∷ [])).now) count
+    (subst (λ r. AreUnused (suc (length cs)) r.now) (sym (of-push cs c))
+    (subst (λ k. AreUnused (suc (length cs)) (after c k (run_of cs).now)) (sym (length-of cs))
+    (unused-after c (length cs) (run_of cs).now earlier unused))))
+unused-pushed false cs new c is earlier unused =
+    subst (λ l. AreUnused (length l) (run_of l).now) (sym is) unused
+
 -- each change, where its names are these bytes
-pub makes : (cs : List Change) (name : List ℕ) → ((run_of cs).now.names name).leads ≡ None
-    → Creates name (length (run_of cs).past) (run_of cs).now (record {
+pub makes : (cs : List Change) (name : List ℕ) → AreUnused (length cs) (run_of cs).now
+    → ((run_of cs).now.names name).leads ≡ None → Creates name (length (run_of cs).past) (run_of cs).now (record {
       names = with_name name (Some (length (run_of cs).past)) (run_of cs).now.names;
       files = with_file (length (run_of cs).past) (record { bytes = []; on_disk = false }) (run_of cs).now.files;
     })
-makes cs name free =
+makes cs name unused free =
     let k = length (run_of cs).past in
     let d = (run_of cs).now in
     record {
       free = free;
       fresh = λ other had. let lt = below-of cs other k had in omega (arith, lt);
+      unused = unused k (omega (arith, length-of cs));
       here = name_here name (Some k) d.names;
       elsewhere = λ other differs. name_elsewhere name (Some k) d.names other differs;
       others = λ j differs. file_elsewhere k _ d.files j differs;
@@ -183,15 +227,16 @@ off-disk true one two first second = first
 off-disk false one two first second = second
 
 -- a file is made in a folder, or is gone from there
-pub makes-within : (cs : List Change) (f : ℕ)
+pub makes-within : (cs : List Change) (f : ℕ) → AreUnused (length cs) (run_of cs).now
     → CreatesWithin f (length (run_of cs).past) (run_of cs).now (record (run_of cs).now {
       files = with_file (length (run_of cs).past) empty (unsure f (run_of cs).now.files);
     })
-makes-within cs f =
+makes-within cs f unused =
     let k = length (run_of cs).past in
     let d = (run_of cs).now in
     record {
       fresh = λ other had. let lt = below-of cs other k had in omega (arith, lt);
+      unused = unused k (omega (arith, length-of cs));
       names = λ name. refl;
       others = λ j apart differs. file_elsewhere k empty (unsure f d.files) j differs
           ∙ file_elsewhere f _ d.files j apart;

@@ -28,4 +28,4 @@ returns-clause-made c t =
     subst (λ n. Does (Creates n c.len-number.result) (run_of cs) (run_of c.note.new.self.changes.items)) text
     (subst (λ k. Does (Creates name.items k) (run_of cs) (run_of c.note.new.self.changes.items)) number
     (does-push (Creates name.items (length (run_of cs).past)) cs _ (Made name) is
-    (makes cs name.items (subst (λ n. leads (run_of cs) n ≡ None) (sym text) free))))
+    (makes cs name.items c.args.self.now.unused (subst (λ n. leads (run_of cs) n ≡ None) (sym text) free))))

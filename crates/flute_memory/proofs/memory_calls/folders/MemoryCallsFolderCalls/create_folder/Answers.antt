@@ -19,5 +19,5 @@ returns-clause-made c t =
     subst (λ n. Does (MakesFolder n) (run_of cs) (run_of c.note.new.self.changes.items)) text
     (does-push (MakesFolder name.items) cs _ (FolderMade name) is (record {
       number = length (run_of cs).past;
-      creates = makes cs name.items (subst (λ n. leads (run_of cs) n ≡ None) (sym text) free);
+      creates = makes cs name.items c.args.self.now.unused (subst (λ n. leads (run_of cs) n ≡ None) (sym text) free);
     }))

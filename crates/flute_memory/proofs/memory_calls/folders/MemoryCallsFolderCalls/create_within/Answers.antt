@@ -23,4 +23,4 @@ returns-clause-made c t =
       c.turn.new.self.changes.ok,
     ) in
     subst (λ k. Does (CreatesWithin f k) (run_of cs) (run_of c.note.new.self.changes.items)) number
-    (does-push (CreatesWithin f (length (run_of cs).past)) cs _ change is (makes-within cs f))
+    (does-push (CreatesWithin f (length (run_of cs).past)) cs _ change is (makes-within cs f c.args.self.now.unused))
