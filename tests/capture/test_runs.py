@@ -63,7 +63,7 @@ class AtOnce(run.Case):
         told = io.StringIO()
 
         def add(source: bytes, target: bytes, port: int, payload: bytes) -> None:
-            (out.add if as_received else out.take)(source, payload, wanted.when)
+            (out.add if as_received else out.take)(source, payload)
 
         wanted = Datagrams({PORT}, set(), False, add)
         runs, count = Runs(wanted, out, as_received), 0

@@ -237,7 +237,7 @@ def take_others(
         chosen.update(out.largest_beyond())
 
         def add(source: bytes, target: bytes, port: int, payload: bytes) -> None:
-            (more.add if args.as_received else more.take)(source, payload, wanted.when)
+            (more.add if args.as_received else more.take)(source, payload)
 
         wanted = wanted_of(args, add, chosen)
         take_all(args, wanted, more, report, is_told=True)
@@ -271,7 +271,7 @@ def capture(args: argparse.Namespace, report: Log) -> None:
 
     def add(source: bytes, target: bytes, port: int, payload: bytes) -> None:
         if out:
-            (out.add if args.as_received else out.take)(source, payload, wanted.when)
+            (out.add if args.as_received else out.take)(source, payload)
         else:
             flows.add(source, target, port, payload)
 

@@ -132,22 +132,22 @@ class Files:
     def path(self, sender: bytes, part: int) -> str:
         return os.path.join(self.folder, file_name(address_text(sender), part))
 
-    def take(self, sender: bytes, payload: bytes, when: int | None = None) -> None:
+    def take(self, sender: bytes, payload: bytes) -> None:
         """Adds a datagram in the form that flutejoin reads, or counts it as left out."""
         if sender not in self.hints and len(self.hints) >= MOST_SENDERS:
-            self.add(sender, payload, when)  # which counts it as left out
+            self.add(sender, payload)  # which counts it as left out
             return
         adapting = self.adapting.get(sender) or Adapting()
         if len(self.adapting) < MOST_ADAPTED:
             self.adapting[sender] = adapting
         if adapting.is_plain(payload):
-            self.add(sender, payload, when)
+            self.add(sender, payload)
             return
         taken = adapting.take(payload)
         if taken.left_out:
             self.left_out[taken.left_out] += 1
         for written in taken.datagrams:
-            self.add(sender, bytes(written), when)
+            self.add(sender, bytes(written))
 
     def tell(self) -> None:
         """Reports in which forms datagrams came, for each sender once."""
@@ -155,8 +155,8 @@ class Files:
             for line in adapting.lines(0):
                 self.report.warn(f"{address_text(sender)} {line}")
 
-    def add(self, sender: bytes, payload: bytes, when: int | None = None) -> None:
-        """Adds a datagram. `when` is the second at which it came, if that is known."""
+    def add(self, sender: bytes, payload: bytes) -> None:
+        """Adds a datagram of a capture to the file of its sender, or begins the next one."""
         part = self.open.get(sender)
         size = len(payload) + 2
         is_full = part and (
@@ -175,15 +175,13 @@ class Files:
             if len(part.waiting) > 65536:
                 self.flush(part)
 
-    def add_run(
-        self, sender: bytes, front: bytes, symbols: list[bytes], when: int | None
-    ) -> None:
+    def add_run(self, sender: bytes, front: bytes, symbols: list[bytes]) -> None:
         """Adds datagrams of a sender that has a file: each is `front` and a symbol. None of them is
         of an FDT Instance. The length before a datagram is in front of it."""
         part, size = self.open[sender], (len(front) + len(symbols[0])) * len(symbols)
         if part.count + len(symbols) > MOST or part.size + len(part.waiting) + size > self.split:
             for symbol in symbols:
-                self.add(sender, front[LENGTH.size :] + symbol, when)
+                self.add(sender, front[LENGTH.size :] + symbol)
             return
         for begin in range(0, len(symbols), MOST_JOINED):
             some = symbols[begin : begin + MOST_JOINED]

@@ -108,7 +108,7 @@ class Runs:
         symbols = flow.symbols(data[: many * size])
         if symbols:
             head = LENGTH.pack(len(flow.alike[4]) + len(symbols[0])) + flow.alike[4]
-            self.out.add_run(frame[26:30], head, symbols, self.wanted.when)
+            self.out.add_run(frame[26:30], head, symbols)
             stream.skip(len(symbols) * size)
             self.wanted.count += len(symbols)
             self.count = self.wanted.count
