@@ -139,9 +139,9 @@ class Program:
         sessions: Sequence[int] = (),
         without_fdt: bool = False,
     ) -> Answer:
-        """Joins inputs, of these sessions alone if there are any, or of those of all joins.
+        """Runs `flutejoin join` of inputs, of these sessions alone, or of those of all joins.
 
-        What is fed to it are the pieces of a datagram file.
+        What is fed to that run, as its last input, are the pieces of a datagram file.
         """
         words = ["join", "--source", source.hex(), "--any-size", *["--no-fdt"] * without_fdt]
         words += [word for tsi in sessions or self.sessions for word in ("--tsi", str(tsi))]
