@@ -110,8 +110,8 @@ def entries(file: BinaryIO) -> Iterator[tuple[int, bytes, memoryview]]:
         raise ReadFault("Magic" if len(head) >= 4 else "Cut")
     if head[4:] not in (b"\0\1", b"\0\2"):
         raise ReadFault("Version")
-    missing = bytes(SENDER if head[4:] == b"\0\1" else 0)
-    front = 1 + KEY - len(missing)
+    unnamed = bytes(SENDER if head[4:] == b"\0\1" else 0)  # the sender of version 1
+    front = 1 + KEY - len(unnamed)
     data, at, size = b"", 0, 0
     while True:
         if size - at < LONGEST:
@@ -134,7 +134,7 @@ def entries(file: BinaryIO) -> Iterator[tuple[int, bytes, memoryview]]:
         if end > size:
             raise Cut
         raw = data[at + 1 : begin]
-        yield kind, missing + raw if missing else raw, view[begin:end]
+        yield kind, unnamed + raw if unnamed else raw, view[begin:end]
         at = end
 
 
