@@ -29,8 +29,8 @@ class Case(run.Case):
         self.assertEqual(done.status, 0, done)
         return done
 
-    def agrees(self, name: str, *journals: str) -> None:
-        """The page and the text of all objects agree with what `flutejoin gaps` prints of each
+    def draws(self, name: str, *journals: str) -> None:
+        """The page and the text of all objects show what `flutejoin gaps` prints of each
         journal and of all of them joined."""
         self.map_row(name, ["-o", "page.svg", *journals], 0)
         self.write("text", self.map_row(f"{name}, text", ["--text", *journals], 0, None).out)
@@ -59,13 +59,13 @@ class Blocks(Case):
         self.sent("one", "--toi 1", 1000, 64, 40_000)
         self.station("one1", "one", 30, 1)
         self.station("one2", "one", 40, 2)
-        self.agrees("one block", "one1", "one2")
-        self.agrees("one block, one station", "one1")
+        self.draws("one block", "one1", "one2")
+        self.draws("one block, one station", "one1")
 
     def test_one_symbol(self) -> None:
         self.sent("tiny", "--toi 1", 1000, 64, 1)
         self.made("join -o tiny1 tiny")
-        self.agrees("one symbol", "tiny1")
+        self.draws("one symbol", "tiny1")
         wanted = (
             f"What is missing: tiny1\n{LEGEND}"
             "session 7 object 1: 1 byte, 1 symbol of 1000 bytes, 1 block\n"
@@ -80,7 +80,7 @@ class Blocks(Case):
         self.sent("sixty", "--toi 5", 100, 64, 384_000)
         for number in 1, 2, 3:
             self.station(f"sixty{number}", "sixty", 12 * number, number)
-        self.agrees("60 blocks", "sixty1", "sixty2", "sixty3")
+        self.draws("60 blocks", "sixty1", "sixty2", "sixty3")
         text = self.map("--text sixty1").out.decode()
         rows = [line for line in text.splitlines() if line.endswith("|")]
         self.holds("a row for each block", len(rows) == 60, len(rows))
@@ -92,10 +92,10 @@ class Blocks(Case):
         self.sent("many", "--toi 6", 1, 4, 39_990)
         self.station("many1", "many", 10, 1)
         self.station("many2", "many", 60, 2)
-        self.agrees("10,000 blocks", "many1", "many2")
+        self.draws("10,000 blocks", "many1", "many2")
         self.sent("long", "--toi 6", 1, 20_000, 60_001)
         self.station("long1", "long", 5, 3)
-        self.agrees("long blocks", "long1")
+        self.draws("long blocks", "long1")
         size = len(self.read("page.svg"))
         self.holds("a page of some megabytes at most", size < 4_000_000, size)
 
@@ -114,11 +114,11 @@ class Objects(Case):
         self.station("wrong1", "wrong", 80, 2)
         self.station("short1", "short", 70, 3)
         self.made("join -o conflict1 right1 wrong1")
-        self.agrees("conflicts", "conflict1", "right1")
-        self.agrees("conflicts of stations", "right1", "wrong1")
-        self.agrees("misfits", "short1")
+        self.draws("conflicts", "conflict1", "right1")
+        self.draws("conflicts of stations", "right1", "wrong1")
+        self.draws("misfits", "short1")
         every = "right1", "wrong1", "short1", "conflict1"
-        self.agrees("all of them", *every)
+        self.draws("all of them", *every)
         text = self.map(["--text", *every])
         self.check("conflicts are drawn", text, 0, re.compile(r"\|[#.?]*!"))
         self.check("misfits are drawn", text, 0, re.compile(r"\|[#.!]*\?"))
@@ -128,8 +128,8 @@ class Objects(Case):
         self.station("fdt1", "fdt", 30, 1)
         self.sent("empty", "--toi 2", 100, 8, 0)
         self.made("join -o empty1 empty")
-        self.agrees("FDT Instance", "fdt1", "right1")
-        self.agrees("empty object", "empty1")
+        self.draws("FDT Instance", "fdt1", "right1")
+        self.draws("empty object", "empty1")
         lines = self.map("--text empty1").lines()
         wanted = "session 7 object 2: empty: 0 bytes, and no symbol"
         self.holds("it is told in words", wanted in lines, lines)
@@ -151,7 +151,7 @@ class Objects(Case):
         """Two senders with one TSI."""
         self.station("from_a", "right", 30, 1, V4)
         self.station("from_b", "right", 30, 2, V6)
-        self.agrees("two senders", "from_a", "from_b")
+        self.draws("two senders", "from_a", "from_b")
         text = self.map("--text from_a from_b").out.decode()
         for source, address in (f"{'0' * 20}ffff{V4}", "10.0.0.1"), (V6, "2001:db8::1"):
             head = f"\nsource {source} session 7 object 1 (sender {address}): "
@@ -160,7 +160,7 @@ class Objects(Case):
     def test_no_information(self) -> None:
         self.python(MAPS, "forget", "right", "without")
         self.station("without1", "without", 40, 4)
-        self.agrees("no information", "without1")
+        self.draws("no information", "without1")
         wanted = (
             f"What is missing: without1\n{LEGEND}"
             "session 7 object 1: no packet told its length, so its blocks are not known; "
@@ -171,15 +171,15 @@ class Objects(Case):
         self.station("without2", "without", 40, 5)
         fields = "--length 40000 --symbol 1000 --block 16"
         self.made(f"info -o known --tsi 7 --toi 1 {fields} without2")
-        self.agrees("information of another station", "without1", "known")
+        self.draws("information of another station", "without1", "known")
 
     def test_states(self) -> None:
         self.write("no_bytes", "")
         self.carousel("other", "--toi 1", 999, 16, "no_bytes")
         self.station("other1", "other", 30, 1)
-        self.agrees("conflicting information", "right1", "other1")
+        self.draws("conflicting information", "right1", "other1")
         self.made("join -o whole1 right")
-        self.agrees("whole", "whole1", "right1")
+        self.draws("whole", "whole1", "right1")
         self.write("nothing", b"FLDG\0\1")
         self.made("join -o nothing1 nothing")
         self.map_row("no object", "-o page.svg nothing1", 0)
@@ -206,7 +206,7 @@ class Stations(Case):
         names = [f"st<&\"{number}>'" for number in range(1, 65)]
         for number, name in enumerate(names):
             self.path(name).symlink_to(f"one{number % 2 + 1}")
-        self.agrees("64 stations", *names)
+        self.draws("64 stations", *names)
         self.map_row("more than 64", ["-o", "page.svg", *names, "one1"], 2, "", None)
 
     def test_names(self) -> None:
