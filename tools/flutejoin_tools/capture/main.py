@@ -320,6 +320,7 @@ def tell(
 
 
 def main() -> int:
+    """Runs flutejoin-capture, and returns its status."""
     args = arguments()
     report = Log("flutejoin-capture")
     return exit_status(lambda: capture(args, report), report)

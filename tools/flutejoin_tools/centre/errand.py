@@ -159,6 +159,7 @@ def told_of(result: Result) -> dict[str, object]:
 
 
 def main(folder: str) -> int:
+    """Runs a repair that the centre of this folder asks for, and returns its status."""
     report = Log("flutejoin-repair")
 
     def work() -> None:

@@ -214,6 +214,7 @@ def ask(options: argparse.Namespace, folder: str, report: ServiceLog) -> None:
 
 
 def main() -> int:
+    """Runs flutejoin-centre, and returns its status."""
     options, settings = command_line()
     report = ServiceLog("flutejoin-centre")
 

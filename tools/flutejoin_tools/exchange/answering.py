@@ -283,6 +283,7 @@ def command_line() -> argparse.Namespace:
 
 
 def main() -> int:
+    """Runs flutejoin-station --answer, and returns its status."""
     options, report = command_line(), Log("flutejoin-station")
     answer_stops(end_run)
 

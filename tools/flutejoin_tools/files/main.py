@@ -267,6 +267,7 @@ def tell(args: argparse.Namespace, catalogue: Catalogue, report: Log) -> None:
 
 
 def main() -> int:
+    """Runs flutejoin-files, and returns its status."""
     args = arguments()
     report = Log("flutejoin-files")
 

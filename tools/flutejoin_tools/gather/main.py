@@ -146,6 +146,7 @@ def standard_input(gathering: Gathering) -> str:
 
 
 def main() -> int:
+    """Runs flutejoin-gather, and returns its status."""
     args = arguments()
     report = Log("flutejoin-gather")
 

@@ -258,6 +258,7 @@ def draw(args: argparse.Namespace, report: Log) -> None:
 
 
 def main() -> int:
+    """Runs flutejoin-map, and returns its status."""
     args = arguments()
     report = Log("flutejoin-map")
 

@@ -122,6 +122,7 @@ def mend(name: str, out: str, report: Log) -> None:
 
 
 def main() -> int:
+    """Runs flutejoin-mend, and returns its status."""
     parser = CommandLine("flutejoin-mend", __doc__)
     parser.add_argument(
         "-o",

@@ -278,6 +278,7 @@ def arguments() -> argparse.Namespace:
 
 
 def main() -> int:
+    """Runs flutejoin-values, and returns its status."""
     args = arguments()
     tag, number = entries.FILE, args.toi
     if args.fdt is not None:

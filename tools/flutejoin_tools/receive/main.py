@@ -348,6 +348,7 @@ def receive(options: argparse.Namespace) -> None:
 
 
 def main() -> int:
+    """Runs flutejoin-receive, and returns its status."""
     options = command_line(__doc__, EPILOG)
 
     def work() -> None:

@@ -207,6 +207,7 @@ def next_lines(result: repairs.Result, args: argparse.Namespace) -> Iterator[str
 
 
 def main() -> int:
+    """Runs flutejoin-repair, and returns its status."""
     args = arguments()
     report = Log("flutejoin-repair", args.o)
 

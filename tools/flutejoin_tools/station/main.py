@@ -374,6 +374,7 @@ def command_line() -> argparse.Namespace:
 
 
 def main() -> int:
+    """Runs flutejoin-station, and returns its status."""
     options = command_line()
     report = ServiceLog("flutejoin-station")
 
