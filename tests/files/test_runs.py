@@ -18,6 +18,7 @@ import time
 from tests.files.case import LONGEST, TOOL, Case, text
 from tests.support.flute_sender import Sent
 from tests.support.run import PROGRAM, slowness
+from tests.support.signals import catches
 
 
 def processor_time() -> float:
@@ -26,18 +27,15 @@ def processor_time() -> float:
     return used.ru_utime + used.ru_stime
 
 
-def wait_for_answers(child: subprocess.Popen[bytes]) -> None:
-    """Waits until the tool handles signals itself, or has ended.
+def wait_until_caught(child: subprocess.Popen[bytes]) -> None:
+    """Waits until flutejoin-files catches signals itself, or has ended.
 
     Before its first line a Ctrl-C ends Python, which prints a traceback of its own. Python leaves
     SIGTERM to the system; the tool catches it before anything else, and ignores it at its end.
     """
-    bit = 1 << (signal.SIGTERM - 1)
     while child.poll() is None:
         with contextlib.suppress(FileNotFoundError, ProcessLookupError):
-            with open(f"/proc/{child.pid}/status", encoding="ascii") as status:
-                lines = [line for line in status if line.startswith(("SigCgt:", "SigIgn:"))]
-            if any(int(line.split()[1], 16) & bit for line in lines):
+            if catches(child.pid, signal.SIGTERM):
                 return
         time.sleep(0.002)
 
@@ -168,7 +166,7 @@ class Runs(Case):
         draw = random.Random(5)
         for number in range(12):
             child = self.start("-o", "files", "many")
-            wait_for_answers(child)
+            wait_until_caught(child)
             time.sleep(draw.random() * 1.2)
             child.send_signal([signal.SIGINT, signal.SIGTERM, signal.SIGKILL][number % 3])
             _, err = child.communicate()

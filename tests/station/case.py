@@ -175,13 +175,6 @@ def receivers(run: Run) -> list[int]:
     return [int(line.split()[0]) for line in lines if "flutejoin-receive" in line]
 
 
-def answers(process: int, number: int) -> bool:
-    """Whether a process catches or ignores a signal."""
-    lines = pathlib.Path(f"/proc/{process}/status").read_text().splitlines()
-    sets = [int(line.split()[1], 16) for line in lines if line.startswith(("SigCgt", "SigIgn"))]
-    return any(each >> (number - 1) & 1 for each in sets)
-
-
 def is_stopped(process: int) -> bool:
     states = [path.read_text() for path in pathlib.Path(f"/proc/{process}/task").glob("*/stat")]
     return {state.rpartition(") ")[2][0] for state in states} == {"T"}

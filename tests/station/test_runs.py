@@ -19,7 +19,6 @@ from tests.station.case import (
     TOOLS,
     Case,
     Port,
-    answers,
     datagram_file,
     journal_of,
     kept,
@@ -27,6 +26,7 @@ from tests.station.case import (
     sent_file,
 )
 from tests.support.run import LONGEST, PROGRAM
+from tests.support.signals import catches
 
 # Runs a station that waits longer for the lock of its folder, and makes a file once it waits.
 WAITS = """
@@ -151,7 +151,7 @@ class Runs(Case):
         """A status that is asked for before a run listens; and that of a run that got nothing."""
         work = self.folder
         run = self.begun(work / "news", Port().number, wait=False)
-        self.until(lambda: answers(run.child.pid, signal.SIGUSR1), run)
+        self.until(lambda: catches(run.child.pid, signal.SIGUSR1), run)
         while "listening" not in run.text() and run.child.poll() is None:
             run.child.send_signal(signal.SIGUSR1)
             time.sleep(0.002)
