@@ -1,4 +1,4 @@
--- What the calls write, and why they fail, stated of the bytes that they are given.
+-- What the calls of the library for C write, and why they fail, by the bytes that they are given.
 use Rattle.std.specs.Prelude.{◌≡◌, ◌⊎◌, ◌<◌, ◌≤◌, ◌==◌, ℕ, List, Option, Some, true, false}
 use Rattle.std.specs.Prelude.{if◌then◌else◌}
 use Rattle.flute_streams.specs.Merges.{Merged}
@@ -16,7 +16,7 @@ use Rattle.flutejoin.specs.declared.limits.TheConstants.{MAX_ENTRIES}
 abbrev pub most_for : ℕ → Limits
 most_for n = if n == 0 then limits_of false else limits_of true
 
--- `full`, since what could be written has more entries than the commands read
+-- a call fails with `full`: what it could write has more entries than the commands read
 abbrev pub IsTooLong : (ℕ → Option (List ℕ) → Option (List ℕ) → Type 0) → CommandFault
     → Type 0
 IsTooLong writes fault =

@@ -1,4 +1,4 @@
-//! What is missing is printed, and what is printed is handed on.
+//! `gaps` to an outlet, within the limits of its line; and what is printed is handed on.
 ghost use Rattle.std.specs.Prelude.{◌≡◌, ◌≢◌, ◌⊎◌, ◌<◌, ◌≤◌, ◌+◌, ◌||◌, [], Some, Err, OnOk, OnErr};
 ghost use Rattle.std.specs.Prelude.{IfOk, IfErr, not};
 ghost use Rattle.std.specs.Io.KnownBytes.{Appends, IsAtEnd};
@@ -83,7 +83,7 @@ pub fn gaps_on<R: Source, C: Picks, A: Aside, P: Outlet>(
     }
 }
 
-// The lines of a journal of any size, or of one that a store would hold.
+// Calls `gaps_from` with the limits of the line: any size, or what a store would hold.
 fn list_gaps<R: Source, C: Picks, A: Aside, W: Sink>(
     alloc: Global,
     listing: Listing,
