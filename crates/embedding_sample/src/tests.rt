@@ -1,6 +1,6 @@
 //! Each call once, of the file `hello` of two symbols.
-use crate::{answer, completes, differences, file_of, is_whole, journal_of_both};
-use flute_parts::{Info, Key, ObjectKey, Sender, SessionKey};
+use crate::{answer, completes, datagrams_of, differences, file_of, is_whole, journal_of_both};
+use flute_parts::{Info, Key, MemorySource, ObjectKey, Sender, SessionKey};
 use flute_store::{ExtractFault, Shelf};
 use flute_streams::Side;
 use std::alloc::Global;
@@ -58,6 +58,20 @@ fn stores_differ(rt: HostRuntime) -> Result<(), Fail> {
     assert!(rt; matches!(rows[0].information, Some(Side::Same)));
     assert!(rt; rows[0].symbols.same == 0 && rows[0].symbols.differ == 0);
     assert!(rt; rows[0].symbols.first == 1 && rows[0].symbols.second == 1);
+    Ok(())
+}
+
+/// A file of two datagrams.
+#[test]
+fn datagrams_are_kept(rt: HostRuntime) -> Result<(), Fail> {
+    let file = bytes(rt.alloc(), journals::DATAGRAMS)?;
+    let Ok(kept) = datagrams_of(rt.alloc(), &mut MemorySource::new(&file), 2) else {
+        return Err("not read".into());
+    };
+    assert!(rt; kept.len() == 2);
+    let last = bytes(rt.alloc(), INFO_AND_LAST_SYMBOL)?;
+    assert!(rt; kept[1].as_slice() == last.as_slice());
+    assert!(rt; datagrams_of(rt.alloc(), &mut MemorySource::new(&file), 1).is_err());
     Ok(())
 }
 

@@ -1,4 +1,4 @@
--- Worked examples, computed from the definitions.
+-- Journals and datagram files of a few entries, and their faults, computed.
 use Rattle.std.specs.Prelude.{◌≡◌, refl, ℕ, ◌+◌, ◌*◌, ◌^◌, List, [], ◌∷◌}
 use Rattle.std.specs.Prelude.{◌++◌, length, replicate, Option, Some, None}
 use Rattle.flute_parts.specs.Session.{session}

@@ -12,6 +12,7 @@ pub mod Writing
 pub mod Records
 pub mod FileFraming
 pub mod DatagramReaders
+pub mod EachDatagram
 pub mod Examples
 pub mod Readers
 pub mod HeldEntries

@@ -23,6 +23,7 @@ pub use fault::{LoadFault, ReadFault, SaveFault};
 pub use format::Version;
 pub use kind::{Kind, kind_of};
 pub use readers::datagram_reader::{DatagramReader, FILE_HEADER};
+pub use readers::each_datagram::{Datagrams, EachFault, for_each_datagram};
 pub use readers::entry_fields::Before;
 pub use readers::held_entry::{HeldEntry, HeldValue};
 pub use readers::input::fill;

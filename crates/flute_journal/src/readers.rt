@@ -1,6 +1,7 @@
 //! Journals and datagram files, read.
 
 pub(crate) mod datagram_reader;
+pub(crate) mod each_datagram;
 pub(crate) mod entry_fields;
 pub(crate) mod held_entry;
 pub(crate) mod input;

@@ -1,10 +1,10 @@
--- Two streams that are merged.
+-- The faults of a merge of two streams, by those of a merge of any number.
 use Rattle.std.specs.Prelude.{◌≡◌, ℕ, zero, suc}
 use Rattle.flute_journal.specs.declared.fault.ReadFault.{ReadFault}
 use Rattle.flute_journal.specs.declared.fault.LoadFault.{LoadFault}
 use Rattle.flute_journal.specs.declared.fault.LoadFault.TheVariants.{Read, Full, OutOfMemory}
 use Rattle.flute_streams.specs.declared.merge.streams_fault.StreamsFault.{StreamsFault}
-use Rattle.flute_streams.specs.declared.merge.streams_fault.StreamsFault.TheVariants as streams
+use Rattle.flute_streams.specs.declared.merge.streams_fault.StreamsFault.TheVariants as of_any
 use Rattle.flute_streams.specs.declared.merge.two_streams.MergeFault.{MergeFault}
 use Rattle.flute_streams.specs.declared.merge.two_streams.MergeFault.TheVariants.{First, Second}
 use Rattle.flute_streams.specs.declared.merge.two_streams.MergeFault.TheVariants.{Write}
@@ -22,14 +22,14 @@ IsFaultAt number OutOfMemory merge = ⊥
 
 -- the fault of a merge of two
 abbrev pub IsFaultOfTwo : StreamsFault → MergeFault → Type 0
-IsFaultOfTwo (streams.Input fault) merge = IsFaultAt fault.number fault.fault merge
-IsFaultOfTwo streams.Write merge = merge ≡ Write
+IsFaultOfTwo (of_any.Input fault) merge = IsFaultAt fault.number fault.fault merge
+IsFaultOfTwo of_any.Write merge = merge ≡ Write
 
 -- an input stopped only if it could not be read
 abbrev pub IsOfReading : StreamsFault → Type 0
-IsOfReading (streams.Input fault) = IsRead fault.fault
+IsOfReading (of_any.Input fault) = IsRead fault.fault
   where
     IsRead : LoadFault → Type 0
     IsRead (Read fault) = Unit {0}
     IsRead _ = ⊥
-IsOfReading streams.Write = Unit {0}
+IsOfReading of_any.Write = Unit {0}

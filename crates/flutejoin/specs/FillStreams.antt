@@ -1,10 +1,9 @@
 -- Lines of gaps that are read beside facts: how they go on.
-use Rattle.std.specs.Prelude.{◌≡◌, ◌⊎◌, ◌+◌, ◌-◌, ◌<◌, ◌≤◌, ◌^◌, ℕ, Bool, true, false, not, List, []}
+use Rattle.std.specs.Prelude.{◌≡◌, ◌+◌, ◌-◌, ◌<◌, ◌≤◌, ◌^◌, ℕ, Bool, true, false, not, List, []}
 use Rattle.std.specs.Prelude.{◌∷◌, ◌++◌, ⊤}
-use Rattle.std.specs.Prelude.{length, Option, Some, None, if◌then◌else◌, IfSome, MatchOption, Result}
-use Rattle.std.specs.Prelude.{Err, codes}
+use Rattle.std.specs.Prelude.{length, Option, Some, None, if◌then◌else◌, IfSome}
 use Rattle.std.specs.List.{flat_map, AllByRecursion}
-use Rattle.std.specs.Io.KnownBytes.{Consumes, IsAtEnd, Keeps}
+use Rattle.std.specs.Io.KnownBytes.{Consumes}
 use Rattle.std.specs.Ordering.{is_le, is_lt}
 use Rattle.flute_parts.specs.Addresses.{address}
 use Rattle.flute_parts.specs.Order.{address_cmp, key_cmp, same_key}
@@ -35,32 +34,6 @@ use Rattle.flutejoin.specs.declared.fill.gap_list.ListedObject.{ListedObject}
 use Rattle.flutejoin.specs.declared.fill.listed_line.ListedLine.{ListedLine}
 use Rattle.flutejoin.specs.declared.fill.listed_line.ListedLine.TheVariants.{Object as ObjectLine}
 use Rattle.flutejoin.specs.declared.fill.listed_line.ListedLine.TheVariants.{Gap as GapLine}
-use Rattle.flutejoin.specs.declared.lines.next_words.WordsFault.{WordsFault}
-use Rattle.flutejoin.specs.declared.lines.next_words.WordsFault.TheVariants.{Read, NoEnd}
-use Rattle.flutejoin.specs.declared.lines.text.Text.{Text}
-
--- ---- lines of a source
-
--- a line was read of it, or it has ended
-abbrev pub GivesWords : Option (List ℕ) → Option (List ℕ) → Option (List ℕ) → Type 0
-GivesWords old new None = IfSome old (λ bytes. bytes ≡ []) × Consumes old new []
-GivesWords old new (Some words) = IsOneLine words × Consumes old new (line words)
-
--- these are the next bytes of a line, of which these came before; whether it has ended
-pub record TakesWords (old new : Option (List ℕ)) (before now : List ℕ)
-    (ended : Bool) : Type 0 where
-  pub words : List ℕ
-  pub now_is : now ≡ before ++ words
-  pub one_line : IsOneLine words
-  pub taken : Consumes old new (words ++ (if ended then codes "\n" else []))
-
-abbrev pub WordsFail : Option (List ℕ) → WordsFault → Type 0
-WordsFail old Read = ⊤
-WordsFail old NoEnd = IfSome old HasNoEnd
-
-abbrev pub words_failures : {T : Type 0} → Result T WordsFault → ℕ
-words_failures (Err Read) = 1
-words_failures _ = 0
 
 -- ---- what is known of the lines so far
 

@@ -30,6 +30,7 @@ pub mod Examples
 pub mod Merge
 pub mod Minus
 pub mod ListedLines
+pub mod NextWords
 pub mod KeyLists
 pub mod FillLists
 pub mod FillStreams

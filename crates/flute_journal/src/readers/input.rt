@@ -1,4 +1,4 @@
-//! Bytes out of a source that hands them out in any pieces.
+//! Fills buffers from a source, which hands its bytes out in any pieces.
 ghost use Rattle.std.specs.Prelude.{◌≡◌, ℕ, ◌+◌, ◌<◌, ◌≤◌, IfOk, IfErr};
 ghost use Rattle.std.specs.Prelude.{length, length as length_of, take, slice_index};
 ghost use Rattle.std.specs.List.{AllByRecursion};

@@ -16,7 +16,7 @@ use Rattle.flutejoin.specs.ListedLines.{HasNoEnd}
 use Rattle.flutejoin.specs.FillLists.{MayCome, last_of, text_of}
 use Rattle.flutejoin.specs.FillLists.{other, no_end, too_many}
 use Rattle.flutejoin.specs.FillStreams.{IsBadNext, Knows, NoNext, ReadsNext, Stands, StopsAfter}
-use Rattle.flutejoin.specs.FillStreams.{TakesWords}
+use Rattle.flutejoin.specs.NextWords.{TakesWords}
 use Rattle.flutejoin.specs.FillStreams.{after_last, before_of, line_of, lines_left}
 use Rattle.flutejoin.specs.FillStreams.{other as other_next, no_end as no_end_next}
 use Rattle.flutejoin.specs.FillStreams.{too_many as too_many_next}

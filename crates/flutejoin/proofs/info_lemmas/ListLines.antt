@@ -10,7 +10,7 @@ use Rattle.flute_parts.specs.declared.fact.Fact.{Fact}
 use Rattle.flute_parts.specs.declared.fact.Fact.TheVariants.{Info}
 use Rattle.flute_parts.specs.declared.key.Key.{Key}
 use Rattle.flute_parts.proofs.Public.{Below-from_Same, Over-below, Same-append, Same-itself, Same-trans}
-use Rattle.flutejoin.specs.FillStreams.{GivesWords}
+use Rattle.flutejoin.specs.NextWords.{GivesWords}
 use Rattle.flutejoin.specs.InformationLines.{AddingFails, HoldsList, LineTells, ListFails, Shows}
 use Rattle.flutejoin.specs.InformationLines.{TellsInvalid, TellsNothing, bad, invalid, no_line}
 use Rattle.flutejoin.specs.InformationLines.{no_memory, no_memory_for, no_room, not_valid, over, shown}

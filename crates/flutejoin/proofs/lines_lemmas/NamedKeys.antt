@@ -8,7 +8,7 @@ use Rattle.std.specs.List.{list_any}
 use Rattle.flute_journal.specs.declared.fault.ReadFault.TheVariants.{Read}
 use Rattle.flute_parts.specs.Order.{key_cmp, same_key}
 use Rattle.flute_parts.specs.declared.key.Key.{Key}
-use Rattle.flutejoin.specs.FillStreams.{GivesWords}
+use Rattle.flutejoin.specs.NextWords.{GivesWords}
 use Rattle.flutejoin.specs.KeyLists.{HasKeys, HoldsKeys, IsNoName, KeyListFails, LineNames, ListNames}
 use Rattle.flutejoin.specs.ListedLines.{HasNoEnd, ListTells}
 use Rattle.flutejoin.specs.Show.{FailsToRead}

@@ -7,7 +7,7 @@ ghost use Rattle.flutejoin.specs.ListedLines.{HasNoEnd, IsPassedOver};
 ghost use Rattle.flutejoin.specs.Show.{FailsToRead};
 ghost use Rattle.flutejoin.specs.declared.command_fault.CommandFault.TheVariants.{Input};
 ghost use Rattle.flutejoin.specs.declared.command_fault.CommandFault.TheVariants.{ListLine};
-ghost use Rattle.flutejoin.specs.FillStreams.{GivesWords, TakesWords, WordsFail, words_failures};
+ghost use Rattle.flutejoin.specs.NextWords.{GivesWords, TakesWords, WordsFail, words_failures};
 
 use crate::command_fault::CommandFault;
 use crate::lines::text::Text;

@@ -1,7 +1,7 @@
 -- read_list: a line more, or why there is none.
 use Rattle.std.proofs.Common.{rules, ◌∙◌, ◌≡◌, ◌+◌, ◌-◌, ◌^◌, ℕ, sym, ap, subst, arith, refl, Err, Some, None}
 use Rattle.std.proofs.lemmas.Result.{err_from_is_err_and}
-use Rattle.flutejoin.specs.FillStreams.{GivesWords}
+use Rattle.flutejoin.specs.NextWords.{GivesWords}
 use Rattle.flutejoin.specs.Limits.{at_most}
 use Rattle.flutejoin.proofs.info_lemmas.ListLines.{all_told, begun, more, no_line_fails, no_line_left}
 use Rattle.flutejoin.proofs.info_lemmas.ListLines.{names_fails, not_told, quiet, too_many}

@@ -1,7 +1,7 @@
 -- read_keys: a line more, or why there is none.
 use Rattle.std.proofs.Common.{rules, ◌∙◌, ◌≡◌, ◌+◌, ◌-◌, ◌^◌, ℕ, sym, ap, subst, arith, refl, Err, Some, None}
 use Rattle.std.proofs.lemmas.Result.{err_from_is_err_and}
-use Rattle.flutejoin.specs.FillStreams.{GivesWords}
+use Rattle.flutejoin.specs.NextWords.{GivesWords}
 use Rattle.flutejoin.proofs.lines_lemmas.NamedKeys.{all_named, begun, more, no_line, no_line_fails}
 use Rattle.flutejoin.proofs.lines_lemmas.NamedKeys.{not_named, quiet, too_many}
 use Rattle.flutejoin.proofs.lines.key_list.read_keys.Goals as goal

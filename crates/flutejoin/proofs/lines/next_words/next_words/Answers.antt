@@ -3,7 +3,7 @@ use Rattle.std.proofs.Common.{◌∙◌, ◌≡◌, ◌≤◌, ◌++◌, ◌==�
 use Rattle.std.specs.Io.KnownBytes.{Consumes}
 use Rattle.std.proofs.KnownBytes.{Consumes-trans}
 use Rattle.std.proofs.lemmas.Bool.{false≢true}
-use Rattle.flutejoin.specs.FillStreams.{TakesWords}
+use Rattle.flutejoin.specs.NextWords.{TakesWords}
 use Rattle.flutejoin.specs.ListedLines.{IsOneLine}
 use Rattle.flutejoin.proofs.fill_lemmas.ListSteps.{at_its_end, byte_is, ended_there, longer}
 use Rattle.flutejoin.proofs.fill_lemmas.ListSteps.{one_byte, one_line_more, taken_more}

@@ -1,6 +1,6 @@
 use Rattle.std.proofs.Common.{◌∙◌, sym, ap, subst, arith}
 use Rattle.flutejoin.specs.FillLists.{MayCome, text_of}
-use Rattle.flutejoin.specs.FillStreams.{GivesWords}
+use Rattle.flutejoin.specs.NextWords.{GivesWords}
 use Rattle.flutejoin.specs.Lines.{line}
 use Rattle.flutejoin.proofs.fill_lemmas.ListSteps.{none_next}
 use Rattle.flutejoin.proofs.fill.gap_list.GapList.read_next.Goals as goal
