@@ -212,3 +212,19 @@ class Lengths(Case):
         words = "--resolve", "--from", "all.fldg", "--"
         answer = self.files("-o", "files", *words, "all", status=1)
         self.assertEqual(answer.out.count("(no combination has its MD5)"), 8)
+
+    def test_what_many_cost(self) -> None:
+        """Combinations of more objects than are tried in one run: that is told of the others."""
+        many = [Sent(toi, text(toi, 18), f"http://h/{toi}", symbol=2) for toi in range(1, 401)]
+        sent = [packet for file in many for packet in file.packets(7)]
+        for file in many:
+            file.more = {"Content-MD5": md5(b"another")}
+            data = bytes(byte ^ 1 for byte in file.content)
+            sent += packets(7, file.toi, data, 2, 64)
+        self.journal("all", instance(7, 1, fdt(many)), sent)
+        words = "--resolve", "--from", "all.fldg", "--"
+        answer = self.files("-o", "files", *words, "all", status=1)
+        tried = answer.out.count("(no combination has its MD5)")
+        left = answer.out.count("(with those of other objects its combinations are too many)")
+        self.assertEqual(tried + left, 400)
+        self.assertTrue(tried and left, (tried, left))

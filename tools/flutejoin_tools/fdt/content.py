@@ -266,7 +266,7 @@ class Sums(Sink):
                 self.decoded.remove(each)
 
     def copy(self) -> Sums:
-        other = Sums(self.md5s, (), 0, self.budget)
+        other = copy.copy(self)
         other.whole = self.whole.copy()
         other.decoded = [(decoder.copy(), digest.copy()) for decoder, digest in self.decoded]
         return other
@@ -274,8 +274,10 @@ class Sums(Sink):
     def age(self) -> int:
         """The place of the newest description whose MD5 they are; beyond the last if of none."""
         digests = {self.whole.digest(), *(digest.digest() for _, digest in self.decoded)}
-        ages = (age for age, md5 in enumerate(self.md5s) if md5 in digests)
-        return next(ages, len(self.md5s))
+        for age, md5 in enumerate(self.md5s):
+            if md5 in digests:
+                return age
+        return len(self.md5s)
 
     def is_right(self) -> bool:
         return self.age() < len(self.md5s)

@@ -16,7 +16,7 @@ from flutejoin_tools.journals.resolving import Budget, Resolving, Sink, Wanted, 
 from flutejoin_tools.journals.shares import Share, shares
 from flutejoin_tools.journals.states import State
 
-MOST_HASHED = 1 << 31  # bytes of all ways to put objects together, or some times those of journals
+MOST_HASHED = 1 << 30  # bytes of all ways to put objects together, or some times those of journals
 MOST_DECODED = 1 << 26  # bytes of an object that is decoded in several ways
 BY_MD5, BY_LENGTH = "by its MD5", "by its length"
 

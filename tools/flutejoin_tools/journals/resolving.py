@@ -10,7 +10,17 @@ from __future__ import annotations
 
 import collections
 import os
-from typing import Callable, Container, Iterable, Iterator, NamedTuple, Optional, Sequence, Tuple
+from typing import (
+    Callable,
+    Container,
+    Iterable,
+    Iterator,
+    Mapping,
+    NamedTuple,
+    Optional,
+    Sequence,
+    Tuple,
+)
 
 from flutejoin_tools.common.addresses import sender_bytes
 from flutejoin_tools.common.faults import Fault
@@ -28,6 +38,7 @@ MOST_INFORMATION = 32  # kinds of transmission information of an object that are
 MOST_TRIED = 1 << 10  # combinations of the values of an object
 MOST_KEPT = 1 << 24  # bytes of values that are held in memory
 COST = 200  # of them for a symbol
+STATE_COST = 4096  # of a state, beside that of its bytes
 MOST_LEADS = 32  # journals that are believed first
 MOST_COMPARED = 1 << 12  # symbols of an object by which journals are compared
 
@@ -115,6 +126,7 @@ class Wanted:
         self.has_disputed_information = False
         self.combinations = 1
         self.is_too_much = False  # to be held in memory
+        self.is_spent = False  # the budget, before all combinations were tried
         for each in numbers:
             self.inform(each)
 
@@ -204,6 +216,8 @@ class Wanted:
         """Why no combination of values was chosen."""
         if self.is_too_much:
             return f"more than {MOST_TRIED:,} combinations are too many"
+        if self.is_spent:
+            return "with those of other objects its combinations are too many"
         without = sum(not values for values in self.values.values())
         if without:
             return f"no value of {without} of {len(self.values)} conflicting symbols was found"
@@ -236,6 +250,8 @@ class Branch:
         self.taken += 1
         if len(values) > 1 or is_other:
             self.part(found.symbol, fitting, values)
+            if not self.budget.spend(STATE_COST * len(self.states)):
+                self.states = []
             return
         piece = self.partition.piece(place, values[0])
         assert piece is not None  # as it is fitting
@@ -248,12 +264,15 @@ class Branch:
         if len(self.states) * len(values) > MOST_TRIED and not self.states[0].orders:
             self.states = []
             return
+        pieces = {value: self.partition.piece(place, value) for value in values}
         for state in self.states:
             ways: dict[bytes, list[Order]] = {}
             for order in state.orders:
                 ways.setdefault(first_of(order, fitting), []).append(order)
-            for value in values if not state.orders else ways:
-                sink, piece = state.sink.copy(), self.partition.piece(place, value)
+            taken = [*ways] if state.orders else values
+            for value in taken:
+                sink = state.sink if value is taken[-1] else state.sink.copy()
+                piece = pieces[value]
                 assert piece is not None  # as it is fitting
                 sink.update(piece)
                 chosen = state.chosen if state.orders else (*state.chosen, (symbol, value))
@@ -336,17 +355,26 @@ class Resolving:
     def by_journal(self) -> Iterator[tuple[Key, list[tuple[Way, Sink]]]]:
         """Yields the ways in which each object is whole if one journal is believed first."""
         for key, _, found in merged(self.journals, self.is_open):
-            yield key, self.ways(self.wanted[key], self.wanted[key].orders(), found)
+            yield key, self.ways(self.wanted[key], self.wanted[key].orders(), {}, found)
 
     def by_combination(self) -> Iterator[tuple[Key, list[tuple[Way, Sink]]]]:
         """Yields the combinations of values in which each object is whole."""
         for key, _, found in merged(self.journals, self.is_open):
-            is_tried = not self.wanted[key].is_too_much
-            yield key, self.ways(self.wanted[key], (), found) if is_tried else []
+            wanted = self.wanted[key]
+            is_tried = not wanted.is_too_much
+            ends = self.ways(wanted, (), wanted.values, found) if is_tried else []
+            wanted.is_spent = self.budget.left < 0
+            yield key, ends
 
     def ways(
-        self, wanted: Wanted, orders: tuple[Order, ...], found: Iterator[Found]
+        self,
+        wanted: Wanted,
+        orders: tuple[Order, ...],
+        values: Mapping[bytes, Sequence[bytes]],
+        found: Iterator[Found],
     ) -> list[tuple[Way, Sink]]:
+        """The ways by these orders, or by all combinations of the values that symbols have here and
+        in the journals."""
         branches = [
             Branch(
                 partition,
@@ -357,7 +385,7 @@ class Resolving:
             for partition in wanted.partitions
         ]
         for each in found:
-            others = () if orders else wanted.values.get(each.symbol, ())
+            others = values.get(each.symbol, ())
             for branch in branches if each.symbol else ():
                 branch.take(each, others)
         return [end for branch in branches for end in branch.ends()]
