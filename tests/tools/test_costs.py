@@ -104,8 +104,26 @@ def numbered(begin: bytes, end: bytes = b"") -> Iterator[bytes]:
         number += 1
 
 
+def fragments(count: int) -> Iterator[bytes]:
+    front, ends = captures.LINKS["ethernet"][1], (b"\n\0\0\1", b"\xef\1\1\1")
+    numbers = ((at // 255 & 0xFFFF, 0x2000 | 255 - at % 255) for at in range(count))
+    return (front + captures.ip4(*ends, 17, bytes(8), *each) for each in numbers)
+
+
+def lengths(length: int, symbol: int, block: int) -> bytes:
+    """EXT_FTI."""
+    return struct.pack(">BB6sHHI", 64, 4, length.to_bytes(6, "big"), 0, symbol, block)
+
+
+def with_toi(front: bytes, toi: int) -> bytes:
+    """A header with another TOI."""
+    return front[:12] + struct.pack(">I", toi) + front[16:]
+
+
 FRONT = captures.pcap([(1, b"", 0)], "<", 0xA1B2C3D4, 1 << 18)[:24]
 SMALL = header(7, 1, b"") + b"\0\0\0\0N"
+INFORMED = header(7, 1, lengths(600, 10, 64)) + bytes(14)
+SECTION = struct.pack("<IIIIqI", 0x0A0D0D0A, 28, 0x1A2B3C4D, 1, -1, 28)
 INSTANCE = header(7, 0, struct.pack(">I", 192 << 24 | 2 << 20 | 1)) + b"\0\0\0\0"
 
 
@@ -114,8 +132,8 @@ class Captures(Case):
         self.filled("capture", captured(frames), FRONT)
         self.kept()
 
-    def kept(self) -> None:
-        self.costs("flutejoin-capture", "--port", captures.PORT, "-o", "kept", "capture")
+    def kept(self, folder: str = "kept") -> None:
+        self.costs("flutejoin-capture", "--port", captures.PORT, "-o", folder, "capture")
 
     def test_senders(self) -> None:
         self.capture(frame(SMALL, number) for number in range(SIZE))
@@ -127,24 +145,29 @@ class Captures(Case):
 
     def test_several_symbols(self) -> None:
         """Of one byte, in packets of 1,400."""
-        length = (60_000).to_bytes(6, "big")
-        lengths = struct.pack(">BB6sHHI", 64, 4, length, 0, 1, 60_000)
-        self.capture(again(frame(header(7, 1, lengths) + bytes(1404))))
+        self.capture(again(frame(header(7, 1, lengths(60_000, 1, 60_000)) + bytes(1404))))
 
     def test_fragments(self) -> None:
         """Of which none is whole, and each datagram has many."""
-        front, ends = captures.LINKS["ethernet"][1], (b"\n\0\0\1", b"\xef\1\1\1")
-        numbers = ((at // 255 & 0xFFFF, 0x2000 | 255 - at % 255) for at in range(SIZE))
-        self.capture(front + captures.ip4(*ends, 17, bytes(8), *each) for each in numbers)
+        self.capture(fragments(SIZE))
 
     def test_gzip(self) -> None:
-        """Of packets without a byte, of small ones, and of long ones: many GB, and packets."""
-        small = b"".join(captured([frame(SMALL)]))
-        long = b"".join(captured([bytes((1 << 20) - 16)]))
-        for piece, count in ((bytes(1 << 20), 50), (small * 10_000, 50), (long, 50)):
-            member = gzipped(piece, count)
-            self.filled("capture", again(member), gzip.compress(FRONT))
-            self.kept()
+        """Of packets without a byte, of small ones, of long ones, of those of which each takes most
+        work, of blocks without packets, and of members without bytes: many GB, and packets."""
+        pieces = {
+            "empty": bytes(1 << 20), "small": b"".join(captured([frame(SMALL)] * 10_000)),
+            "long": b"".join(captured([bytes((1 << 20) - 16)])),
+            "others": b"".join(captured(frame(with_toi(INFORMED, toi)) for toi in range(10_000))),
+            "fragments": b"".join(captured(fragments(10_000))),
+        }
+        for name, piece in pieces.items():
+            self.filled("capture", again(gzipped(piece, 50)), gzip.compress(FRONT))
+            self.kept(name)
+        block = struct.pack("<III", 9, 12, 12)
+        self.filled("capture", again(gzipped(block * 10_000, 50)), gzip.compress(SECTION))
+        self.kept()
+        self.filled("capture", again(gzip.compress(b"")), gzip.compress(FRONT))
+        self.kept()
 
 
 def entries(count: int) -> Iterator[bytes]:
@@ -171,16 +194,6 @@ class Journals(Case):
         self.datagrams("kept.fldg", numbered(SMALL[:-1]))
         words = "--tsi", 7, "--toi", 1, "--symbol", "0/0"
         self.costs("flutejoin-values", *words, "kept.fldg")
-
-
-def lengths(length: int, symbol: int, block: int) -> bytes:
-    """EXT_FTI."""
-    return struct.pack(">BB6sHHI", 64, 4, length.to_bytes(6, "big"), 0, symbol, block)
-
-
-def with_toi(front: bytes, toi: int) -> bytes:
-    """A header with another TOI."""
-    return front[:12] + struct.pack(">I", toi) + front[16:]
 
 
 class Objects(Case):

@@ -9,7 +9,6 @@ import struct
 from typing import Callable, Iterator, NamedTuple, Optional, Tuple
 
 from flutejoin_tools.capture.inputs import (
-    BYTES_OF_EACH,
     CaptureFault,
     Damage,
     Empty,
@@ -88,9 +87,10 @@ def read(
     tick: Callable[[], None],
     take: Take,
     take_more: TakeMore = lambda *_: 0,
+    work: Callable[[], int] = lambda: 0,
 ) -> Optional[str]:
     """Passes each packet of a capture to `take`, up to its end or a signal, but for those that
-    `take_more` took from the stream.
+    `take_more` took from the stream. `work` tells what packets took more than a small one.
 
     Returns a note on a capture that is whole, or None. Raises `CaptureFault` if the capture is
     damaged or cut short, and `OSError` if it cannot be read.
@@ -98,12 +98,13 @@ def read(
     with opened(name) as file:
         try:
             source = Input(file, stop, tick)
-            compressed = io.BufferedReader(source, 1 << 18) if source.is_gzip else None
-            inflated = Inflated(compressed) if compressed else None
-            stream = Stream(inflated or source)
-            for count, (link, frame, is_cut, when, record) in enumerate(packets(stream)):
-                if inflated and not inflated.may_have(count):
-                    raise Damage(f"gzip: fewer than {BYTES_OF_EACH} bytes for a packet")
+            stream = Stream(source)
+            inflated: Optional[Inflated] = None
+            if source.is_gzip:
+                compressed, before = io.BufferedReader(source, 1 << 18), work()
+                inflated = Inflated(compressed, lambda: stream.count + work() - before)
+                stream.source = inflated
+            for link, frame, is_cut, when, record in packets(stream):
                 take(link, frame, is_cut, when)
                 if record and not inflated:
                     take_more(record, link, frame, stream)
@@ -143,6 +144,7 @@ def packets(stream: Stream) -> Iterator[Packet]:
         frame = next_bytes(captured)
         if len(frame) < captured:
             raise Ends
+        stream.count += 1
         record = Record(b"", head[8:], b"") if size == 16 and captured == original else None
         yield link, frame, captured < original, when, record
 
@@ -164,6 +166,7 @@ def block_packets(stream: Stream) -> Iterator[Packet]:
     while kind:
         size = taken(stream, 4) if len(kind) == 4 else taken(stream, 1 << 20)
         begun = 0
+        stream.count += 1
         if kind == SECTION:
             named = SECTION_ORDERS.get(taken(stream, 4))
             if named is None:

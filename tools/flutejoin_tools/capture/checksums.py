@@ -30,6 +30,7 @@ def folded(number: int, size: int) -> int:
 
 def sum_of(data: bytes) -> int:
     """The sum of the words of these bytes, modulo 65,535. An odd one at the end is a high one."""
-    size = len(data)
-    number = folded(int.from_bytes(data, "big"), size)
+    size, number = len(data), int.from_bytes(data, "big")
+    if size > SHORT:
+        number = folded(number, size)
     return (number << 8 if size & 1 else number) % 65535

@@ -32,6 +32,8 @@ SEVERAL = "perhaps several datagrams as one (UDP segmentation offload; capture a
 PORT_UNKNOWN = ", of a port that is not known"
 UNKNOWN = "which is not known here"
 MOST_NAMED = 16  # link types, and EtherTypes, that are counted one by one
+# Work, beside that of a small packet: of a fragment, of VLAN tags, of bytes of extension headers
+FRAGMENT_WORK, TAGS_OF_WORK, HEADERS_OF_WORK = 3, 4, 128
 
 UDP, ICMP, ICMP6, FRAGMENT = 17, 1, 58, 44
 # IPv6 extension headers with the usual length field (RFC 6564).
@@ -79,6 +81,7 @@ class Datagrams:
         self.ports, self.groups, self.senders = ports, groups, senders
         self.any_checksum, self.hand_on = any_checksum, hand_on
         self.count = 0
+        self.work = 0  # that packets took more than a small one
         self.left_out: collections.Counter[str] = collections.Counter()
         self.fragments = Fragments(self.lose)
         self.unknown: dict[str, set[int | str]] = collections.defaultdict(set)
@@ -117,6 +120,8 @@ class Datagrams:
         `when` is the second of its capture, or None if unknown.
         """
         kind, start, self.vlans = carried(link, frame)
+        if self.vlans:
+            self.work += len(self.vlans) // TAGS_OF_WORK
         self.when = when
         if kind in IP:
             self.take_ip(frame[start:], is_cut)
@@ -166,6 +171,7 @@ class Datagrams:
         elif place & 0x3FFF:
             key = source, target, number, UDP, self.vlans
             offset, more = (place & 0x1FFF) * 8, bool(place & 0x2000)
+            self.work += FRAGMENT_WORK
             joined = self.fragments.add(key, offset, more, data, is_whole, self.when)
             if joined is not None:
                 self.take_udp(source, target, joined, True, True)
@@ -175,7 +181,7 @@ class Datagrams:
     def take_ip6(self, ip: bytes) -> None:
         length, kind, source, target = IP6_HEAD.unpack_from(ip)
         is_whole, is_joined = length <= len(ip) - 40, False
-        kind, data = behind_headers(kind, ip[40 : 40 + length])
+        kind, data = self.behind_headers(kind, ip[40 : 40 + length])
         if self.is_of_others(source, target) and kind in (UDP, FRAGMENT, *HEADERS):
             self.leave_udp_tunnel(data if kind == UDP else b"")
             return
@@ -187,17 +193,24 @@ class Datagrams:
                     return
                 key = source, target, number, kind, self.vlans
                 offset, more = place & 0xFFF8, bool(place & 1)
+                self.work += FRAGMENT_WORK
                 joined = self.fragments.add(key, offset, more, data, is_whole, self.when)
                 if joined is None:
                     return
                 data, is_whole, is_joined = joined, True, True
-            kind, data = behind_headers(kind, data)
+            kind, data = self.behind_headers(kind, data)
         if kind == UDP:
             self.take_udp(source, target, data, is_whole, is_joined)
         elif kind in HEADERS or kind == FRAGMENT:
             self.leave_out(LENGTHS if is_whole else CUT_BEFORE_PORT)
         else:
             self.take_other(kind, data)
+
+    def behind_headers(self, kind: int, data: bytes) -> tuple[int, bytes]:
+        """The same as the function, with the work counted."""
+        found, rest = behind_headers(kind, data)
+        self.work += (len(data) - len(rest)) // HEADERS_OF_WORK
+        return found, rest
 
     def take_udp(
         self, source: bytes, target: bytes, data: bytes, is_whole: bool, is_joined: bool = False
@@ -306,5 +319,5 @@ def checksum_fault(source: bytes, target: bytes, udp: bytes, checksum: int) -> O
     """
     if not checksum:
         return None if len(source) == 4 else NO_CHECKSUM
-    number = sum_of(source) + sum_of(target) + sum_of(udp)
+    number = sum_of(source + target + udp)
     return CHECKSUM if (number + len(udp) + UDP) % 65535 else None

@@ -19,11 +19,13 @@ from flutejoin_tools.common.signals import answer_stops
 GRACE = 1.0  # seconds after a signal in which a capture in a pipe may send its last packets
 TICK = 1.0  # seconds between two calls of `tick`
 GZIP = b"\x1f\x8b"  # how a gzip member begins
-# What may come out of gzip: bytes, and packets, at first and then for each byte that goes in. Of a
-# few MB it could make many GB, of which nothing is worth reading.
-INFLATED, INFLATED_EACH = 1 << 30, 100
-PACKETS, BYTES_OF_EACH = 1 << 20, 8
+# Work is counted in that of a small packet, or of so many bytes. What comes out of gzip may take so
+# much, and then 1 for each so many bytes that go in: of a few MB gzip could make many GB, of which
+# nothing is worth reading.
+BYTES_OF_WORK = 1024
+WORK, BYTES_IN = 1 << 18, 16
 BUFFER = 1 << 20  # bytes of a capture that are read at once
+INFLATED = 1 << 16  # bytes that come out of gzip at once
 
 
 class CaptureFault(Exception):
@@ -45,6 +47,13 @@ class Empty(Ends):
 class Damage(CaptureFault):
     def __init__(self, what: str) -> None:
         super().__init__(f"is damaged ({what}); the packets before that were read")
+
+
+class TooMuch(Damage):
+    """More comes out of gzip than is worth reading."""
+
+    def __init__(self) -> None:
+        super().__init__("gzip: too much comes out of so few bytes")
 
 
 class Stop:
@@ -115,11 +124,11 @@ class Input(io.RawIOBase):
 
 class Stream:
     """The bytes of an input, a buffer at a time. Those that are in the buffer may be looked at, and
-    skipped, without a copy."""
+    skipped, without a copy. `count` is that of the packets, and other blocks, that were read."""
 
     def __init__(self, source: io.RawIOBase) -> None:
         self.source, self.buffer = source, memoryview(bytearray(BUFFER))
-        self.at = self.end = 0
+        self.at = self.end = self.count = 0
 
     def read(self, size: int) -> bytes:
         """So many bytes; fewer at the end of the input alone."""
@@ -151,14 +160,17 @@ class Inflated(io.RawIOBase):
     """The decompressed bytes of a gzip stream, one member after another (RFC 1952).
 
     Bytes after a member that begin no other one, as the zeros that fill a tape, are ignored, as
-    gzip does. `came` counts the bytes that go in, and `out` those that come out.
+    gzip does. `came` counts the bytes that go in, `out` those that come out, and `members` those
+    that ended; `work` tells what was done of these besides.
     """
 
-    def __init__(self, stream: io.BufferedReader) -> None:
-        self.stream, self.member = stream, zlib.decompressobj(31)
+    def __init__(
+        self, stream: io.BufferedReader, work: Callable[[], int] = lambda: 0
+    ) -> None:
+        self.stream, self.work, self.member = stream, work, zlib.decompressobj(31)
         self.fault: Optional[Damage] = None
         self.has_garbage = False
-        self.came = self.out = 0
+        self.came = self.out = self.members = 0
 
     def readable(self) -> bool:
         return True
@@ -172,10 +184,12 @@ class Inflated(io.RawIOBase):
                 if not data:
                     return 0
                 self.member = zlib.decompressobj(31)
-            inflated = self.inflate(data, len(buffer))
+                self.members += 1
+            inflated = self.inflate(data, min(INFLATED, len(buffer)))
             self.out += len(inflated)
-            if self.out > INFLATED + INFLATED_EACH * self.came:
-                raise Damage(f"gzip: more than {INFLATED_EACH} times as many bytes come out")
+            done = self.out // BYTES_OF_WORK + self.members + self.work()
+            if done > WORK + self.came // BYTES_IN:
+                raise TooMuch
             if inflated:
                 buffer[: len(inflated)] = inflated
                 return len(inflated)
@@ -187,10 +201,6 @@ class Inflated(io.RawIOBase):
         data = self.stream.read1(65536)
         self.came += len(data)
         return data
-
-    def may_have(self, packets: int) -> bool:
-        """Whether so many packets may have come out until now."""
-        return packets <= PACKETS + self.came // BYTES_OF_EACH
 
     def next_member(self, data: bytes) -> bytes:
         """The first bytes of the next member, from `data` on; empty if there is none."""

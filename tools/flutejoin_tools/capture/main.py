@@ -5,9 +5,10 @@
   tcpdump -i eth0 -s 0 -U -w - udp | flutejoin-capture --port 4001 -o monday -
 
 A capture is pcap or pcapng, also compressed by gzip; `-` is standard input,
-where it may still grow. More than a million packets of which each took less
-than 8 bytes of gzip's, or more than 1 GiB that is 100 times as long, are
-damage: gunzip it before, if it is right. A capture is of Ethernet, with VLAN tags or LLC/SNAP or
+where it may still grow. Out of gzip may come 262,144 packets, and then one for
+each 16 bytes that go in: each KiB counts as one more, and as several each
+fragment and each packet that is like none before. More is damage: gunzip it
+before, if it is right. A capture is of Ethernet, with VLAN tags or LLC/SNAP or
 without, of Linux "any" (SLL and SLL2), of raw IP, or of loopback. Several
 captures are read one after another. IPv4 and IPv6 fragments are put together.
 Of a list, "like FLUTE" counts the datagrams with a right LCT header (RFC
@@ -73,7 +74,7 @@ import argparse
 import collections
 import ipaddress
 import os
-from typing import Callable, Container, Iterator, Optional
+from typing import Callable, Container, Iterator
 
 from flutejoin_tools.capture import captures, datagrams, inputs, parts
 from flutejoin_tools.capture.runs import Runs
@@ -96,6 +97,7 @@ class Flows:
         self.counts: dict[tuple[bytes, bytes, int], list[int]] = {}
         self.causes: dict[tuple[bytes, bytes, int], str] = {}  # why the first is left out
         self.left_out: collections.Counter[str] = collections.Counter()
+        self.work = 0  # that datagrams took more than a small one
 
     def add(self, source: bytes, target: bytes, port: int, payload: bytes) -> None:
         flow = source, target, port
@@ -106,6 +108,7 @@ class Flows:
                 return
             count = self.counts[flow] = [0, 0]
         count[0] += 1
+        self.work += parts.ADAPTED_WORK
         taken = adapting.Adapting().take(payload)
         count[1] += packets.is_like_flute(payload) or taken.is_flute()
         if taken.left_out:
@@ -190,15 +193,21 @@ def arguments() -> argparse.Namespace:
 def take_all(
     args: argparse.Namespace,
     wanted: datagrams.Datagrams,
-    out: Optional[parts.Files],
+    into: parts.Files | Flows,
     report: Log,
     is_told: bool = False,
 ) -> bool:
-    """Takes the datagrams of all captures. Returns False if a signal ended it, or it failed.
+    """Takes the datagrams of all captures. Returns False if a signal ended it, it failed, or one
+    was too much.
 
     A fault in one capture is reported, unless that was done already, and the next one is read.
     """
-    stop = inputs.Stop()
+    stop, is_too_much = inputs.Stop(), False
+    out = into if isinstance(into, parts.Files) else None
+
+    def work() -> int:
+        return wanted.work + into.work
+
     try:
         for name in args.capture:
             if name != "-":
@@ -209,9 +218,12 @@ def take_all(
             try:
                 tick = out.flush_all if out else lambda: None
                 more = Runs(wanted, out, args.as_received).take if out else lambda *_: 0
-                told = captures.read(name, stop, tick, wanted.take, more)
+                told = captures.read(name, stop, tick, wanted.take, more, work)
                 if told and not is_told:
                     report.warn(f"{name}: {told}")
+            except inputs.TooMuch as fault:
+                is_too_much = True
+                report.fault(1, f"{name}: {fault}")
             except inputs.CaptureFault as fault:
                 if not is_told:
                     report.fault(1, f"{name}: {fault}")
@@ -222,7 +234,7 @@ def take_all(
     except OSError as fault:
         report.fault(3, f"{fault.filename or name}: cannot be read: {fault.strerror}")
     wanted.finish()
-    return not stop.asked and report.status < 3
+    return not stop.asked and not is_too_much and report.status < 3
 
 
 def take_others(
@@ -276,7 +288,7 @@ def capture(args: argparse.Namespace, report: Log) -> None:
             flows.add(source, target, port, payload)
 
     wanted = wanted_of(args, add, {sender.packed for sender in args.senders or ()})
-    is_whole = take_all(args, wanted, out, report)
+    is_whole = take_all(args, wanted, out or flows, report)
     written = []
     if out:
         out.finish()

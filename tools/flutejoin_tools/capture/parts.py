@@ -16,6 +16,7 @@ from flutejoin_tools.common.log import Log
 from flutejoin_tools.common.outputs import give_name
 from flutejoin_tools.common.shell import gather_lines, join_lines
 from flutejoin_tools.fdt.hints import TOLD, Hint
+from flutejoin_tools.fdt.instances import may_be_of_instance
 from flutejoin_tools.formats.adapting import Adapting
 from flutejoin_tools.formats.records import HEADER, LENGTH, MOST, whole_records
 
@@ -23,6 +24,10 @@ MOST_SENDERS = 200  # each has an open file
 MOST_ADAPTED = 4096  # senders of whose datagrams something is remembered
 MOST_JOINED = 32  # datagrams that are put together at once
 MOST_COUNTED = 1 << 16  # senders beyond these of which bytes are counted
+# Beside that of a small packet: of one that is adapted, or of a sender beyond these
+ADAPTED_WORK = 6
+DATAGRAMS_OF_WORK = 16  # that become of one
+INSTANCE_WORK = 2
 SENDERS = f"more than {MOST_SENDERS} senders"
 OCCUPIED = "its sender's file cannot be made"
 
@@ -113,6 +118,7 @@ class Files:
         self.adapting: dict[bytes, Adapting] = {}
         self.parts: collections.Counter[bytes] = collections.Counter()  # how many files it has
         self.is_made = False
+        self.work = 0  # that datagrams took more than a small one
 
     def make_folder(self) -> None:
         """Makes the folder, if it is missing, and checks that files can be made in it.
@@ -144,6 +150,7 @@ class Files:
             self.add(sender, payload)
             return
         taken = adapting.take(payload)
+        self.work += ADAPTED_WORK + len(taken.datagrams) // DATAGRAMS_OF_WORK
         if taken.left_out:
             self.left_out[taken.left_out] += 1
         for written in taken.datagrams:
@@ -170,8 +177,10 @@ class Files:
             part.waiting += LENGTH.pack(size - 2)
             part.waiting += payload
             part.count += 1
-            if self.hints[sender].look(payload):
-                self.report.warn(f"{address_text(sender)} {TOLD}")
+            if may_be_of_instance(payload):
+                self.work += INSTANCE_WORK
+                if self.hints[sender].look(payload):
+                    self.report.warn(f"{address_text(sender)} {TOLD}")
             if len(part.waiting) > 65536:
                 self.flush(part)
 
@@ -194,6 +203,7 @@ class Files:
     def count_beyond(self, sender: bytes, size: int) -> None:
         """Counts a datagram of a sender that has no file. Those of fewest bytes are forgotten."""
         self.left_out[SENDERS] += 1
+        self.work += ADAPTED_WORK
         if sender not in self.beyond and len(self.beyond) >= MOST_COUNTED:
             most = self.beyond.most_common(MOST_COUNTED // 2)
             self.beyond = collections.Counter(dict(most))

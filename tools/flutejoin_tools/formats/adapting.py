@@ -139,31 +139,34 @@ def partition_of(information: bytes) -> Optional[Partition]:
     return Partition(*numbers) if numbers[0] and not fault_of(*numbers) else None
 
 
-def symbols_of(payload: Buffer, end: int, information: bytes) -> list[bytes]:
-    """The symbols of a payload behind their payload IDs, if there are several that fit exactly.
+def count_of(payload: Buffer, end: int, partition: Partition) -> int:
+    """How many symbols are in a payload, if there are several that fit exactly; else 0.
 
     `end` is that of the header.
     """
-    partition = partition_of(information)
-    size = len(payload) - end - PAYLOAD_ID.size
-    if partition is None or size <= partition.numbers[1]:
-        return []
     length, symbol, _ = partition.numbers
+    size = len(payload) - end - PAYLOAD_ID.size
+    if size <= symbol:
+        return 0
     number, first = PAYLOAD_ID.unpack_from(payload, end)
     count = -(-size // symbol)
     if number >= partition.blocks or first + count > partition.size(number):
-        return []
+        return 0
     rest = size - (count - 1) * symbol
     if rest < symbol:
         is_last = partition.start(number) + first + count == partition.symbols
         if not is_last or rest != length - (partition.symbols - 1) * symbol:
-            return []
+            return 0
+    return count
+
+
+def symbols_of(payload: Buffer, end: int, symbol: int, count: int) -> Iterator[bytes]:
+    """The symbols of a payload, each behind its payload ID."""
+    number, first = PAYLOAD_ID.unpack_from(payload, end)
     begin = end + PAYLOAD_ID.size
-    return [
-        PAYLOAD_ID.pack(number, first + at)
-        + payload[begin + at * symbol : begin + (at + 1) * symbol]
-        for at in range(count)
-    ]
+    for at in range(count):
+        place = begin + at * symbol
+        yield PAYLOAD_ID.pack(number, first + at) + payload[place : place + symbol]
 
 
 def times_of(payload: Buffer) -> int:
@@ -247,11 +250,13 @@ class Adapting:
         self.accepted += 1
         self.forms.update(plan.forms)
         information = self.known.get(plan.key, b"") if plan.key else plan.information
-        symbols = symbols_of(payload, end, information) if information else []
-        if len(symbols) * end > MOST_TIMES * len(payload):
+        partition = partition_of(information) if information else None
+        count = count_of(payload, end, partition) if partition else 0
+        if count * end > MOST_TIMES * len(payload):
             return Taken((), SHORT)
-        if symbols:
+        if partition and count:
             self.forms[SEVERAL] += 1
+            symbols = symbols_of(payload, end, partition.numbers[1], count)
             return Taken([(plan.head or head) + symbol for symbol in symbols])
         return Taken((payload,) if plan.head is None else (plan.head + payload[end:],))
 
