@@ -2,10 +2,12 @@
 not installed, or may not trace."""
 from __future__ import annotations
 
+import gzip
+import random
 import shutil
 import subprocess
 
-from tests.files.case import Case, text
+from tests.files.case import Case, md5, text
 from tests.support.flute_sender import Sent
 from tests.support.run import PROGRAM
 
@@ -41,3 +43,31 @@ class Synced(Case):
         self.assertGreaterEqual(first, FILES)
         self.assertLessEqual(self.calls("-o", "files", "all"), OTHERS)
         self.assertEqual(self.calls("--list", "all"), 0)
+
+    def test_no_large_object_that_is_decoded(self) -> None:
+        """It is decoded from an output that nobody syncs; the file is synced with all others."""
+        sent = []
+        for toi in range(1, FILES + 1):
+            content = random.Random(toi).randbytes(70_000)
+            more = {"Content-Encoding": "gzip", "Content-MD5": md5(content)}
+            sent.append(Sent(toi, content, f"http://h/{toi}", gzip.compress(content), more=more))
+        self.session("all", sent)
+        self.assertLessEqual(self.calls("-o", "files", "all"), OTHERS)
+        made = {f"h/{each.toi}": each.content for each in sent}
+        self.assertEqual(self.tree(), made)
+
+
+class Apart(Case):
+    """A large object that is to be decoded goes through the standard output of a run."""
+
+    def test_a_run_that_fails_leaves_nothing_wrong(self) -> None:
+        content = random.Random(1).randbytes(100_000)
+        more = {"Content-Encoding": "gzip", "Content-MD5": None}
+        sent = Sent(1, content, "http://h/1", gzip.compress(content), more=more)
+        self.session("all", [sent])
+        for how, status in ("exit 3", 3), ("kill -9 $$", 3), ("exit 1", 1):
+            program = f'{PROGRAM} "$@"'
+            cases = f'*"-o - "*) {program} | head -c 50000; {how};; *) exec {program};;'
+            self.program.write_text(f'#!/bin/sh\ncase "$*" in {cases} esac\n')
+            self.files("-o", "files", "all", status=status)
+            self.assertEqual(self.tree(), {"h/1": content} if status == 1 else {}, how)

@@ -53,7 +53,7 @@ class Work:
 
     NAMES = (
         *("journal", "fdt", "described", "objects", "decoded"),
-        *("resolved.journal", "resolved"),
+        *("resolved.journal", "resolved", "encoded.journal", "encoded"),
     )
 
     def __init__(self, path: str) -> None:

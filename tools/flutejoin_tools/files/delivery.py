@@ -1,4 +1,5 @@
-"""Makes named files of journals by a few runs of flutejoin, whatever the number of files."""
+"""Makes named files of journals by a few runs of flutejoin, whatever the number of files, and one
+for each large object that is to be decoded."""
 from __future__ import annotations
 
 import contextlib
@@ -10,7 +11,7 @@ from flutejoin_tools.common import gaps
 from flutejoin_tools.common.faults import Fault
 from flutejoin_tools.common.gaps import CHECK, GAPS
 from flutejoin_tools.common.places import Work
-from flutejoin_tools.common.program import ALL, Command, Program, argument
+from flutejoin_tools.common.program import ALL, Command, Failed, Program, argument
 from flutejoin_tools.common.shell import MOST_INPUTS
 from flutejoin_tools.common.texts import shown
 from flutejoin_tools.fdt.documents import Documents
@@ -27,6 +28,7 @@ from flutejoin_tools.journals.resolving import Way
 from flutejoin_tools.journals.sparse import Thinning
 from flutejoin_tools.journals.states import State, key_of
 
+LEAST_APART = 1 << 16  # bytes of an encoded object for which it is worth a run of its own
 MOST_GAPS = 1 << 20  # of objects that nothing describes, if only a list is wanted
 
 
@@ -197,7 +199,8 @@ class Delivery:
     def extract_all(self) -> None:
         """Has flutejoin write the whole objects that are described, and reads the others' state.
 
-        Those whose file is there already are left out.
+        Those whose file is there already are left out. An object that is to be decoded goes through
+        a run's standard output, if it is large: else the disk would be waited for twice.
         """
 
         sparse = self.sparse()
@@ -206,9 +209,48 @@ class Delivery:
             is_new = self.catalogue.describes(key) and key not in sparse
             return is_new and key.number not in self.catalogue.of(key).outcomes
 
-        for key, state in self.extract(self.describe(is_wanted), "objects"):
+        apart = {key for key in self.encoded() if is_wanted(key)}
+        apart = {*self.extract_apart(apart)} if apart else apart
+        others = self.describe(lambda key: key not in apart and is_wanted(key))
+        for key, state in self.extract(others, "objects"):
             self.take(key, state)
-        self.work.remove("described")
+        for key in apart:
+            self.take(key, State(gaps.WHOLE))
+            self.move(key, "encoded", key)
+        for name in "described", "encoded", "encoded.journal":
+            self.work.remove(name)
+
+    def move(self, key: Key, folder: str, to: Key) -> None:
+        """Moves an object to those that were extracted first, which may have another number."""
+        source = os.path.join(self.work.at(folder), key.file_name())
+        os.rename(source, os.path.join(self.work.at("objects"), to.file_name()))
+
+    def encoded(self) -> Iterator[Key]:
+        """The large objects that are to be decoded, and may be whole."""
+        for session in self.catalogue:
+            for toi in filter(session.is_encoded, session.files):
+                held, numbers = session.held.get(toi, NOTHING), session.information(toi)
+                is_large = numbers is not None and numbers[0] >= LEAST_APART
+                if is_large and not held.is_disputed and held.symbols == session.symbols(toi):
+                    yield session.key(toi)
+
+    def extract_apart(self, wanted: Container[Key]) -> Iterator[Key]:
+        """Extracts each of these objects by a run of its own, without syncing it, and yields those
+        that are whole."""
+        journal = self.work.at("encoded.journal")
+        os.mkdir(self.work.at("encoded"))
+        added = dict(each for session in self.catalogue for each in session.added())
+        with self.named_faults(), open(journal, "wb") as out:
+            with open(self.journal, "rb", buffering=0) as file:
+                for key in holdings.copies(file, wanted.__contains__, out, added):
+                    path = os.path.join(self.work.at("encoded"), key.file_name())
+                    words = ["extract", "--any-size", "-o", "-", *gaps.options(key.text())]
+                    with open(path, "wb") as made:
+                        answer = self.program.run([*words, argument(journal)], out=made)
+                    if answer.status > 1:
+                        raise Failed(answer, [self.name])
+                    if not answer.status:
+                        yield key
 
     def extract(self, journal: str, folder: str) -> Iterator[tuple[Key, State]]:
         """Extracts all whole objects, and yields the state that flutejoin prints of each object."""
@@ -284,8 +326,7 @@ class Delivery:
                 kept = key._replace(number=found[key][0])
                 self.take(kept, state)
                 ways.note(key, *found[key])
-                source = os.path.join(self.work.at("resolved"), key.file_name())
-                os.rename(source, os.path.join(self.work.at("objects"), kept.file_name()))
+                self.move(key, "resolved", kept)
                 completed.add(kept)
         return completed
 

@@ -120,6 +120,10 @@ class Session:
         usable = [each for each in self.described(toi) if not each.left_alone()]
         return sorted(usable, key=lambda each: each.rank, reverse=True)
 
+    def is_encoded(self, toi: int) -> bool:
+        """Whether a file may be made of an object by decoding it."""
+        return any(each.file.encoding for each in self.usable(toi))
+
     def is_left_alone(self, toi: int) -> bool:
         return not self.usable(toi)
 

@@ -103,7 +103,7 @@ class Writing:
 
     def write(self, folder: str, named: bytes | None) -> None:
         """Gives the files their names. The sender `named` gets the names that it asks for."""
-        if any(each.checked.is_decoded for each in self.ready.values()):
+        if any(each.session.is_encoded(each.toi) for each in self.ready.values()):
             bring_to_disk(self.work.folder)
         place = Place(folder)
         try:

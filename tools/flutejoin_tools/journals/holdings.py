@@ -14,6 +14,7 @@ from typing import (
     Callable,
     Iterable,
     Iterator,
+    Mapping,
     NamedTuple,
     Optional,
     Tuple,
@@ -172,6 +173,27 @@ def holdings(file: BinaryIO, choice: Choice) -> Iterator[tuple[Key, Held]]:
             held.add(kind, more)
     if key:
         yield key, held
+
+
+def copies(
+    file: BinaryIO, choice: Choice, out: IO[bytes], added: Mapping[Key, Numbers]
+) -> Iterator[Key]:
+    """Writes a journal of each chosen object alone, all to the same file in turn, with transmission
+    information that is added, and yields the object then."""
+    for raw, of in itertools.groupby(entries(file), lambda entry: entry[1]):
+        key = key_of(raw)
+        if not choice(key):
+            continue
+        out.seek(0)
+        out.truncate()
+        copied = Copy(out)
+        if key in added:
+            copied.inform(key, added[key])
+        for kind, _, more in of:
+            copied.add(kind, raw, more)
+        copied.finish()
+        out.flush()
+        yield key
 
 
 def copy(file: BinaryIO, choice: Choice, out: IO[bytes], added: Iterable[Added]) -> None:
