@@ -3,6 +3,7 @@ from __future__ import annotations
 
 import hashlib
 import json
+import os
 import pathlib
 from typing import Any, Iterable, Optional, Sequence
 
@@ -80,12 +81,21 @@ class CentreCase(run.Case):
         self.path("centre").mkdir(exist_ok=True)
         self.centre = Deliverer(self.settings(), str(run.PROGRAM), self.told, self.clock)
 
-    def push(self, name: str, datagrams: Iterable[bytes], sender: str = SENDER) -> None:
-        """Has a station push datagrams, as examples/push.sh does."""
+    def push(
+        self,
+        name: str,
+        datagrams: Iterable[bytes],
+        sender: str = SENDER,
+        at: Optional[float] = None,
+    ) -> None:
+        """Has a station push datagrams, as examples/push.sh does. `at` is when they came."""
         path = self.path(f"{sender}.fldg")
         datagram_files.write(str(path), datagrams)
+        if at is not None:
+            os.utime(path, (at, at))
         program = Program(str(run.PROGRAM), lambda: None)
-        gathering = Gathering(str(self.path(f"push/{name}")), program, self.told)
+        folder, seconds = str(self.path(f"push/{name}")), self.centre.settings.keep
+        gathering = Gathering(folder, program, self.told, seconds=seconds)
         gathering.take(str(path))
         gathering.end()
 

@@ -29,6 +29,7 @@ from flutejoin_tools.fdt import instances
 from flutejoin_tools.fdt.instances import Folder
 from flutejoin_tools.formats.adapting import Adapting
 from flutejoin_tools.formats.entries import SYMBOL
+from flutejoin_tools.formats.packets import packet_of
 from flutejoin_tools.gather.generations import Generations, generation
 from flutejoin_tools.gather.others import Others
 from flutejoin_tools.journals import holdings
@@ -733,6 +734,33 @@ class Instances(unittest.TestCase):
         self.folder = Folder(str(self.path))
         self.take(*packets[1:])
         self.assertEqual((self.documents(), len(os.listdir(self.path))), ([xml], 1))
+
+    def test_parts_end(self) -> None:
+        """What is not whole goes a week after it expired and came last; after a restart, when it
+        came is unknown. What tells no expiry goes with what came after it."""
+        soon, late = 1_790_000_000, 1_800_000_000
+
+        def of(number: int, expires: int) -> list[bytes]:
+            return instance(7, number, self.xml(number, expires + fdt_module.NTP_TO_UNIX))
+
+        def parts(when: float, *packets: bytes, is_new: bool = True) -> list[Optional[int]]:
+            self.folder = Folder(str(self.path)) if is_new else self.folder
+            self.take(*packets, when=when)
+            kept = instances.datagrams_in(str(self.path / f"{SENDER}.fldg"))
+            return [it.instance for it in map(packet_of, kept) if it]
+
+        sent = [of(0, late), of(1, soon), of(2, soon), of(3, late), of(4, late)]
+        came = sent[0][1], sent[1][0], sent[2][1], sent[3][0]
+        self.assertEqual(parts(soon - 1, *came), [0, 1, 2, 3])
+        now = soon + instances.WEEK
+        self.assertEqual(parts(now, sent[4][1]), [0, 1, 2, 3, 4])
+        self.assertEqual(parts(now + 1, sent[4][1]), [2, 3, 4])
+        self.assertEqual(parts(now + 2, sent[2][0], is_new=False), [3, 4, 2, 2])
+        now += instances.WEEK
+        self.assertEqual(parts(now + 2, sent[4][1], is_new=False), [3, 2, 2, 4])
+        self.assertEqual(parts(now + 3, sent[4][1], is_new=False), [3, 4])
+        self.assertEqual(parts(late + instances.WEEK + 1, *sent[3][1:]), [4])
+        self.assertEqual(len(self.documents()), 1)
 
     def test_made_up_ones(self) -> None:
         """As many as anybody likes: a bound of those that are written, and those that are kept."""

@@ -67,7 +67,7 @@ class Deliverer:
         self.shipping = Shipping(self.folder, settings.files, self.ledger, report)
         self.described = Described(self.at("fdt"))
         self.past = Past(self.at("kept"), settings.keep, self.program, self.ledger, self.described)
-        self.documents = Gathering(self.folder, self.program, report)
+        self.documents = Gathering(self.folder, self.program, report, seconds=settings.keep)
         self.gathered: Optional[Gathered] = None
         self.arrivals = [self.arrival(station) for station in settings.stations]
         if any(each.told for each in self.arrivals):

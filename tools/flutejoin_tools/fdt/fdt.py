@@ -344,11 +344,16 @@ def read_from(file: BinaryIO, number: int | None, name: str, budget: XmlBudget) 
 
 def likely_rank(begin: bytes, number: int) -> tuple[int, int]:
     """The rank that an FDT Instance seems to have by its first bytes, before it is read."""
+    when = likely_expiry(begin)
+    return (-ERA if when is None else when), number
+
+
+def likely_expiry(begin: bytes) -> int | None:
+    """When an FDT Instance seems to expire by its first bytes; None if they don't tell."""
     if begin[:1] in COMPRESSED:
         try:
             begin = zlib.decompressobj(EITHER).decompress(begin, PIECE)
         except zlib.error:
             begin = b""
     found = EXPIRES.search(begin)
-    when = expires(found[1].decode()) if found else None
-    return (-ERA if when is None else when), number
+    return expires(found[1].decode()) if found else None

@@ -11,6 +11,7 @@ from __future__ import annotations
 import contextlib
 import hashlib
 import io
+import itertools
 import os
 import re
 from typing import Callable, Iterable, Iterator, NamedTuple, Optional, Sequence, Tuple
@@ -30,6 +31,8 @@ MOST_OPEN_BYTES = 1 << 23  # bytes of their symbols
 MOST_NEW = 1 << 13  # documents of one sender that are written at a time: anybody may make them up
 MOST_SYNCED = 16  # files that are brought to the disk one by one
 MOST_KEPT = 1 << 15  # documents of one sender that are kept, those that came last
+MOST_LOOKED = 1 << 12  # bytes by which it is told when one expires that is not whole
+WEEK = 7 * 86400  # seconds
 # Of an FDT Instance (RFC 6726, section 3.4.2), and of Cache-Control in it
 EXPIRY = re.compile(rb"""(\bExpires(?:\s*=\s*["']|>)\s*)\d{1,10}""")
 FIRST = "user.flutejoin.first"  # the extended attribute that has when a document was first received
@@ -84,6 +87,9 @@ class Assembly:
         self.size = 0
         self.fresh: set[int] = set()  # symbols that changed since it was put together
         self.has_come = False  # something of it, since the last end
+        self.came: Optional[float] = None  # when something of it came last, if that is known
+        self.expiry: Optional[int] = None  # as far as it is known
+        self.is_looked = False  # whether its first bytes were looked at since they changed
 
     def is_whole(self) -> bool:
         return len(self.symbols) == self.partition.symbols
@@ -101,6 +107,7 @@ class Assembly:
         self.symbols[place] = bytes(piece)
         self.datagrams[place] = datagram
         self.fresh.add(place)
+        self.is_looked = False
 
     def content(self) -> bytes:
         self.fresh.clear()
@@ -112,6 +119,20 @@ class Assembly:
             yield self.content()
         self.has_come = False
 
+    def expires(self) -> Optional[int]:
+        """When it expires; None if its first bytes don't tell, or are not there."""
+        if not self.is_looked:
+            front, places = b"", itertools.count()
+            while len(front) < MOST_LOOKED and (place := next(places)) in self.symbols:
+                front += self.symbols[place]
+            self.expiry, self.is_looked = fdt.likely_expiry(front), True
+        return self.expiry
+
+    def over_at(self) -> Optional[float]:
+        """The later of when something of it came last and when it expires; None if neither is
+        known."""
+        return max((it for it in (self.came, self.expires()) if it is not None), default=None)
+
 
 class InstanceAssembler:
     """The FDT Instances of one sender, while they are put together."""
@@ -122,8 +143,11 @@ class InstanceAssembler:
         self.last: dict[tuple[int, int], bytes] = {}  # transmission information that came last
         self.size = 0
 
-    def take(self, datagram: bytes) -> Iterator[Document]:
-        """Adds a datagram, and yields the documents that are whole before it."""
+    def take(self, datagram: bytes, when: Optional[float] = None) -> Iterator[Document]:
+        """Adds a datagram, and yields the documents that are whole before it.
+
+        `when` it came is unknown of what a run before left.
+        """
         packet = packet_of(datagram)
         if packet is None or packet.toi or packet.instance is None or not packet.symbol:
             return
@@ -137,6 +161,7 @@ class InstanceAssembler:
         key = (*instance, information)
         assembly = self.open.pop(key, None) or Assembly(information)
         self.open[key] = assembly  # it is the newest now
+        assembly.came = when
         before = assembly.size
         for data in assembly.take(packet, datagram):
             yield from documents(*instance, data)
@@ -146,18 +171,34 @@ class InstanceAssembler:
     def make_room(self) -> Iterator[Document]:
         """Ends the oldest, since whoever can send chooses how many there are."""
         while len(self.open) > MOST_OPEN or self.size > MOST_OPEN_BYTES and len(self.open) > 1:
-            tsi, number, information = next(iter(self.open))
-            oldest = self.open.pop((tsi, number, information))
-            self.size -= oldest.size
-            self.last.pop((tsi, number), None)
-            for data in oldest.end():
-                yield from documents(tsi, number, data)
+            key = next(iter(self.open))
+            for data in self.drop(key).end():
+                yield from documents(*key[:2], data)
 
     def finish(self) -> Iterator[Document]:
         """Yields the documents that are whole now."""
         for (tsi, number, _), assembly in self.open.items():
             for data in assembly.end():
                 yield from documents(tsi, number, data)
+
+    def let_go(self, since: float) -> None:
+        """Drops those that expired, and came last, before a time.
+
+        Of one of which neither is known it is known that it came before those that follow it: it
+        goes with the first of them.
+        """
+        has_gone = False
+        for key in reversed([*self.open]):
+            over_at = self.open[key].over_at()
+            if has_gone if over_at is None else over_at < since:
+                has_gone = True
+                self.drop(key)
+
+    def drop(self, key: tuple[int, int, bytes]) -> Assembly:
+        assembly = self.open.pop(key)
+        self.size -= assembly.size
+        self.last.pop(key[:2], None)
+        return assembly
 
     def rest(self) -> Iterator[bytes]:
         """Yields the datagrams of those that are not whole."""
@@ -175,9 +216,10 @@ def documents(tsi: int, number: int, data: bytes) -> Iterator[Document]:
 class Folder:
     """The folder `fdt`: the documents of senders, and of what is not whole the datagrams."""
 
-    def __init__(self, path: str, sessions: Sequence[int] = ()) -> None:
-        """Of these sessions alone, if there are any."""
-        self.path, self.sessions = path, sessions
+    def __init__(self, path: str, sessions: Sequence[int] = (), seconds: float = WEEK) -> None:
+        """Of these sessions alone, if there are any. What is not whole is kept for so many seconds
+        after it expired, and came last."""
+        self.path, self.sessions, self.seconds = path, sessions, seconds
         self.assemblers: dict[str, InstanceAssembler] = {}
         self.counts: dict[str, int] = {}  # documents of a sender
         self.known: dict[str, Known] = {}
@@ -210,7 +252,7 @@ class Folder:
         has_come = False
         for datagram in of_instances:
             has_come = True
-            for document in assembler.take(datagram):
+            for document in assembler.take(datagram, when):
                 found[document.name(stem)] = document
         if not has_come:
             return 0
@@ -233,6 +275,7 @@ class Folder:
                 changed.append(os.path.join(self.path, name))
             self.known_of(stem).add(document.tsi, document.xml, document.told)
         self.bring_to_disk(changed)
+        self.assemblers[stem].let_go(when - self.seconds)
         self.put_rest(stem)
         self.counts[stem] = self.counts.get(stem, MOST_KEPT) + new
         if self.counts[stem] > MOST_KEPT:

@@ -16,7 +16,7 @@ from flutejoin_tools.common.opening import opened
 from flutejoin_tools.common.program import FULL, Answer, Failed, Program
 from flutejoin_tools.common.shelves import Shelf, begin_file, entries_of, remove
 from flutejoin_tools.fdt.documents import Assembly
-from flutejoin_tools.fdt.instances import Document, Folder, document_of
+from flutejoin_tools.fdt.instances import WEEK, Document, Folder, document_of
 from flutejoin_tools.fdt.names import stem_of
 from flutejoin_tools.fdt.stems import NAME as DOCUMENT
 from flutejoin_tools.fdt.stems import source_of
@@ -62,11 +62,13 @@ class Gathering:
         source: Optional[bytes] = None,
         one: Optional[bytes] = None,
         delivered: Optional[str] = None,
+        seconds: float = WEEK,
     ) -> None:
+        """FDT Instances that are not whole are kept for so many seconds after they expired."""
         self.folder, self.program, self.report = folder, program, report
         self.source, self.one = source, one
         self.delivered = Delivered(delivered or os.path.join(folder, NAME), program)
-        self.documents = Folder(os.path.join(folder, "fdt"))
+        self.documents = Folder(os.path.join(folder, "fdt"), seconds=seconds)
         self.made: set[str] = set()  # temporary files
         self.stems: set[str] = set()
 
