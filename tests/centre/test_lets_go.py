@@ -15,8 +15,11 @@ from unittest import mock
 from flutejoin_tools.centre.hooks import Hooks
 from flutejoin_tools.centre.house import House
 from flutejoin_tools.fdt.fdt import NTP_TO_UNIX
+from flutejoin_tools.fdt.instances import datagrams_in
+from flutejoin_tools.formats.packets import packet_of
+from flutejoin_tools.pages.asking import delivered
 from flutejoin_tools.pages.model import Model
-from tests.centre.case import TSI, CentreCase, announced, file_of, packets
+from tests.centre.case import SENDER, TSI, CentreCase, announced, file_of, packets
 from tests.support.flute_sender import Sent, fdt, instance
 
 DAY, HOUR = 86400, 3600
@@ -27,8 +30,16 @@ STEADY = 20  # windows after which what comes and what is let go are equal
 LONG = 200  # windows of a run whose times are compared
 
 
-class LetsGo(CentreCase):
+class Keeping(CentreCase):
+    """A centre with a clock that is set, and what it does by that."""
+
     more = {"keep": "7d", "keep-partial": "30d"}
+
+    def setUp(self) -> None:
+        super().setUp()
+        clock = mock.patch("time.time", self.clock)
+        clock.start()
+        self.addCleanup(clock.stop)
 
     def house(self) -> None:
         House(self.centre, Model(self.centre, self.clock.now), self.told).keep()
@@ -43,10 +54,12 @@ class LetsGo(CentreCase):
 
     def push_at(self, name: str, datagrams: list[bytes]) -> None:
         """Pushes what came now by the clock of the centre."""
-        self.push(name, datagrams)
-        for path in self.path(f"push/{name}/fdt").glob("*.xml"):
+        self.push(name, datagrams, at=self.clock.now)
+        for path in self.path(f"push/{name}/fdt").glob("*"):
             os.utime(path, (self.clock.now, self.clock.now))
 
+
+class LetsGo(Keeping):
     def test_partial(self) -> None:
         file = file_of(1, 14_000)
         self.push_at("north", announced([file]) + file.packets(TSI)[:4])
@@ -157,8 +170,161 @@ class LetsGo(CentreCase):
         left = [it for it in self.held("fdt") if it.endswith(".xml")]
         self.holds("until that is let go", not left, left)
 
+    def test_documents_in_part(self) -> None:
+        """An FDT Instance in part waits for its rest as long after its end as a whole one is kept;
+        one whose end didn't come goes with those after it."""
+        told, sizes = [], []
+        for number in range(30):
+            files = [file_of(10 * number + at, 1000) for at in range(1, 5)]
+            told.append(announced(files, number, int(self.clock.now + DAY + NTP_TO_UNIX)))
+            self.push_at("north", told[-1][1 if number % 5 == 3 else 0 :: 2])
+            self.work()
+            sizes.append(size_of(self.path("centre"), "files"))
+            self.pass_by(1)
+        path = self.path(f"push/north/fdt/{SENDER}.fldg")
+        parts = [it.instance for it in map(packet_of, datagrams_in(str(path))) if it]
+        self.holds("those of eight days", parts == [*range(21, 30)], parts)
+        self.holds("the disk stays flat", sizes[-1] < 1.01 * sizes[-6], sizes)
+        self.push_at("south", told[10][1::2] + told[22][1::2])
+        self.work()
+        whole = [name.split("-")[2] for name in self.held("fdt") if name.endswith(".xml")]
+        self.holds("its rest may come later", whole == ["22"], whole)
 
-class Month(LetsGo):
+
+class Rows(Keeping):
+    """What is known of a file that was delivered, and for how long."""
+
+    def sizes(self) -> tuple[int, int]:
+        """How many rows there are, and how many small ones."""
+        of = self.centre.ledger.rows
+        tables = "delivered", "small"
+        whole, small = (of(f"SELECT count(*) FROM {table}")[0][0] for table in tables)
+        return whole, small
+
+    def test_ends(self) -> None:
+        """A file that is moved away is written again once nothing of it came for keep-partial."""
+        file = file_of(1)
+        self.push_at("north", announced([file]) + packets([file]))
+        self.holds("it is delivered", self.work() == 1)
+        Hooks(None, "", self.centre.ledger, self.told).tend()
+        (path,) = self.files()
+        os.unlink(self.path("centre/files") / path)
+        before = self.centre.ledger.since(0, 9)
+        for days, wanted in ((6, (1, 0)), (2, (0, 1)), (20, (0, 1)), (29, (0, 1)), (31, (0, 0))):
+            self.pass_by(days)
+            self.holds(f"{days} days: rows", self.sizes() == wanted, self.sizes())
+            if days != 31:
+                self.holds("what stations are told", self.centre.ledger.since(0, 9) == before)
+            told = [*delivered(self.centre.folder, "00001")]
+            self.holds("who asks is told", told == self.lines(), told)
+            if days == 20:
+                self.open()
+            if days > 6:
+                self.push_at("south", announced([file]) + packets([file]))
+                self.holds(f"{days} days: again", self.work() == (days == 31))
+                self.holds("nothing waits", not self.centre.union)
+                self.holds("it is there", len(self.files()) == (days == 31))
+        self.holds("the count", self.centre.ledger.count() == 2)
+        senders = self.centre.ledger.rows("SELECT count(*) FROM senders")
+        self.holds("no sender is left", senders == [(0,)], senders)
+
+    def test_sums_of_small_rows(self) -> None:
+        """What comes again is compared with what was delivered, as a carousel repeats it."""
+        file = file_of(1)
+        everything = announced([file]) + packets([file])
+        self.push_at("north", everything)
+        self.work()
+        Hooks(None, "", self.centre.ledger, self.told).tend()
+        self.pass_by(8)
+        key = next(iter(self.centre.done))
+        self.holds("its sums are gone", not self.centre.ledger.has_sums(key), self.sizes())
+        self.push_at("south", everything)
+        self.holds("it is not delivered again", self.work() == 0)
+        self.holds("its sums are known again", self.centre.ledger.has_sums(key))
+        for _ in range(6):
+            self.pass_by(6)
+            self.push_at("south", packets([file])[:2])
+            self.holds("nothing new came", self.work() == 0 and not self.centre.union)
+        self.holds("its row stays", self.sizes() == (0, 1), self.sizes())
+        self.pass_by(8)
+        self.holds("its sums go again", not self.centre.ledger.has_sums(key))
+
+    def test_another(self) -> None:
+        """Another file under the same TOI is another, and an older one under a name stays away."""
+        old, new = file_of(2, name="http://data.example/a.bin"), file_of(1, seed=5)
+        newer = file_of(3, name="http://data.example/a.bin")
+        self.push_at("north", announced([file_of(1)], 1) + packets([file_of(1)]))
+        self.push_at("north", announced([old], 1) + packets([old])[:2])
+        self.work()
+        self.push_at("north", announced([newer], 2) + packets([newer]))
+        self.work()
+        Hooks(None, "", self.centre.ledger, self.told).tend()
+        self.pass_by(9)
+        self.holds("both have small rows", self.sizes() == (0, 2), self.sizes())
+        self.push_at("south", packets([old]))
+        self.work()
+        self.holds("the name is the newer's", self.files()["data.example/a.bin"] == newer.content)
+        self.push_at("south", announced([new], 3) + packets([new]))
+        self.holds("another is delivered", self.work() == 1)
+        self.holds("it is right", new.content in self.files().values())
+
+    def test_of_the_version_before(self) -> None:
+        """A database without small rows is taken as it is."""
+        files = [file_of(toi) for toi in (1, 2)]
+        everything = announced(files) + packets(files)
+        self.push_at("north", everything)
+        self.work()
+        Hooks(None, "", self.centre.ledger, self.told).tend()
+        for table in "small", "senders":
+            self.centre.ledger.base.execute(f"DROP TABLE {table}")
+        self.clock.now += 8 * DAY
+        self.open()
+        self.holds("rows of before", self.sizes() == (2, 0), self.sizes())
+        self.push_at("south", everything)
+        self.holds("nothing again", self.work() == 0)
+        self.pass_by(8)
+        self.holds("their rows are small", self.sizes() == (0, 2), self.sizes())
+        self.push_at("south", everything)
+        self.holds("nothing again", self.work() == 0 and self.centre.ledger.count() == 2)
+
+    def test_many(self) -> None:
+        """A window costs the same with 30,000 files that were delivered before."""
+
+        def costs(first: int) -> float:
+            found = []
+            for number in range(first, first + 5):
+                files = [file_of(10 * number + at) for at in range(10)]
+                self.push_at("north", announced(files, number) + packets(files))
+                before = moved()
+                self.holds(f"{number}: all are delivered", self.work() == 10)
+                Hooks(None, "", self.centre.ledger, self.told).tend()
+                self.house()
+                found.append(moved() - before)
+                self.clock.now += 1
+            return statistics.median(found)
+
+        few, ledger = costs(1), self.centre.ledger
+        like, serial = ledger.newest(1)[0], ledger.next_serial()
+        seen = self.clock.now - 8 * DAY
+        old = (
+            like._replace(
+                serial=serial + at,
+                key=like.key._replace(number=1000 + at),
+                path=f"data.example/old/{at}.bin",
+                seen=seen + at,
+            )
+            for at in range(30_000)
+        )
+        ledger.add((it, None) for it in old)
+        self.house()
+        self.holds("their rows are small", self.sizes()[1] == 30_000, self.sizes())
+        self.open()
+        self.centre.begin()
+        many = costs(6)
+        self.holds("no more is read and written", many <= 1.2 * few, (few, many))
+
+
+class Month(Keeping):
     """A window is an hour: its files, the end of one of the last, and what a carousel repeats."""
 
     more = {"keep": "12h", "keep-partial": "16h"}
@@ -205,10 +371,6 @@ class Month(LetsGo):
             first = statistics.median(it[of] for it in costs[STEADY : STEADY + 6])
             last = statistics.median(it[of] for it in costs[-6:])
             self.holds(f"{what} stay flat", last <= 1.2 * first, (first, last))
-
-    # The others are of the class above.
-    test_partial = test_comes_again = test_away = None  # type: ignore
-    test_kept = test_documents = test_one_run_a_journal = None  # type: ignore
 
 
 def moved() -> int:

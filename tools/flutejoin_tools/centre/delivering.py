@@ -124,10 +124,13 @@ class Deliverer:
         self.dirty |= self.touched
         self.is_begun = True
 
-    def read_done(self) -> None:
-        """Reads which files were delivered."""
-        self.done.clear()
-        for key, described in self.ledger.described():
+    def read_done(self, keys: Optional[set[Key]] = None) -> None:
+        """Reads which files were delivered, or those of some objects."""
+        if keys is None:
+            self.done.clear()
+        for key in keys or ():
+            self.done.pop(key, None)
+        for key, described in self.ledger.described(keys):
             self.done.setdefault(key, set()).add(described)
 
     def work(self) -> int:

@@ -41,9 +41,9 @@ class House:
         self.remove_kept(now)
         self.remove_documents(now - settings.keep)
         self.remove_aside(now - settings.keep_partial)
-        keep_rows = max(settings.keep, settings.keep_partial)
-        self.deliverer.ledger.forget(now - settings.keep, now - keep_rows)
-        self.deliverer.read_done()
+        longest = max(settings.keep, settings.keep_partial)
+        gone = self.deliverer.ledger.forget(now - settings.keep, now - longest)
+        self.deliverer.read_done(gone)
 
     def forget_partial(self, since: float) -> None:
         """Forgets the objects of which nothing came since a time, and tells what they lack."""

@@ -1,5 +1,9 @@
 """What was delivered, and what waits: a database of one folder, in steps that a kill may cut.
 
+Each file has a row until nothing of its object came for `keep`, and then a small one until nothing
+came for `keep-partial`, if that is longer: by it the file is known if it comes again, and an older
+one doesn't take its path.
+
 A file that is delivered goes through steps, each of which is on the disk before the next one
 begins: it is ready beside its place, it has its name, its line is in the log of what was
 delivered, and its command has run. So after a kill each step is done that was not, and none twice
@@ -9,9 +13,10 @@ from __future__ import annotations
 
 import contextlib
 import errno
+import hashlib
 import json
 import sqlite3
-from typing import Any, Collection, Iterable, Iterator, NamedTuple, Optional
+from typing import Any, Collection, Iterable, Iterator, NamedTuple, Optional, Tuple
 
 from flutejoin_tools.centre.symbols import Contents
 from flutejoin_tools.common.gaps import Numbers
@@ -29,6 +34,15 @@ CREATE INDEX IF NOT EXISTS of_object ON delivered (source, tsi, toi);
 CREATE INDEX IF NOT EXISTS of_path ON delivered (path);
 CREATE INDEX IF NOT EXISTS of_step ON delivered (step) WHERE step < 3;
 CREATE INDEX IF NOT EXISTS of_seen ON delivered (seen);
+CREATE TABLE IF NOT EXISTS senders (sender INTEGER PRIMARY KEY, source BLOB NOT NULL UNIQUE);
+CREATE TABLE IF NOT EXISTS small (
+    serial INTEGER PRIMARY KEY, sender INTEGER NOT NULL, tsi INTEGER NOT NULL, toi TEXT NOT NULL,
+    seen INTEGER NOT NULL, md5 BLOB NOT NULL, described BLOB, path BLOB, expires INTEGER NOT NULL,
+    number INTEGER NOT NULL, numbers TEXT, sums BLOB);
+CREATE INDEX IF NOT EXISTS small_of_object ON small (sender, tsi, toi);
+CREATE INDEX IF NOT EXISTS small_of_path ON small (path) WHERE path IS NOT NULL;
+CREATE INDEX IF NOT EXISTS small_of_seen ON small (seen);
+CREATE INDEX IF NOT EXISTS small_with_sums ON small (seen) WHERE sums IS NOT NULL;
 CREATE TABLE IF NOT EXISTS waiting (
     source BLOB NOT NULL, tsi INTEGER NOT NULL, toi TEXT NOT NULL, since REAL NOT NULL,
     seen REAL NOT NULL, PRIMARY KEY (source, tsi, toi)) WITHOUT ROWID;
@@ -40,6 +54,20 @@ CREATE TABLE IF NOT EXISTS stations (name TEXT PRIMARY KEY, came REAL NOT NULL) 
 """
 SUMS = 1  # the version of the database in which sums are those of `sums`
 COLUMNS = "serial, source, tsi, toi, step, path, at, seen, told, shares"
+OBJECT = "source = ? AND tsi = ? AND toi = ?"
+# The rows of both kinds, each read by an index
+FILES = """(
+    SELECT serial, source, tsi, toi, numbers, sums, json_extract(told, '$.md5') AS md5,
+        json_extract(told, '$.described') AS described FROM delivered
+    UNION ALL SELECT serial, source, tsi, toi, numbers, sums, lower(hex(md5)),
+        nullif(lower(hex(CASE described WHEN x'' THEN md5 ELSE described END)), '')
+        FROM small, senders WHERE small.sender = senders.sender)"""
+OF_PATH = """
+    SELECT serial, source, tsi, json_extract(told, '$.rank[0]'), json_extract(told, '$.rank[1]')
+        FROM delivered WHERE path = ?
+    UNION ALL SELECT serial, source, tsi, expires, number FROM small, senders
+        WHERE path = ? AND small.sender = senders.sender
+    ORDER BY serial DESC LIMIT 1"""
 
 
 class Told(NamedTuple):
@@ -68,6 +96,18 @@ class Delivery(NamedTuple):
     shares: dict[str, float]  # of the object's symbols, in percent, by the names of stations
 
 
+class Owner(NamedTuple):
+    """Whose file was delivered last under a path, and the rank of its FDT Instance."""
+
+    source: bytes
+    tsi: int
+    rank: tuple[int, int]
+
+
+# An object, and the MD5 of the description of a file of it
+Described = Tuple[Key, Optional[str]]
+
+
 class Waited(NamedTuple):
     """Since when an object waits, and when something of it came last."""
 
@@ -86,6 +126,29 @@ def delivery_of(row: tuple[Any, ...]) -> Delivery:
 def object_of(key: Key) -> tuple[bytes, int, str]:
     """An object as the columns of a table: a TOI has more bits than a number there."""
     return key.source, key.tsi, str(key.number)
+
+
+def add_small(base: sqlite3.Connection, of: Delivery) -> None:
+    """Adds the small row of a file."""
+    told, path = of.told, of.path
+    described = told.described and bytes.fromhex(told.described)
+    if told.described == told.md5:
+        described = b""  # it is the same
+    source, tsi, toi = object_of(of.key)
+    base.execute("INSERT OR IGNORE INTO senders (source) VALUES (?)", (source,))
+    base.execute(
+        "INSERT INTO small SELECT ?, sender, ?, ?, ?, ?, ?, ?, ?, ?, NULL, NULL FROM senders "
+        "WHERE source = ?",
+        (
+            *(of.serial, tsi, toi, int(of.seen), bytes.fromhex(told.md5), described),
+            *(None if path is None else short(path), *told.rank, source),
+        ),
+    )
+
+
+def short(path: str) -> bytes:
+    """A path, as small rows have it."""
+    return hashlib.sha256(path.encode()).digest()[:8]
 
 
 class Ledger:
@@ -156,17 +219,14 @@ class Ledger:
         words = f"SELECT {COLUMNS} FROM delivered WHERE step = ? ORDER BY serial LIMIT ?"
         return [*map(delivery_of, self.rows(words, step, most))]
 
-    def of(self, key: Key) -> list[Delivery]:
-        """What was delivered of an object, the oldest first."""
-        words = f"SELECT {COLUMNS} FROM delivered WHERE source = ? AND tsi = ? AND toi = ? "
-        return [*map(delivery_of, self.rows(words + "ORDER BY serial", *object_of(key)))]
+    def serial_of(self, key: Key, md5: str) -> Optional[int]:
+        """The serial number under which a file of an object was delivered."""
+        words = f"SELECT serial FROM {FILES} WHERE {OBJECT} AND md5 = ? ORDER BY serial DESC"
+        return next((serial for (serial,) in self.rows(words, *object_of(key), md5)), None)
 
     def contents(self, key: Key) -> list[tuple[int, Contents]]:
         """The contents of an object that were delivered, with their serial numbers."""
-        words = (
-            "SELECT serial, numbers, sums FROM delivered "
-            "WHERE source = ? AND tsi = ? AND toi = ? AND sums IS NOT NULL"
-        )
+        words = f"SELECT serial, numbers, sums FROM {FILES} WHERE {OBJECT} AND sums IS NOT NULL"
         delivered_rows = self.rows(words, *object_of(key))
         return [
             (serial, Contents(numbers_of(json.loads(numbers)), sums))
@@ -174,30 +234,29 @@ class Ledger:
         ]
 
     def has_sums(self, key: Key) -> bool:
-        words = "SELECT 1 FROM delivered WHERE source = ? AND tsi = ? AND toi = ? "
-        return bool(self.rows(words + "AND sums IS NOT NULL LIMIT 1", *object_of(key)))
+        words = f"SELECT 1 FROM {FILES} WHERE {OBJECT} AND sums IS NOT NULL LIMIT 1"
+        return bool(self.rows(words, *object_of(key)))
 
     def since(self, serial: int, most: int) -> list[tuple[int, Key, str]]:
         """The serial number, the object and the MD5 of what was delivered after one."""
-        words = (
-            "SELECT serial, source, tsi, toi, json_extract(told, '$.md5') FROM delivered "
-            "WHERE serial > ? ORDER BY serial LIMIT ?"
-        )
+        words = "SELECT serial, source, tsi, toi, md5 "
+        words += f"FROM {FILES} WHERE serial > ? ORDER BY serial LIMIT ?"
         return [
             (number, Key(source, tsi, FILE, int(toi)), md5)
             for number, source, tsi, toi, md5 in self.rows(words, serial, most)
         ]
 
-    def last_at(self, path: str) -> Optional[Delivery]:
-        """What was delivered last under a path."""
-        words = f"SELECT {COLUMNS} FROM delivered WHERE path = ? ORDER BY serial DESC LIMIT 1"
-        return next(map(delivery_of, self.rows(words, path)), None)
+    def last_at(self, path: str) -> Optional[Owner]:
+        """Whose file was delivered last under a path."""
+        for _, source, tsi, *rank in self.rows(OF_PATH, path, short(path)):
+            return Owner(source, tsi, (rank[0], rank[1]))
+        return None
 
     def newest(self, most: int) -> list[Delivery]:
         words = f"SELECT {COLUMNS} FROM delivered ORDER BY serial DESC LIMIT ?"
         return [*map(delivery_of, self.rows(words, most))]
 
-    def named(self, name: str, most: int = 1000) -> list[Delivery]:
+    def named(self, name: str, most: int) -> list[Delivery]:
         """The files in whose name or path a text is, the newest first."""
         words = (
             f"SELECT {COLUMNS} FROM delivered WHERE instr(json_extract(told, '$.name'), ?) > 0 "
@@ -224,22 +283,37 @@ class Ledger:
                         "UPDATE delivered SET seen = ?, shares = ? WHERE serial = ?",
                         (now, json.dumps({**known, **more}), serial),
                     )
+                if not delivered_rows:
+                    base.execute("UPDATE small SET seen = ? WHERE serial = ?", (int(now), serial))
 
     def renew(self, serial: int, contents: Contents, now: float) -> None:
         """Notes the sums of what came again, which may be forgotten."""
+        sums = json.dumps(contents.numbers), contents.sums
         with self.changes() as base:
-            base.execute(
-                "UPDATE delivered SET seen = ?, numbers = ?, sums = ? WHERE serial = ?",
-                (now, json.dumps(contents.numbers), contents.sums, serial),
-            )
+            for table, seen in (("delivered", now), ("small", int(now))):
+                base.execute(
+                    f"UPDATE {table} SET seen = ?, numbers = ?, sums = ? WHERE serial = ?",
+                    (seen, *sums, serial),
+                )
 
-    def forget(self, sums: float, rows: float) -> None:
-        """Forgets the sums of what came last before a time, and all of it before another."""
+    def forget(self, rows: float, small: float) -> set[Key]:
+        """Makes the rows small of what came last before a time, and forgets what came last before
+        another. Returns the objects of which a file was forgotten."""
         with self.changes() as base:
-            base.execute(
-                "UPDATE delivered SET sums = NULL WHERE seen < ? AND sums IS NOT NULL", (sums,)
-            )
-            base.execute("DELETE FROM delivered WHERE seen < ? AND step = ?", (rows, DONE))
+            of_old = "FROM delivered WHERE seen < ? AND step = ?"
+            for row in base.execute(f"SELECT {COLUMNS} {of_old}", (rows, DONE)):
+                add_small(base, delivery_of(row))
+            base.execute(f"DELETE {of_old}", (rows, DONE))
+            for table in "delivered", "small":
+                words = f"UPDATE {table} SET numbers = NULL, sums = NULL WHERE seen < ? "
+                base.execute(words + "AND sums IS NOT NULL", (rows,))
+            words = "SELECT sender, source, tsi, toi FROM small JOIN senders USING (sender) "
+            gone = base.execute(words + "WHERE seen < ?", (small,)).fetchall()
+            base.execute("DELETE FROM small WHERE seen < ?", (small,))
+            words = "DELETE FROM senders WHERE sender = ? AND NOT EXISTS "
+            words += "(SELECT 1 FROM small WHERE small.sender = senders.sender)"
+            base.executemany(words, {(sender,) for sender, *_ in gone})
+        return {Key(source, tsi, FILE, int(toi)) for _, source, tsi, toi in gone}
 
     def wait(self, keys: Iterable[Key], now: float) -> None:
         """Notes that something of these objects came."""
@@ -294,11 +368,14 @@ class Ledger:
         rows = self.rows("SELECT came FROM stations WHERE name = ?", station)
         return rows[0][0] if rows else None
 
-    def described(self) -> Iterator[tuple[Key, Optional[str]]]:
-        """Each object of which a file was delivered, and the MD5 of its description."""
-        words = "SELECT source, tsi, toi, json_extract(told, '$.described') FROM delivered"
-        for source, tsi, toi, described in self.rows(words):
-            yield Key(source, tsi, FILE, int(toi)), described
+    def described(self, keys: Optional[Iterable[Key]] = None) -> Iterator[Described]:
+        """The files that were delivered, or those of some objects."""
+        words = f"SELECT source, tsi, toi, described FROM {FILES}"
+        if keys is not None:
+            words += f" WHERE {OBJECT}"
+        for values in [()] if keys is None else map(object_of, keys):
+            for source, tsi, toi, described in self.rows(words, *values):
+                yield Key(source, tsi, FILE, int(toi)), described
 
     def silent(self, since: float) -> list[Key]:
         """The objects of which nothing came since a time."""

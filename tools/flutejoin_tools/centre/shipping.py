@@ -105,11 +105,11 @@ class Shipping:
         Then its sums are noted again, which may be forgotten.
         """
         key = key_of(made)
-        of = self.ledger.of(key._replace(number=key.number % APART))
-        known = [it.serial for it in of if it.told.md5 == made.md5.hex()]
-        if known and made.contents:
-            self.ledger.renew(known[-1], made.contents, now)
-        return bool(known)
+        object_key = key._replace(number=key.number % APART)
+        serial = self.ledger.serial_of(object_key, made.md5.hex())
+        if serial is not None and made.contents:
+            self.ledger.renew(serial, made.contents, now)
+        return serial is not None
 
     def paths(self, outcome: Outcome, made: list[Made]) -> dict[Key, str]:
         """The paths of files; of one that is older than what has its name there is none."""
@@ -127,17 +127,17 @@ class Shipping:
         for claim in claims:
             path = paths.by_object.get(claim.key)
             last = self.ledger.last_at(path) if path else None
-            if path and last and last.key.tsi != claim.key.tsi:
+            if path and last and last.tsi != claim.key.tsi:
                 path = paths.by_object[claim.key] = f"{path}~{claim.mark}"
                 last = self.ledger.last_at(path)
-            if last and last.told.rank > claim.rank:
+            if last and last.rank > claim.rank:
                 del paths.by_object[claim.key]
         return paths.by_object
 
     def owner_of(self, path: str, owners: Owners) -> Optional[bytes]:
         """The sender that had a path last: what was delivered may have been moved away."""
         last = self.ledger.last_at(path)
-        return last.key.source if last else owners.of(path)
+        return last.source if last else owners.of(path)
 
     def tell_owners(self, paths: names.Paths) -> None:
         for key, owner in paths.owners.items():

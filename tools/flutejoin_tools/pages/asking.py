@@ -1,17 +1,21 @@
 """Everyday questions to a centre, each answered in a few lines, or as JSON."""
 from __future__ import annotations
 
+import collections
+import contextlib
 import json
 import os
 from typing import Any, Dict, Iterator, Optional
 
-from flutejoin_tools.centre.ledger import Delivery, Ledger
-from flutejoin_tools.centre.shipping import line_of
+from flutejoin_tools.centre.ledger import Ledger
+from flutejoin_tools.centre.shipping import LOG, line_of
 from flutejoin_tools.common.texts import shown
+from flutejoin_tools.fdt.content import Verdict
 from flutejoin_tools.pages.health import check, size
 from flutejoin_tools.pages.model import read_file
 
 FEW = 6  # stations in a line
+MOST = 1000  # delivered files that an answer has
 Told = Dict[str, Any]  # of the status
 
 
@@ -54,20 +58,42 @@ def shares(status: Told, _: object) -> Iterator[tuple[Told, str]]:
         yield it, f"{named(it)}: {', '.join(parts) or 'no station has any'}"
 
 
-def file(status: Told, name: str, ledger: Ledger) -> Iterator[tuple[Told, str]]:
+def file(status: Told, name: str, folder: str) -> Iterator[tuple[Told, str]]:
     """Whether a file is complete, and when it likely will be."""
-    for it in ledger.named(name):
-        told = f"delivered {line_of(it)['time']} as {it.path}, {it.told.bytes} bytes"
-        yield line_of(it), f"{it.told.name}: {told}, {it.told.verdict}{from_stations(it)}"
+    for told in delivered(folder, name):
+        verdict = Verdict.VERIFIED if told["verified"] else Verdict.NO_MD5
+        at = f"delivered {told['time']} as {told['path']}, {told['bytes']} bytes"
+        yield told, f"{told['name']}: {at}, {verdict.value}{from_stations(told['stations'])}"
     for row in status["files"]:
         if row["name"] and name in row["name"]:
             at = f"; at this rate whole {row['whole_at']}" if row["whole_at"] else ""
-            told = f"{row['state']}, {row['percent']} %, {symbols(row['missing_symbols'])} missing"
-            yield row, f"{named(row)}: {told}{at}"
+            lacks = f"{row['state']}, {row['percent']} %, {symbols(row['missing_symbols'])} missing"
+            yield row, f"{named(row)}: {lacks}{at}"
 
 
-def from_stations(it: Delivery) -> str:
-    told = [f"{name} {share} %" for name, share in it.shares.items()]
+def delivered(folder: str, name: str) -> Iterator[Told]:
+    """What was delivered in whose name or path a text is, the newest first: as the database has it,
+    and what was before as the log has it."""
+    newest = collections.deque(logged(os.path.join(folder, LOG), name), MOST)
+    found = {told["serial"]: told for told in newest}
+    ledger = Ledger(os.path.join(folder, "ledger.db"))
+    found.update((it.serial, line_of(it)) for it in ledger.named(name, MOST))
+    ledger.close()
+    yield from (found[serial] for serial in sorted(found, reverse=True)[:MOST])
+
+
+def logged(path: str, name: str) -> Iterator[Told]:
+    """The lines of the log of what was delivered in whose name or path a text is."""
+    with contextlib.suppress(FileNotFoundError), open(path, "rb") as log:
+        for line in log:
+            with contextlib.suppress(ValueError, TypeError, KeyError):
+                told = json.loads(line)
+                if name in told["name"] or name in told["path"]:
+                    yield told
+
+
+def from_stations(shares: dict[str, float]) -> str:
+    told = [f"{name} {share} %" for name, share in shares.items()]
     more = ", .." * (len(told) > FEW)
     return f" (of {', '.join(told[:FEW])}{more})" if told else ""
 
@@ -93,9 +119,7 @@ def answer(folder: str, question: str, name: Optional[str], is_json: bool) -> tu
         return 3, []
     try:
         if question == "file":
-            ledger = Ledger(os.path.join(folder, "ledger.db"))
-            answers = [*file(status, name or "", ledger)]
-            ledger.close()
+            answers = [*file(status, name or "", folder)]
         else:
             answers = [*QUESTIONS[question](status, None)]
     except (KeyError, TypeError):
