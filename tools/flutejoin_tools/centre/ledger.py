@@ -16,7 +16,7 @@ import errno
 import hashlib
 import json
 import sqlite3
-from typing import Any, Collection, Iterable, Iterator, NamedTuple, Optional, Tuple
+from typing import Any, Collection, Iterable, Iterator, NamedTuple, Optional
 
 from flutejoin_tools.centre.symbols import Contents
 from flutejoin_tools.common.gaps import Numbers
@@ -104,10 +104,6 @@ class Owner(NamedTuple):
     rank: tuple[int, int]
 
 
-# An object, and the MD5 of the description of a file of it
-Described = Tuple[Key, Optional[str]]
-
-
 class Waited(NamedTuple):
     """Since when an object waits, and when something of it came last."""
 
@@ -131,9 +127,9 @@ def object_of(key: Key) -> tuple[bytes, int, str]:
 def add_small(base: sqlite3.Connection, of: Delivery) -> None:
     """Adds the small row of a file."""
     told, path = of.told, of.path
-    described = told.described and bytes.fromhex(told.described)
+    described = None if told.described is None else bytes.fromhex(told.described)
     if told.described == told.md5:
-        described = b""  # it is the same
+        described = b""  # they are the same
     source, tsi, toi = object_of(of.key)
     base.execute("INSERT OR IGNORE INTO senders (source) VALUES (?)", (source,))
     base.execute(
@@ -368,12 +364,16 @@ class Ledger:
         rows = self.rows("SELECT came FROM stations WHERE name = ?", station)
         return rows[0][0] if rows else None
 
-    def described(self, keys: Optional[Iterable[Key]] = None) -> Iterator[Described]:
-        """The files that were delivered, or those of some objects."""
+    def described(
+        self, keys: Optional[Iterable[Key]] = None
+    ) -> Iterator[tuple[Key, Optional[str]]]:
+        """Each object of which a file was delivered, or some of them, and the MD5 of its
+        description."""
         words = f"SELECT source, tsi, toi, described FROM {FILES}"
         if keys is not None:
             words += f" WHERE {OBJECT}"
-        for values in [()] if keys is None else map(object_of, keys):
+        every: Iterable[tuple[object, ...]] = [()] if keys is None else map(object_of, keys)
+        for values in every:
             for source, tsi, toi, described in self.rows(words, *values):
                 yield Key(source, tsi, FILE, int(toi)), described
 

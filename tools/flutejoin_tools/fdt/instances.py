@@ -190,7 +190,8 @@ class InstanceAssembler:
         has_gone = False
         for key in reversed([*self.open]):
             over_at = self.open[key].over_at()
-            if has_gone if over_at is None else over_at < since:
+            is_over = has_gone if over_at is None else over_at < since
+            if is_over:
                 has_gone = True
                 self.drop(key)
 
