@@ -126,9 +126,7 @@ class Deliverer:
 
     def read_done(self, keys: Optional[set[Key]] = None) -> None:
         """Reads which files were delivered, or those of some objects."""
-        if keys is None:
-            self.done.clear()
-        for key in keys or ():
+        for key in [*self.done] if keys is None else keys:
             self.done.pop(key, None)
         for key, described in self.ledger.described(keys):
             self.done.setdefault(key, set()).add(described)
@@ -180,9 +178,8 @@ class Deliverer:
         if self.gathered:
             self.take_away(self.gathered.pending, self.left)
         new = self.described.look()
-        self.touched |= new
-        self.dirty |= new
-        self.opened |= new
+        for changed in self.touched, self.dirty, self.opened:
+            changed.update(new)
         count = self.deliver()
         if faults:
             raise faults[0]

@@ -27,6 +27,7 @@ from flutejoin_tools.common import gaps
 from flutejoin_tools.fdt import fdt
 from flutejoin_tools.fdt.instances import Document as Whole
 from flutejoin_tools.fdt.instances import InstanceAssembler, digest_of, documents_in, rests_in
+from flutejoin_tools.fdt.parts import MOST_LOOKED
 from flutejoin_tools.formats.entries import FDT_INSTANCE, information_of
 from flutejoin_tools.formats.partition import Buffer, Partition, fault_of
 from flutejoin_tools.journals.holdings import Choice, Key
@@ -37,7 +38,6 @@ from flutejoin_tools.journals.states import State
 MOST_DOCUMENTS = 1 << 16  # whose places are kept
 MOST_UNREAD = 1 << 16  # states of Instances that are not whole
 MOST_DISPUTED = 1 << 12  # of these, that are put together of several journals
-MOST_LOOKED = 1 << 12  # bytes by which the age of an Instance is estimated
 MOST_HASHED = 1 << 28  # bytes of all ways to put disputed Instances together
 
 

@@ -11,7 +11,6 @@ from __future__ import annotations
 import contextlib
 import hashlib
 import io
-import itertools
 import os
 import re
 from typing import Callable, Iterable, Iterator, NamedTuple, Optional, Sequence, Tuple
@@ -21,9 +20,10 @@ from flutejoin_tools.common.gaps import Numbers
 from flutejoin_tools.common.places import bring_to_disk as sync_all
 from flutejoin_tools.fdt import fdt
 from flutejoin_tools.fdt.known import Known, told_by
+from flutejoin_tools.fdt.parts import Assembly
 from flutejoin_tools.fdt.stems import NAME, REST, source_of
-from flutejoin_tools.formats.packets import TOI_PLACES, ZEROS, Packet, numbers_of, packet_of
-from flutejoin_tools.formats.partition import Partition, fault_of
+from flutejoin_tools.formats.packets import TOI_PLACES, ZEROS, numbers_of, packet_of
+from flutejoin_tools.formats.partition import fault_of
 from flutejoin_tools.formats.records import HEADER, LENGTH, Buffer, Cut, ReadFault, Records
 
 MOST_OPEN = 1 << 11  # FDT Instances that are put together at a time, of one sender
@@ -31,7 +31,6 @@ MOST_OPEN_BYTES = 1 << 23  # bytes of their symbols
 MOST_NEW = 1 << 13  # documents of one sender that are written at a time: anybody may make them up
 MOST_SYNCED = 16  # files that are brought to the disk one by one
 MOST_KEPT = 1 << 15  # documents of one sender that are kept, those that came last
-MOST_LOOKED = 1 << 12  # bytes by which it is told when one expires that is not whole
 WEEK = 7 * 86400  # seconds
 # Of an FDT Instance (RFC 6726, section 3.4.2), and of Cache-Control in it
 EXPIRY = re.compile(rb"""(\bExpires(?:\s*=\s*["']|>)\s*)\d{1,10}""")
@@ -71,67 +70,6 @@ def document_of(tsi: int, number: int, data: bytes) -> Optional[Document]:
     except (fdt.Refused, fdt.Spent):
         return None
     return Document(tsi, number, xml, tuple(told_by(read)))
-
-
-class Assembly:
-    """One FDT Instance that is put together of the newest value of each of its symbols.
-
-    So where its packets come in versions, of which each may lack some, it is made of what is
-    nearest in time.
-    """
-
-    def __init__(self, information: bytes) -> None:
-        self.partition = Partition(*numbers_of(information))
-        self.symbols: dict[int, bytes] = {}
-        self.datagrams: dict[int, bytes] = {}
-        self.size = 0
-        self.fresh: set[int] = set()  # symbols that changed since it was put together
-        self.has_come = False  # something of it, since the last end
-        self.came: Optional[float] = None  # when something of it came last, if that is known
-        self.expiry: Optional[int] = None  # as far as it is known
-        self.is_looked = False  # whether its first bytes were looked at since they changed
-
-    def is_whole(self) -> bool:
-        return len(self.symbols) == self.partition.symbols
-
-    def take(self, packet: Packet, datagram: bytes) -> Iterator[bytes]:
-        """Adds a packet. Yields the bytes of the version before, if this packet is of the next."""
-        self.has_come = True
-        place = self.partition.place(packet.payload_id)
-        piece = None if place is None else self.partition.piece(place, packet.symbol)
-        if place is None or piece is None or self.symbols.get(place) == piece:
-            return
-        if place in self.fresh and self.is_whole():
-            yield self.content()
-        self.size += len(piece) - len(self.symbols.get(place, b""))
-        self.symbols[place] = bytes(piece)
-        self.datagrams[place] = datagram
-        self.fresh.add(place)
-        self.is_looked = False
-
-    def content(self) -> bytes:
-        self.fresh.clear()
-        return b"".join(self.symbols[place] for place in range(self.partition.symbols))
-
-    def end(self) -> Iterator[bytes]:
-        """Yields its bytes, if it is whole and something of it came since the last end."""
-        if self.has_come and self.is_whole():
-            yield self.content()
-        self.has_come = False
-
-    def expires(self) -> Optional[int]:
-        """When it expires; None if its first bytes don't tell, or are not there."""
-        if not self.is_looked:
-            front, places = b"", itertools.count()
-            while len(front) < MOST_LOOKED and (place := next(places)) in self.symbols:
-                front += self.symbols[place]
-            self.expiry, self.is_looked = fdt.likely_expiry(front), True
-        return self.expiry
-
-    def over_at(self) -> Optional[float]:
-        """The later of when something of it came last and when it expires; None if neither is
-        known."""
-        return max((it for it in (self.came, self.expires()) if it is not None), default=None)
 
 
 class InstanceAssembler:
