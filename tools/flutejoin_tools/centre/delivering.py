@@ -227,7 +227,7 @@ class Deliverer:
         try:
             came = arrival.pending.take(path, self.contents)
             if came.has_instances:
-                self.documents.take_instances(path)
+                self.documents.gather_instances(path)
         except (ReadFault, Cut, Failed) as fault:
             if isinstance(fault, Failed) and fault.answer.status != 1:
                 raise OSError(errno.EIO, str(fault), path) from None

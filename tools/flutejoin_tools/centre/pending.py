@@ -213,7 +213,7 @@ class Pending:
         gathering = Gathering(self.folder, self.program, self.report)
         try:
             piece = Piece(new, frozenset(), Found(came.disputed, set()))
-            gathering.take_files(piece, {key.source for key in came.objects})
+            gathering.gather_files(piece, {key.source for key in came.objects})
         finally:
             gathering.end()
 

@@ -1,4 +1,4 @@
-"""Joins inputs into a folder of journals by what agrees (`generations`)."""
+"""Joins datagram files and journals into a folder by what agrees (`generations`)."""
 from __future__ import annotations
 
 import collections
@@ -52,7 +52,7 @@ def told_of(taken: Taken, stem: str) -> Iterator[str]:
 
 
 class Gathering:
-    """A folder that takes inputs."""
+    """A folder of journals: it gathers datagram files, journals and FDT Instances."""
 
     def __init__(
         self,
@@ -105,18 +105,18 @@ class Gathering:
         """Takes an input. Raises Failed, OSError, and records.ReadFault or Cut."""
         of = DOCUMENT.fullmatch(os.path.basename(path))
         if of:
-            self.take_document(path, of[1], int(of[2]), int(of[3]))
+            self.gather_document(path, of[1], int(of[2]), int(of[3]))
             return
         with opened(path) as file:
             magic = file.read(4)
         if magic == Records.magic:
-            self.take_datagrams(path)
+            self.gather_datagrams(path)
         elif magic == Entries.magic:
-            self.take_journal(path)
+            self.gather_journal(path)
         else:
             raise ReadFault("is neither a datagram file nor a journal")
 
-    def take_document(self, path: str, stem: str, tsi: int, number: int) -> None:
+    def gather_document(self, path: str, stem: str, tsi: int, number: int) -> None:
         source = source_of(stem)
         with open(path, "rb") as file:
             document = document_of(tsi, number, file.read())
@@ -130,7 +130,7 @@ class Gathering:
         self.documents.assembler(stem)
         self.documents.keep(stem, {it.name(stem): it for it in documents}, when)
 
-    def take_datagrams(self, path: str) -> None:
+    def gather_datagrams(self, path: str) -> None:
         named = name_of(os.path.basename(path))
         source = self.one or self.source or (sender_bytes(named.address.packed) if named else None)
         if source is None:
@@ -161,13 +161,13 @@ class Gathering:
         if answer.status:
             raise Failed(answer)
 
-    def take_journal(self, path: str) -> None:
-        """Takes the files of a journal, of each sender apart, and its FDT Instances."""
+    def gather_journal(self, path: str) -> None:
+        """Gathers the files of a journal, of each sender apart, and its FDT Instances."""
         self.checked(self.program.run([*gaps.CHECK, argument(path)]))
-        self.take_instances(path)
+        self.gather_instances(path)
         self.bring_files(path)
 
-    def take_files(self, piece: Piece, sources: AbstractSet[bytes]) -> None:
+    def gather_files(self, piece: Piece, sources: AbstractSet[bytes]) -> None:
         """The same of a journal that has files of these senders, and no FDT Instance. Raises as
         `take`."""
         self.checked(self.program.run([*gaps.CHECK, argument(piece.path)]))
@@ -181,7 +181,7 @@ class Gathering:
         for source, of_one in self.by_source(path):
             self.bring(source, Piece(of_one))
 
-    def take_instances(self, path: str) -> None:
+    def gather_instances(self, path: str) -> None:
         found: dict[bytes, list[Document]] = collections.defaultdict(list)
         for key, _, of in merged([path], lambda key: key.tag != FILE):
             assembly = Assembly()
