@@ -25,10 +25,10 @@ class Arrival:
     ) -> None:
         self.station, self.inbox, self.pending, self.told = station, inbox, pending, told
         self.came_at: Optional[float] = None  # when something of it came last
-        self.fault: Optional[str] = None  # why it can't be asked
+        self.fault: Optional[str] = None  # why the centre can't ask the station
 
     def symbols(self) -> dict[Key, Symbols]:
-        """The symbols that the station has, of what is not delivered."""
+        """The symbols that the station told or brought, of what the centre has not delivered."""
         return self.told.symbols if self.told else self.pending.objects
 
 
