@@ -801,7 +801,7 @@ class Files(Events):
         return done.stdout.decode().splitlines()
 
     def test_information_of_the_fdt(self) -> None:
-        """It is there where a question is asked, and not in what is kept."""
+        """The station keeps it in a journal beside that of the packets, which `gaps` needs too."""
         files = files_of(1, range(1, 5))
         for file in files[:3]:
             file.is_in_packets = False
@@ -812,16 +812,16 @@ class Files(Events):
         self.send(rounds(files, 1, EXPIRES, 4))
         large = station.folder / f"journals/{SENDER}.journal"
         known = station.folder / f"fdt/{SENDER}.journal"
-        plain, asked = self.gaps(large), self.gaps(large, known)
+        plain, informed = self.gaps(large), self.gaps(large, known)
         is_missing = [line.endswith("no information") for line in plain]
         self.assertEqual(is_missing, [True, True, True, False])
-        self.assertEqual([" whole " in line for line in asked], [False, True, True, True])
+        self.assertEqual([" whole " in line for line in informed], [False, True, True, True])
         pushed = self.centre / f"station0/fdt/{SENDER}.journal"
         self.assertEqual(pushed.read_bytes(), known.read_bytes())
         # In a later run it is known too.
         station.begin()
         self.send(rounds(files, 1, EXPIRES + 9, 1))
-        self.assertEqual(self.gaps(large, known), asked)
+        self.assertEqual(self.gaps(large, known), informed)
         self.compare(files[1:3] + files[3:], known, status=1)
 
     def test_a_list_of_generations(self) -> None:
