@@ -1,5 +1,5 @@
-"""Tests the decisions by sums: what somebody else has of an object, where it belongs, and what is
-wanted of it. Journals are made here, and no program is run."""
+"""Tests the decisions of a centre by sums: what a station has of an object, where it belongs, and
+what is wanted of it. Journals are made here, and no program is run."""
 from __future__ import annotations
 
 import io
@@ -206,12 +206,12 @@ class Deciding(Case):
             self.held(*kept)
             self.aside = []
             whole = self.generations().take(write(self.path("new"), new), join)
-            asked = {path: read(path) for path in self.generations().kept().values()}, self.aside
+            expected = {path: read(path) for path in self.generations().kept().values()}, self.aside
             self.aside, held = [], self.held(*kept)
             wants = self.wants(held, new)
             taken = wants.take(self.answer(wants, new), self.generations(), join)
             found = {path: read(path) for path in self.generations().kept().values()}, self.aside
-            self.assertEqual(found, asked, seed)
+            self.assertEqual(found, expected, seed)
             self.assertEqual(
                 (taken.others, taken.begun.count, taken.full.count, wants.strange),
                 (whole.others, whole.begun.count, whole.full.count, 0),
