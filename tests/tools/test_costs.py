@@ -45,6 +45,7 @@ def again(piece: bytes) -> Iterator[bytes]:
 
 
 def gzipped(piece: bytes, count: int) -> bytes:
+    """A hostile member of gzip: unpacked it costs a tool many times its bytes."""
     stream = zlib.compressobj(9, zlib.DEFLATED, 31)
     return b"".join(map(stream.compress, [piece] * count)) + stream.flush()
 
