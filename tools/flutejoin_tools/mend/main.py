@@ -50,11 +50,12 @@ NO_DAMAGE = "Version", "TooMany"  # faults of a journal that may be right otherw
 
 
 def copy(reader: records.Reader, file: BinaryIO, out: BinaryIO) -> None:
+    """Writes a file that is cut up to the end of its last whole record or entry."""
     is_journal = isinstance(reader, entries.Entries)
     if not reader.end:  # it ends within its version
         out.write(entries.HEADER if is_journal else records.HEADER)
     file.seek(0)
-    left = reader.end
+    left = reader.end  # the bytes after it are cut
     while left:
         data = file.read(min(left, records.PIECE))
         if not data:
