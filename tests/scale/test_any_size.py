@@ -14,7 +14,7 @@ ANY_SESSIONS = 32_767
 NUMBERS = (5, 4, 2)  # an object of five bytes, in a block of two symbols
 CONTENT = b"hello"
 ANY = "--any-size"
-FLAGS: list[list[str]] = [[], [ANY]]
+ANY_SIZES: list[list[str]] = [[], [ANY]]  # without the option, and with it
 
 
 def key_of(tsi: int, toi: int) -> bytes:
@@ -69,13 +69,13 @@ class AnySize(run.Case):
         self.write("odd", journal_of([e for t in range(1, count + 1, 2) for e in whole_of(7, t)]))
         self.write("even", journal_of([e for t in range(2, count + 1, 2) for e in whole_of(7, t)]))
         self.write("all", whole)
-        for flag in FLAGS:
+        for any_size in ANY_SIZES:
             told = f"entries {len(entries)}\n"
-            self.leaves(told, whole, "merge", *flag, "-o", "out", "odd", "even")
+            self.leaves(told, whole, "merge", *any_size, "-o", "out", "odd", "even")
             told = f"forgotten {len(entries)}\nentries 0\n"
-            words = ["forget", *flag, "-o", "out", "--tsi", "7", "all"]
+            words = ["forget", *any_size, "-o", "out", "--tsi", "7", "all"]
             self.leaves(told, journal_of([]), *words)
-            self.prints("entries 0\n", "show", *flag, "--conflicts", "all")
+            self.prints("entries 0\n", "show", *any_size, "--conflicts", "all")
         told = joined(0, len(entries))
         for inputs in ["all"], ["odd", "even"]:
             self.is_full("join", "-o", "out", *inputs)
@@ -142,8 +142,8 @@ class AnySize(run.Case):
             if not is_within:
                 self.is_full("join", *words)
             told = joined(2 * count, len(entries))
-            for flag in FLAGS if is_within else FLAGS[1:]:
-                self.leaves(told, journal_of(entries), "join", *flag, *words)
+            for any_size in ANY_SIZES if is_within else ANY_SIZES[1:]:
+                self.leaves(told, journal_of(entries), "join", *any_size, *words)
 
     def test_sessions(self) -> None:
         for count in SESSIONS, SESSIONS + 1, ANY_SESSIONS, ANY_SESSIONS + 1:
@@ -152,25 +152,25 @@ class AnySize(run.Case):
             self.write("many", journal)
             key = ["--tsi", str(count - 1), "--toi", "1"]
             numbers = ["--length", "5", "--symbol", "4", "--block", "2"]
-            for flag, most in zip(FLAGS, (SESSIONS, ANY_SESSIONS)):
+            for any_size, most in zip(ANY_SIZES, (SESSIONS, ANY_SESSIONS)):
                 if count > most:
-                    self.is_full("join", *flag, "-o", "out", "many")
-                    self.is_full("gaps", *flag, "many")
-                    self.is_full("extract", *flag, "-o", "out", *key, "many")
-                    self.is_full("extract", *flag, "--all", "-o", "out", "many")
-                    self.is_full("info", *flag, "-o", "out", *key, *numbers, "many")
+                    self.is_full("join", *any_size, "-o", "out", "many")
+                    self.is_full("gaps", *any_size, "many")
+                    self.is_full("extract", *any_size, "-o", "out", *key, "many")
+                    self.is_full("extract", *any_size, "--all", "-o", "out", "many")
+                    self.is_full("info", *any_size, "-o", "out", *key, *numbers, "many")
                     continue
                 told = joined(0, count)
-                self.leaves(told, journal, "join", *flag, "-o", "out", "many")
+                self.leaves(told, journal, "join", *any_size, "-o", "out", "many")
                 words = ["-o", "out", *key, *numbers, "many"]
-                self.leaves(f"entries {count}\n", journal, "info", *flag, *words)
+                self.leaves(f"entries {count}\n", journal, "info", *any_size, *words)
                 lines = "".join(
                     f"session {tsi} object 1 partial missing 2 conflicting 0 misfit 0\n"
                     "gap 0/0-1 missing\n"
                     for tsi in range(count)
                 )
-                self.prints(lines, "gaps", *flag, "many")
-                words = ["extract", *flag, "-o", "out", *key, "many"]
+                self.prints(lines, "gaps", *any_size, "many")
+                words = ["extract", *any_size, "-o", "out", *key, "many"]
                 self.row(f"{words}", words, 1, "", "not whole: 0/0\n")
 
     def test_symbols_of_an_object(self) -> None:
