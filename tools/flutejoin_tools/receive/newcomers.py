@@ -125,7 +125,7 @@ class Newcomers:
 
 
 class RateLimit:
-    """Something that may happen `most` times at once, and then so many times a minute."""
+    """How many new senders of few bytes may get a file: `most` at once, then so many a minute."""
 
     def __init__(self, most: int, each_minute: float) -> None:
         self.most, self.each_second = most, each_minute / 60
