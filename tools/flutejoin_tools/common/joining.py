@@ -72,17 +72,17 @@ def largest_sessions(program: Program, fed: Fed) -> list[int]:
 
 def write_others(program: Program, fed: Fed, sessions: Sequence[int], path: str) -> int:
     """Writes the datagrams of other sessions to a new file, and returns their number."""
-    taken, count = frozenset(sessions), 0
+    taken, others = frozenset(sessions), 0
     try:
         with open(path + PARTIAL, "xb") as file:
             file.write(HEADER)
             for datagram in program.tending(fed.datagrams()):
                 if session_of(datagram) not in taken:
                     file.write(LENGTH.pack(len(datagram)) + datagram)
-                    count += 1
+                    others += 1
         os.rename(path + PARTIAL, path)
     except BaseException:
         with contextlib.suppress(OSError):
             os.unlink(path + PARTIAL)
         raise
-    return count
+    return others
