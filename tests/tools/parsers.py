@@ -291,8 +291,8 @@ XML = (b"<File ", b"<!DOCTYPE a>", b"<FDT-Instance ", b"Expires=", b"TOI=", b"/>
        b"Content-MD5=", b"&#0;", b"<![CDATA[", b"]]>", b"<!--", b"<?xml encoding='cp037'?>")
 
 
-class Given:
-    """A connection of which these bytes come, at most so many at once."""
+class MadeUpConnection:
+    """A connection to a server that sends these bytes: at most so many come at once."""
 
     def __init__(self, data: bytes, most: int) -> None:
         self.data, self.most = data, most
@@ -306,7 +306,8 @@ class Given:
 
 
 def answer_of(data: bytes, most: int) -> http.Answer:
-    connection = http.Connection(Given(data, most), http.Spending(1 << 30, 600))  # type: ignore
+    made_up = MadeUpConnection(data, most)
+    connection = http.Connection(made_up, http.Spending(1 << 30, 600))  # type: ignore
     connection.begin(0)
     return http.Answer(connection, origins.url_of("http://h/"))
 
