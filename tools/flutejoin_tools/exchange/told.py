@@ -36,7 +36,7 @@ class Journal(NamedTuple):
 
 
 class Told:
-    """The folder of what one station told."""
+    """The folder in which a centre keeps what one station told."""
 
     def __init__(self, folder: str) -> None:
         self.folder = folder
@@ -59,7 +59,7 @@ class Told:
         return found[1] if found and found[1] != "none" else None
 
     def put_mark(self, mark: Optional[str]) -> None:
-        """Notes that an answer was taken. What it told is on the disk before."""
+        """Keeps the mark of an answer, whose sums are on the disk before, for the next request."""
         if mark is None:
             remove(self.path("mark"))
             return
