@@ -95,12 +95,12 @@ class Form(NamedTuple):
 
 
 class Plan(NamedTuple):
-    """What is done with packets that have one header."""
+    """How packets of one header are written as FLUTE 2, or why they are left out or refused."""
 
     cause: Optional[str] = None  # why they are left out
     refusal: Optional[str] = None  # why flutejoin refuses them
     head: Optional[bytes] = None  # the header that is written; None if it stays
-    forms: Sequence[str] = ()
+    forms: Sequence[str] = ()  # of FLUTE, in which they came
     information: bytes = b""  # the lengths in EXT_FTI
     key: Optional[Key] = None  # the object, if there is no EXT_FTI
 
