@@ -1,1 +1,1 @@
-"""Tests what a centre delivers of what stations push, tells, and lets go."""
+"""Tests what a centre delivers of what stations push, tells, repairs and lets go."""

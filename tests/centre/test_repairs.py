@@ -390,6 +390,7 @@ class Servers(RepairCase):
         self.delivered("on other days", files)
 
     def test_pauses(self) -> None:
+        """A centre asks again ever later; if what it noted of that is damaged, it begins anew."""
         self.holds("they grow", [pause(600, it) for it in (1, 2, 3)] == [600, 1200, 2400])
         self.holds("to a day", pause(600, 99) == DAY == pause(600, 10**6))
         self.write("tries.json", "[]")
