@@ -17,6 +17,7 @@
 # make deb           makes bin/flutejoin_VERSION_ARCHITECTURE.deb of it, for Debian
 # make library       proves and builds the library for C and Python, at bin/library
 # make install-library  copies it, its header and its file for pkg-config to $(PREFIX)
+# make deb-library   makes libflutejoin0 and python3-flutejoin of it at bin, for Debian
 # make test-library  builds it, and compares it and the package for Python with the program
 # make soak          runs stations, and the month of a centre, for longer than the gate does
 # make fuzz          gives the parsers of the tools inputs that are made up, for SECONDS (600), by
@@ -169,8 +170,11 @@ install-library: library
 deb: $(PROGRAM)
 	packaging/deb.sh "$(PROGRAM)" bin
 
+deb-library: library
+	packaging/deb_library.sh bin/library bin
+
 clean:
 	rm -rf bin crates/*/out
 
 .PHONY: test test-program test-tools test-stations test-exports wrong-bodies soak fuzz scale try \
-	example install uninstall library install-library test-library deb clean
+	example install uninstall library install-library test-library deb deb-library clean

@@ -1,7 +1,5 @@
 #!/bin/sh
 # Makes a package for Debian of what `make install` copies, and of the pages: deb.sh PROGRAM FOLDER
-#
-# Two builds of the same files are equal byte for byte: no time is in it but that of the changelog.
 set -eu
 program=$(realpath "$1")
 mkdir -p "$2"
@@ -13,9 +11,6 @@ chmod 755 "$root"
 umask 022
 
 version=$("$program" --version | sed -n 's/^flutejoin //p')
-architecture=$(dpkg --print-architecture)
-SOURCE_DATE_EPOCH=$(date -d "$(sed -n 's/^ -- .*>  //p' packaging/changelog | head -n 1)" +%s)
-export SOURCE_DATE_EPOCH
 pages=$root/usr/share/doc/flutejoin
 make --no-print-directory -s install PROGRAM="$program" DESTDIR="$root" PREFIX=/usr
 # `make` has the program, which people debug; the package is what people run.
@@ -29,35 +24,20 @@ install -m 644 packaging/example.toml "$root/etc/flutejoin/example.toml"
 install -m 644 packaging/sysctl.conf "$root/usr/lib/sysctl.d/50-flutejoin.conf"
 install -m 644 packaging/sysusers.conf "$root/usr/lib/sysusers.d/flutejoin.conf"
 install -m 644 packaging/lintian "$root/usr/share/lintian/overrides/flutejoin"
-install -m 644 README.md CHANGELOG.md packaging/copyright "$pages"
+install -m 644 README.md CHANGELOG.md "$pages"
 install -m 644 docs/*.md "$pages/docs"
 install -m 644 docs/pictures/*.svg "$pages/docs/pictures"
 install -m 644 tools/README.md "$pages/tools"
-sed "1s/(.*)/($version)/" packaging/changelog | gzip -9n > "$pages/changelog.gz"
-chmod 644 "$pages/changelog.gz"
 echo /etc/flutejoin/example.toml > "$root/DEBIAN/conffiles"
 install -m 755 packaging/postinst packaging/postrm packaging/prerm "$root/DEBIAN"
-(cd "$root" && find etc usr -type f -print0 | sort -z | xargs -0 md5sum) > "$root/DEBIAN/md5sums"
-chmod 644 "$root/DEBIAN/conffiles" "$root/DEBIAN/md5sums"
-# In KiB, each file rounded up, as Debian counts it
-size=$(find "$root/etc" "$root/usr" -type f -printf '%s\n' | awk '{ n += int(($1 + 1023) / 1024) }
-    END { print n }')
-cat > "$root/DEBIAN/control" << END
-Package: flutejoin
-Version: $version
-Architecture: $architecture
-Maintainer: flutejoin maintainers <maintainers@flutejoin.example>
+packaging/pack.sh "$root" flutejoin "$version" "$out" << END
+Architecture: $(dpkg --print-architecture)
 Section: net
-Priority: optional
 Depends: libc6, python3 (>= 3.11)
-Suggests: openssh-client, rsync
-Installed-Size: $size
+Suggests: openssh-client, python3-flutejoin, rsync
 Description: reception store for files sent by FLUTE (RFC 6726)
  FLUTE sends files by multicast to receivers that cannot reply. flutejoin keeps
  what each station received as a journal, joins journals in any order, lists
  what is missing, and writes a file once it is whole. Its tools receive
  datagrams, run stations by themselves, and draw what is missing.
 END
-chmod 644 "$root/DEBIAN/control"
-find "$root" -exec touch -h -d "@$SOURCE_DATE_EPOCH" {} +
-dpkg-deb --build --root-owner-group "$root" "$out/flutejoin_${version}_$architecture.deb"

@@ -5,11 +5,9 @@ from __future__ import annotations
 import gzip
 import os
 import re
-import shutil
-import unittest
-from typing import Callable, TypeVar
 
-from tests.support import run
+from tests.support import packages, run
+from tests.support.packages import needs
 from tests.support.run import ROOT, Run
 
 COMMANDS = ("flutejoin", *sorted(path.name for path in (ROOT / "tools").glob("flutejoin-*")))
@@ -25,17 +23,9 @@ IN_PACKAGE = (
     *("./usr/share/doc/flutejoin/copyright", "./usr/share/doc/flutejoin/changelog.gz"),
     *(f"./usr/lib/systemd/system/{unit}" for unit in UNITS),
 )
-# Mounts this system below a scratch root, in a mount namespace; status 3 if that is not possible.
-SCRATCH = """
-mount -t tmpfs none scratch && mkdir scratch/new scratch/work scratch/root &&
-    mount -t overlay overlay -o \\
-    "lowerdir=/,upperdir=$PWD/scratch/new,workdir=$PWD/scratch/work" scratch/root || exit 3
-root=scratch/root
-mount -t proc proc "$root/proc" 2> /dev/null
-mount --bind /dev "$root/dev"
-cp "$1" "$root/flutejoin.deb"
-chroot "$root" dpkg --force-depends -i /flutejoin.deb > /dev/null || exit 1
-chroot "$root" flutejoin --version | grep -q "^flutejoin $2" || exit 1
+INSTALLED = """
+chroot "$root" sh -c 'dpkg --force-depends -i /packages/*.deb' > /dev/null || exit 1
+chroot "$root" flutejoin --version | grep -q "^flutejoin $1" || exit 1
 chroot "$root" flutejoin-station --help | grep -q 'what is in FOLDER' || exit 1
 chroot "$root" flutejoin-station --config /etc/flutejoin/example.toml -o /station --seconds 1
 [ -d "$root/station/journals" ] || exit 1
@@ -53,12 +43,6 @@ PARTS = (
     *("packaging", "tools", "man", "docs", "examples", "completions"),
     *("Makefile", "README.md", "CHANGELOG.md"),
 )
-
-T = TypeVar("T", bound=Callable[..., object])
-
-
-def needs(program: str) -> Callable[[T], T]:
-    return unittest.skipUnless(shutil.which(program), f"since there is no {program}")
 
 
 class Installed(run.Case):
@@ -102,7 +86,7 @@ class Installed(run.Case):
 
 
 @needs("dpkg-deb")
-class Package(run.Case):
+class Package(packages.Case):
     def setUp(self) -> None:
         super().setUp()
         self.version = self.made("--version").lines()[0].split()[1]
@@ -112,16 +96,14 @@ class Package(run.Case):
         self.package = self.path(f"flutejoin_{self.version}_{machine}.deb")
 
     def test_contents(self) -> None:
-        done = self.command(["dpkg-deb", "--contents", self.package])
+        contents = self.contents(self.package)
         for path in IN_PACKAGE:
-            self.holds(f"the package has {path}", path.encode() in done.out)
-        others = [line for line in done.lines() if " root/root " not in line]
-        self.holds("it is of root", not others, others)
-        done = self.command(["dpkg-deb", "--info", self.package, "conffiles"])
+            self.holds(f"the package has {path}", path.encode() in contents)
+        done = self.control(self.package, "conffiles")
         self.check("settings stay", done, 0, "/etc/flutejoin/example.toml")
 
     def test_pages(self) -> None:
-        self.made_root()
+        self.extract(self.package)
         pages = self.path("root/usr/share/doc/flutejoin")
         self.holds("no licence", "No licence was chosen yet" in (pages / "copyright").read_text())
         with gzip.open(pages / "changelog.gz", "rt") as file:
@@ -132,13 +114,9 @@ class Package(run.Case):
 
     @needs("readelf")
     def test_stripped(self) -> None:
-        self.made_root()
+        self.extract(self.package)
         done = self.command(["readelf", "-SW", self.path("root/usr/bin/flutejoin")])
         self.holds("no symbols", done.status == 0 and b" .symtab " not in done.out, done)
-
-    def made_root(self) -> None:
-        done = self.command(["dpkg-deb", "--extract", self.package, self.path("root")])
-        self.assertEqual(done.status, 0, done)
 
     def test_two_builds(self) -> None:
         """They are equal, whoever makes them, and whatever the time of the files."""
@@ -154,13 +132,7 @@ class Package(run.Case):
 
     @needs("lintian")
     def test_lintian(self) -> None:
-        done = self.command(["lintian", "--fail-on", "error,warning", self.package])
-        self.check("lintian", done, 0, None, None)
+        self.accepted(self.package)
 
     def test_in_scratch_root(self) -> None:
-        self.path("scratch").mkdir()
-        words = ["unshare", "-m", "sh", "-c", SCRATCH, "sh", self.package, self.version]
-        done = self.command(words)
-        if done.status == 3 or self.command("unshare -m true").status != 0:
-            self.skipTest("since nothing can be mounted here")
-        self.check("in a scratch root", done, 0, None, None)
+        self.in_scratch_root(INSTALLED, self.version)
