@@ -89,7 +89,7 @@ class Sources(unittest.TestCase):
         known: frozenset[str] | None = getattr(sys, "stdlib_module_names", None)
         if known is None:
             self.skipTest("Python's own modules are named since 3.10")
-        own = {path.stem for path in sources(*FOLDERS)} | {"flutejoin_tools"}
+        own = {path.stem for path in sources(*FOLDERS)} | {"flutejoin_tools", "flutejoin"}
         for path, tree in trees("tools", "examples"):
             others = imported(tree) - known - own
             self.assertLessEqual(others, OF_DASK, path)

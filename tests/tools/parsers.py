@@ -218,9 +218,9 @@ def datagrams(data: bytes) -> None:
         (size,) = LENGTH.unpack_from(data, at)
         datagram, at = data[at + 2 : at + 2 + size], at + 2 + size
         for it in (datagram, *state.take(datagram).datagrams):
-            found, refusal = packets.packet_of(it), packets.refusal_of(it)
-            assert refusal or found and packets.is_like_flute(it), it
-            assert packets.header_of(it) or not found, it
+            found, refusal = packets.parsed(it), packets.refusal_of(it)
+            assert (found is None) == (refusal is not None), it
+            assert packets.is_like_flute(it) or not found, it
             hint.look(it)
             list(assembler.take(bytes(it)))
     list(assembler.finish())

@@ -9,6 +9,7 @@ from typing import NamedTuple
 from flutejoin_tools.formats.adapting import MOST, SHORT, Adapting
 from flutejoin_tools.formats.packets import refusal_of
 from tests.support import run
+from tests.support.drawn_packets import extension, number_of
 
 # A header with TSI 7 and TOI 1, or TOI 0, in 32 bits; the length is that without extensions
 OBJECT = "10A0{:02X}00 00000000 00000007 00000001"
@@ -217,20 +218,6 @@ class Sent(NamedTuple):
     packet: bytes
     printed: list[str]
     session: int
-
-
-def number_of(draw: random.Random, size: int) -> bytes:
-    """A number other than 0, in so many bytes, with few of them used at times."""
-    used = draw.choice((1, size))
-    return draw.randrange(1, 256**used).to_bytes(size, "big")
-
-
-def extension(draw: random.Random) -> bytes:
-    """One that flutejoin does not read."""
-    if draw.random() < 0.5:
-        words = draw.randrange(1, 4)
-        return bytes([draw.choice((0, 1, 2, 63, 65, 127)), words]) + draw.randbytes(4 * words - 2)
-    return bytes([draw.choice((128, 191, 194, 255))]) + draw.randbytes(3)
 
 
 def sent(draw: random.Random) -> Sent:

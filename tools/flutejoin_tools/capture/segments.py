@@ -8,7 +8,8 @@ from __future__ import annotations
 import functools
 from typing import NamedTuple
 
-from flutejoin_tools.formats.packets import header_of, packet_of
+from flutejoin_tools.formats.adapting import form_of
+from flutejoin_tools.formats.packets import EXT_FTI, PAYLOAD_ID, information_in, numbers_of
 
 MOST_OF_FRAME = 1472  # bytes of a datagram that one Ethernet frame holds
 
@@ -23,13 +24,15 @@ class Told(NamedTuple):
 
 @functools.lru_cache(maxsize=1024)
 def told_by(head: bytes) -> Told | None:
-    """Reads these three from the header of a datagram; None if it is no FLUTE packet."""
-    header, packet = header_of(head), packet_of(head)
-    if header is None or packet is None:
+    """Reads these three from the header of a datagram; None if it is of no form of FLUTE."""
+    form = form_of(head)
+    if form is None:
         return None
-    longest = None
-    if packet.information is not None:
-        longest = header.end + 4 + int.from_bytes(packet.information[6:8], "big")
+    header, longest = form.header, None
+    for kind, begin, end in form.extensions:
+        if kind == EXT_FTI and end - begin == 16:
+            _, symbol, _ = numbers_of(information_in(head, begin))
+            longest = header.end + PAYLOAD_ID.size + symbol
     return Told(head[header.tsi : header.toi], header.tsi, longest)
 
 

@@ -7,6 +7,7 @@ from typing import FrozenSet, Iterable, Iterator, NamedTuple, Optional, Tuple
 
 from flutejoin_tools.common.gaps import Numbers
 from flutejoin_tools.formats.entries import INFORMATION, SYMBOL, information_of
+from flutejoin_tools.formats.packets import packed
 from flutejoin_tools.formats.partition import Partition, fault_of, ones_in
 from flutejoin_tools.formats.records import Buffer
 from flutejoin_tools.journals.sums import (
@@ -159,8 +160,7 @@ class Contents(NamedTuple):
 
         Those in conflict have no value.
         """
-        length, symbol, block = self.numbers
-        own = struct.pack(">HIHI", length >> 32, length & 0xFFFFFFFF, symbol, block)
+        own = packed(*self.numbers)
         every = [*struct.iter_unpack(f"{SYMBOL_ID}s{SUM}s", told.symbols)]
         valued = [each for each in every if each[1] != IN_CONFLICT]
         if told.information not in (own, NO_INFORMATION, DISPUTED):

@@ -9,7 +9,7 @@ from __future__ import annotations
 from typing import Iterator
 
 from flutejoin_tools.fdt.instances import may_be_of_instance
-from flutejoin_tools.formats.packets import packet_of
+from flutejoin_tools.formats.reading import packet_of
 from flutejoin_tools.formats.records import Buffer
 
 MOST_SYMBOLS = 4096  # symbols of a sender that are remembered
@@ -18,10 +18,10 @@ MOST_SYMBOLS = 4096  # symbols of a sender that are remembered
 def told_of_instance(payload: Buffer) -> Iterator[tuple[bytes, int]]:
     """Yields the address of each fact about an FDT Instance in a datagram, and a hash of its value.
 
-    Yields nothing if the datagram is of a file, or is no FLUTE packet.
+    Yields nothing if the datagram is of a file, or flutejoin refuses it.
     """
     packet = packet_of(payload)
-    if packet is None or packet.toi or packet.instance is None:
+    if packet is None or packet.instance is None:
         return
     instance = packet.tsi.to_bytes(6, "big") + packet.instance.to_bytes(3, "big")
     if packet.information is not None:

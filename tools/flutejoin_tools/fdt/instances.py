@@ -22,8 +22,8 @@ from flutejoin_tools.fdt import fdt
 from flutejoin_tools.fdt.known import Known, told_by
 from flutejoin_tools.fdt.parts import Assembly
 from flutejoin_tools.fdt.stems import NAME, REST, source_of
-from flutejoin_tools.formats.packets import TOI_PLACES, ZEROS, numbers_of, packet_of
-from flutejoin_tools.formats.partition import fault_of
+from flutejoin_tools.formats.packets import TOI_PLACES, ZEROS, numbers_of
+from flutejoin_tools.formats.reading import packet_of
 from flutejoin_tools.formats.records import HEADER, LENGTH, Buffer, Cut, ReadFault, Records
 
 MOST_OPEN = 1 << 11  # FDT Instances that are put together at a time, of one sender
@@ -87,13 +87,11 @@ class InstanceAssembler:
         `when` it came is unknown of what a run before left.
         """
         packet = packet_of(datagram)
-        if packet is None or packet.toi or packet.instance is None or not packet.symbol:
+        if packet is None or packet.instance is None or not packet.symbol:
             return
         instance = packet.tsi, packet.instance
         information = packet.information or self.last.get(instance)
-        if information is None or fault_of(*numbers_of(information)):
-            return
-        if numbers_of(information)[0] > fdt.MOST_BYTES:
+        if information is None or numbers_of(information)[0] > fdt.MOST_BYTES:
             return
         self.last[instance] = information
         key = (*instance, information)

@@ -23,7 +23,6 @@ from __future__ import annotations
 
 import collections
 import functools
-import struct
 from typing import Dict, Iterator, NamedTuple, Optional, Sequence, Tuple, TypeVar
 
 from flutejoin_tools.formats.packets import (
@@ -31,6 +30,7 @@ from flutejoin_tools.formats.packets import (
     EXT_FDT,
     EXT_FTI,
     FIXED_ALL,
+    PAYLOAD_ID,
     READ,
     Header,
     extensions_of,
@@ -50,7 +50,6 @@ TIMES = 0x0C  # the flags T and R in the second byte of a header
 CLOSES = 0x03  # the flags A and B
 CODED = 1, 2, 3  # ZLIB, DEFLATE, GZIP
 MOST = 1024  # headers, and objects, that are remembered of a sender
-PAYLOAD_ID = struct.Struct(">HH")
 MOST_TIMES = 8  # how many times as long as a packet the datagrams may be that are written of it
 EACH = 60  # seconds between two lines about a sender of whom everything is refused
 

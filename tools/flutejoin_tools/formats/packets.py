@@ -2,7 +2,7 @@
 from __future__ import annotations
 
 import struct
-from typing import Iterator, NamedTuple, Optional
+from typing import Dict, Iterator, NamedTuple, Optional, Tuple, Union
 
 from flutejoin_tools.formats.partition import fault_of
 from flutejoin_tools.formats.records import Buffer
@@ -10,7 +10,10 @@ from flutejoin_tools.formats.records import Buffer
 EXT_FTI, EXT_FDT, EXT_CENC = 64, 192, 193  # types of header extensions
 READ = EXT_FTI, EXT_FDT, EXT_CENC
 SYMBOL_AND_BLOCK = struct.Struct(">HI")
+PAYLOAD_ID = struct.Struct(">HH")  # SBN and ESI
 FIXED_ALL = 40  # the greatest length of the header without extensions, in bytes
+# Where each extension that is read begins and ends
+Places = Dict[int, Tuple[int, int]]
 
 
 class Header(NamedTuple):
@@ -27,7 +30,7 @@ class Packet(NamedTuple):
 
     tsi: int
     toi: int
-    instance: Optional[int]  # the FDT Instance ID of EXT_FDT
+    instance: Optional[int]  # the FDT Instance ID, if the TOI is 0
     information: Optional[bytes]  # lengths of EXT_FTI: transfer (6 bytes), symbol (2), block (4)
     payload_id: bytes  # SBN and ESI, of 2 bytes each; empty if there is no symbol
     symbol: bytes
@@ -96,31 +99,6 @@ def information_in(payload: Buffer, place: int) -> bytes:
     return bytes(payload[place + 2 : place + 8]) + bytes(payload[place + 10 : place + 16])
 
 
-def packet_of(payload: Buffer) -> Optional[Packet]:
-    """The fields of a datagram that is like FLUTE, or None."""
-    header = header_of(payload)
-    if not header:
-        return None
-    instance = information = None
-    end = header.extensions
-    for kind, place, end in extensions_of(payload, header):
-        if kind == EXT_FDT:
-            instance = int.from_bytes(payload[place + 1 : place + 4], "big") & 0xFFFFF
-        elif kind == EXT_FTI and end - place == 16:
-            information = information_in(payload, place)
-    if end != header.end:
-        return None
-    has_symbol = len(payload) > end + 4
-    return Packet(
-        int.from_bytes(payload[header.tsi : header.toi], "big"),
-        int.from_bytes(payload[header.toi : header.extensions], "big"),
-        instance,
-        information,
-        bytes(payload[end : end + 4]) if has_symbol else b"",
-        bytes(payload[end + 4 :]) if has_symbol else b"",
-    )
-
-
 def numbers_of(information: bytes) -> tuple[int, int, int]:
     """The transfer length, symbol length and block length."""
     length = int.from_bytes(information[:6], "big")
@@ -128,8 +106,14 @@ def numbers_of(information: bytes) -> tuple[int, int, int]:
     return length, symbol, block
 
 
-def refusal_of(payload: Buffer) -> Optional[str]:
-    """Why `flutejoin join` refuses a datagram, by its name for it; None if it does not.
+def packed(length: int, symbol: int, block: int) -> bytes:
+    """These lengths as `numbers_of` takes them, and as a journal has them."""
+    return length.to_bytes(6, "big") + SYMBOL_AND_BLOCK.pack(symbol, block)
+
+
+def opened(payload: Buffer) -> Union[str, Tuple[Header, Places]]:
+    """The header of a packet and the extensions in it that flutejoin reads; or why `flutejoin join`
+    refuses the datagram, by its name for it.
 
     docs/FORMATS.md has the list, of which the first that applies is the answer.
     """
@@ -147,15 +131,13 @@ def refusal_of(payload: Buffer) -> Optional[str]:
     found = list(extensions_of(payload, header))
     if (found[-1][2] if found else header.extensions) != header.end:
         return "ExtensionLength"
-    return refusal_by_extensions(payload, header, found)
-
-
-def refusal_by_extensions(
-    payload: Buffer, header: Header, found: list[tuple[int, int, int]]
-) -> Optional[str]:
     read = {kind: (begin, end) for kind, begin, end in found if kind in READ}
     if len(read) < sum(kind in READ for kind, _, _ in found):
         return "Repeated"
+    return refusal_by_extensions(payload, header, read) or (header, read)
+
+
+def refusal_by_extensions(payload: Buffer, header: Header, read: Places) -> Optional[str]:
     if EXT_FTI in read:
         begin, end = read[EXT_FTI]
         if end - begin != 16:
@@ -170,3 +152,34 @@ def refusal_by_extensions(
     if EXT_CENC in read and payload[read[EXT_CENC][0] + 1]:
         return "ContentEncoded"
     return "PayloadIdCut" if 0 < len(payload) - header.end < 4 else None
+
+
+def refusal_of(payload: Buffer) -> Optional[str]:
+    """Why `flutejoin join` refuses a datagram; None if it does not."""
+    found = opened(payload)
+    return found if isinstance(found, str) else None
+
+
+def parsed(payload: Buffer) -> Optional[Packet]:
+    """The contents of a datagram, or None if flutejoin refuses it."""
+    found = opened(payload)
+    if isinstance(found, str):
+        return None
+    header, read = found
+    toi = int.from_bytes(payload[header.toi : header.extensions], "big")
+    instance = information = None
+    if not toi:
+        begin, end = read[EXT_FDT]
+        instance = int.from_bytes(payload[begin + 1 : end], "big") & 0xFFFFF
+    if EXT_FTI in read:
+        information = information_in(payload, read[EXT_FTI][0])
+    begin = header.end + PAYLOAD_ID.size
+    has_symbol = len(payload) > begin
+    return Packet(
+        int.from_bytes(payload[header.tsi : header.toi], "big"),
+        toi,
+        instance,
+        information,
+        bytes(payload[header.end : begin]) if has_symbol else b"",
+        bytes(payload[begin:]),
+    )

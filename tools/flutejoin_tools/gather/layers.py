@@ -10,7 +10,7 @@ from flutejoin_tools.common.file_names import PARTIAL
 from flutejoin_tools.common.program import Answer, Failed
 from flutejoin_tools.common.shelves import begin_file, remove
 from flutejoin_tools.formats.entries import FILE
-from flutejoin_tools.formats.packets import packet_of
+from flutejoin_tools.formats.reading import packet_of
 from flutejoin_tools.formats.records import HEADER, LENGTH
 from flutejoin_tools.gather.generations import Contents, contents_of
 from flutejoin_tools.journals.holdings import Key

@@ -7,7 +7,6 @@ its faults.
 from __future__ import annotations
 
 import itertools
-import struct
 from typing import (
     IO,
     BinaryIO,
@@ -32,6 +31,7 @@ from flutejoin_tools.formats.entries import (
     SYMBOL_CONFLICT,
     information_of,
 )
+from flutejoin_tools.formats.packets import packed
 from flutejoin_tools.formats.records import Cut, ReadFault
 
 PIECE = 1 << 20
@@ -152,9 +152,7 @@ class Copy:
 
     def inform(self, key: Key, numbers: Numbers) -> None:
         """Adds transmission information."""
-        length, symbol, block = numbers
-        more = struct.pack(">HIHI", length >> 32, length & 0xFFFFFFFF, symbol, block)
-        self.add(INFORMATION, key.raw(), more)
+        self.add(INFORMATION, key.raw(), packed(*numbers))
 
     def finish(self) -> None:
         self.out.write(bytes([END]) + self.count.to_bytes(8, "big"))

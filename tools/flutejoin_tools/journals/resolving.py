@@ -28,8 +28,9 @@ from flutejoin_tools.common.file_names import name_of
 from flutejoin_tools.common.gaps import Numbers
 from flutejoin_tools.common.opening import opened
 from flutejoin_tools.common.texts import shown
-from flutejoin_tools.formats import entries, packets, records
+from flutejoin_tools.formats import entries, records
 from flutejoin_tools.formats.partition import Buffer, Partition, fault_of
+from flutejoin_tools.formats.reading import packet_of
 from flutejoin_tools.journals.holdings import Key
 from flutejoin_tools.journals.merged import Found, Values, merged
 
@@ -338,7 +339,7 @@ class Resolving:
             if source in (None, key.source):
                 by_object.setdefault((key.tsi, key.tag, key.number), []).append(wanted)
         for payload in reader:
-            packet = packets.packet_of(payload)
+            packet = packet_of(payload)
             if not packet:
                 continue
             tag = entries.FILE if packet.toi else entries.FDT_INSTANCE

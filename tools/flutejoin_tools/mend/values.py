@@ -50,7 +50,8 @@ from flutejoin_tools.common.log import Log
 from flutejoin_tools.common.opening import is_same, opened
 from flutejoin_tools.common.options import CommandLine, number_below, sender_option
 from flutejoin_tools.common.signals import answer_stops, end_run, exit_status
-from flutejoin_tools.formats import entries, packets, records
+from flutejoin_tools.formats import entries, records
+from flutejoin_tools.formats.reading import packet_of
 
 MOST_VALUES = 4096
 DIGITS = 8  # digits of a value's SHA-256 that are printed
@@ -71,7 +72,7 @@ class Wanted(NamedTuple):
         """The value of the symbol that a datagram carries; empty if it carries none."""
         if self.symbol not in payload:
             return b""
-        packet = packets.packet_of(payload)
+        packet = packet_of(payload)
         if packet is None or packet.tsi != self.tsi or packet.payload_id != self.symbol:
             return b""
         is_file = self.tag == entries.FILE

@@ -13,6 +13,7 @@ from flutejoin_tools.common.gaps import Numbers
 from flutejoin_tools.fdt.content import Sums
 from flutejoin_tools.fdt.fdt import File
 from flutejoin_tools.formats.entries import SYMBOL
+from flutejoin_tools.formats.packets import PAYLOAD_ID
 from flutejoin_tools.formats.records import HEADER, LENGTH
 from flutejoin_tools.journals.holdings import Key, entries
 from flutejoin_tools.journals.resolving import Budget
@@ -26,7 +27,6 @@ NARROW, WIDE = b"\x10\xa0", b"\x10\xf0"
 END_NARROW = 1 << 32
 EXT_FTI = b"\x40\x04"
 FTI = struct.Struct(">HIHHI")
-PAYLOAD_ID = struct.Struct(">HH")
 
 
 def front_of(key: Key, numbers: Numbers) -> bytes:

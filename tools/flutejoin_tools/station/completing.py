@@ -15,8 +15,9 @@ from flutejoin_tools.common.program import Command, Failed, Program
 from flutejoin_tools.common.shelves import size_of
 from flutejoin_tools.fdt.stems import source_of
 from flutejoin_tools.formats.entries import FILE
-from flutejoin_tools.formats.packets import header_of, numbers_of, packet_of
+from flutejoin_tools.formats.packets import numbers_of
 from flutejoin_tools.formats.partition import Partition, fault_of, ones_in
+from flutejoin_tools.formats.reading import packet_of
 from flutejoin_tools.formats.records import ends
 from flutejoin_tools.journals.holdings import Key
 from flutejoin_tools.station.incoming import SHARE, Part, Sender
@@ -187,18 +188,17 @@ class Completing:
 
     def watched(self, sender: Sender, datagram: bytes) -> Watched:
         """The object of a datagram whose header came for the first time."""
-        header, packet = header_of(datagram), packet_of(datagram)
-        if header is None or packet is None or self.is_left_out(packet.tsi):
+        packet = packet_of(datagram)
+        if packet is None or self.is_left_out(packet.tsi):
             return NOTHING
-        instance = None if packet.toi else packet.instance
-        name = sender, packet.tsi, packet.toi, instance
+        name = sender, packet.tsi, packet.toi, packet.instance
         numbers = numbers_of(packet.information) if packet.information else None
         watched = self.objects.get(name)
         if watched is None or numbers not in (None, watched.numbers):
             watched = self.begin(name, numbers)
         if self.known_heads >= MOST_HEADS:
             self.forget_heads()
-        self.heads[sender][datagram[: header.end]] = watched
+        self.heads[sender][datagram[: 4 * datagram[2]]] = watched
         self.known_heads += 1
         return watched
 

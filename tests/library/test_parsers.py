@@ -1,0 +1,197 @@
+"""Compares the tools' own parsers with the library: both take the same datagrams and journals, give
+the same of what they take, and else name the same fault.
+
+DRAWN (20,000) is how many packets are drawn, of which most have wrong bytes, are cut or too long;
+of journals it is a twentieth of that.
+"""
+from __future__ import annotations
+
+import contextlib
+import io
+import os
+import random
+import sys
+from typing import Iterator, Optional, Sequence, Union
+
+from flutejoin_tools.common.joining import session_of
+from flutejoin_tools.fdt.instances import may_be_of_instance
+from flutejoin_tools.formats import entries, packets, reading
+from flutejoin_tools.formats.records import LENGTH, Cut, ReadFault
+from flutejoin_tools.journals import holdings
+from tests.library.case import EMPTY, Case
+from tests.support.drawn_packets import mutated, packet
+from tests.support.run import ROOT
+
+import flutejoin
+
+DRAWN = int(os.environ.get("DRAWN", "20000"))
+# Why datagrams are refused (docs/FORMATS.md): by their headers, by the lengths of extensions, and
+# by what these contain
+OF_HEADERS = {
+    *("TooShort", "LctVersion", "HeaderLength", "HeaderCut", "NoTsi", "NoToi", "Codepoint"),
+    "PayloadIdCut",
+}
+OF_LENGTHS = {"ExtensionLength"}
+OF_CONTENTS = {
+    *("Repeated", "FtiLength", "Information", "NoInstance", "FluteVersion", "ContentEncoded"),
+}
+# The faults of journals, but for what is due to their size
+OF_JOURNALS = {
+    *("Cut", "Magic", "Version", "Kind", "Key", "Order", "EmptySymbol", "Count", "Trailing"),
+    *(f"Information {it}" for it in ("SymbolLength", "BlockLength", "TooManyBlocks")),
+    "Information BlockTooLong",
+}
+SENDERS = bytes(16), bytes(10) + b"\xff\xff\n\0\0\1", b"\xff" * 16
+# Transmission information: two that are valid, and one for each fault of it
+NUMBERS = (90, 20, 64), (0, 0, 0), (9, 0, 1), (9, 1, 0), (1 << 40, 1, 1), (1 << 20, 1, 1 << 20)
+
+
+class Compared(Case):
+    def setUp(self) -> None:
+        super().setUp()
+        self.draw = random.Random(11)
+        self.differences: list[object] = []
+
+    def agree(self, given: bytes, what: str, found: object, wanted: object) -> None:
+        if found != wanted and len(self.differences) < 5:
+            self.differences.append((given.hex()[:400], what, found, wanted))
+
+
+class Packets(Compared):
+    def test_drawn(self) -> None:
+        refusals, taken = set(), 0
+        for _ in range(DRAWN):
+            datagram = mutated(self.draw, packet(self.draw))
+            wanted = reading.by_library(datagram)
+            refusal = None if wanted else refusal_of(datagram)
+            self.agree(datagram, "packet", packets.parsed(datagram), wanted)
+            self.agree(datagram, "refusal", packets.refusal_of(datagram), refusal)
+            if refusal:
+                refusals.add(refusal)
+            if wanted:
+                taken += 1
+                self.agree(datagram, "TSI", session_of(datagram), wanted.tsi)
+                self.agree(datagram, "TOI 0", may_be_of_instance(datagram), wanted.toi == 0)
+            if refusal != "TooLong":
+                self.headers_agree(datagram, refusal)
+        self.holds("they agree", not self.differences, self.differences)
+        every = {"TooLong", *OF_HEADERS, *OF_LENGTHS, *OF_CONTENTS}
+        self.holds("each refusal is drawn", refusals == every, refusals ^ every)
+        self.holds("and packets", DRAWN // 4 < taken < DRAWN // 4 * 3, taken)
+
+    def headers_agree(self, datagram: bytes, refusal: Optional[str]) -> None:
+        """What looks at headers alone takes all packets. It passes over what extensions contain,
+        and sees a part of an FEC Payload ID at once, which is the last refusal of all."""
+        is_right = refusal not in OF_HEADERS and len(datagram) - 4 * datagram[2] not in (1, 2, 3)
+        self.agree(datagram, "header", packets.header_of(datagram) is not None, is_right)
+        is_like = is_right and refusal not in OF_LENGTHS
+        self.agree(datagram, "like FLUTE", packets.is_like_flute(datagram), is_like)
+
+    def test_reader(self) -> None:
+        """The library is what reads, where it is there."""
+        script = "from flutejoin_tools.formats import reading; print(reading.reader().__name__)"
+        for library, name in (os.environ["FLUTEJOIN_LIBRARY"], "by_library"), ("/no", "parsed"):
+            env = {"PYTHONPATH": f"{ROOT}/tools:{ROOT}/python", "FLUTEJOIN_LIBRARY": library}
+            done = self.command([sys.executable, "-c", script], env=env)
+            self.check(f"by {library}", done, 0, name)
+
+
+def refusal_of(datagram: bytes) -> Optional[str]:
+    """The library's, without its number, and the fault of transmission information."""
+    try:
+        flutejoin.read(datagram)
+    except flutejoin.Refused as fault:
+        return str(fault).split()[2]
+    return None
+
+
+class Journals(Compared):
+    def test_drawn(self) -> None:
+        faults, taken = set(), 0
+        for _ in range(DRAWN // 20):
+            journal = drawn_journal(self.draw)
+            found = by_entries(journal)
+            try:
+                wanted = flutejoin.merge(journal, EMPTY)
+            except flutejoin.InputFault as fault:
+                told = str(fault).partition(": ")[2]
+                faults.add(told)
+                self.agree(journal, "fault", found, told)
+                with contextlib.suppress(ReadFault, Cut):  # it is told no others
+                    by_holdings(journal)
+            else:
+                taken += 1
+                copied = io.BytesIO()
+                holdings.copy(io.BytesIO(journal), lambda _: True, copied, ())
+                self.agree(journal, "copy", copied.getvalue(), wanted)
+                self.agree(journal, "entries", found, by_holdings(wanted))
+        self.holds("they agree", not self.differences, self.differences)
+        self.holds("each fault is drawn", faults == OF_JOURNALS, faults ^ OF_JOURNALS)
+        self.holds("and journals", DRAWN // 80 < taken < DRAWN // 80 * 3, taken)
+
+
+def by_entries(journal: bytes) -> Union[str, list[bytes]]:
+    """The entries of a journal, each in version 2 and without transmission information; or the
+    fault."""
+    if journal[:4] != entries.Entries.magic:
+        return "Magic" if len(journal) >= 4 else "Cut"
+    try:
+        return [written(entry) for entry in entries.Entries(io.BytesIO(journal))]
+    except ReadFault as fault:
+        return str(fault)
+    except Cut:
+        return "Cut"
+
+
+def written(entry: entries.Entry) -> bytes:
+    (source, tsi, tag, number, symbol), kind, value = entry
+    name = holdings.Key(source or bytes(16), tsi, tag, number).raw()
+    size = LENGTH.pack(len(value)) if kind == entries.SYMBOL else b""
+    return bytes([kind]) + name + symbol + size + value
+
+
+def by_holdings(journal: bytes) -> list[bytes]:
+    return [
+        bytes([kind]) + name + (b"" if kind == entries.INFORMATION else more)
+        for kind, name, more in holdings.entries(io.BytesIO(journal))
+    ]
+
+
+def drawn_journal(draw: random.Random) -> bytes:
+    """A journal of which every other one has a fault."""
+    version = draw.choice((1, 2))
+    senders = SENDERS if version == 2 else (b"",)
+    names = {drawn_name(draw, senders) for _ in range(draw.randrange(1, 4))}
+    held = [each for name in sorted(names) for each in drawn_entries(draw, name)]
+    count, how = len(held), draw.randrange(16)
+    if how == 0:
+        draw.shuffle(held)
+    elif how == 1:
+        count += 1
+    front, end = b"FLJN" + LENGTH.pack(version), b"\xff" + count.to_bytes(8, "big")
+    data = bytearray(front + b"".join(held) + end)
+    if how == 2:
+        data += b"\0"
+    elif how == 3:
+        del data[draw.randrange(len(data)) :]
+    elif how < 7:
+        data[draw.randrange(min(len(data), draw.choice((6, 8, 64, 999))))] = draw.randrange(256)
+    return bytes(data)
+
+
+def drawn_name(draw: random.Random, senders: Sequence[bytes]) -> bytes:
+    """The name of an object, which rarely is none."""
+    is_odd = draw.randrange(60) == 0
+    tag, number = draw.randrange(2), draw.choice((0, 1 << 20)) if is_odd else draw.randrange(1, 4)
+    session = draw.choice(senders) + draw.randrange(3).to_bytes(6, "big")
+    return session + bytes([tag]) + number.to_bytes(14, "big")
+
+
+def drawn_entries(draw: random.Random, name: bytes) -> Iterator[bytes]:
+    """Entries of an object, of which few are wrong."""
+    numbers = draw.choice(NUMBERS if draw.randrange(12) == 0 else NUMBERS[:2])
+    yield from draw.choice(((), (b"\1" + name + packets.packed(*numbers),), (b"\2" + name,)))
+    for symbol in sorted({draw.randrange(1 << 18) for _ in range(draw.randrange(5))}):
+        place = name + symbol.to_bytes(4, "big")
+        value = draw.randbytes(draw.randrange(1, 40) if draw.randrange(60) else 0)
+        yield draw.choice((b"\3" + place + LENGTH.pack(len(value)) + value, b"\4" + place))
