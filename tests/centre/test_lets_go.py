@@ -16,7 +16,7 @@ from flutejoin_tools.centre.hooks import Hooks
 from flutejoin_tools.centre.house import House
 from flutejoin_tools.fdt.fdt import NTP_TO_UNIX
 from flutejoin_tools.fdt.instances import datagrams_in
-from flutejoin_tools.formats.packets import packet_of
+from flutejoin_tools.formats.reading import packet_of
 from flutejoin_tools.pages.asking import delivered
 from flutejoin_tools.pages.model import Model
 from tests.centre.case import SENDER, TSI, CentreCase, announced, file_of, packets

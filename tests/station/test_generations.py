@@ -29,7 +29,7 @@ from flutejoin_tools.fdt import instances
 from flutejoin_tools.fdt.instances import Folder
 from flutejoin_tools.formats.adapting import Adapting
 from flutejoin_tools.formats.entries import SYMBOL
-from flutejoin_tools.formats.packets import packet_of
+from flutejoin_tools.formats.reading import packet_of
 from flutejoin_tools.gather.generations import Generations, generation
 from flutejoin_tools.gather.others import Others
 from flutejoin_tools.journals import holdings
