@@ -2,6 +2,7 @@
 from __future__ import annotations
 
 import os
+import pathlib
 from typing import Iterator
 
 from tests.calls.case import Call
@@ -156,14 +157,14 @@ class Faults(Writing):
 
     def test_put_aside(self) -> None:
         """A fault of what is put aside, once of each kind of call, and at its last."""
-        content = os.urandom(300_000)
-        self.write("large", content)
+        self.write("none", b"")
+        self.write("large", os.urandom(300_000))
         self.made("carousel -o many --tsi 7 --toi 9 --symbol 100 --block 64 large")
         of = "--tsi 7 --toi 9 --symbol 1400 --block 64 -"
         joining = "join --any-size --memory 64K -o kept/there many"
         for words, given, text in (
-            (joining, b"", f"{WRITE} what is put aside"),
-            (f"carousel -o kept/there {of}", content, WRITE),
+            (joining, pathlib.Path("none"), f"{WRITE} what is put aside"),
+            (f"carousel -o kept/there {of}", pathlib.Path("large"), WRITE),  # each read is full
         ):
             self.begin()
             done, calls = self.traced(words, stdin=given)

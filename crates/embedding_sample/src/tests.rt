@@ -1,5 +1,6 @@
 //! Each call once, of the file `hello` of two symbols.
 use crate::{answer, completes, datagrams_of, differences, file_of, is_whole, journal_of_both};
+use flute_journal::EachFault;
 use flute_parts::{Info, Key, MemorySource, ObjectKey, Sender, SessionKey};
 use flute_store::{ExtractFault, Shelf};
 use flute_streams::Side;
@@ -65,8 +66,10 @@ fn stores_differ(rt: HostRuntime) -> Result<(), Fail> {
 #[test]
 fn datagrams_are_kept(rt: HostRuntime) -> Result<(), Fail> {
     let file = bytes(rt.alloc(), journals::DATAGRAMS)?;
-    let Ok(kept) = datagrams_of(rt.alloc(), &mut MemorySource::new(&file), 2) else {
-        return Err("not read".into());
+    let kept = match datagrams_of(rt.alloc(), &mut MemorySource::new(&file), 2) {
+        Ok(kept) => kept,
+        Err(EachFault::Read(fault)) => return Err(fault.into()),
+        Err(EachFault::Datagram(fault)) => return Err(fault.into()),
     };
     assert!(rt; kept.len() == 2);
     let last = bytes(rt.alloc(), INFO_AND_LAST_SYMBOL)?;
