@@ -1,5 +1,5 @@
 """Makes named files of journals by a few runs of flutejoin, whatever the number of files, and one
-for each large object that is to be decoded."""
+for each object of 64 KiB to 8 MiB that is to be decoded."""
 from __future__ import annotations
 
 import contextlib
@@ -28,7 +28,9 @@ from flutejoin_tools.journals.resolving import Way
 from flutejoin_tools.journals.sparse import Thinning
 from flutejoin_tools.journals.states import State, key_of
 
-LEAST_APART = 1 << 16  # bytes of an encoded object for which it is worth a run of its own
+# Bytes of an encoded object for which a run of its own is worth it, and that such a run may hold in
+# memory: to standard output flutejoin writes an object once it has all of it
+LEAST_APART, MOST_APART = 1 << 16, 1 << 23
 MOST_GAPS = 1 << 20  # of objects that nothing describes, if only a list is wanted
 
 
@@ -200,7 +202,7 @@ class Delivery:
         """Has flutejoin write the whole objects that are described, and reads the others' state.
 
         Those whose file is there already are left out. An object that is to be decoded goes through
-        a run's standard output, if it is large: else the disk would be waited for twice.
+        a run's standard output, if its size is fit: else the disk would be waited for twice.
         """
 
         sparse = self.sparse()
@@ -226,12 +228,12 @@ class Delivery:
         os.rename(source, os.path.join(self.work.at("objects"), to.file_name()))
 
     def encoded(self) -> Iterator[Key]:
-        """The large objects that are to be decoded, and may be whole."""
+        """The objects of a fit size that are to be decoded, and may be whole."""
         for session in self.catalogue:
             for toi in filter(session.is_encoded, session.files):
                 held, numbers = session.held.get(toi, NOTHING), session.information(toi)
-                is_large = numbers is not None and numbers[0] >= LEAST_APART
-                if is_large and not held.is_disputed and held.symbols == session.symbols(toi):
+                is_fit = numbers is not None and LEAST_APART <= numbers[0] <= MOST_APART
+                if is_fit and not held.is_disputed and held.symbols == session.symbols(toi):
                     yield session.key(toi)
 
     def extract_apart(self, wanted: Container[Key]) -> Iterator[Key]:
