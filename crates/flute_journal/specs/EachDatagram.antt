@@ -24,8 +24,8 @@ pub record TakesFirst {D : Type 0} (takes : D → List (List ℕ) → D → Type
   pub first : Sofar file_framing limit unread left state datagrams
 
 -- what was taken before a fault: if it is one of the file, its datagrams before that
-abbrev pub TakesBefore : {D F : Type 0} → (D → List (List ℕ) → D → Type 0) → (D → D → Type 0)
-    → ℕ → Option (List ℕ) → D → D → EachFault F → Type 0
+abbrev pub TakesBefore : {D F : Type 0} → (D → List (List ℕ) → D → Type 0)
+    → (D → D → Type 0) → ℕ → Option (List ℕ) → D → D → EachFault F → Type 0
 TakesBefore takes fails limit unread old new (Read f) =
     HasFault file_framing limit unread f
     × ((left : Option (List ℕ)) × (state : ReaderState ℕ)

@@ -135,7 +135,8 @@ both_senders = refl
 
 sizes : (length (old (info ∷ hell ∷ letter_o ∷ [])) ≡ 110)
     × (length (spelling (info ∷ hell ∷ letter_o ∷ [])) ≡ 158)
-    × (length (spelling (info ∷ hell ∷ SymbolConflict key (symbol_id 1) ∷ letter_x ∷ [])) ≡ 200)
+    × (length (spelling (info ∷ hell ∷ SymbolConflict key (symbol_id 1) ∷ letter_x ∷ []))
+    ≡ 200)
 unfolding sender_size
 sizes = (refl, refl, refl)
 
