@@ -31,6 +31,7 @@ other_key = record { session = session (65535 * 2 ^ 32 + 0x0A000001) 7; object =
 abbrev symbol_id : ℕ → SymbolId
 symbol_id n = record { sbn = 0; esi = n }
 
+-- facts of that object: its information, symbols that fit it and one outside its partition
 abbrev info : Fact
 info = Info key (information 5 4 2)
 
@@ -46,7 +47,7 @@ padded_o = Symbol key (symbol_id 1) (0x6F ∷ 0 ∷ 0 ∷ 0 ∷ [])
 abbrev letter_x : Fact
 letter_x = Symbol key (symbol_id 2) (0x78 ∷ [])
 
--- its key, in version 1
+-- the bytes of the key in an entry of a journal, in version 1
 abbrev k : List ℕ
 k = 0 ∷ 0 ∷ 0 ∷ 0 ∷ 0 ∷ 7 ∷ 1 ∷ 0 ∷ 0 ∷ 0 ∷ 0 ∷ 0 ∷ 0 ∷ 0 ∷ 0 ∷ 0 ∷ 0 ∷ 0 ∷ 0 ∷ 0 ∷ 1 ∷ []
 

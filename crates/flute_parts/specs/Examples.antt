@@ -1,4 +1,4 @@
--- Worked examples, computed from the definitions.
+-- Partitions, values at addresses, limits and the order of addresses, computed.
 use Rattle.std.specs.Prelude.{◌≡◌, ◌^◌, true, false, refl, List, [], ◌∷◌, ◌++◌}
 use Rattle.std.specs.Prelude.{length, slice_get, Some, None}
 use Rattle.std.specs.declared.cmp.Ordering.TheVariants.{Less}
@@ -115,7 +115,7 @@ information-conflict :
 unfolding fact_at
 information-conflict = (refl, refl, refl, refl)
 
--- one session, its objects and the symbols of one of them
+-- what limits count: sessions, the objects of one and the symbols of one object
 limits : (length (sessions known) ≡ 1)
     × (objects (known ++ InfoConflict (key_of (Instance 3)) ∷ []) (session 0 7)
     ≡ File 1 ∷ Instance 3 ∷ [])

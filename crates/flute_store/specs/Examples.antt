@@ -1,4 +1,4 @@
--- Worked examples, computed from the definitions.
+-- Objects, their gaps and what is held of them, computed for objects of a few symbols.
 use Rattle.std.specs.Prelude.{◌≡◌, ℕ, refl, List, [], ◌∷◌, ◌++◌, length}
 use Rattle.flute_parts.specs.declared.key.Key.{Key}
 use Rattle.flute_parts.specs.declared.object_key.ObjectName.TheVariants.{File}

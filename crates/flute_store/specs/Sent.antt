@@ -1,4 +1,4 @@
--- What is held of an object whose datagrams were all taken.
+-- The datagrams by which an object was sent make it whole.
 use Rattle.std.specs.Prelude.{◌≡◌, ℕ, List, length, filter, flat_map}
 use Rattle.std.specs.List.{AllZip}
 use Rattle.flute_parts.specs.Information.{Information, IsValid}

@@ -1,4 +1,4 @@
--- Worked runs, computed from the definitions.
+-- What replicas that add, merge and reopen know, computed for three of a small object.
 use Rattle.std.specs.Prelude.{◌≡◌, ◌==◌, ℕ, refl, codes, true, false, if◌then◌else◌, List, []}
 use Rattle.std.specs.Prelude.{◌∷◌, Option, Some, None, count_by}
 use Rattle.flute_parts.specs.Session.{session}

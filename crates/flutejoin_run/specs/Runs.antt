@@ -43,13 +43,13 @@ task_of (Carousel line) = leaves line.target (sends line)
 abbrev pub OnlyPrints : Outside → Outside → Type 0 → Type 0
 OnlyPrints old new P = (new.files ≡ old.files) × (new.errors ≡ old.errors) × P
 
--- it is done, and what is outside changes so
+-- a task is done, and what is outside changes so
 abbrev pub Does : (List ℕ → Option Places) → Task → Outside → Outside → Type 0
 Does folders (leaves target deed) old new = IsDone deed target old new
 Does folders (prints p) old new =
     OnlyPrints old new (p.done folders old.files old.output new.output)
 
--- why it is not done, and what changes all the same
+-- why a task is not done, and what changes all the same
 abbrev pub FailsToDo : (List ℕ → Option Places) → Task → Outside → Outside
     → CommandFault → Type 0
 FailsToDo folders (leaves target deed) old new fault = IsNotDone deed target old new fault
