@@ -36,7 +36,8 @@ pub trait Asides {
     // Whether contracts see which bytes are put aside.
     ghost tells: { Self → Bool };
 
-    // How often something was to be put aside so far.
+    // How often `aside` was called, in vain too. `Makes` (`specs/Asides`) says by it that a join
+    // returns `CannotPutAside` only if something was to be put aside.
     ghost made: { Self → ℕ };
 
     /// Where bytes are put aside. None is there yet.

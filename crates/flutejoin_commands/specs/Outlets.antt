@@ -51,11 +51,12 @@ module _ {A : Type 0} (writes : A → Option (List ℕ) → Option (List ℕ) �
     pub output_works : new.output_failures ≡ old.output_failures
     pub report_fails : new.report_failures ≡ old.report_failures + 1
 
+-- `before` is known of the work if its output could not be opened, `could` if the output failed
 module _ {A : Type 0} (writes : A → Option (List ℕ) → Option (List ℕ) → Type 0)
     (fails : CommandFault → Type 0) (lines : A → List ℕ) (before : Type 0) (could : Type 0)
   where
-    -- The work failed; or its output could not be opened, or failed. Nothing was told then. Or the
-    -- report failed.
+    -- The work failed, or its output could not be opened, or failed: then no line was reported. Or
+    -- the report failed.
     pub data FailsOut (old new : Outlets) (fault : CommandFault) : Type 0 where
       of_work : fails fault
           → (fault ≡ CannotWrite → old.output_failures < new.output_failures)
