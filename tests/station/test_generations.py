@@ -37,7 +37,7 @@ from flutejoin_tools.journals.holdings import Copy, key_of
 from flutejoin_tools.journals.sums import sums_of
 from flutejoin_tools.station.keeping import Keeper
 from flutejoin_tools.station.kept import Settings
-from tests.support import run
+from tests.support import flute_sender, run
 from tests.support.flute_sender import EXPIRES, Sent, Shape, fdt, header, instance
 from tests.support.kept_log import KeptLog
 from tests.support.run import ROOT
@@ -198,7 +198,7 @@ def rounds(
 
 class Runs(Events):
     def restart(self, first: list[bytes], second: list[bytes]) -> None:
-        """One station is set up anew in the middle, one is away during the restart."""
+        """The sender begins anew; meanwhile one station is set up anew, and one is away."""
         self.send(first)
         self.stations[1].set_up_anew()
         self.stations[2].is_away = True
@@ -762,6 +762,32 @@ class Instances(unittest.TestCase):
         self.assertEqual(parts(late + instances.WEEK + 1, *sent[3][1:]), [4])
         self.assertEqual(len(self.documents()), 1)
 
+    def two_of_one_id(self) -> tuple[bytes, list[bytes]]:
+        """Takes the first packets of two FDT Instances. Returns the second one, which expires a day
+        earlier, and its other packets, without EXT_FTI."""
+        older, newer = self.xml(1), fdt(files_of(2, range(1, 6)), EXPIRES - 86400)
+        self.take(instance(7, 3, older)[0], instance(7, 3, newer)[0])
+        numbers = flute_sender.FDT_SYMBOL, flute_sender.FDT_BLOCK
+        return newer, flute_sender.packets(7, 0, newer, *numbers, False, 3)[1:]
+
+    def test_the_older_of_one_id_goes(self) -> None:
+        """Packets without EXT_FTI are then of the newer one still."""
+        newer, others = self.two_of_one_id()
+        with mock.patch.object(instances, "MOST_OPEN", 2):
+            self.take(instance(7, 4, self.xml(3))[0])
+        self.take(*others)
+        self.assertEqual(self.documents(), [newer])
+
+    def test_the_newer_of_one_id_goes(self) -> None:
+        """Packets without EXT_FTI are then of neither."""
+        _, others = self.two_of_one_id()
+        over = EXPIRES - fdt_module.NTP_TO_UNIX - 86400 + instances.WEEK + 1
+        self.take(instance(7, 4, self.xml(3))[0], when=over)
+        self.take(*others, when=over)
+        of_each = self.folder.assembler(SENDER).open.items()
+        symbols = [(number, [*of.symbols]) for (_, number, _), of in of_each]
+        self.assertEqual((symbols, self.documents()), ([(3, [0]), (4, [0])], []))
+
     def test_made_up_ones(self) -> None:
         """As many as anybody likes: a bound of those that are written, and those that are kept."""
         with mock.patch.multiple(instances, MOST_NEW=40, MOST_KEPT=64, MOST_OPEN=8):
@@ -772,6 +798,8 @@ class Instances(unittest.TestCase):
             self.assertGreater(self.folder.left, 0)
             self.take(*instance(7, 999, self.xml(2)), when=2e9)
         self.assertIn(self.xml(2), self.documents())
+        assembler = self.folder.assembler(SENDER)
+        self.assertEqual(assembler.last.keys(), {key[:2] for key in assembler.open})
 
 
 class Files(Events):

@@ -76,7 +76,7 @@ class InstanceAssembler:
     """The FDT Instances of one sender, while they are put together."""
 
     def __init__(self) -> None:
-        # Of each length that an FDT Instance had
+        # By session, ID and transmission information: a sender may use an ID again
         self.open: dict[tuple[int, int, bytes], Assembly] = {}
         self.last: dict[tuple[int, int], bytes] = {}  # transmission information that came last
         self.size = 0
@@ -120,8 +120,8 @@ class InstanceAssembler:
     def let_go(self, since: float) -> None:
         """Drops those that expired, and came last, before a time.
 
-        Of one of which neither is known it is known that it came before those that follow it: it
-        goes with the first of them.
+        One of which neither is known came before those that follow it: it goes once one of them
+        goes.
         """
         has_gone = False
         for key in reversed([*self.open]):
@@ -132,9 +132,11 @@ class InstanceAssembler:
                 self.drop(key)
 
     def drop(self, key: tuple[int, int, bytes]) -> Assembly:
+        """Forgets an Instance that is open, and returns what came of it."""
         assembly = self.open.pop(key)
         self.size -= assembly.size
-        self.last.pop(key[:2], None)
+        if self.last.get(key[:2]) == key[2]:  # that of another one of its ID stays
+            del self.last[key[:2]]
         return assembly
 
     def rest(self) -> Iterator[bytes]:
