@@ -18,7 +18,7 @@ class Events(AskedCase):
     is_by_ssh = False
 
     def restart(self, first: list[bytes], second: list[bytes]) -> None:
-        """One station is set up anew in the middle, one is away during the restart."""
+        """The sender begins anew; meanwhile one station is set up anew, and one is away."""
         self.hear(first)
         shutil.rmtree(self.stations["south"].folder)
         self.stations["south"].begin()
@@ -48,7 +48,7 @@ class Events(AskedCase):
         self.delivers([*first, *second])
 
     def test_partial_files_at_a_restart(self) -> None:
-        """Files of the first run that are not whole become no part of those of the second."""
+        """Files of the sender's first run that are not whole become no part of its second run's."""
         first, second = (
             [file_of(toi, 70_000, f"http://a.example/{turn}/{toi}", turn) for toi in range(1, 4)]
             for turn in (1, 2)

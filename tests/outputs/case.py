@@ -22,7 +22,7 @@ LINES_OF_TWO = "datagrams 0\nrefused 0\nentries 3\n"
 LINES_OF_BOTH = "datagrams 0\nrefused 0\nentries 14\n"
 FIRST, SECOND = "--tsi 7 --toi 1", "--tsi 7 --toi 2"
 CUT = "--symbol 4 --block 2"
-# FEC OTI of a third object
+# Transmission information of a third object, as `info` takes it
 THIRD = f"--tsi 7 --toi 3 --length 5 {CUT}"
 CREATE, WRITE = "cannot create output", "cannot write"
 # The fault for disk.c comes first; its lines go to stream 9, which is standard output here.

@@ -156,7 +156,7 @@ class Contents(NamedTuple):
     sums: bytes
 
     def compare(self, told: Sums) -> tuple[int, int]:
-        """How many of these symbols are those that were delivered, and how many are not.
+        """How many of the symbols that were told are of these contents, and how many are not.
 
         Those in conflict have no value.
         """
@@ -178,12 +178,12 @@ class Contents(NamedTuple):
         return is_padded or self.sums[SUM * place : SUM * (place + 1)] == value
 
     def has_all(self, told: Sums) -> bool:
-        """Whether these symbols of the same object are all of these contents."""
+        """Whether any of the symbols that were told are of these contents, and none are not."""
         same, differ = self.compare(told)
         return same > 0 and not differ
 
     def agrees(self, told: Sums) -> bool:
-        """Whether more of these symbols are of these contents than are not."""
+        """Whether more of the symbols that were told are of these contents than are not."""
         same, differ = self.compare(told)
         return same > differ
 

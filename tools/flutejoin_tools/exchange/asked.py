@@ -62,6 +62,8 @@ class Asking:
     def begin(
         self, request: Iterable[str], most: int, seconds: float, more: Iterable[str] = ()
     ) -> None:
+        """Begins a call, whose answer has at most `most` bytes, and takes at most so many seconds.
+        `more` are further words of its command."""
         path, command = self.told.path("answer"), (*self.arrival.station.ask, *more)
         self.call, self.began = Call(command, request, path, most, seconds), time.monotonic()
 
