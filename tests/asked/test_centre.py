@@ -234,7 +234,7 @@ class Gets(AskedCase):
         self.holds("it is delivered", [*self.files().values()] == [part.content])
 
     def test_old_files(self) -> None:
-        """A new centre of old stations gets nothing whose FDT Instance is long over."""
+        """A new centre of old stations gets nothing whose FDT Instance expired long ago."""
         old = file_of(1, 30_000)
         over = int(self.clock.now - 9 * DAY + NTP_TO_UNIX)
         sent = announced([old], 1, over) + packets([old])

@@ -73,7 +73,7 @@ class Held(AnswerCase):
         return run.Run(child.returncode, self.read("answer"), self.read("err"))
 
     def test_nothing_new(self) -> None:
-        """The answer comes when the time is over, and has the mark of before."""
+        """The answer comes when the time is over, and has the mark of the one before."""
         began = time.monotonic()
         child = self.begin(2, self.first)
         for number in range(5):  # what is no news
@@ -262,7 +262,7 @@ class Patience(AskedCase):
 
     def test_what_waits_is_asked_for_symbols(self) -> None:
         """A station told of symbols that nothing described: once another one brings the FDT
-        Instance, it is asked for them at once."""
+        Instance, the first one is asked for them at once."""
         self.by(Waiting)
         self.turn()
         file = file_of(1, 30_000)
@@ -357,7 +357,7 @@ class Service(AskedCase):
         self.holds("before it is answered", self.waiting())
 
     def comes_at_once(self, number: int) -> bool:
-        """Whether a file that the station hears now is told by a request of before."""
+        """Whether a file that the station hears now comes in answer to an earlier request."""
         self.holds(f"file {number}: it is asked", run.until(self.waiting), self.read("err"))
         file, began = file_of(number, 30_000), time.time_ns()
         self.stations["north"].hear(announced([file], number) + file.packets(TSI))

@@ -275,7 +275,7 @@ class OneStation(CentreCase):
         self.holds("a page", self.path("here/page/index.html").exists())
 
     def test_at_once(self) -> None:
-        """A file is there by its last datagram: no window ends in this run."""
+        """A file is there once its last datagram came: no window ends in this run."""
         port, file = free_port(), file_of(1, 140_000)
         words = ["--port", port, "--every", 10**8, "-o", "news", "--deliver", "here"]
         tool = run.ROOT / "tools/flutejoin-station"

@@ -220,7 +220,7 @@ class Tells(CentreCase):
         (row,) = self.status()["files"]
         wanted = time.strftime("%Y-%m-%dT%H:%M:%SZ", time.gmtime(self.clock.now + 100))
         self.holds("in as long again", row["whole_at"] == wanted, row)
-        self.clock.now += 400  # a carousel comes round, with all but one of what lacks
+        self.clock.now += 400  # a carousel comes round, with all but one of what is missing
         self.push("north", sent[6:9])
         self.work()
         telling.tell()

@@ -27,7 +27,7 @@ THIRD = "--tsi 7 --toi 3"
 
 
 def commands() -> Iterator[tuple[str, int]]:
-    """The words of each command that reads a journal, and the number that `bad` has in it."""
+    """The words of each command that reads a journal, and which of its inputs `bad` is."""
     yield from (("show bad", 1), ("gaps bad", 1), ("gaps --summary --check bad", 1))
     yield from (("compare bad whole", 1), ("compare whole bad", 2))
     yield from (("compare --summary bad whole", 1), ("compare --json whole bad", 2))

@@ -131,7 +131,7 @@ def real(each_second: float = 100, address: str = REAL) -> Iterator[list[tuple[b
 def paced(
     each_second: float, datagrams: Iterator[tuple[bytes, bytes]]
 ) -> Iterator[list[tuple[bytes, bytes]]]:
-    """Those of each hundredth of a second."""
+    """Yields the datagrams of each hundredth of a second, of so many a second."""
     sent = 0
     for step in itertools.count(1):
         count = int(step * each_second / STEP) - sent
@@ -142,7 +142,7 @@ def paced(
 def made_up(
     each: int, addresses: int = 1 << 24, datagram: bytes = SMALL
 ) -> Iterator[tuple[bytes, bytes]]:
-    """Datagrams: so many of each address, one address after another, again and again."""
+    """Yields datagrams: so many of each address, one address after another, then all anew."""
     for number in itertools.count():
         sender = key(FIRST_MADE_UP + number % addresses)
         for _ in range(each):

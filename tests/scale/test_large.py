@@ -72,7 +72,7 @@ class Large(unittest.TestCase):
         self.assertEqual((self.room / "piped").read_bytes(), sent.read_bytes())
 
     def test_two_million_datagrams_are_sent_and_joined(self) -> None:
-        """More symbols than a million are held at once, and more than that put aside."""
+        """More than a million symbols are held in memory, and put aside where it has less room."""
         file, sent, content = self.room / "file", self.room / "sent", bytes(range(250)) * 8_001
         file.write_bytes(content)
         key = ["--tsi", "7", "--toi", "1"]

@@ -413,7 +413,7 @@ class Gathered(Events):
         self.compare(files)
 
     def test_journals_of_epochs(self) -> None:
-        """What versions of before left: journals with FDT Instances, one for each epoch."""
+        """What earlier versions left: journals with FDT Instances, one for each epoch."""
         sent = [files_of(turn, range(1, 11)) for turn in (1, 2)]
         names = []
         for turn, files in enumerate(sent):

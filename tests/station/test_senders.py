@@ -568,7 +568,7 @@ class OnTheDisk(Case):
 
 
 class Before(Case):
-    """What versions of before left in a station's folder."""
+    """What earlier versions left in a station's folder."""
 
     def test_datagram_files_of_epochs(self) -> None:
         """They are joined first, and then removed; the last of the others stays."""

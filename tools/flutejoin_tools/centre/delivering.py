@@ -274,7 +274,7 @@ class Deliverer:
         return self.rounds(keys[:half], faults) + self.rounds(keys[half:], faults)
 
     def may_be_whole(self, key: Key) -> bool:
-        """Whether an object is described, not delivered yet, and no symbol of it lacks."""
+        """Whether an object is described, not delivered yet, and no symbol of it is missing."""
         if key not in self.described.by_object or self.is_done(key):
             return False
         symbols = self.union.get(key, Symbols())

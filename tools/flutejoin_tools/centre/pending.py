@@ -56,7 +56,7 @@ class Sieve:
         self.contents_of = contents_of
         self.came = Came({}, {}, set(), False)
         self.key, self.symbols = Key(b"", 0, FILE, 0), Symbols()
-        # Contents of the object that were delivered, as long as all of it is of them
+        # Of the object's delivered contents those that have all of its entries so far
         self.left: list[tuple[int, Contents, Partition]] = []
 
     def begin(self, raw: bytes) -> Symbols:

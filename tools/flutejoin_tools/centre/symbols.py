@@ -96,7 +96,7 @@ class Symbols:
         )
 
     def missing(self, partition: Partition) -> Iterator[tuple[int, int]]:
-        """Yields the runs of symbols that lack, by the places of the first and the last. Blocks of
+        """Yields the runs of missing symbols, by the places of the first and the last. Blocks of
         which nothing is there are not looked at one by one: there may be 65,536 of them."""
         begin = 0
         for block in sorted(self.blocks):
@@ -112,11 +112,11 @@ class Symbols:
             yield begin, partition.symbols - 1
 
     def runs_missing(self, partition: Partition, block: int) -> Iterator[tuple[int, int]]:
-        """Yields the runs of symbols of a block that lack, by their numbers in it."""
+        """Yields the runs of missing symbols of a block, by their numbers in it."""
         return runs(~self.blocks.get(block, 0) & (1 << partition.size(block)) - 1)
 
     def may_be_whole(self, numbers: Iterable[Numbers]) -> bool:
-        """Whether no symbol lacks, by any transmission information that is told."""
+        """Whether no symbol is missing, by any transmission information that is told."""
         return any(
             not fault_of(*each) and next(self.missing(Partition(*each)), None) is None
             for each in self.numbers.union(numbers)

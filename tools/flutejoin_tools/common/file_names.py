@@ -14,7 +14,7 @@ NAME = re.compile(
     r"(\d+(?:\.\d+){3}|[\da-f-]+(?:%\w+)?)(?:\.e(\d{1,9}))?(?:\.(\d{1,9}))?\.fldg", re.ASCII
 )
 
-# The name of another file of a sender: of an epoch of before, a generation or a time
+# The name of another file of a sender: of an epoch (`file_name`), a generation or a time
 KEPT = re.compile(r"(.+?)(?:\.e\d+)?(?:\.[gv]\d+|\.\d{20})?\.[a-z]+", re.ASCII)
 
 
@@ -29,7 +29,7 @@ def stem(text: str, epoch: int = 1) -> str:
 def file_name(text: str, part: int, epoch: int = 1) -> str:
     """The name of a sender's datagram file: 10.0.0.1.fldg, 10.0.0.1.2.fldg.
 
-    Versions of before wrote files of a further run of a sender as 10.0.0.1.e2.fldg.
+    Earlier versions wrote files of a further run of a sender, an epoch, as 10.0.0.1.e2.fldg.
     """
     return stem(text, epoch) + (f".{part}" if part > 1 else "") + ".fldg"
 

@@ -128,13 +128,13 @@ class Held:
         self.gone[key].add(number)
 
     def forget(self, key: Key, number: int) -> None:
-        """Drops the sums of an object of a generation: who tells of it is asked for it again."""
+        """Drops the sums of an object of a generation: it is asked for again once it is told."""
         self.sums[key].pop(number, None)
         self.gone[key].discard(number)
         self.delivered[key] = [each for each in self.delivered.get(key, ()) if each != number]
 
     def decide(self, key: Key, told: Sums) -> Wanted:
-        """Where belongs what another side has of an object, and what of it is wanted."""
+        """To which generation an object of another side belongs, and what of it is wanted."""
         mine, of = told.by_symbol(), self.sums[key]
         rows = {number: row_of(key, sums, told, mine) for number, sums in of.items()}
         chosen = choose(rows, self.delivered.get(key, ()))
@@ -193,7 +193,7 @@ class Wants:
         self.held = held
         self.by_raw = {each.key.raw(): each for each in every if not each.is_empty()}
         self.strange = 0  # symbols that came, and were not wanted, or not as they were told
-        self.came: dict[bytes, Symbols] = {}  # by objects, the sums of those that were taken
+        self.came: dict[bytes, Symbols] = {}  # by objects, the sums of the symbols that were taken
 
     @classmethod
     def of(cls, held: Held, told: Iterable[Item]) -> Wants:

@@ -1,7 +1,7 @@
 """Holds an answer until something is new at a station.
 
 A centre asks for that by the words of its command, which sshd hands on beside the command that it
-forces: a station of before doesn't read them, and a centre of before doesn't send them.
+forces: an older station doesn't read them, and an older centre doesn't send them.
 """
 from __future__ import annotations
 
@@ -37,9 +37,9 @@ class Hold:
         self.folder, self.old, self.end_at = folder, old, began + seconds
         self.places = [os.path.join(folder, name) for name in (*FOLDERS, DOCUMENTS)]
         self.look_at = began + old.rest()
-        self.times: Optional[list[int]] = None  # of these, at the last look
+        self.times: Optional[list[int]] = None  # when they changed, at the last look
         self.reader = select.poll()
-        self.reader.register(out, 0)  # of errors alone
+        self.reader.register(out, 0)  # for errors alone
 
     def goes_on(self) -> bool:
         """Whether nothing is new yet, and time is left; then a while has passed.

@@ -62,7 +62,7 @@ class Known:
             self.has_changed |= self.numbers.pop(key, None) is not None
 
     def write(self) -> None:
-        """Replaces the journal, if anything changed. It can be made again, so nothing waits."""
+        """Replaces the journal, if it changed. It can be made again: nothing waits for the disk."""
         if not self.has_changed:
             return
         self.has_changed = False
@@ -78,7 +78,7 @@ class Known:
 def told_in(journals: Iterable[str]) -> dict[str, Numbers]:
     """What such journals have, by objects as flutejoin names them; of several the first counts.
 
-    One that is damaged counts for nothing: it is made again.
+    A journal that is damaged counts for nothing: it is made again.
     """
     found: dict[str, Numbers] = {}
     for path in journals:

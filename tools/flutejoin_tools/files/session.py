@@ -125,6 +125,7 @@ class Session:
         return any(each.file.encoding for each in self.usable(toi))
 
     def is_left_alone(self, toi: int) -> bool:
+        """Whether no file is made of an object, since no description of it is usable."""
         return not self.usable(toi)
 
     def check(self, toi: int, checked: Checked, by: Described) -> None:

@@ -19,7 +19,7 @@ def reader() -> Callable[[Buffer], Optional[Packet]]:
     """What reads a packet here."""
     try:
         by_library(SMALLEST)
-    except (ImportError, AttributeError):  # there is none, or one of before
+    except (ImportError, AttributeError):  # there is none, or an older one
         return parsed
     return by_library
 

@@ -52,6 +52,7 @@ class Batch:
         return self.many(min(most, MOST))
 
     def together(self, senders: Iterable[bytes], lengths: list[int]) -> Iterable[Datagram]:
+        """The datagrams in the buffer, by their senders and lengths."""
         heads = self.heads(self.view[: len(lengths) * STRIDE])
         return zip(senders, lengths, heads, self.places)
 

@@ -29,8 +29,8 @@ FLAGS = os.O_NONBLOCK | os.O_NOFOLLOW | os.O_CLOEXEC
 def address_of(peer: Union[str, bytes]) -> IPAddress:
     """The address of a socket's peer, given as text or as the bytes of `Batch`.
 
-    An IPv4 address may come in IPv6 form. The same IPv6 address of one link alone is that of
-    another sender on another link, so those bytes' link is named in it.
+    An IPv4 address may come in IPv6 form. An IPv6 address of one link alone may be another sender's
+    on another link, so the result names the link, which those bytes have.
     """
     if isinstance(peer, str):
         address, link = ipaddress.ip_address(peer.partition("%")[0]), 0

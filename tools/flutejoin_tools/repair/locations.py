@@ -34,7 +34,7 @@ class Reader(fdt.Reader):
         super().__init__(budget)
         self.parser.CharacterDataHandler = self.take
         self.places = Places({}, [])
-        self.current: List[str] = []  # those of the File element that is read
+        self.current: List[str] = []  # the places of the File element that is read
         self.text: List[str] = []  # of the element that is read, and its length
         self.length = 0
         self.is_wanted, self.texts = False, 0

@@ -150,7 +150,7 @@ class Origins:
     """What the operator allows: URLs below these, at public addresses or in these networks."""
 
     def __init__(self, bases: Sequence[Url], networks: Sequence[Network] = ()) -> None:
-        """An address in a base is named by that."""
+        """A base whose host is an address allows that address too."""
         own = [address for base in bases for address in numeric(base.host)]
         self.bases, self.networks = [*bases], [*networks, *map(ipaddress.ip_network, own)]
 

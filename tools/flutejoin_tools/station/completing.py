@@ -53,7 +53,7 @@ class Watched:
         self.partition: Optional[Partition] = None
         self.blocks: dict[int, int] = {}
         self.count = self.bytes = 0
-        self.is_open = True  # until no symbol lacks
+        self.is_open = True  # until no symbol is missing
         self.inform(numbers)
 
     def inform(self, numbers: Optional[Numbers]) -> bool:
@@ -68,6 +68,7 @@ class Watched:
         return self.is_whole()
 
     def hold(self, block: int, bits: int) -> None:
+        """Adds symbols of a block, as bits."""
         before = self.blocks.get(block)
         after = (before or 0) | bits
         self.bytes += BLOCK_BYTES * (before is None)
@@ -76,7 +77,7 @@ class Watched:
         self.blocks[block] = after
 
     def add(self, block: int, number: int) -> bool:
-        """Adds a symbol. Returns whether the object is whole by it."""
+        """Adds a symbol. Returns whether it makes the object whole."""
         if self.blocks.get(block, 0) >> number & 1:
             return False
         of = self.partition
@@ -146,6 +147,7 @@ class Completing:
         self.spent[sender] = self.spent.get(sender, 0.0) + time.thread_time() - began
 
     def follow(self, sender: Sender, part: Part, until: float) -> None:
+        """Looks at what is new in a datagram file, until a time of the processor."""
         place = self.places.get(part.path, Place(None, 0))
         if place.inode != part.inode or place.end > part.end:
             place = Place(part.inode, part.taken)

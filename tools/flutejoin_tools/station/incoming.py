@@ -26,7 +26,7 @@ REMEMBER_EACH = 10  # seconds between two writes of what is joined
 
 
 class Number(NamedTuple):
-    """The number of a datagram file; files of before had an epoch too."""
+    """The number of a datagram file; those of earlier versions had an epoch too."""
 
     epoch: int
     part: int
@@ -251,7 +251,7 @@ class Incoming:
             if one and self.can_be_read(one, part):
                 found[one].append(part)
         for parts in found.values():
-            # Those of an epoch of before come first, and of those that grow the one that waits.
+            # Epochs come first, and of the files that grow the one that was joined longest ago.
             parts.sort(key=lambda part: (part.number.epoch == 1, part.number))
             mark_last(parts)
             parts.sort(key=lambda part: part.joined_at if part.is_last else float("-inf"))
@@ -287,7 +287,7 @@ class Incoming:
 def mark_last(parts: list[Part]) -> None:
     """Marks the files that may grow, and those that stay for a receiver that starts again.
 
-    Of each address that is the last one. A file of an epoch of before grows no more.
+    Of each address that is the last one. A file of an earlier version's epoch grows no more.
     """
     last = {part.sender: part for part in parts if part.number.epoch == 1}
     for part in parts:

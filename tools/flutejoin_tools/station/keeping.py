@@ -41,7 +41,7 @@ class Keeper(Kept):
             lambda sender, key: self.documents.known_of(sender.stem()).numbers.get(key),
         )
         self.has_more = False  # since the last look
-        self.is_adopted = False  # what versions of before left
+        self.is_adopted = False  # what earlier versions left
         self.make_folders()
         for shelf in self.small, self.journals, self.outbox, self.raw, self.aside, self.fresh:
             shelf.clear_partial()

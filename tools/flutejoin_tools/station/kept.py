@@ -255,7 +255,7 @@ class Kept:
             self.attempt(sender, lambda: self.promote(sender))
 
     def adopt(self) -> None:
-        """Takes the journals of epochs of before into the others, by what agrees."""
+        """Takes the journals of earlier versions' epochs into the others, by what agrees."""
         for folder in self.small.path, self.journals.path:
             for name in sorted(os.listdir(folder)):
                 found = sender_of(name.removesuffix(".journal") + ".fldg")
