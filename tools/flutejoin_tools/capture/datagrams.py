@@ -32,7 +32,8 @@ SEVERAL = "perhaps several datagrams as one (UDP segmentation offload; capture a
 PORT_UNKNOWN = ", of a port that is not known"
 UNKNOWN = "which is not known here"
 MOST_NAMED = 16  # link types, and EtherTypes, that are counted one by one
-# Work, beside that of a small packet: of a fragment, of VLAN tags, of bytes of extension headers
+# Work beside that of a small packet: for a fragment, and 1 for so many VLAN tags, and for so many
+# bytes of extension headers
 FRAGMENT_WORK, TAGS_OF_WORK, HEADERS_OF_WORK = 3, 4, 128
 
 UDP, ICMP, ICMP6, FRAGMENT = 17, 1, 58, 44
@@ -76,8 +77,8 @@ class Datagrams:
         hand_on: HandOn,
         senders: Container[bytes] = (),
     ) -> None:
-        """Those that are wanted are to one of these ports and groups, and of one of these senders:
-        of all where there are none."""
+        """Takes datagrams to these ports and groups, from these senders; of each all, where there
+        are none."""
         self.ports, self.groups, self.senders = ports, groups, senders
         self.any_checksum, self.hand_on = any_checksum, hand_on
         self.count = 0
@@ -207,7 +208,7 @@ class Datagrams:
             self.take_other(kind, data)
 
     def behind_headers(self, kind: int, data: bytes) -> tuple[int, bytes]:
-        """The same as the function, with the work counted."""
+        """Calls the function of this name, and counts the work."""
         found, rest = behind_headers(kind, data)
         self.work += (len(data) - len(rest)) // HEADERS_OF_WORK
         return found, rest

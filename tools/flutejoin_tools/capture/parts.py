@@ -24,10 +24,9 @@ MOST_SENDERS = 200  # each has an open file
 MOST_ADAPTED = 4096  # senders of whose datagrams something is remembered
 MOST_JOINED = 32  # datagrams that are put together at once
 MOST_COUNTED = 1 << 16  # senders beyond these of which bytes are counted
-# Beside that of a small packet: of one that is adapted, or of a sender beyond these
-ADAPTED_WORK = 6
-DATAGRAMS_OF_WORK = 16  # that become of one
-INSTANCE_WORK = 2
+# Work, beside that of a small packet: of one that is adapted, or whose sender is beyond these; of
+# so many datagrams that become of one; and of an FDT Instance
+ADAPTED_WORK, DATAGRAMS_OF_WORK, INSTANCE_WORK = 6, 16, 2
 SENDERS = f"more than {MOST_SENDERS} senders"
 OCCUPIED = "its sender's file cannot be made"
 

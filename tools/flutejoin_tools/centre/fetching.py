@@ -37,7 +37,7 @@ MOST_TOLD = 8  # lines about the files of one run
 LEAST = 1 << 16  # bytes of a day that a run is begun with
 FRONT = 1 << 20  # bytes that answers may have beside files
 GRACE = 600  # seconds that a run may take beside its requests
-MOST_RESULT = 1 << 22
+MOST_RESULT = 1 << 22  # bytes
 LONGEST_DELAY = 3600  # seconds until the next run, after runs of which nothing came
 # What Python runs for a run, with the folder of the tools and that of the run
 ERRAND = (

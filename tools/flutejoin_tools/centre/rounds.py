@@ -25,7 +25,7 @@ LEAST_MOST, RATIO = 10**9, 16  # bytes that are decoded: the greater of this and
 class Once(Log):
     """Passes on each line once: what differs is the same in each round."""
 
-    MOST = 1 << 14
+    MOST = 1 << 14  # lines
 
     def __init__(self, report: Log) -> None:
         super().__init__(report.tool)

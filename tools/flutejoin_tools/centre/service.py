@@ -23,7 +23,7 @@ from flutejoin_tools.pages.telling import Telling
 
 FIRST_DELAY, LONGEST_DELAY = 5, 300  # seconds until what failed is tried again
 EACH = 5  # seconds between two rounds of a single station
-# Seconds between two rounds of what came meanwhile, and times of what the first one took
+# Between two rounds of what came meanwhile: seconds, and times what the first one took
 LEAST, PAUSE = 0.5, 1
 FRESH = "deliver"  # the folder of a station that has what is to be delivered
 
@@ -65,7 +65,7 @@ class Service:
         return True
 
     def work_at_times(self, each: float = EACH) -> None:
-        """The same, if it is due, and what else is to be done."""
+        """Delivers what came, if that is due, and does what else is to be done."""
         if self.attempt(lambda: self.asker.tend(each)):
             self.next = float("-inf")
         began = time.monotonic()

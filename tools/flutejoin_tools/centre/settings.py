@@ -39,7 +39,7 @@ class Settings(NamedTuple):
     repair: Optional[Repairing] = None
 
     def with_repair(self, repair: Repairing) -> Settings:
-        """These, with the origin as a further station."""
+        """The settings, with the origin as a further station."""
         status = {**self.status, ORIGIN: status_of(self.folder)}
         stations = (*self.stations, origin_of(self.folder))
         return self._replace(stations=stations, status=status, repair=repair)

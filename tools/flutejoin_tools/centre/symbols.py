@@ -29,7 +29,7 @@ NO_NUMBERS: FrozenSet[Numbers] = frozenset()
 
 @functools.lru_cache(maxsize=1024)
 def together(numbers: FrozenSet[Numbers], more: Numbers) -> FrozenSet[Numbers]:
-    """These with one more. Most objects of a session have the same, which is kept once."""
+    """The numbers and more. Most objects of a session have the same, which are kept once."""
     return numbers | {more}
 
 
@@ -69,7 +69,7 @@ class Symbols:
             self.blocks[block] = self.blocks.get(block, 0) | bits
 
     def beside(self, other: Optional[Symbols]) -> Symbols:
-        """These and others together, of which neither changes; without others these themselves."""
+        """Both together, as a further one; without another it is returned itself."""
         if other is None:
             return self
         found = Symbols()
@@ -78,7 +78,7 @@ class Symbols:
         return found
 
     def without(self, other: Symbols) -> Symbols:
-        """Those that another has not."""
+        """Its symbols that another lacks."""
         found = Symbols()
         for block, bits in self.blocks.items():
             left = bits & ~other.blocks.get(block, 0)

@@ -45,8 +45,8 @@ class State(NamedTuple):
     missing: int = 0
 
     def bound(self, ranges: int) -> State:
-        """The same with as many gap lines as there may be, by the ranges of bytes that are not
-        held: each gap is in one block."""
+        """The state with the most gap lines that so many ranges of missing bytes may have: each gap
+        is in one block."""
         return self._replace(gaps=min(self.missing + self.disputed, ranges + MOST_BLOCKS))
 
     @classmethod

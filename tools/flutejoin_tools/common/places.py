@@ -15,7 +15,7 @@ from typing import Iterator
 from flutejoin_tools.common.file_names import PARTIAL
 from flutejoin_tools.common.signals import ENDS, later
 
-PIECE = 1 << 18
+PIECE = 1 << 18  # bytes that are read at once
 SENDER = "user.flutejoin.sender"  # the extended attribute of a file that has its sender
 FOLDER = os.O_RDONLY | os.O_DIRECTORY | os.O_NOFOLLOW | os.O_CLOEXEC
 REGULAR = os.O_RDONLY | os.O_NOFOLLOW | os.O_NONBLOCK | os.O_CLOEXEC

@@ -283,7 +283,7 @@ class Program:
             return Answer(status, text, out or b"")
 
     def tending(self, items: Iterable[T]) -> Iterator[T]:
-        """Yields these, and tends meanwhile."""
+        """Yields the items, and tends meanwhile."""
         for number, item in enumerate(items):
             if number % TEND_EACH == 0:
                 self.tend()

@@ -37,7 +37,7 @@ MOST_TOLD = 1 << 28  # bytes of changes after which no further journal is begun
 MOST_DOCUMENTS = 1 << 26  # bytes of FDT Instances in one answer; the next one has the others
 WAIT = 10  # seconds after which an answer that takes longer says so
 REQUEST_SECONDS, ANSWER_SECONDS = 60, 3600
-PIECE = 1 << 20
+PIECE = 1 << 20  # bytes that are read at once
 
 
 class Answering:

@@ -77,7 +77,7 @@ class Asking:
         return (self.call is None or self.is_waiting) and now >= self.next_try
 
     def takes_turn(self, now: float) -> bool:
-        """Whether others wait for the call: not for one that waits, nor for ever."""
+        """Whether the call keeps others from being made: if it waits, or is slow, it does not."""
         return self.call is not None and not self.is_waiting and now < self.began + SLOW
 
 

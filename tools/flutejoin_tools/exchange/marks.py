@@ -22,7 +22,7 @@ from flutejoin_tools.journals import sums
 MOST_MARKS = 8  # the newest ones: a centre asks by the last that it has, and there may be several
 NAME = re.compile(r"[0-9a-f]{32}", re.ASCII)
 INDEX = "index.json"
-PIECE = 1 << 20
+PIECE = 1 << 20  # bytes that are read at once
 SHARE = 4  # an answer begins so many times later than the one before took
 
 # What tells whether a file is the one that was told of: numbers, as its inode and length; of a
@@ -49,7 +49,7 @@ class Mark:
                 yield from sums.read(file)
 
     def read(self) -> bool:
-        """Whether it is there, and whole."""
+        """Reads it. Returns whether it is there, and whole."""
         try:
             with open(os.path.join(self.folder or "", INDEX), encoding="utf-8") as file:
                 told = json.load(file)

@@ -25,8 +25,8 @@ from flutejoin_tools.formats.entries import FILE
 from flutejoin_tools.formats.records import HEADER
 from flutejoin_tools.journals.holdings import Key
 
-MOST_PARTS = 1 << 17
-PIECE = 1 << 20
+MOST_PARTS = 1 << 17  # of an answer
+PIECE = 1 << 20  # bytes that are read at once
 OF_NEW = {"since", "status", "document", "rest", "journal", "gone", "mark", "end"}
 OF_VALUES = {"values", "end"}
 NEWS = "document", "rest", "journal", "gone"

@@ -79,7 +79,7 @@ class Told:
         replace_text(self.path("serial"), str(serial))
 
     def journals(self) -> list[Journal]:
-        """Those that were told of: those of most symbols first, those of other values last."""
+        """The journals that were told of: of most symbols first, of other values last."""
         found = [match for name in os.listdir(self.folder) if (match := NAME.fullmatch(name))]
         every = [Journal(match[1], bytes.fromhex(match[2]), match[3]) for match in found]
         sizes = {each: os.path.getsize(self.path(each.name())) for each in every}

@@ -17,7 +17,7 @@ if TYPE_CHECKING:
     from flutejoin_tools.centre.delivering import Deliverer
 
 MOST_ASKED = 1 << 24  # bytes of symbols that are asked for at once, so that little comes twice
-MOST_SYMBOLS = 1 << 16
+MOST_SYMBOLS = 1 << 16  # that are asked for at once
 MOST_JOURNALS = 64  # of which each is read once by the station
 ENTRY, LONGEST, SYMBOL = 44, 65_579, 1_500  # bytes: beside a symbol, an entry, an unknown symbol
 ALWAYS = 256  # symbols that may be as long as any

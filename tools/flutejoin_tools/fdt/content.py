@@ -14,7 +14,7 @@ from flutejoin_tools.fdt.fdt import File
 from flutejoin_tools.formats.partition import Buffer
 from flutejoin_tools.journals.resolving import Budget, Sink
 
-PIECE = 1 << 18
+PIECE = 1 << 18  # bytes that are read, or decoded, at once
 COST = 2  # of decoding a byte, beside that of its MD5
 GZIP, ZLIB, RAW = 31, 15, -15  # zlib's names of the formats (RFC 1952, RFC 1950, RFC 1951)
 ENCODINGS = {"gzip": GZIP, "x-gzip": GZIP, "zlib": ZLIB, "deflate": RAW}

@@ -56,7 +56,7 @@ class Text(Sink):
         return Text(self.budget, self.parts, self.size)
 
     def is_right(self) -> bool:
-        """Whether it is XML of an FDT Instance: else it is mixed of several."""
+        """Whether it is the XML of an FDT Instance: else it is mixed of several."""
         try:
             fdt.read_from(io.BytesIO(b"".join(self.parts)), None, "", self.budget)
         except (fdt.Refused, fdt.Spent):

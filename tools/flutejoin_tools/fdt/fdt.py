@@ -24,13 +24,13 @@ MOST_MARKUP = 1 << 16  # bytes of a tag or a comment
 MOST_NAMES = 1 << 12  # of elements and attributes
 MOST_DEPTH = 16
 MOST_LOCATION, MOST_TYPE = 2048, 100  # characters that are kept of a name and of a type
-PIECE = 1 << 16
+PIECE = 1 << 16  # bytes that are read, or decoded, at once
 COMPRESSED = b"\x1f", b"x"  # how gzip (RFC 1952) and zlib (RFC 1950) formats begin
 EITHER, RAW = 47, -15  # zlib's names for either format, and for DEFLATE (RFC 1951)
 BEFORE = b"\xef\xbb\xbf\xfe\xff\0 \t\r\n"  # bytes that XML may have before its first `<`
 FIRST = b"<", b"\xef", b"\xfe", b"\xff"  # bytes that XML begins with
 MOST_TREES = 512  # bytes of DEFLATE that come before its first byte, at most
-DIGITS = 39
+DIGITS = 39  # of a number, at most
 EXPIRES = re.compile(rb"Expires\s*=\s*[\"']\s*(\d{1,10})")
 NTP_TO_UNIX = 2208988800  # seconds from 1900 to 1970
 ERA = 1 << 32  # seconds of an era of NTP; the second begins in 2036 (RFC 4330, section 3)

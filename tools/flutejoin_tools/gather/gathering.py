@@ -168,8 +168,8 @@ class Gathering:
         self.bring_files(path)
 
     def gather_files(self, piece: Piece, sources: AbstractSet[bytes]) -> None:
-        """The same of a journal that has files of these senders, and no FDT Instance. Raises as
-        `take`."""
+        """Gathers the files of a journal that has files of these senders, and no FDT Instance.
+        Raises as `take`."""
         self.checked(self.program.run([*gaps.CHECK, argument(piece.path)]))
         if len(sources) > 1 or self.one:
             self.bring_files(piece.path)

@@ -300,7 +300,7 @@ class Generations:
             parts.remove()
 
     def forget(self, number: int, keys: Container[Key]) -> None:
-        """Takes these objects out of a generation."""
+        """Takes objects out of a generation."""
         path = self.path_of(number)
         with open(path, "rb", buffering=0) as file, begin_file(path + PARTIAL) as out:
             holdings.copy(file, lambda key: key not in keys, out, ())

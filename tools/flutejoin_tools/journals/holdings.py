@@ -34,11 +34,10 @@ from flutejoin_tools.formats.entries import (
 from flutejoin_tools.formats.packets import packed
 from flutejoin_tools.formats.records import Cut, ReadFault
 
-PIECE = 1 << 20
+PIECE = 1 << 20  # bytes that are read at once
 KEY = 37  # bytes of an entry's sender, TSI, tag and number
 TAG = 22  # where the tag is in them
-SENDER = 16
-SYMBOL_ID, LENGTH, NUMBERS = 4, 2, 12
+SENDER, SYMBOL_ID, LENGTH, NUMBERS = 16, 4, 2, 12  # bytes
 # Bytes after the object's number, of an entry that is no symbol
 SIZES = {INFORMATION: NUMBERS, INFORMATION_CONFLICT: 0, SYMBOL_CONFLICT: SYMBOL_ID}
 KINDS = [bytes([kind]) for kind in range(256)]

@@ -56,7 +56,7 @@ class Sink:
         raise NotImplementedError
 
     def is_right(self) -> bool:
-        """Whether these are the bytes that were sent, as far as can be seen."""
+        """Whether its bytes are those that were sent, as far as can be seen."""
         raise NotImplementedError
 
     def age(self) -> int:

@@ -19,7 +19,7 @@ from flutejoin_tools.formats.records import Cut, ReadFault
 from flutejoin_tools.journals.holdings import KEY, NUMBERS, Choice, Key, key_of
 from flutejoin_tools.journals.merged import Found, merged
 
-SYMBOL_ID, SUM, COUNT = 4, 8, 4
+SYMBOL_ID, SUM, COUNT = 4, 8, 4  # bytes
 EACH = SYMBOL_ID + SUM  # bytes of a symbol
 IN_CONFLICT = bytes(SUM)  # in place of the sum of a symbol of which two values came
 # In place of transmission information: there is none, or it is in conflict
@@ -53,7 +53,7 @@ class Sums(NamedTuple):
         return len(self.symbols) // EACH
 
     def with_more(self, more: Sums) -> Sums:
-        """These, and what others have where these have nothing."""
+        """These sums, and of what has none here that of `more`."""
         has_own = self.information != NO_INFORMATION
         information = self.information if has_own else more.information
         return Sums.of(information, {**more.by_symbol(), **self.by_symbol()})

@@ -107,8 +107,9 @@ def sign(counts: Counts) -> str:
 
 # SVG
 
-WIDTH, MARGIN, LABEL = 1280, 24, 46
-MOST_ROWS, LEAST_CELL, MOST_CELL = 64, 3, 18
+WIDTH, MARGIN, LABEL = 1280, 24, 46  # pixels
+MOST_ROWS = 64  # of cells
+LEAST_CELL, MOST_CELL = 3, 18  # pixels
 LEAST_ROW, LEAST_SHARED_ROW = 6, 12  # high enough to show shares
 MOST_CELLS = 40000  # of a page, which limits it to a few megabytes
 MOST_HEIGHT = 32000  # of a page; some programs show no more than 32,767

@@ -13,7 +13,7 @@ from flutejoin_tools.map import pictures
 from flutejoin_tools.map.filling import Filling
 from flutejoin_tools.map.grids import Grid, Overview, partition_words
 
-MOST_PANELS = 520
+MOST_PANELS = 520  # of a page
 MOST_GAPS = 1000000  # lines of gaps of all objects that are drawn, unless it is one
 NOTHING = "nothing of this object"
 OF_OTHERS = ", with the transmission information of other journals"

@@ -29,7 +29,7 @@ TRIES, TRIES_EACH = 1 << 18, 32
 ENDING = 9  # bytes of the end of a journal
 # The bytes after an object's number, of entries that are no symbols
 REST = {INFORMATION: 12, INFORMATION_CONFLICT: 0, SYMBOL_CONFLICT: 4}
-SYMBOL_ID, LENGTH = 4, 2
+SYMBOL_ID, LENGTH = 4, 2  # bytes
 
 
 class Entry(NamedTuple):

@@ -53,7 +53,7 @@ from flutejoin_tools.common.signals import answer_stops, end_run, exit_status
 from flutejoin_tools.formats import entries, records
 from flutejoin_tools.formats.reading import packet_of
 
-MOST_VALUES = 4096
+MOST_VALUES = 4096  # that are printed
 DIGITS = 8  # digits of a value's SHA-256 that are printed
 ZERO = bytes(16)  # the sender, if none is named
 CUT = "Cut: flutejoin-mend makes a right file of what is whole in it"

@@ -23,6 +23,7 @@ MOST_KNOWN = 250  # senders that a filter passes: each costs the system a step f
 # beyond which that of long ones falls too, in any case; and below which both rise. The system tells
 # what was taken from it only later.
 FULL, TOO_FULL, FURTHER, EMPTY = 1 / 4, 3 / 4, 1 / 64, 1 / 32
+# By what they fall and rise each time, and the least of both
 FALLS, RISES, LEAST, LEAST_OF_LONG = 0.5, 1.25, 1 / 16384, 1 / 256
 # Bytes of a long datagram, with UDP's header: most of a file are, and a flood of these costs its
 # sender more.

@@ -14,10 +14,9 @@ FEW = 16  # datagrams; a sender with fewer may be a made-up address
 # out, if there was no place until then
 LONG_WAIT, LONGEST_WAIT = 50, 60
 MOST_NEWCOMERS = 4096
-# Bytes that wait, with what Python takes for each datagram: of the first FEW of each sender, and of
-# all others
+# Bytes that wait, with OF_EACH for a datagram: of the first FEW of each sender, and of all others
 MOST_HELD = MOST_MORE = 12 << 20
-OF_EACH = 128
+OF_EACH = 128  # bytes that Python takes for a datagram
 DECAY = 0.8  # what a byte counts a second later: so what counts is that of the last few seconds
 
 

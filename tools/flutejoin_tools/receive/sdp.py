@@ -12,7 +12,7 @@ from typing import Iterable, Iterator, NamedTuple, Optional
 from flutejoin_tools.common.addresses import IPAddress
 from flutejoin_tools.common.texts import shown
 
-MOST_BYTES, MOST_LINES = 1 << 16, 1 << 12
+MOST_BYTES, MOST_LINES = 1 << 16, 1 << 12  # of a description
 MOST_SESSIONS = 64  # that one description may ask for
 MOST_TSI = (1 << 48) - 1
 TYPES = "vosiuepcbtrzkam"

@@ -153,7 +153,7 @@ SETTINGS = {
     ),
 }
 AS_RECEIVED, KEEP_FREE = "as-received", "keep-free"
-BUFFER = 1 << 24
+BUFFER = 1 << 24  # bytes
 DEFAULTS = {
     "folder": ".", "senders": 64, "split": MOST_BYTES, "buffer": BUFFER, "keep-free": NOTHING
 }

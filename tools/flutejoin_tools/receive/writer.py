@@ -24,7 +24,7 @@ MOST_WAITING = 1 << 26  # bytes that wait for the disk in all, at most
 MANY_WAITING = 1 << 23  # from this number on the receiving thread pauses
 MAKE_WAY = 0.001  # seconds of that pause
 SPARE = 16  # descriptors for other files than those of senders
-MOST_OPEN = 4096
+MOST_OPEN = 4096  # files
 AHEAD = 3600 * 10**9  # nanoseconds that the clock of a file system may be ahead
 
 

@@ -151,9 +151,9 @@ class Whole:
 
 
 def wrong_ones(journal: str, fetched: Sequence[Fetched]) -> List[Fetched]:
-    """Those of these with an MD5 that the object would not have, with what this journal has.
+    """The fetched files whose MD5 their object would not have, with what the journal has of it.
 
-    Each of them is of another file, and nothing of it is missing any more.
+    Nothing of these objects is missing any more, so what came of them is another file's.
     """
     budget = Budget(MOST_WORK)
     wanted = {file.lack.key.raw(): file for file in fetched if file.file.md5}

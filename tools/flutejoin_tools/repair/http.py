@@ -16,8 +16,9 @@ from flutejoin_tools.repair.origins import Origins, Refused, Server, Url, joined
 
 IDLE = 20.0  # seconds without a byte
 PACE = 1 << 13  # bytes a second that an answer has at least, after these
-PIECE = 1 << 16
-MOST_HEAD, MOST_LINE, MOST_FIELDS = 1 << 15, 1 << 13, 100
+PIECE = 1 << 16  # bytes that are read at once
+MOST_HEAD, MOST_LINE = 1 << 15, 1 << 13  # bytes
+MOST_FIELDS = 100  # of a head
 MOST_INTERIM = 8  # answers 1xx before the answer
 MOST_REDIRECTS = 5
 REDIRECTS = 301, 302, 303, 307, 308

@@ -242,7 +242,7 @@ class Lacking:
         return f"some symbols are {DISPUTED}" if lack.state.is_disputed else LEFT
 
     def replaced(self, lacks: Iterable[Lack], complete: Set[Key]) -> Iterator[Key]:
-        """Yields those whose name a newer file of the session has that is whole, or one of these.
+        """Yields the files whose name a newer file of the session has that is whole, or `complete`.
 
         FLUTE sends a new version of a file under a new TOI.
         """

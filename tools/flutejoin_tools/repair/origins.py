@@ -216,7 +216,7 @@ def resolve(host: str, port: int, seconds: float) -> list[Place]:
 
 
 def first_refusal(texts: Sequence[str], origins: Origins) -> Tuple[List[Url], Optional[str]]:
-    """Those of these URLs that may be asked, each once, and why the first other one may not."""
+    """The URLs that may be asked, each once, and why the first of the others may not."""
     urls: List[Url] = []
     refusal = None
     for text in texts:

@@ -31,8 +31,8 @@ BLOCK_BYTES = 128  # what a source block takes beside a bit for each symbol
 MOST_HEADS = 1 << 15  # headers that are known again, of all senders
 # Of journals of an earlier run, which are read for what they lack: bytes of a sender, and senders
 MOST_READ, MOST_READERS = 1 << 30, 64
-MOST_GAPS = 1 << 16
-# Seconds between two joins of a sender that an object asks for, and times of what the first took
+MOST_GAPS = 1 << 16  # lines
+# Between two joins of a sender that an object asks for: seconds, and times what the first one took
 LEAST_PAUSE, PAUSE = 1, 4
 
 

@@ -207,7 +207,7 @@ class Joined:
             self.written = told
 
     def write_at_times(self, parts: Iterable[Part]) -> None:
-        """The same, every few seconds, and less often if it takes long."""
+        """Writes it every few seconds, and less often if that takes long."""
         began = time.monotonic()
         if began >= self.write_at:
             self.write(parts)
