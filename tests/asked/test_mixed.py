@@ -48,12 +48,12 @@ class Mixed(AskedCase):
         self.work()
         self.stations["north"].hear(self.symbols[:80])
         self.ask()
-        self.holds("what lacks", self.wanted_of("north") == 30, self.asked("north"))
+        self.holds("what is missing", self.wanted_of("north") == 30, self.asked("north"))
         self.push("east", self.symbols[80:90])
         self.work()
         self.stations["south"].hear(self.symbols)
         self.ask()
-        self.holds("what lacks then", self.wanted_of("south") == 10, self.asked("south"))
+        self.holds("what is missing then", self.wanted_of("south") == 10, self.asked("south"))
         self.holds("it is delivered", [*self.files().values()] == [self.one.content])
         shares = self.lines()[0]["stations"]
         wanted = {"east": 60.0, "north": 80.0, "south": 100.0}
@@ -89,7 +89,7 @@ class Mixed(AskedCase):
         (row,) = json.loads(self.path("centre/page/status.json").read_text())["files"]
         self.holds("the shares", row["stations"] == {"east": 50.0, "north": 30.0}, row)
         self.holds("what one has alone", row["only"] == {"east": 40, "north": 20}, row)
-        self.holds("what lacks", row["missing_symbols"] == 30, row)
+        self.holds("what is missing", row["missing_symbols"] == 30, row)
         (picture,) = self.path("centre/page/pictures").iterdir()
         for told in "held 50", "held 30", "held 70", "missing 50", "missing 70", "missing 30":
             self.holds(f"the picture tells {told}", f">{told}<" in picture.read_text())

@@ -189,7 +189,7 @@ class Tells(CentreCase):
         self.holds("another", check({})[0] == 3)
 
     def test_what_lacks(self) -> None:
-        """The bytes that lack are the same as by a look at each symbol of each block."""
+        """The missing bytes are the same as by a look at each symbol of each block."""
         draw = random.Random(7)
         for _ in range(400):
             partition = Partition(draw.randint(1, 200), draw.randint(1, 4), draw.randint(1, 20))

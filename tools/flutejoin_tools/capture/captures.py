@@ -37,7 +37,7 @@ RESOLUTION = 9  # the option of an interface with the units of its timestamps
 
 
 class Record(NamedTuple):
-    """What is around a packet in a capture, but for its times: those alike may follow."""
+    """What is around a packet in a capture, but for its times: many packets may have the same."""
 
     first: bytes  # before the times
     sizes: bytes  # behind them

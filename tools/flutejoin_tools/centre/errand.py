@@ -1,7 +1,7 @@
 """One repair of a centre, by a process of its own: deliveries go on meanwhile, and a kill of it
 loses nothing but what it fetched.
 
-It is given FOLDER, which has `job.json` (`Job`); it gets `result.json`.
+It is given FOLDER, which has `job.json` (`Job`), and gets `result.json`.
 
 What stations have of some objects of a sender is put together by what agrees, what is missing is
 asked for, and what came goes as one journal to the folder of the origin, which is taken like a
@@ -82,6 +82,8 @@ class Gathered(NamedTuple):
 
 
 class Errand:
+    """The work of one process, in the folder that it is given."""
+
     def __init__(self, folder: str, job: Job) -> None:
         self.folder, self.job = folder, job
         self.program, self.report = Program(job.program, lambda: None), Quiet("repair")
@@ -90,7 +92,7 @@ class Errand:
         return os.path.join(self.folder, name)
 
     def run(self) -> dict[str, object]:
-        """Does it, and returns what is told."""
+        """Repairs, and returns what is told of it."""
         settings = settings_of(self.job.table)._replace(most=self.job.most)
         gathered, out = Gathered(self.gather(), self.job), self.at("came.fldg")
         program = Program(self.job.program)

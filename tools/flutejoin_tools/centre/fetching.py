@@ -67,7 +67,7 @@ class Fetching:
         self.ends = self.look_at = float("-inf")
         self.begin_at: Optional[float] = None  # after the random wait
         self.failures = 0  # runs of which nothing came, one after another
-        self.is_spent = False  # whether that was told of this day
+        self.is_spent = False  # whether it was told that the bytes of this day are spent
 
     def tend(self) -> bool:
         """Looks after the run, or begins the next one. Returns whether one goes on."""
@@ -254,7 +254,7 @@ class Fetching:
         replace_text(status_of(self.deliverer.folder), json.dumps(told) + "\n")
 
     def told(self) -> dict[str, object]:
-        """What a centre's status has of it."""
+        """What a centre's status has of repairs."""
         return {
             "running": self.child is not None,
             **self.tries.totals,

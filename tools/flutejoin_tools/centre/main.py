@@ -5,13 +5,13 @@
   flutejoin-centre --config centre.toml --check
   flutejoin-centre --folder /srv/centre --missing
 
-Stations are asked over ssh what they have (flutejoin-station --answer), and in turn for what still
-lacks; or they push to folders of their own (examples/push.sh), or are on this machine. What came is
-joined with what waits of each object. Once every symbol of an object is at any station, its file is
-made, decoded, compared with the MD5 of its FDT Instance, and given its name when it is whole and on
-the disk. Only what is new is read and written. A file is delivered once: what somebody moves away
-isn't written again, nor what comes again of it. A kill at any moment loses nothing, and delivers
-nothing twice. Questions are answered from what a centre that runs wrote last.
+Stations are asked over ssh what they have (flutejoin-station --answer), and in turn for what is
+still missing; or they push to folders of their own (examples/push.sh), or are on this machine. What
+came is joined with what waits of each object. Once every symbol of an object is at any station, its
+file is made, decoded, compared with the MD5 of its FDT Instance, and given its name when it is
+whole and on the disk. Only what is new is read and written. A file is delivered once: what somebody
+moves away isn't written again, nor what comes again of it. A kill at any moment loses nothing, and
+delivers nothing twice. Questions are answered from what a centre that runs wrote last.
 It runs until Ctrl-C, SIGTERM or SIGHUP (not under nohup).
 
 what is in the folder:

@@ -58,8 +58,8 @@ class Chosen(Delivery):
         self.documents = documents
 
     def join(self) -> None:
-        """As for others; but a single journal is not looked through first: it is read whole when
-        its objects are extracted."""
+        """Joins as a `Delivery` does; but a single journal is not looked through first: it is read
+        whole when its objects are extracted."""
         if len(self.journals) > 1:
             super().join()
             return
@@ -67,7 +67,7 @@ class Chosen(Delivery):
         self.name = shown(self.journal)
 
     def describe(self, is_shown: Choice) -> str:
-        """As for others; but a journal of which all is described, and nothing added, stays."""
+        """As a `Delivery` does; but a journal stays if all of it is described, and nothing added."""
         keys = (session.key(toi) for session in self.catalogue for toi in session.held)
         is_all = all(map(is_shown, keys)) and not self.catalogue.strays
         if is_all and not any(True for session in self.catalogue for _ in session.added()):

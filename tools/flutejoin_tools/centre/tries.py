@@ -27,7 +27,7 @@ class Tried(NamedTuple):
 
 
 class Tries:
-    """A file that is replaced whole. If it is lost, more is asked again, and sooner."""
+    """A file that is replaced whole. If it is lost, more is asked for again, and sooner."""
 
     def __init__(self, path: str, after: float, clock: Callable[[], float]) -> None:
         self.path, self.after, self.clock = path, after, clock

@@ -1,4 +1,4 @@
-"""Asks stations what is new, and gets of each what still lacks then: one after another.
+"""Asks stations what is new, and gets of each what is still missing then: one after another.
 
 What a station told is on the disk before anything is wanted of it, and an answer is looked at to
 its end before anything of it is kept. So a kill, or an answer that is cut, only repeats a request.
@@ -51,7 +51,7 @@ class Asking:
         self.was_asked = False  # since the run began
         self.waits = False  # whether its answers wait until something is new
         self.is_waiting = False  # whether the call does
-        self.began = float("-inf")  # the call
+        self.began = float("-inf")  # when the call did
         self.next = self.next_try = float("-inf")  # when it is asked what is new, or anything
         self.delay = 0
         self.budget = MOST_ASKED

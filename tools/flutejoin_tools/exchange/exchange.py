@@ -21,8 +21,8 @@ or for symbols of journals that an answer told of, by lines of `flutejoin gaps`:
 An answer is lines too; after each that ends in BYTES so many bytes follow:
 
     flutejoin answer 1
-    wait                                      nothing: it only takes a while; as the first line, it
-                                              waited for what is new, as `holding` has it
+    wait                                      nothing: the answer takes a while; as the first line:
+                                              it waited for what is new, as `holding` has it
     since MARK                                that of the request, if it is known; else none
     status BYTES                              what the station tells of itself
     document SENDER TSI INSTANCE WHEN BYTES   an FDT Instance that is new
@@ -172,7 +172,7 @@ def valid(key: Key, number: int) -> Key:
 
 
 def want_in(lines: list[str]) -> Want:
-    """flutejoin fill reads the lines of each journal once more, and takes only what is right."""
+    """The lines by journals. `flutejoin fill` reads them anew, and takes only what is right."""
     found: dict[str, list[str]] = {}
     of: Optional[list[str]] = None
     for number, line in enumerate(lines, 2):

@@ -75,7 +75,7 @@ class Told:
             return 0
 
     def put_serial(self, serial: int) -> None:
-        """If it is lost, the station is told once more."""
+        """Keeps that number; if it is lost, the station is told once more what was delivered."""
         replace_text(self.path("serial"), str(serial))
 
     def journals(self) -> list[Journal]:
@@ -195,7 +195,7 @@ def united(
 
 
 def symbols_of(sums: Sums) -> Symbols:
-    """Which symbols these are."""
+    """Which symbols there are sums of."""
     found, of = Symbols(), sums.symbols
     if sums.information not in (NO_INFORMATION, DISPUTED):
         found.numbers = together(found.numbers, information_of(sums.information))

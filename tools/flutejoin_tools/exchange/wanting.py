@@ -96,8 +96,8 @@ class Wanting:
         return None if wanted.is_empty() else wanted
 
     def without_brought(self, wanted: Wanted, told: Sums) -> Wanted:
-        """The same without the symbols that other stations brought by themselves: those of journals
-        of which nothing differs from what is told."""
+        """What is wanted, without the symbols that other stations brought by themselves: those of
+        journals of which nothing differs from what is told."""
         mine = told.by_symbol()
         here: set[bytes] = set()
         for sums in brought(self.deliverer.arrivals, {wanted.key}).get(wanted.key, ()):

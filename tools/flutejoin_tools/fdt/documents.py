@@ -215,7 +215,7 @@ class Documents:
             self.unread.pop(key, None)
 
     def resolve(self, others: Sequence[str], name_of: Callable[[str], str]) -> None:
-        """Puts those in conflict together of what single journals and other files have.
+        """Puts Instances in conflict together of what single journals and other files have.
 
         Each way that gives XML is taken.
         """
@@ -241,7 +241,7 @@ class Documents:
                 self.unread.pop(key, None)
 
     def newest_first(self) -> Iterator[tuple[Document, io.BytesIO]]:
-        """Yields each with its bytes."""
+        """Yields each document with its bytes."""
         for document in sorted(self.known, key=lambda it: it.rank, reverse=True):
             self.file.seek(document.place)
             yield document, io.BytesIO(self.file.read(document.size))

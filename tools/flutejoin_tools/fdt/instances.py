@@ -156,7 +156,7 @@ class Folder:
     """The folder `fdt`: the documents of senders, and of what is not whole the datagrams."""
 
     def __init__(self, path: str, sessions: Sequence[int] = (), seconds: float = WEEK) -> None:
-        """Of these sessions alone, if there are any. What is not whole is kept for so many seconds
+        """Of these sessions alone, if any are named. What is not whole is kept for so many seconds
         after it expired, and came last."""
         self.path, self.sessions, self.seconds = path, sessions, seconds
         self.assemblers: dict[str, InstanceAssembler] = {}
@@ -292,7 +292,7 @@ class Folder:
                 self.counts[stem] -= 1
 
     def forget(self, stems: Iterable[str]) -> None:
-        """Drops what is open of other senders than these, which have nothing more to read."""
+        """Drops what is open of all senders but these: of the others nothing more is to be read."""
         for stem in (self.assemblers.keys() | self.known.keys()) - set(stems):
             self.assemblers.pop(stem, None)
             self.known.pop(stem, None)

@@ -71,7 +71,7 @@ class Delivery:
     def read(self, handed_in: Iterable[str], others: Sequence[str]) -> None:
         """Reads what the journals hold, and the FDT Instances.
 
-        These datagram files and journals may contain values of symbols in conflict.
+        `others`, datagram files and journals, may contain values of symbols in conflict.
         """
         self.join()
         with self.named_faults():
@@ -273,8 +273,8 @@ class Delivery:
     def resolve(self, others: Sequence[str]) -> set[Key]:
         """Completes objects about which journals differ, where the MD5 shows what was sent.
 
-        These datagram files and journals may contain values of symbols in conflict. Returns which
-        objects were completed. Of the others it is noted what the journals that agree have.
+        `others`, datagram files and journals, may contain values of symbols in conflict. Returns
+        which objects were completed. Of the rest it is noted what the journals that agree have.
         """
         ways = self.ways(others)
         with self.named_faults():

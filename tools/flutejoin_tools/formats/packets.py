@@ -107,7 +107,7 @@ def numbers_of(information: bytes) -> tuple[int, int, int]:
 
 
 def packed(length: int, symbol: int, block: int) -> bytes:
-    """These lengths as `numbers_of` takes them, and as a journal has them."""
+    """The lengths as `numbers_of` takes them, and as a journal has them."""
     return length.to_bytes(6, "big") + SYMBOL_AND_BLOCK.pack(symbol, block)
 
 

@@ -68,10 +68,10 @@ def may_matter(line: bytes) -> bool:
 
 
 def compared(every: Sequence[Iterable[bytes]], without: Container[Key]) -> Iterator[list[Row]]:
-    """Yields of each object of a journal how it compares with each of those that are kept.
+    """Yields of each object of a journal how it compares with each journal that is kept.
 
-    `every` are the lines of `flutejoin compare` of these and it, which have its objects in the
-    same order.
+    `every` are the lines of `flutejoin compare` of each kept journal and this one, which have the
+    objects of this one in the same order.
     """
     new = (filter(Row.is_in_second, map(row_in, lines)) for lines in every)
     for rows in itertools.zip_longest(*new):
@@ -85,7 +85,7 @@ class Chosen(NamedTuple):
     """Where an object goes."""
 
     number: int  # of a generation; ASIDE if there is no room for another one
-    replaces: bool = False  # whether what that has of the object goes before: it was delivered
+    replaces: bool = False  # whether it first forgets the object, which was delivered
 
 
 def choose(rows: dict[int, Row], delivered: Iterable[int] = ()) -> Chosen:

@@ -196,7 +196,7 @@ def copies(
 def copy(file: BinaryIO, choice: Choice, out: IO[bytes], added: Iterable[Added]) -> None:
     """Writes a journal of the chosen objects, with transmission information that is added.
 
-    That is of objects that lack it, in the order of a journal.
+    What is added is of objects without it, in the order of a journal.
     """
     copied, last, is_chosen = Copy(out), b"", False
     rest = iter(added)

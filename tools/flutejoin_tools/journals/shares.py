@@ -51,8 +51,8 @@ def shares(
 ) -> Iterator[tuple[Key, list[Share]]]:
     """Yields of each of these objects what journals that agree have of it, `without` some of them.
 
-    Journals agree if more of its symbols are equal than differ. Those are left out that have all
-    that others have of it.
+    Journals agree if more of its symbols are equal than differ. Of such groups of journals the
+    greatest are taken: none is a part of another one.
     """
     agreeing = {
         key: same_in(found, resolving.wanted[key]) for key, found in chosen(resolving, keys)

@@ -65,7 +65,7 @@ def age(seconds: float) -> str:
 
 
 def waiting_line(rows: Iterable[Row], delivered: int) -> str:
-    """How many files are delivered, and what lacks of the others."""
+    """How many files are delivered, and what is missing of the others."""
     every = [*rows]
     told = f"{delivered} file{'s' * (delivered != 1)} delivered"
     if not every:

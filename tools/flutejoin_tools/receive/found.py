@@ -67,8 +67,8 @@ class Found(NamedTuple):
 def look_at(folder: str, name: Name, most: Optional[int] = None) -> Found:
     """Reads a file, and removes a record that is cut at its end.
 
-    One of more than `most` bytes, and those before it, are not read, and another is begun. Raises
-    Fault if the file can't be read or is no datagram file.
+    A file of more than `most` bytes is not read, and another is begun. Raises Fault if the file
+    can't be read or is no datagram file.
     """
     path = os.path.join(folder, file_name(str(name.address), name.part))
     looked: Looked = collections.deque(maxlen=MOST_LOOKED)

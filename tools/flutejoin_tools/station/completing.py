@@ -26,7 +26,7 @@ PIECE = 1 << 17  # bytes of a datagram file that are read at once: any record at
 MOST_SECONDS = 0.1  # of the processor, that a look takes; the next one goes on
 MOST_BEHIND = 1 << 26  # bytes that wait to be looked at; with more no object is followed further
 MOST_OBJECTS = 1 << 13  # that are followed, of all senders
-MOST_BYTES = 1 << 24  # of which symbols of them came
+MOST_BYTES = 1 << 24  # that note which of their symbols came
 BLOCK_BYTES = 128  # what a source block takes beside a bit for each symbol
 MOST_HEADS = 1 << 15  # headers that are known again, of all senders
 # Of journals of an earlier run, which are read for what they lack: bytes of a sender, and senders

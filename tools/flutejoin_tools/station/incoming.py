@@ -266,6 +266,7 @@ class Incoming:
         self.look_at = now + SHARE * (now - began)
 
     def can_be_read(self, sender: Sender, part: Part) -> bool:
+        """Looks at a datagram file. Returns whether it can be read; if not, a fault is noted."""
         try:
             part.look()
             if part.name() not in self.parts and self.is_kept(sender):

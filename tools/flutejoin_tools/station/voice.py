@@ -72,7 +72,7 @@ class Counts:
         self.report.warn(f"refused datagrams, which flutejoin does not read: {', '.join(named)}")
 
     def tell_last(self) -> None:
-        """At the end of a run: the same, at once."""
+        """Reports them at once, at the end of a run."""
         self.told_at = float("-inf")
         self.tell()
 
