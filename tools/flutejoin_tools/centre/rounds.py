@@ -67,7 +67,7 @@ class Chosen(Delivery):
         self.name = shown(self.journal)
 
     def describe(self, is_shown: Choice) -> str:
-        """As a `Delivery` does; but a journal stays if all of it is described, and nothing added."""
+        """As a `Delivery`; but a journal stays if all of it is described, and nothing is added."""
         keys = (session.key(toi) for session in self.catalogue for toi in session.held)
         is_all = all(map(is_shown, keys)) and not self.catalogue.strays
         if is_all and not any(True for session in self.catalogue for _ in session.added()):

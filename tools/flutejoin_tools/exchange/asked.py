@@ -51,7 +51,7 @@ class Asking:
         self.was_asked = False  # since the run began
         self.waits = False  # whether its answers wait until something is new
         self.is_waiting = False  # whether the call does
-        self.began = float("-inf")  # when the call did
+        self.began = float("-inf")  # when the call began
         self.next = self.next_try = float("-inf")  # when it is asked what is new, or anything
         self.delay = 0
         self.budget = MOST_ASKED
