@@ -120,7 +120,7 @@ lines_left Ended number = 0
 lines_left last number = 2 ^ 64 - number
 
 module _ {R : Type 0} (unread : R → Option (List ℕ)) (failures : R → ℕ) where
-  -- this was read as the next line
+  -- what was read next is this: a line, or that there is none
   abbrev pub ReadsNext : GapList R → GapList R → LastLine → Type 0
   ReadsNext old new Unread = ⊥
   ReadsNext old new Ended =
@@ -248,7 +248,7 @@ module _ {S R : Type 0} (a : Behaviour S) (unread : R → Option (List ℕ)) (fa
         facts;
   }
 
-  -- it let go of what it held, and the facts and the lines went on since
+  -- the stream let go of what it held, and its facts and lines went on since
   pub record Walks (old now : Filled S R) : Type 0 where
     pub between : (start : Filled S R) (facts : List Fact) → Passed old.begun start old facts
         → Between start now (facts ++ option_list (a.held old.facts))

@@ -19,13 +19,13 @@ AddsFacts input facts old new count =
     IfSome input (λ bytes. (entries : List Fact) × IsJournalWithin MAX_ENTRIES bytes entries
     × WritesJournal old new (entries ++ facts) count)
 
--- it is a journal that is over the limits together with these facts
+-- the bytes are a journal that is over the limits together with these facts
 abbrev pub IsOverWith : Limits → List ℕ → List Fact → Type 0
 IsOverWith most bytes facts =
     (entries : List Fact) × IsJournalWithin MAX_ENTRIES bytes entries
     × IsOver most (entries ++ facts)
 
--- it is a journal that is within them
+-- the bytes are a journal that is within the limits together with these facts
 abbrev pub IsWithinWith : Limits → List ℕ → List Fact → Type 0
 IsWithinWith most bytes facts =
     (entries : List Fact) × IsJournalWithin MAX_ENTRIES bytes entries

@@ -190,11 +190,11 @@ pub record IsHeld {S : Type 0} (b : Behaviour S) (held : S) : Type 0 where
   pub new : IsNew b held
   pub few : b.most held ≤ 2 ^ 63
 
--- it gives these facts if it ends
+-- the stream gives these facts if it ends
 abbrev pub Ends : {S : Type 0} → Behaviour S → S → List Fact → Type 0
 Ends {S} b held facts = (now : S) (given : List Fact) → b.ends held now given → given ≡ facts
 
--- it has no fault
+-- the stream has no fault
 abbrev pub NeverStops : {S : Type 0} → Behaviour S → S → Type 0
 NeverStops b held = (fault : LoadFault) → b.stops held fault → ⊥
 

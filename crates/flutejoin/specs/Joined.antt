@@ -46,7 +46,7 @@ everything sender =
 abbrev pub facts_by : Choice → List ℕ → List Fact
 facts_by choice datagram = chosen choice.takes (facts choice.sender datagram)
 
--- those of an input
+-- the facts of an input that are joined
 abbrev pub content_facts : Choice → InputContent → List Fact
 content_facts choice (of_journal entries) = chosen choice.takes entries
 content_facts choice (of_file datagrams) = flat_map (facts_by choice) datagrams
@@ -55,12 +55,12 @@ abbrev pub content_datagrams : InputContent → List (List ℕ)
 content_datagrams (of_journal entries) = []
 content_datagrams (of_file datagrams) = datagrams
 
--- it is a packet of an object that is not taken
+-- a packet has this content, and is of an object that is not taken
 abbrev pub is_other_packet : Choice → Option Content → Bool
 is_other_packet choice None = false
 is_other_packet choice (Some content) = not (choice.takes (key_of choice.sender content))
 
--- the datagram is one; of a refused one it is not known
+-- the datagram is such a packet; a refused one is not
 abbrev pub is_of_others : Choice → List ℕ → Bool
 is_of_others choice datagram = is_other_packet choice (packet datagram)
 

@@ -17,7 +17,7 @@ abbrev pub at_most : ℕ → ℕ → ℕ → Limits
 at_most sessions objects symbols =
     record { sessions = sessions; objects = objects; symbols = symbols }
 
--- those of a store, or those of any size
+-- the limits of a store, or those of any size
 abbrev pub limits_of : Bool → Limits
 limits_of false = at_most MAX_SESSIONS MAX_OBJECTS MAX_SYMBOLS
 limits_of true = at_most ANY_SESSIONS ANY_OBJECTS ANY_SYMBOLS

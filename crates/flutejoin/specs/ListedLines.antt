@@ -47,7 +47,7 @@ module _ {X : Type 0} (Tells : List ℕ → List X → Type 0) where
     pub tell : LinesTell lines items
     pub number_is : number ≡ length lines + 1
 
-  -- so it does, and then has a line with P
+  -- the list begins so, and then has a line of which P holds
   pub record HasLine (P : List ℕ → Type 0) (bytes : List ℕ) (number : ℕ) : Type 0 where
     pub items : List X
     pub words : List ℕ
@@ -56,7 +56,7 @@ module _ {X : Type 0} (Tells : List ℕ → List X → Type 0) where
     pub one_line : IsOneLine words
     pub here : P words
 
-  -- so it does, and then has bytes with P
+  -- the list begins so, and then has bytes of which P holds
   pub record HasRest (P : List ℕ → Type 0) (bytes : List ℕ) (number : ℕ) : Type 0 where
     pub items : List X
     pub rest : List ℕ

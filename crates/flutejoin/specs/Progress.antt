@@ -75,7 +75,7 @@ IsTold t = (F : List Fact) × (t ≡ told_of F t.key)
 abbrev pub HasGap : List Fact → Key → Type 0
 HasGap F key = (first : SymbolId) × IsNotWhole F key first
 
--- it has one in any facts that contain these in a row, whatever follows them
+-- the object has a gap in any facts that contain these in a row, whatever follows them
 abbrev pub IsBroken : Key → List Fact → Type 0
 IsBroken key mine = (F before rest : List Fact) → F ≡ before ++ (mine ++ rest) → IsRising F
     → HasGap F key

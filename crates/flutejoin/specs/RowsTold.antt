@@ -30,7 +30,7 @@ AreTheirs form false rows lines sums = (lines ≡ flat_map (row_line form) rows)
 AreTheirs form true rows lines None = (rows ≡ []) × (lines ≡ [])
 AreTheirs form true rows lines (Some sums) = AreSummed form rows lines sums
 
--- so much is counted of a row
+-- how much a row adds to the sums of a session, at most
 abbrev pub weight : Row → ℕ
 weight row =
     1 + row.symbols.same + row.symbols.differ + row.symbols.first + row.symbols.second

@@ -98,7 +98,7 @@ printed style objects =
 abbrev pub is_right : Style → Status → Bool
 is_right style status = not style.conflicts && is_whole status
 
--- they are all whole, or with `--conflicts` there is none
+-- all objects that are listed are whole, or with `--conflicts` there is none
 abbrev pub are_whole : Style → List Told → Bool
 are_whole style objects =
     list_all (λ (t : Told). is_right style t.status) (listed_by style objects)

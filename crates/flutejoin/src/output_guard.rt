@@ -21,7 +21,7 @@ pub enum Overwrites {
 }
 
 impl Overwrites {
-    /// Those of a command that writes a journal, with `--force` or without.
+    /// What a command overwrites that writes a journal, with `--force` or without.
     pub fn of_journal(force: bool) -> Overwrites
         ensures { result ≡ overwrites_journal force }
     {
@@ -32,7 +32,7 @@ impl Overwrites {
         }
     }
 
-    /// Those of a command that writes something else, with `--force` or without.
+    /// What a command overwrites that writes something else, with `--force` or without.
     pub fn of_other(force: bool) -> Overwrites
         ensures { result ≡ overwrites_other force }
     {

@@ -53,7 +53,8 @@ OutIsKept old new = Leads OutStays old new ⊎ Leads OutIsAsFound (option_map cr
 abbrev pub NothingBeside : Option Entries → Option Entries → Type 0
 NothingBeside old new = Leads (λ before after. after.beside ≡ None) old new
 
--- it is gone, unless the folder failed more often than the fault says: in removing it
+-- the file beside OUT is gone, unless it could not be removed: then the folder failed more often
+-- than the fault says
 pub record IsCleared (old new : Devices) (fault : CommandFault) : Type 0 where
   pub none : new.folder_failures ≡ old.folder_failures → NothingBeside old.folder new.folder
   pub one : fault ≡ CannotWrite → new.folder_failures ≡ old.folder_failures + 1
@@ -142,6 +143,6 @@ WasWholeAlways made new =
     Leads
     (λ before after. (bytes : List ℕ) × IsEitherAlways (whole bytes) before after) made new
 
--- so it was; or the file beside it was not made, and OUT has been nothing else
+-- OUT was so; or the file beside it was not made, and OUT has been nothing else
 abbrev pub IsWholeAlways : Option Entries → Option Entries → Type 0
 IsWholeAlways old new = Leads OutStays old new ⊎ WasWholeAlways (option_map created old) new

@@ -67,12 +67,12 @@ plain {A} writes fails lines = record {
   lines = lines;
 }
 
--- it is left there
+-- the deed was done: what it writes was left at the target
 abbrev pub IsDone : Deed → Target → Outside → Outside → Type 0
 IsDone deed target old new =
     Leaves (deed.writes old.files) (deed.puts old.files) deed.lines target.out.now old new
 
--- why not
+-- why a deed was not done
 abbrev pub IsNotDone : Deed → Target → Outside → Outside → CommandFault → Type 0
 IsNotDone deed target old new fault =
     FailsToLeave (deed.writes old.files) (deed.fails old.files) target.out.now old new fault

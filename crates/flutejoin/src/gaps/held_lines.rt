@@ -56,7 +56,7 @@ pub fn object_text(style: Style, key: &Key, status: Status, conflicts: u64) -> T
     }
 }
 
-// The same, in words.
+// The line of an object, in words.
 #[inline(always)]
 fn plain_object_text(key: &Key, status: Status, unplaced: u64) -> Text
     ensures line { line result ≡ object_line_in Plain key.now status unplaced }

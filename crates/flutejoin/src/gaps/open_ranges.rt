@@ -22,7 +22,7 @@ pub struct OpenRanges {
 }
 
 impl OpenRanges {
-    /// Those of no object.
+    /// The ranges of no object.
     pub fn new() -> OpenRanges
         ensures { result.last ≡ None }
     {

@@ -24,7 +24,7 @@ pub(crate) struct HeldSize {
 }
 
 impl HeldSize {
-    /// That of no fact.
+    /// The size of no fact.
     pub(crate) fn none() -> HeldSize {
         HeldSize {
             bytes: 0,
