@@ -112,6 +112,7 @@ class Errand:
         raise AssertionError
 
     def gather_once(self, name: str) -> str:
+        """As `gather`; raises FileNotFoundError if a journal was replaced meanwhile."""
         copied, joined = self.at(f"copied{name}"), self.at(f"joined{name}")
         for folder in copied, joined:
             os.mkdir(folder)

@@ -119,6 +119,7 @@ class Inbox:
             return False
 
     def keep(self, folder: str, names: list[str], kept: Folder) -> None:
+        """Keeps what some files of a folder of FDT Instances have."""
         found: dict[str, dict[str, Document]] = collections.defaultdict(dict)
         marks, newest = {}, 0.0
         for name in names:

@@ -256,6 +256,7 @@ class Pending:
             self.known.pop(key, None)
 
     def forget_listed(self, journals: Iterable[str], keys: Iterable[Key]) -> None:
+        """Has flutejoin forget objects in each journal, and removes one that is empty then."""
         lines = os.path.join(self.folder, f"list{PARTIAL}")
         try:
             with begin_file(lines) as out:

@@ -193,6 +193,7 @@ class Contents(NamedTuple):
         return all(self.has_one(partition, kind, more) for kind, more in entries)
 
     def has_one(self, partition: Partition, kind: int, more: bytes) -> bool:
+        """Whether an entry of the same object is of these contents."""
         if kind == INFORMATION:
             return information_of(more) == self.numbers
         if kind != SYMBOL:

@@ -38,6 +38,7 @@ class Fed(NamedTuple):
                 yield piece
 
     def datagrams(self) -> Iterator[bytes]:
+        """Yields the datagrams of these records."""
         rest = b""
         for piece in self.data():
             data, at = rest + piece, 0

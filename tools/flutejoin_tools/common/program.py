@@ -169,6 +169,7 @@ class Program:
         out: Union[int, IO[bytes]],
         fed: Optional[Iterable[bytes]] = None,
     ) -> Answer:
+        """Runs a command, feeds it, and returns how it ended."""
         try:
             with self.running([Command(words)], given, out) as (child,):
                 if fed is not None:
@@ -237,6 +238,7 @@ class Program:
     def start(
         self, words: Sequence[str], given: Union[int, IO[bytes]], out: Union[int, IO[bytes]]
     ) -> Child:
+        """Starts a run of the program. Raises Failed if that cannot be done."""
         try:
             return subprocess.Popen(
                 [self.path, *words],
@@ -251,7 +253,7 @@ class Program:
             raise Failed(Answer(3, f"{shown(self.path)}: cannot be run: {why}")) from None
 
     def feed(self, child: Child, pieces: Iterable[bytes]) -> None:
-        """Sends what it reads to a run. If it ends early, its message says why."""
+        """Sends pieces of an input to a run. If the run ends early, its message says why."""
         pipe, child.stdin = child.stdin, None
         assert pipe
         os.set_blocking(pipe.fileno(), False)
@@ -270,6 +272,7 @@ class Program:
             self.tend()
 
     def answer(self, child: Child) -> Answer:
+        """Waits for the end of a run, and tends meanwhile."""
         while True:
             try:
                 out, told = child.communicate(timeout=LOOK)

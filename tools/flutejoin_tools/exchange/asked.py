@@ -162,6 +162,7 @@ class Asker:
                     return
 
     def want(self, each: Asking) -> None:
+        """Asks a station for symbols, or takes transmission information that it told, if alone."""
         asked = each.wanting.ask(each.budget)
         self.note_again(each)
         request = asked.request()

@@ -133,6 +133,7 @@ class Told:
         return changed
 
     def replace(self, journal: Journal, items: Iterable[Change]) -> None:
+        """Replaces what is known of a journal, in one step."""
         path, count = self.path(journal.name()), 0
         try:
             with begin_file(path + PARTIAL) as out:

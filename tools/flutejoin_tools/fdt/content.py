@@ -80,6 +80,7 @@ class Decoder:
             data = stream.unused_data
 
     def pieces_of_stream(self, stream: zlib._Decompress, data: bytes) -> Iterator[bytes]:
+        """Yields what one stream decodes to, up to its end."""
         piece = bytes(PIECE)
         while not stream.eof and (data or len(piece) == PIECE):
             try:
@@ -182,6 +183,7 @@ class Check:
         return Checked(Verdict.WRONG_MD5, "", False) if file.md5 else of_length(file, self.size)
 
     def of_encoded(self, file: File) -> Checked:
+        """The result for a file that is encoded: its MD5 may be that of either form."""
         if file.encoding not in self.decoded:
             self.decoded[file.encoding] = self.decode(file.encoding)
         md5, size, fault = self.decoded[file.encoding]
@@ -255,6 +257,7 @@ class Sums(Sink):
         ]
 
     def update(self, data: Buffer) -> None:
+        """Adds bytes of the object. An encoding that does not decode them is dropped."""
         self.whole.update(data)
         for each in [*self.decoded]:
             try:

@@ -76,6 +76,7 @@ class Described:
         return self.documents[found.path].keys
 
     def add(self, key: Key, new: Description) -> None:
+        """Adds a description. Of equal ones the newest stays; of too many the oldest goes."""
         every = self.by_object.setdefault(key, [])
         same = next((each for each in every if each.file == new.file), None)
         if same is not None and same.rank >= new.rank:

@@ -73,6 +73,7 @@ class Assembly:
         self.right = self.disputed = self.misfits = 0
 
     def take(self, found: Found) -> None:
+        """Adds what the journal has at the next address."""
         ((_, value),) = found.values
         if not found.symbol:
             if not value:
@@ -155,6 +156,7 @@ class Documents:
                 self.left += 1
 
     def add(self, key: Key, name: str, text: Text, path: str = "") -> None:
+        """Writes a document behind the others. Of too many the oldest are dropped."""
         place, looked = self.file.seek(0, io.SEEK_END), b""
         if len(self.digests) < 2 * MOST_DOCUMENTS:
             self.digests.add((key, digest_of(b"".join(text.parts))))

@@ -37,6 +37,7 @@ class Owners:
         return self.known[path]
 
     def look(self, path: str) -> Optional[bytes]:
+        """The sender of the file at a path: by its attribute, or if it is contested by its MD5."""
         try:
             with self.place.parent(path, False) as (folder, name):
                 file = os.open(name, REGULAR, dir_fd=folder)

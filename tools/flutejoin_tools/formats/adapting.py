@@ -317,6 +317,7 @@ class Adapting:
             self.plain.pop(self.without.pop(key, b""), None)
 
     def remember(self, head: bytes, plan: Plan) -> None:
+        """Keeps the plan of a header, and how long its packets of one symbol are."""
         self.plans[head] = plan
         drop_oldest(self.plans)
         if plan.refusal or plan.head is not None or len(head) > FIXED_ALL:

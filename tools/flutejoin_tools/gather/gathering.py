@@ -131,6 +131,7 @@ class Gathering:
         self.documents.keep(stem, {it.name(stem): it for it in documents}, when)
 
     def gather_datagrams(self, path: str) -> None:
+        """Gathers the FDT Instances and the files of a datagram file."""
         named = name_of(os.path.basename(path))
         source = self.one or self.source or (sender_bytes(named.address.packed) if named else None)
         if source is None:
@@ -182,6 +183,7 @@ class Gathering:
             self.bring(source, Piece(of_one))
 
     def gather_instances(self, path: str) -> None:
+        """Keeps the FDT Instances that a journal has whole."""
         found: dict[bytes, list[Document]] = collections.defaultdict(list)
         for key, _, of in merged([path], lambda key: key.tag != FILE):
             assembly = Assembly()
@@ -220,6 +222,7 @@ class Gathering:
         yield self.one or source, copy.out.name
 
     def bring(self, source: bytes, piece: Piece) -> None:
+        """Joins files of a sender by what agrees, and puts away a journal that is full."""
         stem = stem_of(source)
 
         def join(out: str, part: str) -> Answer:

@@ -47,6 +47,7 @@ class Layers:
         self.dropped = 0
 
     def take(self, datagram: bytes) -> None:
+        """Adds a datagram to a layer of its object; if none can have it, it is dropped."""
         packet = packet_of(datagram)
         layers = self.objects.get((packet.tsi, packet.toi)) if packet else None
         if packet is None or layers is None:
@@ -71,6 +72,7 @@ class Layers:
 
     @staticmethod
     def choose(layers: list[Layer], current: int, told: dict[bytes, int]) -> Optional[int]:
+        """The layer that takes what a datagram tells; None if there is none."""
         if layers[current].takes(told):
             return current
         for number, layer in enumerate(layers):

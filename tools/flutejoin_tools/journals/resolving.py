@@ -313,6 +313,7 @@ class Resolving:
             self.look_in(path)
 
     def look_in(self, path: str) -> None:
+        """Keeps the values of symbols in conflict that a file has. Raises Fault."""
         try:
             with opened(path) as file:
                 reader = entries.reader_of(file)

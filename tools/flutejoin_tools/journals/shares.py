@@ -30,6 +30,7 @@ class Counting:
         self.held = self.disputed = 0
 
     def take(self, found: Found) -> None:
+        """Counts a symbol, by what these journals have of it."""
         place = self.partition.place(found.symbol)
         of = {value for number, value in found.values if number in self.journals}
         if place is None or not of:

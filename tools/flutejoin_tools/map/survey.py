@@ -233,6 +233,7 @@ class Survey:
             yield pictures.Drawing(title_of(key), self.words(key), self.panels[key], is_whole)
 
     def words(self, key: str) -> str:
+        """How an object is cut into blocks, or why that is not known."""
         words = self.all[key].words
         if words == gaps.NO_INFORMATION:
             return "no packet told its length, so its blocks are not known; flutejoin info adds it"

@@ -53,6 +53,7 @@ class Row(NamedTuple):
     whole_at: Optional[float]  # when it will likely be whole, if it goes on so
 
     def told(self) -> dict[str, object]:
+        """The row as the status has it."""
         return {
             "name": self.name,
             "sender": address_of(self.key.source),
@@ -205,6 +206,7 @@ class Model:
         return [self.station(each, files) for each in self.deliverer.arrivals]
 
     def station(self, arrival: Arrival, files: list[Delivery]) -> StationRow:
+        """The row of a station."""
         name, now = arrival.station.name, self.deliverer.clock()
         told = read_status(self.deliverer.settings.status.get(name, ""))
         receiver = told.get("receiver")

@@ -116,6 +116,7 @@ class Growing:
         self.identity, self.size, self.records, self.records_before = None, 0, 0, 0
 
     def write(self, block: Block) -> None:
+        """Writes a block. After a fault, which is raised, the file is cut after a whole record."""
         self.opened.make_room(on_disk(len(HEADER) + len(block.data)))  # which may end this file
         self.opened.reserve.keep(self.folder, len(block.data))
         descriptor = self.open() if self.descriptor is None else self.descriptor
@@ -276,6 +277,7 @@ class Copy:
             self.growing.opened.held += held
 
     def make(self) -> int:
+        """Makes the new file, of the next number that is free."""
         flags = MAKE_FLAGS & ~os.O_APPEND
         while True:
             try:

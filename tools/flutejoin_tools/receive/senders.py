@@ -218,6 +218,7 @@ class Senders:
             self.outdone += 1
 
     def retire(self, sender: Sender) -> None:
+        """Takes its place from a sender. Of MOST_SILENT such senders the totals are remembered."""
         sender.hand_over()
         for table, key in sender.keys:
             table.pop(key, None)

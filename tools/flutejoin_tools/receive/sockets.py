@@ -263,6 +263,7 @@ class Drops:
         self.sockets, self.before, self.filters = list(sockets), system_errors(), filters
 
     def by_cause(self) -> dict[str, int]:
+        """How many datagrams were dropped, by the causes that the system tells."""
         count = sum(dropped_by_system(udp) or 0 for udp in self.sockets)
         errors = system_errors()
         full = checksum = 0

@@ -167,6 +167,7 @@ class Further:
     def ask_one(
         self, generation: Generation, run: Repair, origins: Origins, by_symbols: bool
     ) -> Lacking:
+        """Asks for what one generation lacks."""
         kept = self.program.kept
         with work_folder() as work:
             self.program.kept = (*kept, work.folder)

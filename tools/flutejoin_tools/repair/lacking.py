@@ -166,6 +166,7 @@ class Lacking:
         return lack
 
     def add(self, lack: Lack, first: int, last: int) -> None:
+        """Adds a range of missing bytes, as far as this run has room for its symbols."""
         if not lack.numbers or last >= lack.numbers[0] or first > last:
             raise Fault(3, f"flutejoin tells a range that is none: {first}-{last}")
         size = lack.numbers[1]

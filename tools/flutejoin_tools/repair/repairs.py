@@ -180,6 +180,7 @@ class Result:
         return not self.left and not self.notes
 
     def line(self) -> str:
+        """The line that a run prints at its end."""
         def count(number: int, name: str) -> str:
             return f"{number:,} {name}{'' if number == 1 else 's'}"
 

@@ -85,6 +85,7 @@ class Keeper(Kept):
         return has_worked
 
     def work_at(self, sender: Sender, parts: list[Part], has_patience: bool) -> bool:
+        """Joins what is due of a sender. Returns whether anything was."""
         state, now = self.states[sender], time.monotonic()
         if has_patience and now < state.next_try and not 0 < state.wanted <= self.free():
             return False
@@ -259,6 +260,7 @@ class Keeper(Kept):
                 self.attempt(sender, lambda: self.take_away(sender, part))
 
     def take_away(self, sender: Sender, part: Part) -> None:
+        """Removes a datagram file or keeps it raw; one that is cut is set aside."""
         if not part.is_finished():
             return
         self.states[sender].suspects.discard(part.path)

@@ -68,6 +68,7 @@ class Kept:
         return self.generations(self.journals, sender)
 
     def generations(self, shelf: Shelf, sender: Sender) -> Generations:
+        """The journals of a sender on a shelf, as generations."""
         def path_of(number: int) -> str:
             return os.path.join(shelf.path, generation(sender.stem(), number))
 

@@ -80,6 +80,7 @@ class Room:
         self.is_over = False
 
     def look(self) -> None:
+        """Notes what is on the disk."""
         held: dict[str, Held] = collections.defaultdict(Held)
         counts: dict[str, list[int]] = collections.defaultdict(lambda: [0, 0])
         self.bytes = 0
