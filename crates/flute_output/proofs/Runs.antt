@@ -1,5 +1,5 @@
 -- How a run goes on, and what stays true of each of its moments.
-use Rattle.std.proofs.Common.{◌≡◌, ◌≢◌, ◌++◌, ℕ, List, [], ◌∷◌, refl, sym, ap, ◌∙◌, subst, append_assoc, take, drop, ◌+◌, ◌-◌, ◌≤◌, arith, length, length-drop, take_all, Bool, true, Result, Ok, Err, OnErr, OnOk, is_ok, Option, Some, None, IfSome}
+use Rattle.std.proofs.Common.{◌≡◌, ◌≢◌, ◌++◌, ℕ, List, [], ◌∷◌, refl, sym, ap, ◌∙◌, subst, append_assoc, take, drop, ◌+◌, ◌-◌, ◌≤◌, arith, length, length-drop, take_all, Bool, true, Result, Ok, Err, OnErr, OnOk, is_ok, Option, Some, None, IfSome, option_map}
 use Rattle.std.proofs.lemmas.Bool.{false≢true}
 use Rattle.std.proofs.Math.Seq.{take-add}
 use Rattle.std.proofs.lemmas.List.Elements.{All-append, All-weaker, All-nil, All-cons}
@@ -226,3 +226,8 @@ module _ (xs : List ℕ) (before now next : ℕ → List ℕ) where
       ∙ ap (λ l. l ++ take n (drop w xs)) first
       ∙ append_assoc (before k) (take w xs) (take n (drop w xs))
       ∙ ap (λ l. before k ++ l) (sym (take-add w n xs))
+
+-- a file that is not open
+pub none_open : {F : Type 0} (number : F → ℕ) (file : Option F) (P : ℕ → Type 0) → file ≡ None
+    → IfSome (option_map number file) P
+none_open number file P e = subst (λ f. IfSome (option_map number f) P) (sym e) tt

@@ -10,10 +10,6 @@ pub record Stored : Type 0 where
   pub bytes : List ℕ
   pub on_disk : Bool
 
--- with these bytes appended
-abbrev pub longer : List ℕ → Stored → Stored
-longer more file = record { bytes = file.bytes ++ more; on_disk = false }
-
 abbrev pub safe : Stored → Stored
 safe file = record file { on_disk = true }
 
@@ -50,14 +46,6 @@ created e = record e {
   found = e.out;
   past = [];
 }
-
--- bytes are taken for the file beside OUT
-abbrev pub takes : List ℕ → Entries → Entries
-takes bytes e = record e { waiting = e.waiting ++ bytes }
-
--- the file beside OUT gets what waits
-abbrev pub flushed : Entries → Entries
-flushed e = record e { beside = option_map (longer e.waiting) e.beside; waiting = [] }
 
 -- the disk has all of the file beside OUT
 abbrev pub synced : Entries → Entries
@@ -102,6 +90,19 @@ pub record OutStays (old new : Entries) : Type 0 where
   pub found : new.found ≡ old.found
   pub past : new.past ≡ old.past
   pub named : new.named ≡ old.named
+
+-- bytes are taken for the file beside OUT, behind those that were; some of them all may still wait
+pub record Takes (bytes : List ℕ) (old new : Entries) : Type 0 where
+  pub content : taken new ≡ taken old ++ bytes
+  pub beside : IsSome old.beside → IsSome new.beside
+  pub out_stays : OutStays old new
+
+-- the file beside OUT has all that was taken
+pub record Flushes (old new : Entries) : Type 0 where
+  pub content : file_bytes new.beside ≡ taken old
+  pub none_wait : new.waiting ≡ []
+  pub beside : IsSome new.beside
+  pub out_stays : OutStays old new
 
 -- OUT is what it was when the file beside it was made, and has been nothing else since
 abbrev pub IsUntouched : Entries → Type 0

@@ -1,3 +1,4 @@
+pub mod DiskEntries
 pub mod DiskWrites
 pub mod Entries
 pub mod Modes

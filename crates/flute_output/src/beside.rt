@@ -1,6 +1,6 @@
 //! The file beside OUT: made, filled, and put in OUT's place, one call at a time.
 ghost use Rattle.std.specs.Prelude.{◌≡◌, true, Some, IfOk, IfSome, IsSome, OnOk, OnErr};
-ghost use Rattle.std.specs.Prelude.{option_map, string_bytes};
+ghost use Rattle.std.specs.Prelude.{option_map, string_bytes, MatchOption};
 ghost use Rattle.std.specs.Path.{path_buf_bytes};
 ghost use Rattle.flute_calls.specs.Disks.{Confirms, OnlyTouches, Renames, Spoils, Syncs, Touches};
 ghost use Rattle.flute_calls.specs.Disks.{Unlinks};
@@ -200,6 +200,9 @@ pub fn fill_file<C: Calls>(
     ensures filled { C.told ≡ true → OnOk result (
         IfSome (option_map C.number file.old) (λ k.
         Passes (Touches k) (Extends k bytes.now) (C.run calls.old) (C.run calls.new))) }
+    ensures refused { C.told ≡ true → OnErr result (MatchOption (option_map C.number file.old)
+        (C.run calls.new ≡ C.run calls.old)
+        (λ k. Passes (Touches k) (Spoils k) (C.run calls.old) (C.run calls.new))) }
     ensures open { OnOk result (IsSome file.old) }
 {
     match file {
@@ -217,6 +220,9 @@ pub fn sync_file<C: Calls>(calls: &mut C, file: &Option<C::File>) -> Result<(), 
     ensures synced { C.told ≡ true → OnOk result (
         IfSome (option_map C.number file.now) (λ k.
         Does (Syncs k) (C.run calls.old) (C.run calls.new))) }
+    ensures refused { C.told ≡ true → OnErr result (MatchOption (option_map C.number file.now)
+        (C.run calls.new ≡ C.run calls.old)
+        (λ k. Passes (Touches k) (Touches k) (C.run calls.old) (C.run calls.new))) }
     ensures open { OnOk result (IsSome file.now) }
 {
     match file {
@@ -234,6 +240,8 @@ pub fn sync_parent<C: Calls>(calls: &mut C, folder: &Option<C::Folder>) -> Resul
     ensures synced { C.told ≡ true → OnOk result (
         IfSome folder.now (λ f.
         Does (Confirms (C.has_name f)) (C.run calls.old) (C.run calls.new))) }
+    ensures refused { C.told ≡ true → OnErr result (
+        Passes IsSame IsSame (C.run calls.old) (C.run calls.new)) }
     ensures open { OnOk result (IsSome folder.now) }
 {
     match folder {

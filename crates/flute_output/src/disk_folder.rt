@@ -1,11 +1,13 @@
 //! A folder whose calls are those of a system.
 ghost use Rattle.std.specs.Prelude.{◌≡◌, ℕ, ◌+◌, ◌<◌, ◌≤◌, None, Some, true, false, string_bytes};
 ghost use Rattle.std.specs.Prelude.{IfOk, IfSome, IsSome, OnOk, OnErr, Ok, if◌then◌else◌, is_ok};
-ghost use Rattle.std.specs.Prelude.{length, option_map, take, ◌++◌, []};
+ghost use Rattle.std.specs.Prelude.{length, option_map, take, ◌++◌, [], MatchOption};
 ghost use Rattle.std.specs.Path.{path_buf_bytes};
 ghost use Rattle.flute_calls.specs.Disks.{Confirms, OnlyTouches, Renames, Syncs, Touches, Unlinks};
-ghost use Rattle.flute_calls.specs.Moments.{Always, Does, Passes};
-ghost use Rattle.flute_output.specs.DiskWrites.{IsBegun, Extends, taken_for};
+ghost use Rattle.flute_calls.specs.Moments.{Always, Does, IsSame, Passes};
+ghost use Rattle.flute_output.specs.DiskWrites.{IsBegun, Extends, GoesOn, HasOnly, HasTaken};
+ghost use Rattle.flute_output.specs.DiskWrites.{taken_for, writing};
+ghost use Rattle.std.proofs.Props.{props};
 ghost use Rattle.flute_output.specs.Modes.{mode_of};
 
 use crate::beside::{Wanted, make, rename, sync_parent, take_away};
@@ -33,6 +35,15 @@ pub struct DiskFolder<C: Calls + Drop> {
     /// put in place.
     folder: Option<C::Folder>,
     writer: WaitingFile<C>,
+    /// Whether the file beside OUT has been named OUT since it was made.
+    is_placed: bool,
+    ghost parent: { C.told ≡ true → IfSome folder (λ f.
+        C.has_name f (path_buf_bytes names.out) ≡ true) } by { Prim.hlevel props },
+    ghost apart: { C.told ≡ true → IfSome (option_map C.number writer.file) (λ k.
+        HasOnly (string_bytes names.beside) k (C.run calls).now) } by { Prim.hlevel props },
+    ghost taken: { C.told ≡ true → IfSome (option_map C.number writer.file) (λ k.
+        HasTaken k (writing writer.taken writer.is_broken writer.waiting.items (C.run calls).now))
+        } by { Prim.hlevel props },
 }
 
 impl<C: Calls + Drop> DiskFolder<C> {
@@ -57,6 +68,7 @@ impl<C: Calls + Drop> DiskFolder<C> {
             wanted,
             folder: None,
             writer: WaitingFile::closed(alloc, limit)?,
+            is_placed: false,
         })
     }
 
@@ -83,8 +95,14 @@ impl<C: Calls + Drop> DiskFolder<C> {
         ensures none_wait { OnOk result (self.new.writer.waiting.items ≡ []) }
         ensures open { OnOk result (IsSome self.new.writer.file) }
         ensures found { OnOk result (IsSome self.new.folder) }
+        ensures none_taken { OnOk result (self.new.writer.taken ≡ 0) }
+        ensures placed { self.new.is_placed
+            ≡ (if is_ok result then false else self.old.is_placed) }
+        ensures same_name { self.new.names.out ≡ self.old.names.out }
         ensures failures { self.new.writer.failures ≡ self.old.writer.failures }
     {
+        self.writer.close();
+
         // The folder is opened first, so that later it only needs to be synced.
         let folder = self.calls.open_parent(self.names.out.as_str())?;
         let file = make(
@@ -95,6 +113,7 @@ impl<C: Calls + Drop> DiskFolder<C> {
         )?;
         self.folder = Some(folder);
         self.writer.open(&mut self.calls, file);
+        self.is_placed = false;
         Ok(())
     }
 }
@@ -111,7 +130,12 @@ pub fn new_mode(found: &Option<Metadata>) -> u32
 }
 
 impl<C: Calls + Drop> Folder for DiskFolder<C> {
-    ghost entries = { λ _. None };
+    ghost use Rattle.flute_output.specs.DiskEntries.{disk_entries};
+
+    ghost entries = { λ f. if C.told then Some (disk_entries (path_buf_bytes f.names.out)
+        (option_map C.number f.writer.file) f.is_placed
+        (writing f.writer.taken f.writer.is_broken f.writer.waiting.items (C.run f.calls).now))
+        else None };
 
     ghost failures = { λ f. f.writer.failures.count };
 
@@ -130,6 +154,10 @@ impl<C: Calls + Drop> Folder for DiskFolder<C> {
         ensures none_wait { OnOk result (self.new.writer.waiting.items ≡ []) }
         ensures open { OnOk result (IsSome self.new.writer.file) }
         ensures found { OnOk result (IsSome self.new.folder) }
+        ensures none_taken { OnOk result (self.new.writer.taken ≡ 0) }
+        ensures placed { self.new.is_placed
+            ≡ (if is_ok result then false else self.old.is_placed) }
+        ensures same_name { self.new.names.out ≡ self.old.names.out }
         ensures failures { self.new.writer.failures.count
             ≡ self.old.writer.failures.count + (if is_ok result then 0 else 1) }
     {
@@ -147,6 +175,20 @@ impl<C: Calls + Drop> Folder for DiskFolder<C> {
             ++ take n bytes.now)) }
         ensures same_file { option_map C.number self.new.writer.file
             ≡ option_map C.number self.old.writer.file }
+        ensures goes_on { C.told ≡ true → IfOk result (λ n. GoesOn
+            (option_map C.number self.old.writer.file) (take n bytes.now)
+            (writing self.old.writer.taken self.old.writer.is_broken
+            self.old.writer.waiting.items (C.run self.old.calls).now)
+            (writing self.new.writer.taken self.new.writer.is_broken
+            self.new.writer.waiting.items (C.run self.new.calls).now)) }
+        ensures refused { C.told ≡ true → OnErr result (GoesOn
+            (option_map C.number self.old.writer.file) []
+            (writing self.old.writer.taken self.old.writer.is_broken
+            self.old.writer.waiting.items (C.run self.old.calls).now)
+            (writing self.new.writer.taken self.new.writer.is_broken
+            self.new.writer.waiting.items (C.run self.new.calls).now)) }
+        ensures placed { self.new.is_placed ≡ self.old.is_placed }
+        ensures same_name { self.new.names.out ≡ self.old.names.out }
         ensures failures { self.new.writer.failures.count
             ≡ self.old.writer.failures.count + (if is_ok result then 0 else 1) }
     {
@@ -163,6 +205,15 @@ impl<C: Calls + Drop> Folder for DiskFolder<C> {
         ensures whole { OnOk result (self.old.writer.is_broken ≡ false) }
         ensures broken { OnErr result (self.new.writer.is_broken ≡ true) }
         ensures open { OnOk result (IsSome self.old.writer.file) }
+        ensures goes_on { C.told ≡ true → GoesOn (option_map C.number self.old.writer.file) []
+            (writing self.old.writer.taken self.old.writer.is_broken
+            self.old.writer.waiting.items (C.run self.old.calls).now)
+            (writing self.new.writer.taken self.new.writer.is_broken
+            self.new.writer.waiting.items (C.run self.new.calls).now) }
+        ensures same_file { option_map C.number self.new.writer.file
+            ≡ option_map C.number self.old.writer.file }
+        ensures placed { self.new.is_placed ≡ self.old.is_placed }
+        ensures same_name { self.new.names.out ≡ self.old.names.out }
         ensures failures { self.new.writer.failures.count
             ≡ self.old.writer.failures.count + (if is_ok result then 0 else 1) }
     {
@@ -176,6 +227,15 @@ impl<C: Calls + Drop> Folder for DiskFolder<C> {
             Does (Syncs k) (C.run self.old.calls) (C.run self.new.calls))) }
         ensures broken { OnErr result (self.new.writer.is_broken ≡ true) }
         ensures open { OnOk result (IsSome self.old.writer.file) }
+        ensures refused { C.told ≡ true → OnErr result (
+            MatchOption (option_map C.number self.old.writer.file)
+            (C.run self.new.calls ≡ C.run self.old.calls)
+            (λ k. Passes (Touches k) (Touches k) (C.run self.old.calls) (C.run self.new.calls))) }
+        ensures same_file { self.new.writer.file ≡ self.old.writer.file }
+        ensures same_taken { self.new.writer.taken ≡ self.old.writer.taken }
+        ensures same_waiting { self.new.writer.waiting ≡ self.old.writer.waiting }
+        ensures placed { self.new.is_placed ≡ self.old.is_placed }
+        ensures same_name { self.new.names.out ≡ self.old.names.out }
         ensures failures { self.new.writer.failures.count
             ≡ self.old.writer.failures.count + (if is_ok result then 0 else 1) }
     {
@@ -192,14 +252,26 @@ impl<C: Calls + Drop> Folder for DiskFolder<C> {
             ≡ option_map C.number self.old.writer.file) }
         ensures whole { OnOk result (self.old.writer.is_broken ≡ false) }
         ensures open { OnOk result (IsSome self.old.writer.file) }
+        ensures refused { C.told ≡ true → OnErr result (
+            Passes IsSame IsSame (C.run self.old.calls) (C.run self.new.calls)) }
+        ensures closed { OnOk result (self.new.writer.file ≡ None) }
+        ensures first { OnOk result (self.old.is_placed ≡ false) }
+        ensures placed { self.new.is_placed
+            ≡ (if is_ok result then true else self.old.is_placed) }
+        ensures same_waiting { self.new.writer.waiting ≡ self.old.writer.waiting }
+        ensures same_name { self.new.names.out ≡ self.old.names.out }
         ensures failures { self.new.writer.failures.count
             ≡ self.old.writer.failures.count + (if is_ok result then 0 else 1) }
     {
-        let placed = if self.writer.is_broken {
+        let placed = if self.writer.is_broken || self.is_placed {
             Err(CallFault::Other)
         } else {
             rename(&mut self.calls, &self.names, &self.writer.file)
         };
+        if placed.is_ok() {
+            self.writer.file = None;
+            self.is_placed = true;
+        }
         self.writer.count(placed)
     }
 
@@ -207,6 +279,13 @@ impl<C: Calls + Drop> Folder for DiskFolder<C> {
         ensures confirmed { C.told ≡ true → OnOk result (IfSome self.old.folder (λ f.
             Does (Confirms (C.has_name f)) (C.run self.old.calls) (C.run self.new.calls))) }
         ensures found { OnOk result (IsSome self.old.folder) }
+        ensures refused { C.told ≡ true → OnErr result (
+            Passes IsSame IsSame (C.run self.old.calls) (C.run self.new.calls)) }
+        ensures same_file { self.new.writer.file ≡ self.old.writer.file }
+        ensures same_taken { self.new.writer.taken ≡ self.old.writer.taken }
+        ensures same_waiting { self.new.writer.waiting ≡ self.old.writer.waiting }
+        ensures placed { self.new.is_placed ≡ self.old.is_placed }
+        ensures same_name { self.new.names.out ≡ self.old.names.out }
         ensures failures { self.new.writer.failures.count
             ≡ self.old.writer.failures.count + (if is_ok result then 0 else 1) }
     {
@@ -222,10 +301,19 @@ impl<C: Calls + Drop> Folder for DiskFolder<C> {
             ((C.run self.old.calls).now.names (string_bytes self.old.names.beside)).leads
             ≡ option_map C.number self.old.writer.file) }
         ensures open { OnOk result (IsSome self.old.writer.file) }
+        ensures refused { C.told ≡ true → OnErr result (
+            Passes IsSame IsSame (C.run self.old.calls) (C.run self.new.calls)) }
+        ensures closed { OnOk result (self.new.writer.file ≡ None) }
+        ensures none_wait { OnOk result (self.new.writer.waiting.items ≡ []) }
+        ensures placed { self.new.is_placed ≡ self.old.is_placed }
+        ensures same_name { self.new.names.out ≡ self.old.names.out }
         ensures failures { self.new.writer.failures.count
             ≡ self.old.writer.failures.count + (if is_ok result then 0 else 1) }
     {
         let removed = take_away(&mut self.calls, &self.names, &self.writer.file);
+        if removed.is_ok() {
+            self.writer.close();
+        }
         self.writer.count(removed)
     }
 }

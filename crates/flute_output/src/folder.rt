@@ -1,8 +1,8 @@
 //! What an output needs of the folder that OUT is in.
-ghost use Rattle.std.specs.Prelude.{◌≡◌, ℕ, ◌+◌, ◌<◌, ◌≤◌, length, take};
+ghost use Rattle.std.specs.Prelude.{◌≡◌, ℕ, ◌+◌, ◌<◌, ◌≤◌, length, take, []};
 ghost use Rattle.std.specs.Prelude.{IfOk, OnOk, OnErr, Option, if◌then◌else◌, is_ok};
-ghost use Rattle.flute_output.specs.Entries.{Entries, Leads, Does, OutStays, created, takes};
-ghost use Rattle.flute_output.specs.Entries.{flushed, synced, put_in_place, names_synced, removed};
+ghost use Rattle.flute_output.specs.Entries.{Entries, Leads, Does, OutStays, Takes, Flushes};
+ghost use Rattle.flute_output.specs.Entries.{created, synced, put_in_place, names_synced, removed};
 
 use flute_parts::DeviceFault;
 
@@ -26,7 +26,7 @@ pub trait Folder {
             ≡ failures self.old + (if is_ok result then 0 else 1) };
 
     /// Takes the first bytes of `bytes` for the file beside OUT, and returns how many: at least
-    /// one, unless `bytes` is empty. They may wait in memory.
+    /// one, unless `bytes` is empty. They may wait in memory, and those that did may go to the file.
     ///
     /// # Errors
     ///
@@ -35,8 +35,8 @@ pub trait Folder {
         ensures bound { IfOk result (λ n. n ≤ length bytes.now) }
         ensures progress { 0 < length bytes.now → IfOk result (λ n. 0 < n) }
         ensures taken { IfOk result (λ n.
-            Does (takes (take n bytes.now)) (entries self.old) (entries self.new)) }
-        ensures refused { OnErr result (Does (λ same. same) (entries self.old) (entries self.new)) }
+            Leads (Takes (take n bytes.now)) (entries self.old) (entries self.new)) }
+        ensures refused { OnErr result (Leads (Takes []) (entries self.old) (entries self.new)) }
         ensures failures { failures self.new
             ≡ failures self.old + (if is_ok result then 0 else 1) };
 
@@ -46,7 +46,7 @@ pub trait Folder {
     ///
     /// `DeviceFault` if the device failed. Which of them it has is then not known.
     fn flush(&mut self) -> Result<(), DeviceFault>
-        ensures flushed { OnOk result (Does flushed (entries self.old) (entries self.new)) }
+        ensures flushed { OnOk result (Leads Flushes (entries self.old) (entries self.new)) }
         ensures refused { OnErr result (Leads OutStays (entries self.old) (entries self.new)) }
         ensures failures { failures self.new
             ≡ failures self.old + (if is_ok result then 0 else 1) };

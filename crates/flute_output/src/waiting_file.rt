@@ -1,10 +1,10 @@
 //! A file over the calls of a system, and the bytes that wait for it.
 ghost use Rattle.std.specs.Prelude.{◌≡◌, ◌+◌, ◌<◌, ◌≤◌, None, Some, true, false, length, take};
 ghost use Rattle.std.specs.Prelude.{IfOk, IfSome, IsSome, OnOk, OnErr, Ok, if◌then◌else◌, is_ok};
-ghost use Rattle.std.specs.Prelude.{option_map, ◌++◌, []};
+ghost use Rattle.std.specs.Prelude.{option_map, ◌++◌, [], MatchOption};
 ghost use Rattle.flute_calls.specs.Disks.{Syncs, Touches};
 ghost use Rattle.flute_calls.specs.Moments.{Does, Passes};
-ghost use Rattle.flute_output.specs.DiskWrites.{Extends, Keeps, taken_for};
+ghost use Rattle.flute_output.specs.DiskWrites.{Extends, Keeps, GoesOn, taken_for, writing};
 
 use crate::beside::{fill_file, sync_file};
 use crate::file_limit::FileLimit;
@@ -39,7 +39,9 @@ impl<C: Calls + Drop> WaitingFile<C> {
     /// # Errors
     ///
     /// `OutOfMemory`.
-    pub fn closed(alloc: Global, limit: FileLimit) -> io::Result<WaitingFile<C>> {
+    pub fn closed(alloc: Global, limit: FileLimit) -> io::Result<WaitingFile<C>>
+        ensures { IfOk result (λ writer. writer.file ≡ None) }
+    {
         Ok(WaitingFile {
             file: None,
             taken: 0,
@@ -55,6 +57,7 @@ impl<C: Calls + Drop> WaitingFile<C> {
     pub fn open(&mut self, calls: &mut C, file: C::File)
         ensures opened { option_map C.number self.new.file ≡ Some (C.number file) }
         ensures none_wait { self.new.waiting.items ≡ [] }
+        ensures none_taken { self.new.taken ≡ 0 }
         ensures same { C.told ≡ true → C.run calls.new ≡ C.run calls.old }
         ensures failures { self.new.failures ≡ self.old.failures }
     {
@@ -66,6 +69,16 @@ impl<C: Calls + Drop> WaitingFile<C> {
         self.waiting.clear();
         self.is_broken = false;
         self.file = Some(file);
+    }
+
+    /// It is not open from now on. Bytes that wait for it are dropped.
+    pub fn close(&mut self)
+        ensures closed { self.new.file ≡ None }
+        ensures none_wait { self.new.waiting.items ≡ [] }
+        ensures failures { self.new.failures ≡ self.old.failures }
+    {
+        self.file = None;
+        self.waiting.clear();
     }
 
     /// Counts the failure of a call that failed.
@@ -111,6 +124,9 @@ impl<C: Calls + Drop> WaitingFile<C> {
             ≡ option_map C.number self.old.file }
         ensures none_wait { OnOk result (self.new.waiting.items ≡ []) }
         ensures whole { OnOk result (self.old.is_broken ≡ false) }
+        ensures goes_on { C.told ≡ true → GoesOn (option_map C.number self.old.file) []
+            (writing self.old.taken self.old.is_broken self.old.waiting.items (C.run calls.old).now)
+            (writing self.new.taken self.new.is_broken self.new.waiting.items (C.run calls.new).now) }
         ensures broken { OnErr result (self.new.is_broken ≡ true) }
         ensures open { OnOk result (IsSome self.old.file) }
         ensures failures { self.new.failures ≡ self.old.failures }
@@ -138,6 +154,11 @@ impl<C: Calls + Drop> WaitingFile<C> {
         ensures settled { C.told ≡ true → OnOk result (
             IfSome (option_map C.number self.old.file) (λ k.
             Does (Syncs k) (C.run calls.old) (C.run calls.new))) }
+        ensures refused { C.told ≡ true → OnErr result (
+            MatchOption (option_map C.number self.old.file) (C.run calls.new ≡ C.run calls.old)
+            (λ k. Passes (Touches k) (Touches k) (C.run calls.old) (C.run calls.new))) }
+        ensures same { self.new ≡ record self.old { is_broken = self.new.is_broken } }
+        ensures whole { OnOk result (self.new.is_broken ≡ self.old.is_broken) }
         ensures open { OnOk result (IsSome self.old.file) }
         ensures broken { OnErr result (self.new.is_broken ≡ true) }
         ensures failures { self.new.failures ≡ self.old.failures }
@@ -162,6 +183,14 @@ impl<C: Calls + Drop> WaitingFile<C> {
             taken_for k self.new.waiting.items (C.run calls.new).now
             ≡ taken_for k self.old.waiting.items (C.run calls.old).now
             ++ take n bytes.now)) }
+        ensures goes_on { C.told ≡ true → IfOk result (λ n. GoesOn
+            (option_map C.number self.old.file) (take n bytes.now)
+            (writing self.old.taken self.old.is_broken self.old.waiting.items (C.run calls.old).now)
+            (writing self.new.taken self.new.is_broken self.new.waiting.items (C.run calls.new).now)) }
+        ensures refused { C.told ≡ true → OnErr result (GoesOn
+            (option_map C.number self.old.file) []
+            (writing self.old.taken self.old.is_broken self.old.waiting.items (C.run calls.old).now)
+            (writing self.new.taken self.new.is_broken self.new.waiting.items (C.run calls.new).now)) }
         ensures same_file { option_map C.number self.new.file
             ≡ option_map C.number self.old.file }
         ensures failures { self.new.failures ≡ self.old.failures }
