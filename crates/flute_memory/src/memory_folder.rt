@@ -119,6 +119,8 @@ impl Folder for MemoryFolder {
 
     ghost entries = { λ f. Some (memory_entries f) };
 
+    ghost moments = { λ _. [] };
+
     ghost failures = { λ f. f.failures.count };
 
     fn create(&mut self) -> Result<(), DeviceFault> {

@@ -1,10 +1,10 @@
 -- What a disk shows of an output, before and after its calls.
-use Rattle.std.proofs.Common.{rules, ◌≡◌, ◌≢◌, ◌<◌, ◌++◌, ◌+◌, ℕ, List, [], ◌∷◌, refl, sym, ap, ◌∙◌, subst, take, length, take_all, append_assoc, append-nil, Bool, true, false, Result, Ok, Err, OnErr, OnOk, IfOk, is_ok, Option, Some, None, IfSome, IsSome, MatchOption, option_map, if◌then◌else◌, nat_eq, inl, inr, arith}
+use Rattle.std.proofs.Common.{rules, ◌≡◌, ◌≢◌, ◌++◌, ◌+◌, ℕ, List, [], ◌∷◌, refl, sym, ap, ◌∙◌, subst, take, take_all, append-nil, Bool, true, false, Result, Ok, Err, OnErr, OnOk, IfOk, is_ok, Option, Some, None, IfSome, IsSome, MatchOption, option_map, if◌then◌else◌, nat_eq, inl, inr, arith}
 use Rattle.std.proofs.lemmas.Bool.{false≢true}
 use Rattle.flute_calls.specs.Moments.{Run, Does, Passes, IsSame}
-use Rattle.flute_calls.specs.Disks.{Disk, Held, Entry, HasHad, WasOneOf, Spares, Touches, OnlyTouches, Spoils, Syncs, Renames, Confirms, Unlinks}
-use Rattle.flute_output.specs.Entries.{Stored, Entries, Leads, OutStays, Takes, Flushes, created, synced, put_in_place, names_synced, removed, taken, file_bytes}
-use Rattle.flute_output.specs.DiskWrites.{Writing, writing, IsBegun, HasOnly, HasTaken, content, WritesOn, Waits, GoesOn, Extends}
+use Rattle.flute_calls.specs.Disks.{Disk, HasHad, WasOneOf, Spares, Touches, OnlyTouches, Syncs, Renames, Confirms, Unlinks}
+use Rattle.flute_output.specs.Entries.{Stored, Entries, Leads, OutStays, Takes, Flushes, created, synced, put_in_place, names_synced, removed, taken}
+use Rattle.flute_output.specs.DiskWrites.{Writing, IsBegun, HasOnly, HasTaken, GoesOn}
 use Rattle.flute_output.proofs.Runs.{only-refl, only-touches, only-unlinks}
 use Rattle.flute_output.specs.DiskEntries.{stored_as, stored_at, last_of, stored_before, disk_entries}
 
@@ -32,7 +32,7 @@ last_had (t ∷ r) k e = inl e
 
 -- what a name leads to, and what it led to before that, after calls that spare it
 module _ (out : List ℕ) (d e : Disk) (s : Spares d e out) where
-  stored_same : stored_at e out ≡ stored_at d out
+  pub stored_same : stored_at e out ≡ stored_at d out
   stored_same = ap (λ x. option_map (λ k. stored_as (e.files k)) x.leads) s.entry
       ∙ map_same (d.names out).leads _ _ (λ k is. ap stored_as (s.files k (inl is)))
 
@@ -63,8 +63,10 @@ module _ (out beside : List ℕ) (is_apart : out ≢ beside) (p : Bool) (w x : W
   created_is file k only begun none_taken none_wait =
       let o = stored_same out w.disk x.disk (only.elsewhere out is_apart) in
       same_entries _ _ o
-      (ap (λ n. Some (record { bytes = take n (x.disk.files k).bytes;
-          on_disk = (x.disk.files k).on_disk })) none_taken
+      (ap (λ n. Some (record {
+        bytes = take n (x.disk.files k).bytes;
+        on_disk = (x.disk.files k).on_disk;
+      })) none_taken
       ∙ ap (λ f. Some (record { bytes = []; on_disk = f.on_disk })) begun.empty)
       none_wait o refl
       (ap (λ y. nat_eq y.unsure 0) (only.elsewhere out is_apart).entry)
@@ -102,7 +104,7 @@ module _ (out beside : List ℕ) (is_apart : out ≢ beside) (p : Bool) (w x : W
       → disk_entries out (Some k) p x ≡ synced (disk_entries out (Some k) p w)
   synced_is k alone syncs same_taken same_waiting =
       let stays = out_stays (Some k) (Some k)
-          (only-touches beside k w.disk x.disk alone syncs.touches) in
+      (only-touches beside k w.disk x.disk alone syncs.touches) in
       same_entries _ _ stays.out
       (ap (λ f. Some (record { bytes = take x.taken f.bytes; on_disk = f.on_disk })) syncs.file
       ∙ ap (λ n. Some (record { bytes = take n (w.disk.files k).bytes; on_disk = true })) same_taken)
@@ -119,14 +121,14 @@ module _ (out beside : List ℕ) (is_apart : out ≢ beside) (p : Bool) (w x : W
       → disk_entries out None true x ≡ put_in_place (disk_entries out (Some k) false w)
   put_is k renames leads taken whole same_waiting =
       let before = ap (λ y. option_map (λ j. stored_as (x.disk.files j)) (last_of y.before))
-          renames.given
-          ∙ map_same (w.disk.names out).leads _ _ (λ j is. ap stored_as (renames.files j)) in
+      renames.given
+      ∙ map_same (w.disk.names out).leads _ _ (λ j is. ap stored_as (renames.files j)) in
       same_entries _ _
       (ap (λ y. option_map (λ j. stored_as (x.disk.files j)) y.leads) renames.given
       ∙ ap (λ y. option_map (λ j. stored_as (x.disk.files j)) y) leads
       ∙ ap (λ f. Some (stored_as f)) (renames.files k)
       ∙ ap (λ b. Some (record { bytes = b; on_disk = (w.disk.files k).on_disk }))
-          (sym (take_all _ _ (omega (arith, taken whole)))))
+      (sym (take_all _ _ (omega (arith, taken whole)))))
       refl same_waiting before (ap (λ y. y ∷ []) before)
       (ap (λ y. nat_eq y.unsure 0) renames.given ∙ more_unsure (w.disk.names out).unsure)
 
@@ -138,12 +140,16 @@ module _ (out beside : List ℕ) (is_apart : out ≢ beside) (p : Bool) (w x : W
       let stored = λ (o : Option ℕ). map_same o _ _ (λ j _. ap stored_as (confirms.files j)) in
       let o = ap (λ y. option_map (λ j. stored_as (x.disk.files j)) y.leads) entry ∙ stored _ in
       let b = ap (λ y. option_map (λ j. stored_as (x.disk.files j)) (last_of y.before)) entry
-          ∙ stored _ in
+      ∙ stored _ in
       same_entries _ _ o
-      (map_same file _ _ (λ j _. ap (λ f. record { bytes = take x.taken f.bytes;
-          on_disk = f.on_disk }) (confirms.files j)
-      ∙ ap (λ n. record { bytes = take n (w.disk.files j).bytes;
-          on_disk = (w.disk.files j).on_disk }) same_taken))
+      (map_same file _ _ (λ j _. ap (λ f. record {
+        bytes = take x.taken f.bytes;
+        on_disk = f.on_disk;
+      }) (confirms.files j)
+      ∙ ap (λ n. record {
+        bytes = take n (w.disk.files j).bytes;
+        on_disk = (w.disk.files j).on_disk;
+      }) same_taken))
       same_waiting
       (ap (λ y. if p then y else stored_at x.disk out) b
       ∙ ap (λ y. if p then stored_before w.disk out else y) o)
@@ -168,7 +174,7 @@ none_numbered (Ok y) number file closed = ap (option_map number) closed
 none_numbered (Err y) number file closed = tt
 
 -- what a folder shows of a disk, if it shows it
-abbrev shown : Bool → List ℕ → Option ℕ → Bool → Writing → Option Entries
+abbrev pub shown : Bool → List ℕ → Option ℕ → Bool → Writing → Option Entries
 shown told out file p w = if told then Some (disk_entries out file p w) else None
 
 -- a call of an output, before which its disk, file and name are the first of each pair
@@ -196,10 +202,10 @@ module _ (told : Bool) (out named beside : List ℕ) (same_name : named ≡ out)
   begun_shown begun is_open none_taken none_wait placed only = elim next as (λ o.
       IfSome o (λ k. IsBegun beside k x.disk) → IsSome o
       → disk_entries out o q x ≡ created (disk_entries out file p w)) [
-    | None ↦ λ b i. absurd (false≢true i)
-    | Some k ↦ λ b i. ap (λ y. disk_entries out (Some k) y x) placed
-        ∙ created_is out beside (λ e. is_apart (sym e)) p w x file k only b none_taken none_wait
-    ] begun is_open
+        | None ↦ λ b i. absurd (false≢true i)
+        | Some k ↦ λ b i. ap (λ y. disk_entries out (Some k) y x) placed
+            ∙ created_is out beside (λ e. is_apart (sym e)) p w x file k only b none_taken none_wait
+      ] begun is_open
 
   pub create_shown : {T E : Type 0} (r : Result T E)
       → (told ≡ true → OnOk r (IfSome next (λ k. IsBegun beside k x.disk))) → OnOk r (IsSome next)
@@ -231,10 +237,13 @@ module _ (told : Bool) (out named beside : List ℕ) (same_name : named ≡ out)
   pub flush_shown : {T E : Type 0} (r : Result T E) → next ≡ file → q ≡ p → (told ≡ true → Known)
       → (told ≡ true → GoesOn file [] w x) → OnOk r (x.waiting ≡ []) → OnOk r (IsSome file)
       → OnOk r (Shown Flushes) × OnErr r (Shown OutStays)
-  flush_shown (Ok y) same placed known on none_wait is_open = (shown_both _ (λ t. subst (λ b. Flushes (disk_entries out file p w) (disk_entries out next b x)) (sym placed)
-      (subst (λ f. Flushes (disk_entries out file p w) (disk_entries out f p x)) (sym same)
-      (flushes_is out beside (λ e. is_apart (sym e)) p w x file (known t).0 (known t).1 (on t)
-      none_wait is_open))), tt)
+  flush_shown (Ok y) same placed known on none_wait is_open = (
+    shown_both _ (λ t. subst (λ b. Flushes (disk_entries out file p w) (disk_entries out next b x)) (sym placed)
+        (subst (λ f. Flushes (disk_entries out file p w) (disk_entries out f p x)) (sym same)
+        (flushes_is out beside (λ e. is_apart (sym e)) p w x file (known t).0 (known t).1 (on t)
+        none_wait is_open))),
+    tt,
+  )
   flush_shown (Err y) same placed known on none_wait is_open = (tt, shown_both _ (λ t. (goes [] same placed (known t) (on t)).out_stays))
 
   -- the calls were those from the run a to the run b
@@ -255,27 +264,29 @@ module _ (told : Bool) (out named beside : List ℕ) (same_name : named ≡ out)
         (λ k. Passes (Touches k) (Touches k) a b)))
         → x.taken ≡ w.taken → x.waiting ≡ w.waiting
         → OnOk r (Shown (λ d e. e ≡ synced d)) × OnErr r (Shown OutStays)
-    sync_shown (Ok y) same placed known is_open syncs failed same_taken same_waiting =
-        (shown_both _ (λ t. ap (λ b. disk_entries out next b x) placed
-        ∙ ap (λ f. disk_entries out f p x) same ∙ settled file (known t).0 is_open (syncs t)), tt)
-        where
-          settled : (o : Option ℕ) → IfSome o (λ k. HasOnly beside k w.disk) → IsSome o
-              → IfSome o (λ k. Does (Syncs k) a b)
-              → disk_entries out o p x ≡ synced (disk_entries out o p w)
-          settled None alone is_open does = absurd (false≢true is_open)
-          settled (Some k) alone is_open does =
-              synced_is out beside (λ e. is_apart (sym e)) p w x k alone
-              (at_disks (Syncs k) does.made) same_taken same_waiting
+    sync_shown (Ok y) same placed known is_open syncs failed same_taken same_waiting = (
+      shown_both _ (λ t. ap (λ b. disk_entries out next b x) placed
+          ∙ ap (λ f. disk_entries out f p x) same ∙ settled file (known t).0 is_open (syncs t)),
+      tt,
+    )
+      where
+        settled : (o : Option ℕ) → IfSome o (λ k. HasOnly beside k w.disk) → IsSome o
+            → IfSome o (λ k. Does (Syncs k) a b)
+            → disk_entries out o p x ≡ synced (disk_entries out o p w)
+        settled None alone is_open does = absurd (false≢true is_open)
+        settled (Some k) alone is_open does =
+            synced_is out beside (λ e. is_apart (sym e)) p w x k alone
+            (at_disks (Syncs k) does.made) same_taken same_waiting
     sync_shown (Err y) same placed known is_open syncs failed same_taken same_waiting =
         (tt, shown_both _ (λ t. stays (spared file (known t).0 (failed t)) placed))
-        where
-          spared : (o : Option ℕ) → IfSome o (λ k. HasOnly beside k w.disk)
-              → MatchOption o (b ≡ a) (λ k. Passes (Touches k) (Touches k) a b)
-              → OnlyTouches beside w.disk x.disk
-          spared None alone so = subst (λ d. OnlyTouches beside w.disk d)
-              (sym at_a ∙ ap (λ r. r.now) (sym so) ∙ at_b) (only-refl beside w.disk)
-          spared (Some k) alone so =
-              only-touches beside k w.disk x.disk alone (at_disks (Touches k) so.made)
+      where
+        spared : (o : Option ℕ) → IfSome o (λ k. HasOnly beside k w.disk)
+            → MatchOption o (b ≡ a) (λ k. Passes (Touches k) (Touches k) a b)
+            → OnlyTouches beside w.disk x.disk
+        spared None alone so = subst (λ d. OnlyTouches beside w.disk d)
+            (sym at_a ∙ ap (λ r. r.now) (sym so) ∙ at_b) (only-refl beside w.disk)
+        spared (Some k) alone so =
+            only-touches beside k w.disk x.disk alone (at_disks (Touches k) so.made)
 
     pub put_shown : {T E : Type 0} (r : Result T E)
         → (told ≡ true → OnOk r (Does (Renames beside out) a b))
@@ -284,20 +295,22 @@ module _ (told : Bool) (out named beside : List ℕ) (same_name : named ≡ out)
         → q ≡ (if is_ok r then true else p) → x.waiting ≡ w.waiting
         → (told ≡ true → OnErr r (Passes IsSame IsSame a b))
         → OnOk r (Shown (λ d e. e ≡ put_in_place d)) × OnErr r (Shown OutStays)
-    put_shown (Ok y) renames leads whole is_open known first closed placed waiting failed =
-        (shown_both _ (λ t. ap (λ c. disk_entries out next c x) placed
-        ∙ ap (λ f. disk_entries out f true x) closed
-        ∙ put file is_open (known t).1 (leads t) (renames t)
-        ∙ ap (λ c. put_in_place (disk_entries out file c w)) (sym first)), tt)
-        where
-          put : (o : Option ℕ) → IsSome o → IfSome o (λ k. HasTaken k w)
-              → (a.now.names beside).leads ≡ o → Does (Renames beside out) a b
-              → disk_entries out None true x ≡ put_in_place (disk_entries out o false w)
-          put None is_open taken leads does = absurd (false≢true is_open)
-          put (Some k) is_open taken leads does =
-              put_is out beside (λ e. is_apart (sym e)) p w x k
-              (at_disks (Renames beside out) does.made)
-              (ap (λ d. (d.names beside).leads) (sym at_a) ∙ leads) taken whole waiting
+    put_shown (Ok y) renames leads whole is_open known first closed placed waiting failed = (
+      shown_both _ (λ t. ap (λ c. disk_entries out next c x) placed
+          ∙ ap (λ f. disk_entries out f true x) closed
+          ∙ put file is_open (known t).1 (leads t) (renames t)
+          ∙ ap (λ c. put_in_place (disk_entries out file c w)) (sym first)),
+      tt,
+    )
+      where
+        put : (o : Option ℕ) → IsSome o → IfSome o (λ k. HasTaken k w)
+            → (a.now.names beside).leads ≡ o → Does (Renames beside out) a b
+            → disk_entries out None true x ≡ put_in_place (disk_entries out o false w)
+        put None is_open taken leads does = absurd (false≢true is_open)
+        put (Some k) is_open taken leads does =
+            put_is out beside (λ e. is_apart (sym e)) p w x k
+            (at_disks (Renames beside out) does.made)
+            (ap (λ d. (d.names beside).leads) (sym at_a) ∙ leads) taken whole waiting
     put_shown (Err y) renames leads whole is_open known first closed placed waiting failed =
         (tt, shown_both _ (λ t. stays_undone (failed t) placed))
 
@@ -305,11 +318,13 @@ module _ (told : Bool) (out named beside : List ℕ) (same_name : named ≡ out)
         → (told ≡ true → OnOk r (Does (Unlinks beside) a b)) → OnOk r (next ≡ None)
         → OnOk r (x.waiting ≡ []) → q ≡ p → (told ≡ true → OnErr r (Passes IsSame IsSame a b))
         → OnOk r (Shown (λ d e. e ≡ removed d)) × OnErr r (Shown OutStays)
-    remove_shown (Ok y) unlinks closed none_wait placed failed =
-        (shown_both _ (λ t. ap (λ c. disk_entries out next c x) placed
-        ∙ ap (λ f. disk_entries out f p x) closed
-        ∙ removed_is out beside (λ e. is_apart (sym e)) p w x file
-        (at_disks (Unlinks beside) (unlinks t).made) none_wait), tt)
+    remove_shown (Ok y) unlinks closed none_wait placed failed = (
+      shown_both _ (λ t. ap (λ c. disk_entries out next c x) placed
+          ∙ ap (λ f. disk_entries out f p x) closed
+          ∙ removed_is out beside (λ e. is_apart (sym e)) p w x file
+          (at_disks (Unlinks beside) (unlinks t).made) none_wait),
+      tt,
+    )
     remove_shown (Err y) unlinks closed none_wait placed failed =
         (tt, shown_both _ (λ t. stays_undone (failed t) placed))
 
@@ -320,20 +335,24 @@ module _ (told : Bool) (out named beside : List ℕ) (same_name : named ≡ out)
         → x.taken ≡ w.taken → x.waiting ≡ w.waiting
         → (told ≡ true → OnErr r (Passes IsSame IsSame a b))
         → OnOk r (Shown (λ d e. e ≡ names_synced d)) × OnErr r (Shown (λ d e. e ≡ d))
-    names_shown (Ok y) has_name folder same placed is_open parent does taken waiting failed =
-        (shown_both _ (λ t. ap (λ c. disk_entries out next c x) placed
-        ∙ ap (λ f. disk_entries out f p x) same ∙ confirmed folder is_open (parent t) (does t)), tt)
-        where
-          confirmed : (o : Option _) → IsSome o → IfSome o (λ f. has_name f out ≡ true)
-              → IfSome o (λ f. Does (Confirms (has_name f)) a b)
-              → disk_entries out file p x ≡ names_synced (disk_entries out file p w)
-          confirmed None is_open at does = absurd (false≢true is_open)
-          confirmed (Some f) is_open at does =
-              names_synced_is out beside (λ e. is_apart (sym e)) p w x (has_name f) file at
-              (at_disks (Confirms (has_name f)) does.made) taken waiting
-    names_shown (Err y) has_name folder same placed is_open parent does taken waiting failed =
-        (tt, shown_both _ (λ t. ap (λ c. disk_entries out next c x) placed
-        ∙ ap (λ f. disk_entries out f p x) same
-        ∙ ap (λ n. disk_entries out file p (record x { taken = n })) taken
-        ∙ ap (λ l. disk_entries out file p (record w { waiting = l; disk = x.disk })) waiting
-        ∙ ap (λ d. disk_entries out file p (record w { disk = d })) (nothing_done (failed t))))
+    names_shown (Ok y) has_name folder same placed is_open parent does taken waiting failed = (
+      shown_both _ (λ t. ap (λ c. disk_entries out next c x) placed
+          ∙ ap (λ f. disk_entries out f p x) same ∙ confirmed folder is_open (parent t) (does t)),
+      tt,
+    )
+      where
+        confirmed : (o : Option _) → IsSome o → IfSome o (λ f. has_name f out ≡ true)
+            → IfSome o (λ f. Does (Confirms (has_name f)) a b)
+            → disk_entries out file p x ≡ names_synced (disk_entries out file p w)
+        confirmed None is_open at does = absurd (false≢true is_open)
+        confirmed (Some f) is_open at does =
+            names_synced_is out beside (λ e. is_apart (sym e)) p w x (has_name f) file at
+            (at_disks (Confirms (has_name f)) does.made) taken waiting
+    names_shown (Err y) has_name folder same placed is_open parent does taken waiting failed = (
+      tt,
+      shown_both _ (λ t. ap (λ c. disk_entries out next c x) placed
+          ∙ ap (λ f. disk_entries out f p x) same
+          ∙ ap (λ n. disk_entries out file p (record x { taken = n })) taken
+          ∙ ap (λ l. disk_entries out file p (record w { waiting = l; disk = x.disk })) waiting
+          ∙ ap (λ d. disk_entries out file p (record w { disk = d })) (nothing_done (failed t))),
+    )

@@ -1,8 +1,10 @@
 -- What a disk shows of an output: the two entries of its folder.
-use Rattle.std.specs.Prelude.{ℕ, Bool, List, [], ◌∷◌, Option, Some, None, option_map, take}
+use Rattle.std.specs.Prelude.{ℕ, Bool, List, [], ◌∷◌, Option, None, option_map, take, map, ◌⊎◌, Contains}
 use Rattle.std.specs.Prelude.{if◌then◌else◌, nat_eq}
-use Rattle.flute_calls.specs.Disks.{Disk, Held, Entry}
-use Rattle.flute_output.specs.Entries.{Stored, Entries}
+use Rattle.flute_calls.specs.Disks.{Disk, Held, MayLeave}
+use Rattle.flute_calls.specs.Moments.{Run}
+use Rattle.flute_output.specs.Entries.{Stored, Entries, Survives}
+use Rattle.flute_output.specs.OutMoments.{Moment}
 use Rattle.flute_output.specs.DiskWrites.{Writing}
 
 abbrev pub stored_as : Held → Stored
@@ -20,6 +22,24 @@ last_of (target ∷ earlier) = target
 -- the file that the name led to before that
 abbrev pub stored_before : Disk → List ℕ → Option Stored
 stored_before d name = option_map (λ k. stored_as (d.files k)) (last_of (d.names name).before)
+
+-- the files that it led to before that and that the disk may still have at the name
+abbrev pub stored_unsure : Disk → List ℕ → List (Option Stored)
+stored_unsure d name = map (option_map (λ k. stored_as (d.files k)))
+    (take (d.names name).unsure (d.names name).before)
+
+abbrev pub moment_at : List ℕ → Disk → Moment
+moment_at out d = record { out = stored_at d out; unsure = stored_unsure d out }
+
+abbrev pub disk_moments : List ℕ → Run → List Moment
+disk_moments out run = map (moment_at out) (run.now ∷ run.past)
+
+-- Whatever a lost power leaves at a name is what may survive of the file that it leads to, or of one
+-- of those that the disk may still have at the name.
+abbrev pub LossesAreOfMoments : Type 0
+LossesAreOfMoments = (d : Disk) (out : List ℕ) (left : Option (List ℕ)) → MayLeave d out left
+    → Survives (moment_at out d).out left
+    ⊎ ((file : Option Stored) × Contains (moment_at out d).unsure file × Survives file left)
 
 -- of a file that was made for OUT, if it is open, and whether it has been named OUT
 abbrev pub disk_entries : List ℕ → Option ℕ → Bool → Writing → Entries

@@ -53,11 +53,17 @@ pub record WritesOn (k : ℕ) (more : List ℕ) (old new : Writing) : Type 0 whe
   pub content : HasTaken k old → content k new ≡ content k old ++ more
   pub touches : Touches k old.disk new.disk
 
--- the same of a file that may not be open: then bytes only wait
+-- no file is open: bytes only wait
 pub record Waits (more : List ℕ) (old new : Writing) : Type 0 where
   pub waiting : new.waiting ≡ old.waiting ++ more
   pub disk : new.disk ≡ old.disk
 
+-- no file but the one that may be open is touched
+abbrev pub LeavesOthers : Option ℕ → Disk → Disk → Type 0
+LeavesOthers None old new = new ≡ old
+LeavesOthers (Some k) old new = Touches k old new
+
+-- the one or the other
 abbrev pub GoesOn : Option ℕ → List ℕ → Writing → Writing → Type 0
 GoesOn None more old new = Waits more old new
 GoesOn (Some k) more old new = WritesOn k more old new

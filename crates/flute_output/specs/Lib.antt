@@ -3,3 +3,4 @@ pub mod DiskWrites
 pub mod Entries
 pub mod Modes
 pub mod NewFolders
+pub mod OutMoments

@@ -6,7 +6,7 @@ ghost use Rattle.std.specs.Path.{path_buf_bytes};
 ghost use Rattle.flute_calls.specs.Disks.{Confirms, OnlyTouches, Renames, Syncs, Touches, Unlinks};
 ghost use Rattle.flute_calls.specs.Moments.{Always, Does, IsSame, Passes};
 ghost use Rattle.flute_output.specs.DiskWrites.{IsBegun, Extends, GoesOn, HasOnly, HasTaken};
-ghost use Rattle.flute_output.specs.DiskWrites.{taken_for, writing};
+ghost use Rattle.flute_output.specs.DiskWrites.{LeavesOthers, taken_for, writing};
 ghost use Rattle.std.proofs.Props.{props};
 ghost use Rattle.flute_output.specs.Modes.{mode_of};
 
@@ -42,8 +42,8 @@ pub struct DiskFolder<C: Calls + Drop> {
     ghost apart: { C.told ≡ true → IfSome (option_map C.number writer.file) (λ k.
         HasOnly (string_bytes names.beside) k (C.run calls).now) } by { Prim.hlevel props },
     ghost taken: { C.told ≡ true → IfSome (option_map C.number writer.file) (λ k.
-        HasTaken k (writing writer.taken writer.is_broken writer.waiting.items (C.run calls).now))
-        } by { Prim.hlevel props },
+        HasTaken k (writing writer.taken writer.is_broken writer.waiting.items
+        (C.run calls).now)) } by { Prim.hlevel props },
 }
 
 impl<C: Calls + Drop> DiskFolder<C> {
@@ -130,12 +130,15 @@ pub fn new_mode(found: &Option<Metadata>) -> u32
 }
 
 impl<C: Calls + Drop> Folder for DiskFolder<C> {
-    ghost use Rattle.flute_output.specs.DiskEntries.{disk_entries};
+    ghost use Rattle.flute_output.specs.DiskEntries.{disk_entries, disk_moments};
 
     ghost entries = { λ f. if C.told then Some (disk_entries (path_buf_bytes f.names.out)
         (option_map C.number f.writer.file) f.is_placed
         (writing f.writer.taken f.writer.is_broken f.writer.waiting.items (C.run f.calls).now))
         else None };
+
+    ghost moments = { λ f. if C.told then disk_moments (path_buf_bytes f.names.out)
+        (C.run f.calls) else [] };
 
     ghost failures = { λ f. f.writer.failures.count };
 
@@ -173,6 +176,9 @@ impl<C: Calls + Drop> Folder for DiskFolder<C> {
             taken_for k self.new.writer.waiting.items (C.run self.new.calls).now
             ≡ taken_for k self.old.writer.waiting.items (C.run self.old.calls).now
             ++ take n bytes.now)) }
+        ensures any_moment { C.told ≡ true → Always
+            (LeavesOthers (option_map C.number self.old.writer.file) (C.run self.old.calls).now)
+            (C.run self.old.calls) (C.run self.new.calls) }
         ensures same_file { option_map C.number self.new.writer.file
             ≡ option_map C.number self.old.writer.file }
         ensures goes_on { C.told ≡ true → IfOk result (λ n. GoesOn
@@ -210,6 +216,9 @@ impl<C: Calls + Drop> Folder for DiskFolder<C> {
             self.old.writer.waiting.items (C.run self.old.calls).now)
             (writing self.new.writer.taken self.new.writer.is_broken
             self.new.writer.waiting.items (C.run self.new.calls).now) }
+        ensures any_moment { C.told ≡ true → Always
+            (LeavesOthers (option_map C.number self.old.writer.file) (C.run self.old.calls).now)
+            (C.run self.old.calls) (C.run self.new.calls) }
         ensures same_file { option_map C.number self.new.writer.file
             ≡ option_map C.number self.old.writer.file }
         ensures placed { self.new.is_placed ≡ self.old.is_placed }

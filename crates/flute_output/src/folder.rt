@@ -1,8 +1,9 @@
 //! What an output needs of the folder that OUT is in.
-ghost use Rattle.std.specs.Prelude.{◌≡◌, ℕ, ◌+◌, ◌<◌, ◌≤◌, length, take, []};
+ghost use Rattle.std.specs.Prelude.{◌≡◌, ℕ, ◌+◌, ◌<◌, ◌≤◌, List, [], length, take};
 ghost use Rattle.std.specs.Prelude.{IfOk, OnOk, OnErr, Option, if◌then◌else◌, is_ok};
 ghost use Rattle.flute_output.specs.Entries.{Entries, Leads, Does, OutStays, Takes, Flushes};
 ghost use Rattle.flute_output.specs.Entries.{created, synced, put_in_place, names_synced, removed};
+ghost use Rattle.flute_output.specs.OutMoments.{Moment, Steady, Follows, replaced, settled};
 
 use flute_parts::DeviceFault;
 
@@ -10,6 +11,9 @@ use flute_parts::DeviceFault;
 pub trait Folder {
     // What the two names lead to, if contracts see that.
     ghost entries: { Self → Option Entries };
+
+    // What OUT was at each moment so far, the latest first, if contracts see that.
+    ghost moments: { Self → List Moment };
 
     // How often a call has failed.
     ghost failures: { Self → ℕ };
@@ -22,6 +26,7 @@ pub trait Folder {
     fn create(&mut self) -> Result<(), DeviceFault>
         ensures made { OnOk result (Does created (entries self.old) (entries self.new)) }
         ensures refused { OnErr result (Leads OutStays (entries self.old) (entries self.new)) }
+        ensures steady { Steady (moments self.old) (moments self.new) }
         ensures failures { failures self.new
             ≡ failures self.old + (if is_ok result then 0 else 1) };
 
@@ -37,6 +42,7 @@ pub trait Folder {
         ensures taken { IfOk result (λ n.
             Leads (Takes (take n bytes.now)) (entries self.old) (entries self.new)) }
         ensures refused { OnErr result (Leads (Takes []) (entries self.old) (entries self.new)) }
+        ensures steady { Steady (moments self.old) (moments self.new) }
         ensures failures { failures self.new
             ≡ failures self.old + (if is_ok result then 0 else 1) };
 
@@ -48,6 +54,7 @@ pub trait Folder {
     fn flush(&mut self) -> Result<(), DeviceFault>
         ensures flushed { OnOk result (Leads Flushes (entries self.old) (entries self.new)) }
         ensures refused { OnErr result (Leads OutStays (entries self.old) (entries self.new)) }
+        ensures steady { Steady (moments self.old) (moments self.new) }
         ensures failures { failures self.new
             ≡ failures self.old + (if is_ok result then 0 else 1) };
 
@@ -59,6 +66,7 @@ pub trait Folder {
     fn sync(&mut self) -> Result<(), DeviceFault>
         ensures synced { OnOk result (Does synced (entries self.old) (entries self.new)) }
         ensures refused { OnErr result (Leads OutStays (entries self.old) (entries self.new)) }
+        ensures steady { Steady (moments self.old) (moments self.new) }
         ensures failures { failures self.new
             ≡ failures self.old + (if is_ok result then 0 else 1) };
 
@@ -70,6 +78,9 @@ pub trait Folder {
     fn put_in_place(&mut self) -> Result<(), DeviceFault>
         ensures put { OnOk result (Does put_in_place (entries self.old) (entries self.new)) }
         ensures refused { OnErr result (Leads OutStays (entries self.old) (entries self.new)) }
+        ensures given { OnOk result (Leads (λ old _. Follows (replaced old.beside)
+            (moments self.old) (moments self.new)) (entries self.old) (entries self.new)) }
+        ensures steady { OnErr result (Steady (moments self.old) (moments self.new)) }
         ensures failures { failures self.new
             ≡ failures self.old + (if is_ok result then 0 else 1) };
 
@@ -82,6 +93,8 @@ pub trait Folder {
     fn sync_names(&mut self) -> Result<(), DeviceFault>
         ensures synced { OnOk result (Does names_synced (entries self.old) (entries self.new)) }
         ensures refused { OnErr result (Does (λ same. same) (entries self.old) (entries self.new)) }
+        ensures sure { OnOk result (Follows settled (moments self.old) (moments self.new)) }
+        ensures steady { OnErr result (Steady (moments self.old) (moments self.new)) }
         ensures failures { failures self.new
             ≡ failures self.old + (if is_ok result then 0 else 1) };
 
@@ -93,6 +106,7 @@ pub trait Folder {
     fn remove(&mut self) -> Result<(), DeviceFault>
         ensures removed { OnOk result (Does removed (entries self.old) (entries self.new)) }
         ensures refused { OnErr result (Leads OutStays (entries self.old) (entries self.new)) }
+        ensures steady { Steady (moments self.old) (moments self.new) }
         ensures failures { failures self.new
             ≡ failures self.old + (if is_ok result then 0 else 1) };
 }

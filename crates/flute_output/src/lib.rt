@@ -32,6 +32,7 @@ mod filled_folder;
 mod folder;
 mod folder_beside;
 mod found;
+pub mod laws;
 mod limited_stream;
 mod name_pair;
 mod new_folder;

@@ -1,10 +1,11 @@
 //! An output that becomes OUT whole or not at all.
 ghost use Rattle.std.specs.Prelude.{◌≡◌, ◌+◌, ◌<◌, ◌≤◌, length};
 ghost use Rattle.std.specs.Prelude.{IfOk, IfSome, IfErr, OnOk, OnErr, Ok, Err, option_map};
-ghost use Rattle.std.specs.Prelude.{is_ok, None, if◌then◌else◌};
+ghost use Rattle.std.specs.Prelude.{is_ok, None, Some, if◌then◌else◌};
 ghost use Rattle.flute_output.specs.Entries.{Leads, Does, OutStays, OutBecomes};
 ghost use Rattle.flute_output.specs.Entries.{Lasts, Ends, IfWork, IsEitherAlways, IsWriting};
 ghost use Rattle.flute_output.specs.Entries.{created, taken, whole, found_in, named_in};
+ghost use Rattle.flute_output.specs.OutMoments.{BecomesAt, Follows, Steady, replaced};
 ghost use Rattle.std.specs.Io.KnownBytes.{WriteAppends};
 
 use crate::folder::Folder;
@@ -53,6 +54,8 @@ impl<F: Folder + Drop> Output<F> {
         ensures made { IfOk result (λ output. Does created (F.entries folder) (F.entries output)) }
         ensures refused { IfErr result
             (λ back. Leads OutStays (F.entries folder) (F.entries back)) }
+        ensures steady { IfOk result (λ output. Steady (F.moments folder) (F.moments output)) }
+        ensures back { IfErr result (λ back. Steady (F.moments folder) (F.moments back)) }
         ensures quiet { IfOk result (λ output. F.failures output ≡ F.failures folder) }
         ensures cause { IfErr result (λ back. F.failures back ≡ F.failures folder + 1) }
     {
@@ -86,6 +89,9 @@ impl<F: Folder + Drop> Output<F> {
             (F.entries self) (F.entries result.1)) }
         ensures any_moment { Leads (λ old new. IsEitherAlways (whole (taken old)) old new)
             (F.entries self) (F.entries result.1) }
+
+        ensures each_moment { Leads (λ old _. BecomesAt (whole (taken old))
+            (F.moments self) (F.moments result.1)) (F.entries self) (F.entries result.1) }
 
         // The file beside OUT is left only if removing it failed, and a step fails only if the
         // folder did.
@@ -133,6 +139,7 @@ impl<F: Folder + Drop> Sink for Output<F> {
             ≡ option_map found_in (F.entries self.old) }
         ensures named { option_map named_in (F.entries self.new)
             ≡ option_map named_in (F.entries self.old) }
+        ensures steady { Steady (F.moments self.old) (F.moments self.new) }
     {
         self.folder.write(bytes)
     }
@@ -148,6 +155,9 @@ fn keep<F: Folder>(folder: &mut F) -> Result<(), DeviceFault>
         (F.entries folder.old) (F.entries folder.new)) }
     ensures refused { OnErr result (Leads OutStays
         (F.entries folder.old) (F.entries folder.new)) }
+    ensures given { OnOk result (Leads (λ old _. Follows (replaced (Some (whole (taken old))))
+        (F.moments folder.old) (F.moments folder.new)) (F.entries folder.old) (F.entries folder.new)) }
+    ensures steady { OnErr result (Steady (F.moments folder.old) (F.moments folder.new)) }
     ensures failures { F.failures folder.new
         ≡ F.failures folder.old + (if is_ok result then 0 else 1) }
 {

@@ -3,8 +3,9 @@ ghost use Rattle.std.specs.Prelude.{◌≡◌, ◌+◌, ◌<◌, ◌≤◌, None
 ghost use Rattle.std.specs.Prelude.{IfOk, IfSome, IsSome, OnOk, OnErr, Ok, if◌then◌else◌, is_ok};
 ghost use Rattle.std.specs.Prelude.{option_map, ◌++◌, [], MatchOption};
 ghost use Rattle.flute_calls.specs.Disks.{Syncs, Touches};
-ghost use Rattle.flute_calls.specs.Moments.{Does, Passes};
-ghost use Rattle.flute_output.specs.DiskWrites.{Extends, Keeps, GoesOn, taken_for, writing};
+ghost use Rattle.flute_calls.specs.Moments.{Always, Does, Passes};
+ghost use Rattle.flute_output.specs.DiskWrites.{Extends, GoesOn, Keeps, LeavesOthers};
+ghost use Rattle.flute_output.specs.DiskWrites.{taken_for, writing};
 
 use crate::beside::{fill_file, sync_file};
 use crate::file_limit::FileLimit;
@@ -120,6 +121,9 @@ impl<C: Calls + Drop> WaitingFile<C> {
             IfSome (option_map C.number self.old.file) (λ k.
             Passes (Touches k) (Extends k self.old.waiting.items)
             (C.run calls.old) (C.run calls.new))) }
+        ensures any_moment { C.told ≡ true → Always
+            (LeavesOthers (option_map C.number self.old.file) (C.run calls.old).now)
+            (C.run calls.old) (C.run calls.new) }
         ensures same_file { option_map C.number self.new.file
             ≡ option_map C.number self.old.file }
         ensures none_wait { OnOk result (self.new.waiting.items ≡ []) }
@@ -191,6 +195,9 @@ impl<C: Calls + Drop> WaitingFile<C> {
             (option_map C.number self.old.file) []
             (writing self.old.taken self.old.is_broken self.old.waiting.items (C.run calls.old).now)
             (writing self.new.taken self.new.is_broken self.new.waiting.items (C.run calls.new).now)) }
+        ensures any_moment { C.told ≡ true → Always
+            (LeavesOthers (option_map C.number self.old.file) (C.run calls.old).now)
+            (C.run calls.old) (C.run calls.new) }
         ensures same_file { option_map C.number self.new.file
             ≡ option_map C.number self.old.file }
         ensures failures { self.new.failures ≡ self.old.failures }
