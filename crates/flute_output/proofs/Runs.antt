@@ -3,9 +3,9 @@ use Rattle.std.proofs.Common.{◌≡◌, ◌≢◌, ◌++◌, ℕ, List, [], ◌
 use Rattle.std.proofs.lemmas.Bool.{false≢true}
 use Rattle.std.proofs.Math.Seq.{take-add}
 use Rattle.std.proofs.lemmas.List.Elements.{All-append, All-weaker, All-nil, All-cons}
-use Rattle.flute_calls.specs.Disks.{Disk, Held, HasHad, Touches, Creates, Grows, Spoils, Syncs, Unlinks, OnlyTouches}
+use Rattle.flute_calls.specs.Disks.{Disk, Held, HasHad, Touches, Creates, Grows, Spoils, Syncs, Unlinks, MakesFolder, OnlyTouches}
 use Rattle.flute_calls.specs.Moments.{Run, Always, Does, Passes, IsSame}
-use Rattle.flute_output.specs.DiskWrites.{Extends, Keeps}
+use Rattle.flute_output.specs.DiskWrites.{Extends, Keeps, OnlyNames}
 
 pub always-here : (P : Disk → Type 0) (a : Run) → P a.now → Always P a a
 always-here P a p = record { added = []; past = refl; each = All-nil P; here = p }
@@ -231,3 +231,32 @@ module _ (xs : List ℕ) (before now next : ℕ → List ℕ) where
 pub none_open : {F : Type 0} (number : F → ℕ) (file : Option F) (P : ℕ → Type 0) → file ≡ None
     → IfSome (option_map number file) P
 none_open number file P e = subst (λ f. IfSome (option_map number f) P) (sym e) tt
+
+-- each name but this one is as before, at each moment
+abbrev pub NamesStay : List ℕ → Run → Run → Type 0
+NamesStay b a c = Always (OnlyNames b a.now) a c
+
+module _ (b : List ℕ) (a c : Run) where
+  pub names_same : c ≡ a → NamesStay b a c
+  names_same same =
+      subst (λ r. NamesStay b a r) (sym same) (always-here _ a (λ other not. refl))
+
+  pub names_then : (e : Run) → NamesStay b a c → NamesStay b c e → NamesStay b a e
+  names_then e ac ce = always-then (OnlyNames b a.now) (OnlyNames b c.now) a c e ac ce
+      (λ d so other not. so other not ∙ ac.here other not)
+
+  pub names_failed : Passes IsSame IsSame a c → NamesStay b a c
+  names_failed so = always-weaker _ _ a c so.always
+      (λ d same other not. ap (λ x. x.names other) same)
+
+  pub names_touched : (k : ℕ) (R : Disk → Disk → Type 0) → Passes (Touches k) R a c
+      → NamesStay b a c
+  names_touched k R so = always-weaker _ _ a c so.always (λ d t other not. t.names other)
+
+  pub names_made : Does (MakesFolder b) a c → NamesStay b a c
+  names_made does = always-does (OnlyNames b a.now) (MakesFolder b) a c (λ other not. refl) does
+      (λ m. m.creates.elsewhere)
+
+  pub names_create : {T E : Type 0} (r : Result T E) → OnOk r (Does (MakesFolder b) a c)
+      → OnErr r (Passes IsSame IsSame a c) → NamesStay b a c
+  names_create r made refused = either_end r _ _ _ made refused names_made names_failed

@@ -7,6 +7,10 @@ use Rattle.flute_calls.specs.Disks.{Disk, HasHad, Touches}
 abbrev pub HasOnly : List ℕ → ℕ → Disk → Type 0
 HasOnly name k d = (other : List ℕ) → other ≢ name → HasHad (d.names other) k → ⊥
 
+-- each name but this one is as it was
+abbrev pub OnlyNames : List ℕ → Disk → Disk → Type 0
+OnlyNames name old new = (other : List ℕ) → other ≢ name → new.names other ≡ old.names other
+
 -- an empty file was made at this name, to which no other name has led
 pub record IsBegun (beside : List ℕ) (k : ℕ) (d : Disk) : Type 0 where
   pub leads : (d.names beside).leads ≡ Some k

@@ -5,8 +5,8 @@ ghost use Rattle.std.specs.Prelude.{◌++◌, IfOk, IsSome};
 ghost use Rattle.std.specs.Path.{path_buf_bytes};
 ghost use Rattle.flute_calls.specs.Disks.{Confirms, CreatesWithin, Renames, Syncs, Touches};
 ghost use Rattle.flute_calls.specs.Disks.{UnlinksWithin};
-ghost use Rattle.flute_calls.specs.Moments.{Does, Passes};
-ghost use Rattle.flute_output.specs.DiskWrites.{Keeps, taken_for};
+ghost use Rattle.flute_calls.specs.Moments.{Always, Does, Passes};
+ghost use Rattle.flute_output.specs.DiskWrites.{Keeps, OnlyNames, taken_for};
 
 use crate::beside::sync_parent;
 use crate::file_limit::FileLimit;
@@ -83,13 +83,20 @@ impl<C: FolderCalls + Drop> DiskNewFolder<C> {
             ≡ option_map C.number self.new.beside) }
         ensures parent { C.told ≡ true → OnOk result (IfSome self.new.parent (λ p.
             C.has_name p (path_buf_bytes self.old.names.out) ≡ true)) }
+        ensures any_moment { C.told ≡ true →
+            Always (OnlyNames (string_bytes self.old.names.beside) (C.run self.old.calls).now)
+            (C.run self.old.calls) (C.run self.new.calls) }
         ensures open { OnOk result (IsSome self.new.beside) }
         ensures found { OnOk result (IsSome self.new.parent) }
         ensures failures { self.new.writer.failures ≡ self.old.writer.failures }
     {
         // The folder that it is in is opened first, so that later it only needs to be synced.
         let parent = self.calls.open_parent(self.names.out.as_str())?;
-        let beside = make_folder(&mut self.calls, &self.names)?;
+        let beside = make_folder(
+            &mut self.calls,
+            self.names.out.as_str(),
+            &self.names.beside,
+        )?;
         self.parent = Some(parent);
         self.beside = Some(beside);
         self.is_broken = false;
@@ -167,6 +174,9 @@ impl<C: FolderCalls + Drop> NewFolder for DiskNewFolder<C> {
             ≡ option_map C.number self.new.beside) }
         ensures parent { C.told ≡ true → OnOk result (IfSome self.new.parent (λ p.
             C.has_name p (path_buf_bytes self.old.names.out) ≡ true)) }
+        ensures any_moment { C.told ≡ true →
+            Always (OnlyNames (string_bytes self.old.names.beside) (C.run self.old.calls).now)
+            (C.run self.old.calls) (C.run self.new.calls) }
         ensures open { OnOk result (IsSome self.new.beside) }
         ensures found { OnOk result (IsSome self.new.parent) }
         ensures failures { self.new.writer.failures.count

@@ -3,7 +3,8 @@ ghost use Rattle.std.specs.Prelude.{◌≡◌, true, None, Some, IfOk, IfSome, I
 ghost use Rattle.std.specs.Prelude.{option_map, string_bytes};
 ghost use Rattle.std.specs.Path.{path_buf_bytes};
 ghost use Rattle.flute_calls.specs.Disks.{Renames, Syncs};
-ghost use Rattle.flute_calls.specs.Moments.{Does};
+ghost use Rattle.flute_calls.specs.Moments.{Always, Does};
+ghost use Rattle.flute_output.specs.DiskWrites.{OnlyNames};
 
 use crate::beside::{check_name, rename};
 use crate::name_pair::{ATTEMPTS, NamePair};
@@ -16,13 +17,22 @@ use flute_calls::{CallFault, FolderCalls};
 ///
 /// If a call failed, OUT is there, whatever it is, or what has the name beside it is not a folder
 /// that contains only files, or a running program has that locked.
-pub fn make_folder<C: FolderCalls>(calls: &mut C, names: &NamePair) -> Result<C::File, CallFault>
+pub fn make_folder<C: FolderCalls>(
+    calls: &mut C,
+    out: &str,
+    beside: &str,
+) -> Result<C::File, CallFault>
     ensures made { C.told ≡ true → IfOk result (λ folder.
-        ((C.run calls.new).now.names (string_bytes names.now.beside)).leads
+        ((C.run calls.new).now.names beside.now).leads
         ≡ Some (C.number folder)) }
+    ensures any_moment { C.told ≡ true →
+        Always (OnlyNames beside.now (C.run calls.old).now)
+        (C.run calls.old) (C.run calls.new) }
 {
-    for _ in 0..ATTEMPTS {
-        match make_folder_once(calls, names) {
+    let mut left = ATTEMPTS;
+    while left > 0 {
+        left -= 1;
+        match make_folder_once(calls, out, beside) {
             Err(CallFault::NotFound) => {}
             made => return made,
         }
@@ -31,25 +41,42 @@ pub fn make_folder<C: FolderCalls>(calls: &mut C, names: &NamePair) -> Result<C:
 }
 
 // `NotFound` if another run has taken the name away meanwhile.
-fn make_folder_once<C: FolderCalls>(calls: &mut C, names: &NamePair) -> Result<C::File, CallFault>
+fn make_folder_once<C: FolderCalls>(
+    calls: &mut C,
+    out: &str,
+    beside: &str,
+) -> Result<C::File, CallFault>
     ensures made { C.told ≡ true → IfOk result (λ folder.
-        ((C.run calls.new).now.names (string_bytes names.now.beside)).leads
+        ((C.run calls.new).now.names beside.now).leads
         ≡ Some (C.number folder)) }
+    ensures any_moment { C.told ≡ true →
+        Always (OnlyNames beside.now (C.run calls.old).now)
+        (C.run calls.old) (C.run calls.new) }
 {
-    if calls.look(names.out.as_str())?.is_some() {
+    if calls.look(out)?.is_some() {
         return Err(CallFault::AlreadyExists);
     }
-    match calls.create_folder(&names.beside) {
+    match calls.create_folder(beside) {
         Ok(()) | Err(CallFault::AlreadyExists) => {}
         Err(fault) => return Err(fault),
     }
-    if calls.is_folder(&names.beside)? == Some(false) {
+    let folder = open_folder(calls, beside)?;
+    calls.empty_folder(&folder, beside)?;
+    Ok(folder)
+}
+
+// Opens and locks the folder that has this name.
+fn open_folder<C: FolderCalls>(calls: &mut C, name: &str) -> Result<C::File, CallFault>
+    ensures here { C.told ≡ true → IfOk result (λ folder.
+        ((C.run calls.old).now.names name.now).leads ≡ Some (C.number folder)) }
+    ensures same { C.told ≡ true → C.run calls.new ≡ C.run calls.old }
+{
+    if calls.is_folder(name)? == Some(false) {
         return Err(CallFault::AlreadyExists);
     }
-    let folder = calls.open(&names.beside)?;
+    let folder = calls.open(name)?;
     calls.lock(&folder)?;
-    check_name(calls, &names.beside, &folder)?;
-    calls.empty_folder(&folder, &names.beside)?;
+    check_name(calls, name, &folder)?;
     Ok(folder)
 }
 
