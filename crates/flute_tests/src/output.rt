@@ -55,3 +55,9 @@ fn a_file_without_a_limit(_rt: HostRuntime) -> Result<(), Fail> {
     FileLimit::NONE.check(u64::MAX - 1, 1)?;
     Ok(())
 }
+
+#[test]
+fn laws(_rt: HostRuntime) -> Result<(), Fail> {
+    flute_output::laws::losses_are_of_moments();
+    Ok(())
+}
