@@ -17,8 +17,8 @@ AppendsPart-first old new a b p = record {
   part = p.part;
   rest = p.rest ++ b;
   appended = p.appended;
-  whole = ap (λ (x : List ℕ). x ++ b) p.whole ∙ append_assoc p.part p.rest b;
-  cut = λ e. p.cut (append_nil_left p.rest b e);
+  whole = ap (λ x. x ++ b) p.whole ∙ append_assoc _ _ b;
+  cut = λ e. p.cut (append_nil_left _ b e);
 }
 
 -- the first bytes and a part of the second are a part of them all
@@ -27,8 +27,8 @@ pub AppendsPart-second : (old mid new : Option (List ℕ)) (a b : List ℕ) → 
 AppendsPart-second old mid new a b done p = record {
   part = a ++ p.part;
   rest = p.rest;
-  appended = Appends-trans old mid new a p.part done p.appended;
-  whole = ap (λ (x : List ℕ). a ++ x) p.whole ∙ sym (append_assoc a p.part p.rest);
+  appended = Appends-trans old mid new a _ done p.appended;
+  whole = ap (λ x. a ++ x) p.whole ∙ sym (append_assoc a _ _);
   cut = p.cut;
 }
 

@@ -42,7 +42,7 @@ alone a f = fact_at (f ∷ []) a
 
 pub fact_at-cons : (f : Fact) (F : List Fact) (a : Address)
     → fact_at (f ∷ F) a ≡ joined a (alone a f) (fact_at F a)
-fact_at-cons f F a = fact_at-append (f ∷ []) F a
+fact_at-cons f F a = fact_at-append _ F a
 
 pub fact_at-nil : (a : Address) → fact_at [] a ≡ None
 unfolding fact_at
@@ -54,9 +54,8 @@ pub fact_at-member : (f : Fact) (F : List Fact) (a : Address) → Member f F
 unfolding Member
 fact_at-member f [] a m = absurd m
 fact_at-member f (g ∷ F) a (inl e) = ap (λ x. joined a (alone a x) (fact_at (g ∷ F) a)) e ∙ ap
-    (joined a (alone a g)) (fact_at-cons g F a) ∙ sym
-    (joined-assoc a (alone a g) (alone a g) (fact_at F a)) ∙ ap (λ x. joined a x (fact_at F a))
-    (joined-itself a (alone a g)) ∙ sym (fact_at-cons g F a)
+    (joined a (alone a g)) (fact_at-cons g F a) ∙ sym (joined-assoc a (alone a g) (alone a g) _) ∙
+    ap (λ x. joined a x (fact_at F a)) (joined-itself a (alone a g)) ∙ sym (fact_at-cons g F a)
 fact_at-member f (g ∷ F) a (inr m) = ap (joined a (alone a f)) (fact_at-cons g F a) ∙ sym
     (joined-assoc a (alone a f) (alone a g) (fact_at F a)) ∙ ap (λ x. joined a x (fact_at F a))
     (joined-comm a (alone a f) (alone a g)) ∙ joined-assoc a (alone a g) (alone a f) (fact_at F a) ∙
@@ -68,14 +67,14 @@ pub fact_at-members : (F G : List Fact) (a : Address) → ((f : Fact) → Member
 unfolding Member
 fact_at-members [] G a h = ap (λ x. joined a x (fact_at G a)) (fact_at-nil a)
 fact_at-members (f ∷ F) G a h = ap (λ x. joined a x (fact_at G a)) (fact_at-cons f F a) ∙
-    joined-assoc a (alone a f) (fact_at F a) (fact_at G a) ∙ ap (joined a (alone a f))
+    joined-assoc a (alone a f) _ _ ∙ ap (joined a (alone a f))
     (fact_at-members F G a (λ g m. h g (inr m))) ∙ fact_at-member f G a (h f (inl refl))
 
 pub Same-members : (F G : List Fact) → SameMembers F G → Same F G
 Same-members F G h = record {
   each = λ a.
       sym (fact_at-members G F a (λ f m. Member-from F f ((h f).1 (Contains-from G f m))))
-      ∙ joined-comm a (fact_at G a) (fact_at F a)
+      ∙ joined-comm a _ (fact_at F a)
       ∙ fact_at-members F G a (λ f m. Member-from G f ((h f).0 (Contains-from F f m)));
 }
 
@@ -109,38 +108,38 @@ above : (F G : List Fact)
 above F G h = search (rules, fact_at-append)
 
 pub Below-itself : (F : List Fact) → Below F F
-Below-itself F = above F F (λ a. joined-itself a (fact_at F a))
+Below-itself F = above F F (λ a. joined-itself a _)
 
 pub Below-trans : (F G H : List Fact) → Below F G → Below G H → Below F H
 Below-trans F G H p q = above F H (λ a. ap (joined a (fact_at F a)) (sym (below G H q a)) ∙ sym
-    (joined-assoc a (fact_at F a) (fact_at G a) (fact_at H a)) ∙ ap (λ x. joined a x (fact_at H a))
+    (joined-assoc a (fact_at F a) _ _) ∙ ap (λ x. joined a x (fact_at H a))
     (below F G p a) ∙ below G H q a)
 
 pub Below-append : (F G H K : List Fact) → Below F G → Below H K → Below (F ++ H) (G ++ K)
-Below-append F G H K p q = above (F ++ H) (G ++ K) (λ a.
+Below-append F G H K p q = above _ _ (λ a.
     ap (λ x. joined a x (fact_at (G ++ K) a)) (fact_at-append F H a)
     ∙ ap (joined a (joined a (fact_at F a) (fact_at H a))) (fact_at-append G K a)
     ∙ crossed a (fact_at F a) (fact_at H a) (fact_at G a) (fact_at K a)
     ∙ ap (λ x. joined a x (joined a (fact_at H a) (fact_at K a))) (below F G p a)
-    ∙ ap (joined a (fact_at G a)) (below H K q a)
+    ∙ ap (joined a _) (below H K q a)
     ∙ sym (fact_at-append G K a))
   where
     crossed : (a : Address) (w x y z : Option Fact)
         → joined a (joined a w x) (joined a y z) ≡ joined a (joined a w y) (joined a x z)
     crossed a w x y z =
-        joined-assoc a w x (joined a y z)
+        joined-assoc a w x _
         ∙ ap (joined a w) (sym (joined-assoc a x y z)
         ∙ ap (λ v. joined a v z) (joined-comm a x y) ∙ joined-assoc a y x z)
-        ∙ sym (joined-assoc a w y (joined a x z))
+        ∙ sym (joined-assoc a w y _)
 
 pub Same-from_Below : (F G : List Fact) → Below F G → Below G F → Same F G
 Same-from_Below F G p q = record {
-  each = λ a. sym (below G F q a) ∙ joined-comm a (fact_at G a) (fact_at F a) ∙ below F G p a;
+  each = λ a. sym (below G F q a) ∙ joined-comm a _ (fact_at F a) ∙ below F G p a;
 }
 
 pub Below-from_Same : (F G : List Fact) → Same F G → Below F G
 Below-from_Same F G h = above F G
-    (λ a. ap (λ x. joined a x (fact_at G a)) (h.each a) ∙ joined-itself a (fact_at G a))
+    (λ a. ap (λ x. joined a x (fact_at G a)) (h.each a) ∙ joined-itself a _)
 
 -- which addresses are named
 
@@ -161,16 +160,16 @@ joined-some : (a : Address) (f : Fact) (y : Option Fact) → joined a (Some f) y
 joined-some x0 x1 x2 x3 = search rules
 
 pub fact_at-member_some : (f : Fact) (F : List Fact) → Member f F → fact_at F (address f) ≡ None → ⊥
-fact_at-member_some f F m e = joined-some (address f) f (fact_at F (address f)) (sym
+fact_at-member_some f F m e = joined-some _ f _ (sym
     (ap (λ x. joined (address f) x (fact_at F (address f))) (alone-here f)) ∙ fact_at-member f F
-    (address f) m ∙ e)
+    _ m ∙ e)
 
 -- at an address without a fact, the value is `None`
 pub fact_at-some_named : (F : List Fact) (a : Address) → Names F a ⊎ (fact_at F a ≡ None)
 unfolding Member
 fact_at-some_named [] a = inr (fact_at-nil a)
 fact_at-some_named (f ∷ F) a = elim (cases_Bool (same_address (address f) a)) [
-  | inl e ↦ inl (f, inl refl, address_same (address f) a e)
+  | inl e ↦ inl (f, inl refl, address_same _ a e)
   | inr e ↦ elim (fact_at-some_named F a) [
     | inl n ↦ inl (n.0, inr n.1, n.2)
     | inr d ↦ inr (fact_at-cons f F a
@@ -181,9 +180,8 @@ fact_at-some_named (f ∷ F) a = elim (cases_Bool (same_address (address f) a)) 
 pub Names-below : (F G : List Fact) → Below F G → (f : Fact) → Member f F → Names G (address f)
 Names-below F G h f m = elim (fact_at-some_named G (address f)) [
   | inl n ↦ n
-  | inr e ↦ absurd (fact_at-member_some f F m (sym
-      (joined-none (address f) (fact_at F (address f))) ∙ ap
-      (joined (address f) (fact_at F (address f))) (sym e) ∙ below F G h (address f) ∙ e))
+  | inr e ↦ absurd (fact_at-member_some f F m
+      (sym (joined-none _ _) ∙ ap (joined _ _) (sym e) ∙ below F G h _ ∙ e))
 ]
 
 pub alone-at : (f : Fact) (a : Address) → address f ≡ a → alone a f ≡ Some f

@@ -56,10 +56,10 @@ fits-from info id n v (Some k) e h =
     let c = Contains-at (ids info) id k at_k in
     elim (or_cases (n == info.symbol_length)
     ((k + 1 == symbol_count info) && (n == last_length info)) h) [
-      | inl f ↦ (c, inl (is_equal n info.symbol_length f))
+      | inl f ↦ (c, inl (is_equal n _ f))
       | inr g ↦
-          let p = both (k + 1 == symbol_count info) (n == last_length info) g in
-          let t = is_equal (k + 1) (symbol_count info) p.0 in
+          let p = both _ _ g in
+          let t = is_equal (k + 1) _ p.0 in
           let l = ids_counted info v in
           let z : length (ids info) - 1 ≡ k = omega arith in
           (c, inr (ap (slice_get (ids info)) z ∙ at_k, is_equal n (last_length info) p.1))
@@ -72,20 +72,18 @@ fits-to : (info : Information) (id : SymbolId) (n : ℕ) → IsValid info → Fi
     → fits info id n ≡ true
 unfolding Fits
 fits-to info id n v (c, inl f) =
-    let e : slice_get (ids info) c.0 ≡ Some id = slice_get-get_or (ids info) c.0 id c.1 ∙ ap Some
-    c.2 in fits-some info id n c.0 ((places-inverse info id c.0).1 e) ∙ ap
-    (λ b. b || ((c.0 + 1 == symbol_count info) && (n == last_length info)))
-    (eq-eqb n info.symbol_length f)
+    let e = slice_get-get_or _ c.0 id c.1 ∙ ap Some c.2 in
+    fits-some _ id n c.0 ((places-inverse _ id c.0).1 e) ∙ ap
+    (λ b. b || ((c.0 + 1 == symbol_count info) && (n == last_length info))) (eq-eqb n _ f)
 fits-to info id n v (c, inr l) =
-    let k = length (ids info) - 1 in
-    let w = slice_get_within (ids info) k id l.0 in
-    let t = ids_counted info v in
+    let k = length _ - 1 in
+    let t = ids_counted _ v in
     let last : k + 1 ≡ symbol_count info = omega arith in
-    fits-some info id n k ((places-inverse info id k).1 l.0)
+    fits-some _ id n k ((places-inverse _ id k).1 l.0)
     ∙ ap (λ b. (n == info.symbol_length) || (b && (n == last_length info)))
-    (eq-eqb (k + 1) (symbol_count info) last)
-    ∙ ap (λ b. (n == info.symbol_length) || b) (eq-eqb n (last_length info) l.1)
-    ∙ or_true (n == info.symbol_length)
+    (eq-eqb _ _ last)
+    ∙ ap (λ b. (n == info.symbol_length) || b) (eq-eqb n _ l.1)
+    ∙ or_true _
   where
     or_true : (b : Bool) → (b || true) ≡ true
     or_true true = refl

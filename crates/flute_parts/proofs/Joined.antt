@@ -44,8 +44,7 @@ joined-conflict_right a f = search rules
 
 apart-sym : (f g : Fact) → same_fact f g ≡ false → same_fact g f ≡ false
 apart-sym f g h = elim (cases_Bool (same_fact g f)) [
-  | inl e ↦ absurd
-      (false≢true (sym h ∙ subst (λ x. same_fact x g ≡ true) (fact_same g f e) (fact_itself g)))
+  | inl e ↦ absurd (false≢true (sym h ∙ rw (← fact_same g f e) (fact_itself g)))
   | inr e ↦ e
 ]
 

@@ -63,12 +63,10 @@ block-miss : (id : SymbolId) (n a s k : ℕ) {p : ℕ} (rest : List SymbolId) �
 block-miss id n a zero k rest h g = ap (λ x. position_from (same_symbol_id id) x rest) (omega arith)
 block-miss id n a (suc s) k {p = p} rest h g =
     elim (cases_Bool (same_symbol_id id (symbol_id n a))) [
-      | inl t ↦ absurd (h a (omega arith) (omega arith) (symbol_id_same id (symbol_id n a) t))
-      | inr t ↦
-          ap (λ b. cond b (Some k) (position_from (same_symbol_id id) (k + 1)
-          (block n (a + 1) s ++ rest))) t
-          ∙ block-miss id n (a + 1) s (k + 1) rest
-          (λ e l u q. h e (omega (arith, l)) (omega (arith, u)) q) (omega arith)
+      | inl t ↦ absurd (h a (omega arith) (omega arith) (symbol_id_same id _ t))
+      | inr t ↦ ap (λ b. cond b (Some k)
+          (position_from (same_symbol_id id) (k + 1) (block n (a + 1) s ++ rest))) t ∙ block-miss id
+          n (a + 1) s _ _ (λ e l u q. h e (omega (arith, l)) (omega (arith, u)) q) (omega arith)
     ]
 
 -- the place of an id is after all ids of the blocks before its own
@@ -79,22 +77,20 @@ place-hit [] n m j k h l f = absurd (omega arith)
 place-hit (s ∷ sizes) n zero j k {q = q} h l f =
     let e : q ≡ n = omega arith in
     ap (λ x. position_from (same_symbol_id (symbol_id x j)) k (listing n (s ∷ sizes))) e ∙ block-hit
-    n 0 s k j (listing (n + 1) sizes) l (omega arith) ∙ ap Some (omega arith)
-place-hit (s ∷ sizes) n (suc m) j k {q = q} h l f = block-miss (symbol_id q j) n 0 s k
-    (listing (n + 1) sizes)
-    (λ e _ _ x. let y : q ≡ n = ap (λ (i : SymbolId). i.sbn) x in omega arith) refl ∙ place-hit
-    sizes (n + 1) m j (k + s) (omega arith) l (omega arith) ∙ ap Some (omega arith)
+    n 0 s k j _ l (omega arith) ∙ ap Some (omega arith)
+place-hit (s ∷ sizes) n (suc m) j k {q = q} h l f = block-miss _ n 0 s k _
+    (λ e _ _ x. let y = ap (λ i. i.sbn) x in omega arith) refl ∙ place-hit sizes _ m j _
+    (omega arith) l (omega arith) ∙ ap Some (omega arith)
 
 -- an id beyond its block, or of no block, has no place
 pub place-miss : (sizes : List ℕ) (id : SymbolId) (n k : ℕ)
     → ((m : ℕ) → m < length sizes → n + m ≡ id.sbn → get_or sizes m 0 ≤ id.esi)
     → position_from (same_symbol_id id) k (listing n sizes) ≡ None
 place-miss [] id n k h = refl
-place-miss (s ∷ sizes) id n k h = block-miss id n 0 s k (listing (n + 1) sizes) (λ e _ u x. let y :
-    id.sbn ≡ n = ap (λ (i : SymbolId). i.sbn) x in
-    let z : id.esi ≡ e = ap (λ (i : SymbolId). i.esi) x in
-    let w : s ≤ id.esi = h 0 (omega arith) (omega arith) in
-    omega (arith, u)) refl ∙ place-miss sizes id (n + 1) (k + s)
+place-miss (s ∷ sizes) id n k h = block-miss id n 0 s k _ (λ e _ u x. let y = ap (λ i. i.sbn) x in
+    let z = ap (λ i. i.esi) x in
+    let w = h 0 (omega arith) (omega arith) in
+    omega (arith, u)) refl ∙ place-miss sizes id _ _
     (λ m l e. h (suc m) (omega (arith, l)) (omega (arith, e)))
 
 -- the id at a place
@@ -122,12 +118,11 @@ listing-at [] n m j h l f g = absurd (omega arith)
 listing-at (s ∷ sizes) n zero j {p = p} h l f g =
     let len = length-map-range_with_len (symbol_id n) 0 s in
     let e : p ≡ j = omega arith in
-    ap (slice_get (listing n (s ∷ sizes))) e ∙ slice_get-left (block n 0 s) (listing (n + 1) sizes)
-    j (omega arith) ∙ block-at n 0 s j j l (omega arith) ∙ ap (λ x. Some (symbol_id x j))
-    (omega arith)
+    ap (slice_get (listing n (s ∷ sizes))) e ∙ slice_get-left (block n 0 s) _ j (omega arith) ∙
+    block-at n 0 s j j l (omega arith) ∙ ap (λ x. Some (symbol_id x j)) (omega arith)
 listing-at (s ∷ sizes) n (suc m) j {q = q} {p = p} h l f g =
     let len = length-map-range_with_len (symbol_id n) 0 s in
-    slice_get-right (block n 0 s) (listing (n + 1) sizes) (total (take m sizes) + j) p (omega arith)
+    slice_get-right (block n 0 s) _ _ p (omega arith)
     ∙ listing-at sizes (n + 1) m j (omega arith) l (omega arith) refl
 
 pub length-listing : (n : ℕ) (sizes : List ℕ) → length (listing n sizes) ≡ total sizes
@@ -155,18 +150,17 @@ size-alone x0 x1 x2 x3 = grind (arith, common_steps)
 
 pub size-small : (large x small y m : ℕ) → large ≤ m → m < large + small
     → get_or (split large x small y) m 0 ≡ y
-size-small zero x small y m h l = size-alone small y m (omega arith)
+size-small zero x small y m h l = size-alone _ y m (omega arith)
 size-small (suc large) x small y zero h l = absurd (omega arith)
-size-small (suc large) x small y (suc m) h l =
-    size-small large x small y m (omega arith) (omega arith)
+size-small (suc large) x small y (suc m) h l = size-small large x _ y m (omega arith) (omega arith)
 
 size-alone_none : (small y m : ℕ) → small ≤ m → get_or (replicate small y) m 0 ≡ 0
 size-alone_none x0 x1 x2 x3 = grind (arith, common_steps)
 
 pub size-none : (large x small y m : ℕ) → large + small ≤ m → get_or (split large x small y) m 0 ≡ 0
-size-none zero x small y m h = size-alone_none small y m (omega arith)
+size-none zero x small y m h = size-alone_none _ y m (omega arith)
 size-none (suc large) x small y zero h = absurd (omega arith)
-size-none (suc large) x small y (suc m) h = size-none large x small y m (omega arith)
+size-none (suc large) x small y (suc m) h = size-none large x _ y m (omega arith)
 
 pub before-large : (large x small y m : ℕ) → m ≤ large
     → total (take m (split large x small y)) ≡ m * x
@@ -203,7 +197,6 @@ cover [] k h = absurd (omega arith)
 cover (s ∷ sizes) k h = elim (cases_lt k s) [
   | inl l ↦ (0, k, omega arith, l, omega arith)
   | inr l ↦ let c = cover sizes (k - s) (omega arith) in
-      let e = c.4 in
       (suc c.0, c.1, omega (arith, c.2), c.3, omega arith)
 ]
 
@@ -216,19 +209,17 @@ pub listed-as : (sizes : List ℕ) (k : ℕ) (id : SymbolId) → slice_get (list
     (id.sbn < length sizes) × (id.esi < get_or sizes id.sbn 0) ×
     (total (take id.sbn sizes) + id.esi ≡ k)
 listed-as sizes k id e =
-    let c = cover sizes k (listed-within sizes 0 k id e) in
-    let f = listing-at sizes 0 c.0 c.1 c.2 c.3 (omega arith) c.4 in
+    let c = cover _ k (listed-within _ 0 k id e) in
+    let f = listing-at _ 0 c.0 c.1 c.2 c.3 (omega arith) c.4 in
     let g : Some (symbol_id c.0 c.1) ≡ Some id = sym f ∙ e in
     let h : symbol_id c.0 c.1 ≡ id = cc in
-    subst (λ (x : SymbolId). (x.sbn < length sizes) × (x.esi < get_or sizes x.sbn 0)
-    × (total (take x.sbn sizes) + x.esi ≡ k)) h (c.2, c.3, c.4)
+    rw (← h) (c.2, c.3, c.4)
 
 pub place-of_listed : (sizes : List ℕ) (k : ℕ) (id : SymbolId) → slice_get (listing 0 sizes) k ≡
     Some id → position_from (same_symbol_id id) 0 (listing 0 sizes) ≡ Some k
 place-of_listed sizes k id e =
     let a = listed-as sizes k id e in
-    let b = a.2 in
-    place-hit sizes 0 id.sbn id.esi 0 a.0 a.1 (omega arith) ∙ ap Some (omega arith)
+    place-hit sizes 0 _ _ 0 a.0 a.1 (omega arith) ∙ ap Some (omega arith)
 
 pub listed-of_place : (id : SymbolId) (xs : List SymbolId) (k r : ℕ) → position_from
     (same_symbol_id id) k xs ≡ Some r → (k ≤ r) × (slice_get xs (r - k) ≡ Some id)
@@ -236,8 +227,7 @@ listed-of_place id [] k r e = cc
 listed-of_place id (x ∷ xs) k r e = elim (cases_Bool (same_symbol_id id x)) [
   | inl t ↦ search rules
   | inr t ↦ let f : position_from (same_symbol_id id) (k + 1) xs ≡ Some r = search rules in
-      let h = listed-of_place id xs (k + 1) r f in
-      let l = h.0 in
+      let h = listed-of_place id xs _ r f in
       let z : r - k ≡ suc (r - (k + 1)) = omega arith in
       (omega arith, ap (slice_get (x ∷ xs)) z ∙ h.1)
 ]
@@ -247,9 +237,8 @@ pub next-in_block : (sizes : List ℕ) (k : ℕ) (id : SymbolId)
     → slice_get (listing 0 sizes) k ≡ Some id → id.esi + 1 < get_or sizes id.sbn 0
     → slice_get (listing 0 sizes) (k + 1) ≡ Some (symbol_id id.sbn (id.esi + 1))
 next-in_block sizes k id e h =
-    let a = listed-as sizes k id e in
-    let b = a.2 in
-    listing-at sizes 0 id.sbn (id.esi + 1) a.0 h (omega arith) (omega arith)
+    let a = listed-as _ k id e in
+    listing-at _ 0 _ _ a.0 h (omega arith) (omega arith)
 
 total-take_less : (sizes : List ℕ) (m n : ℕ) → m < n → m < length sizes
     → total (take m sizes) + get_or sizes m 0 ≤ total (take n sizes)
@@ -265,18 +254,14 @@ pub ids-rise : (sizes : List ℕ) (j k : ℕ) (a b : SymbolId) → j < k → sli
     Some a → slice_get (listing 0 sizes) k ≡ Some b → symbol_id_cmp a b ≡ Less
 ids-rise sizes j k a b h e f =
     let x = listed-as sizes j a e in
-    let y = listed-as sizes k b f in
-    let x_at = x.2 in
-    let y_at = y.2 in
-    let x_in = x.1 in
-    let y_in = y.1 in
+    let y = listed-as _ k b f in
     elim (cases_lt a.sbn b.sbn) [
       | inl l ↦ ap (λ o. ordering_then o (nat_cmp a.esi b.esi)) (below_is a.sbn b.sbn l)
       | inr l ↦ elim (cases_lt b.sbn a.sbn) [
         | inl m ↦ absurd (omega (arith, total-take_less sizes b.sbn a.sbn m y.0))
         | inr m ↦
             let same : a.sbn ≡ b.sbn = omega arith in
-            let t : total (take a.sbn sizes) ≡ total (take b.sbn sizes) =
+            let t =
             ap (λ n. total (take n sizes)) same in
             let less : a.esi < b.esi = omega arith in
             ap (λ n. ordering_then (nat_cmp n b.sbn) (nat_cmp a.esi b.esi)) same

@@ -24,8 +24,7 @@ fact_at-none F a h = search (rules, fact_at-some_named, Contains-from)
 
 pub none-at : (F : List Fact) (a : Address) → fact_at F a ≡ None → (f : Fact) → Contains F f
     → address f ≡ a → ⊥
-none-at F a e f m p =
-    fact_at-member_some f F (Member-from F f m) (subst (λ x. fact_at F x ≡ None) (sym p) e)
+none-at F a e f m p = fact_at-member_some f F (Member-from F f m) (rw p e)
 
 one_or_none : (F : List Fact) (a : Address) (f : Fact)
     → ((g : Fact) → Member g F → address g ≡ a → g ≡ f)
@@ -39,13 +38,12 @@ one_or_none (g ∷ F) a f h = elim (cases_Bool (same_address (address g) a)) [
     | inr s ↦ inr (fact_at-cons g F a ∙ ap (λ x. joined a x (fact_at F a))
         (alone-elsewhere g a e) ∙ s)
   ]
-  | inl e ↦ let p = address_same (address g) a e in
+  | inl e ↦ let p = address_same _ a e in
       let q = h g (inl refl) p in
-      let here : fact_at (g ∷ F) a ≡ joined a (Some f) (fact_at F a) = fact_at-cons g F a ∙ ap
-      (λ x. joined a x (fact_at F a)) (alone-at g a p ∙ ap Some q) in elim
-      (one_or_none F a f (λ k m. h k (inr m))) [
+      let here = fact_at-cons g F a ∙ ap (λ x. joined a x (fact_at F a))
+      (alone-at g a p ∙ ap Some q) in elim (one_or_none F a f (λ k m. h k (inr m))) [
         | inl n ↦ inr (here ∙ ap (joined a (Some f)) n)
-        | inr s ↦ inr (here ∙ ap (joined a (Some f)) s ∙ joined-itself a (Some f))
+        | inr s ↦ inr (here ∙ ap (joined a (Some f)) s ∙ joined-itself a _)
       ]
 ]
 
@@ -68,11 +66,10 @@ fact_at-two F {a = a} {f = f} {g = g} m n p q h =
       | inr e ↦ e
     ] in sym (fact_at-member f F a (Member-from F f m)) ∙ ap (joined a (alone a f))
     (sym (fact_at-member g F a (Member-from F g n))) ∙ sym
-    (joined-assoc a (alone a f) (alone a g) (fact_at F a)) ∙ ap
+    (joined-assoc a (alone a f) (alone a g) _) ∙ ap
     (λ x. joined a (joined a x (alone a g)) (fact_at F a)) (alone-at f a p) ∙ ap
     (λ x. joined a (joined a (Some f) x) (fact_at F a)) (alone-at g a q) ∙ ap
-    (λ x. joined a (Some x) (fact_at F a)) (joined-apart a f g apart) ∙ conflict_stays a
-    (fact_at F a)
+    (λ x. joined a (Some x) (fact_at F a)) (joined-apart a f g apart) ∙ conflict_stays a _
 
 -- the value at an address is a fact of that address
 
@@ -90,28 +87,27 @@ joined-stands a None y p q = q
 joined-stands a (Some f) None p q = p
 joined-stands a (Some f) (Some g) p q = elim (cases_Bool (same_fact f g)) [
   | inl e ↦ ap address (joined-same a f g (fact_same f g e)) ∙ p
-  | inr e ↦ ap address (joined-apart a f g e) ∙ conflict-address a.key a.part
+  | inr e ↦ ap address (joined-apart a f g e) ∙ conflict-address _ _
 ]
 
 fact_at-stands : (F : List Fact) (a : Address) → Stands a (fact_at F a)
-fact_at-stands [] a = subst (Stands a) (sym (fact_at-nil a)) tt
+fact_at-stands [] a = rw ((fact_at-nil a)) tt
 fact_at-stands (f ∷ F) a =
     subst (Stands a) (sym (fact_at-cons f F a))
-    (joined-stands a (alone a f) (fact_at F a)
-    (alone_stands (cases_Bool (same_address (address f) a))) (fact_at-stands F a))
+    (joined-stands a _ _
+    (alone_stands (cases_Bool _)) (fact_at-stands F a))
   where
     alone_stands : ((same_address (address f) a ≡ true)
         ⊎ (same_address (address f) a ≡ false)) → Stands a (alone a f)
     alone_stands (inl e) = let p =
-        address_same (address f) a e in subst (Stands a) (sym (alone-at f a p)) p
-    alone_stands (inr e) = subst (Stands a) (sym (alone-elsewhere f a e)) tt
+        address_same _ a e in rw ((alone-at f a p)) p
+    alone_stands (inr e) = rw ((alone-elsewhere f a e)) tt
 
 pub fact_at-address : (F : List Fact) (a : Address) (f : Fact) → fact_at F a ≡ Some f
     → address f ≡ a
-fact_at-address F a f e = subst (Stands a) e (fact_at-stands F a)
+fact_at-address F a f e = rw e at (fact_at-stands F a)
 
 pub fact_at-conflict : (F : List Fact) (a : Address) → Contains F (conflict_at a)
     → fact_at F a ≡ Some (conflict_at a)
-fact_at-conflict F a m = sym (fact_at-member (conflict_at a) F a (Member-from F (conflict_at a) m))
-    ∙ ap (λ x. joined a x (fact_at F a))
-    (alone-at (conflict_at a) a (conflict-address a.key a.part)) ∙ conflict_stays a (fact_at F a)
+fact_at-conflict F a m = sym (fact_at-member _ F a (Member-from F _ m)) ∙ ap
+    (λ x. joined a x (fact_at F a)) (alone-at _ a (conflict-address _ _)) ∙ conflict_stays a _

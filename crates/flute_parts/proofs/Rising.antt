@@ -22,8 +22,7 @@ use Rattle.flute_parts.proofs.Facts.{fact_at-elsewhere}
 pub StandAfter-before : (a b : Address) (F : List Fact) → address_cmp a b ≡ Less
     → StandAfter b F → StandAfter a F
 StandAfter-before a b [] l s = tt
-StandAfter-before a b (f ∷ F) l s =
-    (address_total.trans a b (address f) l s.0, StandAfter-before a b F l s.1)
+StandAfter-before a b (f ∷ F) l s = (address_total.trans a b _ l s.0, StandAfter-before a b F l s.1)
 
 -- the values of rising lists
 
@@ -34,11 +33,11 @@ before_is_other a b l = ap is_eq (address_total.antisymm b a ∙ ap ordering_rev
 pub fact_at-after : (a : Address) (F : List Fact) → StandAfter a F → fact_at F a ≡ None
 fact_at-after a [] s = fact_at-nil a
 fact_at-after a (f ∷ F) s =
-    fact_at-elsewhere f F a (before_is_other a (address f) s.0) ∙ fact_at-after a F s.1
+    fact_at-elsewhere f F a (before_is_other a _ s.0) ∙ fact_at-after a F s.1
 
 fact_at-first : (f : Fact) (F : List Fact) → StandAfter (address f) F
     → fact_at (f ∷ F) (address f) ≡ Some f
-fact_at-first f F s = fact_at-here f F (fact_at-after (address f) F s)
+fact_at-first f F s = fact_at-here f F (fact_at-after _ F s)
 
 pub member-after : (a : Address) (f : Fact) (F : List Fact) → StandAfter a F → Member f F
     → address_cmp a (address f) ≡ Less
@@ -53,13 +52,8 @@ fact_at-rising : (F : List Fact) (f : Fact) → IsRising F → Member f F
 unfolding Member
 fact_at-rising [] f r m = absurd m
 fact_at-rising (g ∷ F) f r (inl e) = search (rules, fact_at-first)
-fact_at-rising (g ∷ F) f r (inr m) = search (
-  rules,
-  fact_at-elsewhere,
-  member-after,
-  fact_at-rising
-      F f r.1 m,
-)
+fact_at-rising (g ∷ F) f r (inr m) = search
+    (rules, fact_at-elsewhere, member-after, fact_at-rising F f r.1 m)
 
 pub rising_tells : (F : List Fact) (f : Fact) → IsRising F → Contains F f
     → fact_at F (address f) ≡ Some f
@@ -75,38 +69,33 @@ rest_same : (f : Fact) (F G : List Fact) → StandAfter (address f) F → StandA
     → ((a : Address) → fact_at (f ∷ F) a ≡ fact_at (f ∷ G) a) → (a : Address)
     → fact_at F a ≡ fact_at G a
 rest_same f F G p q h a = elim (cases_Bool (same_address (address f) a)) [
-  | inl t ↦ let e = address_same (address f) a t in subst (λ x. fact_at F x ≡ fact_at G x) e
-      (fact_at-after (address f) F p ∙ sym (fact_at-after (address f) G q))
+  | inl t ↦ let e = address_same (address f) a t in
+      rw e at (fact_at-after (address f) F p ∙ sym (fact_at-after (address f) G q))
   | inr n ↦ sym (fact_at-elsewhere f F a n) ∙ h a ∙ fact_at-elsewhere f G a n
 ]
 
 -- a list that begins later has no value at the address of the first fact
 first_alone : (f g : Fact) (F G : List Fact) → IsRising (f ∷ F) → IsRising (g ∷ G) → address_cmp
     (address f) (address g) ≡ Less → fact_at (f ∷ F) (address f) ≡ fact_at (g ∷ G) (address f) → ⊥
-first_alone f g F G r s l h = search (
-  rules,
-  none-some,
-  fact_at-after,
-  StandAfter-before,
-  fact_at-first,
-)
+first_alone f g F G r s l h = search
+    (rules, none-some, fact_at-after, StandAfter-before, fact_at-first)
 
 -- two rising lists with the same value at each address are one
 rising_same : (F G : List Fact) → IsRising F → IsRising G
     → ((a : Address) → fact_at F a ≡ fact_at G a) → F ≡ G
 rising_same [] [] r s h = refl
 rising_same [] (g ∷ G) r s h =
-    absurd (none-some g (sym (fact_at-nil (address g)) ∙ h (address g) ∙ fact_at-first g G s.0))
+    absurd (none-some g (sym (fact_at-nil _) ∙ h _ ∙ fact_at-first g G s.0))
 rising_same (f ∷ F) [] r s h = absurd
-    (none-some f (sym (fact_at-nil (address f)) ∙ sym (h (address f)) ∙ fact_at-first f F r.0))
+    (none-some f (sym (fact_at-nil _) ∙ sym (h _) ∙ fact_at-first f F r.0))
 rising_same (f ∷ F) (g ∷ G) r s h =
-    by_order (rising_same F G r.1 s.1) (address_cmp (address f) (address g)) refl
+    by_order (rising_same F G r.1 s.1) _ refl
   where
     by_order : (((a : Address) → fact_at F a ≡ fact_at G a) → F ≡ G) → (o : Ordering)
         → address_cmp (address f) (address g) ≡ o → f ∷ F ≡ g ∷ G
-    by_order tail Less l = absurd (first_alone f g F G r s l (h (address f)))
+    by_order tail Less l = absurd (first_alone f g F G r s l (h _))
     by_order tail Greater l =
-        let m : address_cmp (address g) (address f) ≡ Less =
+        let m =
         address_total.antisymm (address g) (address f) ∙ ap ordering_reverse l in
         absurd (first_alone g f G F s r m (sym (h (address g))))
     by_order tail Equal l =
@@ -114,7 +103,7 @@ rising_same (f ∷ F) (g ∷ G) r s h =
         let e : f ≡ g =
         same_Some f g (sym (fact_at-first f F r.0) ∙ h (address f)
         ∙ ap (fact_at (g ∷ G)) p ∙ fact_at-first g G s.0) in
-        let s' = subst (λ x. StandAfter (address x) G) (sym e) s.0 in
+        let s' = rw (← e) at s.0 in
         let h' : (a : Address) → fact_at (f ∷ F) a ≡ fact_at (f ∷ G) a =
         λ a. h a ∙ ap (λ x. fact_at (x ∷ G) a) (sym e) in
         let t = tail (rest_same f F G r.0 s' h') in

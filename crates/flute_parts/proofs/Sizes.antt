@@ -21,25 +21,22 @@ sizes-some i n = search rules
 pub IsSplit-from : (i : Information) → IsValid i → (large : ℕ) × (small : ℕ) × (length' : ℕ) ×
     IsSplit i (symbol_count i) large small length'
 IsSplit-from i v = elim (eq-zero-or-pos i.transfer_length) [
-  | inl z ↦ let s = IsSplit-none i z in (0, 0, 0, subst (λ t. IsSplit i t 0 0 0) s.count s)
-  | inr l ↦ (_, _, _, IsSplit-of i (block_count i) refl l (v.parts l))
+  | inl z ↦ let s = IsSplit-none i z in (0, 0, 0, rw (← s.count) s)
+  | inr l ↦ (_, _, _, IsSplit-of i _ refl l (v.parts l))
 ]
 
 pub sizes-few : (i : Information) → IsValid i → length (sizes i) ≤ 65536
 sizes-few i v =
     let s = IsSplit-from i v in
-    let b = s.3.blocks in
     omega (arith, count-sizes i (symbol_count i) s.0 s.1 s.2 s.3)
 
 pub sizes-short : (i : Information) (n : ℕ) → IsValid i → get_or (sizes i) n 0 ≤ 65536
 sizes-short i n v =
     let s = IsSplit-from i v in
-    let l = s.3.longest in
     let m = s.3.large_longest in
-    let e : get_or (sizes i) n 0 ≡ get_or (split s.0 (s.2 + 1) s.1 s.2) n 0 = ap
-    (λ xs. get_or xs n 0) s.3.split in elim (cases_lt n s.0) [
-      | inl a ↦ let p : s.2 < 65536 = m (omega arith) in omega
-          (arith, size-large s.0 (s.2 + 1) s.1 s.2 n a)
+    let e = ap (λ xs. get_or xs n 0) s.3.split in
+    elim (cases_lt n s.0) [
+      | inl a ↦ omega (arith, size-large s.0 (s.2 + 1) s.1 s.2 n a)
       | inr a ↦ elim (cases_lt n (s.0 + s.1)) [
         | inl b ↦ omega (arith, size-small s.0 (s.2 + 1) s.1 s.2 n a b)
         | inr b ↦ omega (arith, size-none s.0 (s.2 + 1) s.1 s.2 n b)

@@ -50,13 +50,12 @@ IsSplit-of i n e l h =
     let q = t / n in
     let r = t % n in
     let t_pos : 0 < t = div_ceil-pos i.transfer_length i.symbol_length l in
-    let n_pos : 0 < n = subst (λ x. 0 < x) (sym e) (div_ceil-pos t i.max_block_length t_pos) in
-    let n_le : n ≤ t = subst (λ x. x ≤ t) (sym e) (div_ceil-le t i.max_block_length h.block) in
+    let n_pos : 0 < n = subst (λ x. 0 < x) (sym e) (div_ceil-pos t _ t_pos) in
+    let n_le : n ≤ t = subst (λ x. x ≤ t) (sym e) (div_ceil-le t _ h.block) in
     let parts : q * n + r ≡ t = div-add-mod' t n in
     let r_lt : r < n = mod_below t n n_pos in
     let n_is : r + (n - r) ≡ n = omega arith in
-    let n_small : n ≤ 65536 = subst (λ x. x ≤ 65536) (sym e) h.blocks in
-    let long : q + min 1 r ≤ 65536 = subst (λ x. t / x + min 1 (t % x) ≤ 65536) (sym e) h.longest in
+    let long : q + min 1 r ≤ 65536 = rw e h.longest in
     let is_large : t - q * n ≡ r = omega arith in
     let not_zero : (i.transfer_length == 0) ≡ false = grind (arith, nat_tests) in
     record {
@@ -87,15 +86,10 @@ module _ (i : Information) (symbols large small length' : ℕ)
   -- no more than 2^16 blocks of 2^16 symbols
   pub few-symbols : symbols ≤ 2 ^ 32
   few-symbols =
-      let all = s.all in
       let blocks = s.blocks in
       elim (eq-zero-or-pos large) [
         | inl z ↦ search rules
-        | inr p ↦ let l = s.large_longest p in
-            let e : large * (length' + 1) + small * length' ≤ (large + small) * (length' + 1) =
-            omega arith in
-            let q = mul-le (large + small) (length' + 1) 65536 65536 blocks (omega arith) in
-            omega arith
+        | inr p ↦ let q = mul-le _ (length' + 1) _ 65536 blocks (omega arith) in omega arith
       ]
 
   pub count-sizes : length (sizes i) ≡ large + small
@@ -106,8 +100,8 @@ module _ (i : Information) (symbols large small length' : ℕ)
 
   pub before-second : (n : ℕ) → large ≤ n → n ≤ large + small
       → total (take n (sizes i)) ≡ large * (length' + 1) + (n - large) * length'
-  before-second n h l = ap (λ xs. total (take n xs)) s.split ∙ before-small large (length' + 1)
-      small length' (n - large) n (omega arith) (omega arith)
+  before-second n h l = ap (λ xs. total (take n xs)) s.split ∙ before-small _ _
+      _ _ _ n (omega arith) (omega arith)
 
   -- the symbols before a block that is there
   pub before-block : (n j : ℕ) → j < get_or (sizes i) n 0
@@ -128,8 +122,7 @@ module _ (i : Information) (symbols large small length' : ℕ)
   unfolding ids
   at-first n j k h l e =
       let count = count-sizes in
-      let size : get_or (sizes i) n 0 ≡ length' + 1 =
-      ap (λ xs. get_or xs n 0) s.split ∙ size-large large (length' + 1) small length' n h in
+      let size = ap (λ xs. get_or xs n 0) s.split ∙ size-large _ _ _ _ n h in
       let b = before-first n (omega arith) in
       listing-at (sizes i) 0 n j (omega arith) (omega arith) (omega arith) (omega arith)
 
@@ -138,17 +131,15 @@ module _ (i : Information) (symbols large small length' : ℕ)
   unfolding ids
   at-second n j k h m l e =
       let count = count-sizes in
-      let size : get_or (sizes i) n 0 ≡ length' = ap (λ xs. get_or xs n 0) s.split ∙ size-small
-      large (length' + 1) small length' n h m in
+      let size = ap (λ xs. get_or xs n 0) s.split ∙ size-small _ _ _ _ n h m in
       let b = before-second n h (omega arith) in
       listing-at (sizes i) 0 n j (omega arith) (omega arith) (omega arith) (omega arith)
 
   -- the id at each place
   pub place-first : (k : ℕ) → k < large * (length' + 1)
       → slice_get (ids i) k ≡ Some (symbol_id (k / (length' + 1)) (k % (length' + 1)))
-  place-first k h = at-first (k / (length' + 1)) (k % (length' + 1)) k
-      (div_below k (length' + 1) large (omega arith) h) (mod_below k (length' + 1) (omega arith))
-      (div-add-mod' k (length' + 1))
+  place-first k h = at-first _ _ k (div_below k _ _ (omega arith) h) (mod_below k _ (omega arith))
+      (div-add-mod' k _)
 
   pub place-second : (k : ℕ) → large * (length' + 1) ≤ k → k < symbols
       → slice_get (ids i) k
@@ -156,15 +147,15 @@ module _ (i : Information) (symbols large small length' : ℕ)
       ((k - large * (length' + 1)) % length'))
   place-second k h l =
       let rest = k - large * (length' + 1) in
-      let below : rest < small * length' = let all = s.all in omega arith in
+      let below : rest < small * length' = omega arith in
       let some : 0 < small = search rules in
-      let pos : 0 < length' = s.not_empty some in
+      let pos = s.not_empty some in
       let q = rest / length' in
       let r = rest % length' in
-      let q_lt : q < small = div_below rest length' small pos below in
-      let parts : q * length' + r ≡ rest = div-add-mod' rest length' in
+      let q_lt = div_below _ _ _ pos below in
+      let parts = div-add-mod' _ _ in
       let shift : large + q - large ≡ q = omega arith in
-      at-second (large + q) r k (omega arith) (omega arith) (mod_below rest length' pos)
+      at-second _ r k (omega arith) (omega arith) (mod_below _ _ pos)
       (ap (λ x. large * (length' + 1) + (x * length' + r)) shift
       ∙ ap (λ x. large * (length' + 1) + x) parts ∙ omega arith)
 
@@ -176,7 +167,7 @@ module _ (i : Information) (symbols large small length' : ℕ)
 pub place-in : (i : Information) (id : SymbolId) (k : ℕ) → id.esi < get_or (sizes i) id.sbn 0
     → total (take id.sbn (sizes i)) + id.esi ≡ k → place i id ≡ Some k
 unfolding place ids
-place-in i id k h e = place-hit (sizes i) 0 id.sbn id.esi 0 (inside (sizes i) id.sbn (omega arith))
+place-in i id k h e = place-hit _ 0 _ id.esi 0 (inside _ id.sbn (omega arith))
     h (omega arith) ∙ ap Some (omega arith)
 
 pub place-out : (i : Information) (id : SymbolId) → get_or (sizes i) id.sbn 0 ≤ id.esi
@@ -204,29 +195,28 @@ pub places-inverse : (info : Information) (id : SymbolId) (k : ℕ)
     → (place info id ≡ Some k) ↔ (slice_get (ids info) k ≡ Some id)
 unfolding place ids
 places-inverse info id k = (
-  λ e. sub-zero_at k (listed-of_place id (listing 0 (sizes info)) 0 k e).1,
-  λ e. place-of_listed (sizes info) k id e,
+  λ e. sub-zero_at k (listed-of_place id _ 0 k e).1,
+  λ e. place-of_listed (sizes _) k id e,
 )
   where
     sub-zero_at : (k : ℕ) → slice_get (listing 0 (sizes info)) (k - 0) ≡ Some id
         → slice_get (listing 0 (sizes info)) k ≡ Some id
     sub-zero_at k h = let e : k ≡ k - 0 =
-        omega arith in ap (slice_get (listing 0 (sizes info))) e ∙ h
+        omega arith in ap (slice_get (listing 0 (sizes _))) e ∙ h
 
 pub ids_rise : (info : Information) (j k : ℕ) (a b : SymbolId) → j < k → slice_get (ids info) j ≡
     Some a → slice_get (ids info) k ≡ Some b → symbol_id_cmp a b ≡ Less
 unfolding ids
-ids_rise info = ids-rise (sizes info)
+ids_rise info = ids-rise (sizes _)
 
 pub ids_follow : (info : Information) (k : ℕ) (id : SymbolId)
     → slice_get (ids info) k ≡ Some id → id.esi + 1 < get_or (sizes info) id.sbn 0
     → slice_get (ids info) (k + 1) ≡ Some (symbol_id id.sbn (id.esi + 1))
 unfolding ids
-ids_follow info = next-in_block (sizes info)
+ids_follow info = next-in_block _
 
 pub ids_counted : (info : Information) → IsValid info → length (ids info) ≡ symbol_count info
 ids_counted info v = elim (eq-zero-or-pos info.transfer_length) [
-  | inl z ↦ let s = IsSplit-none info z in count-ids info 0 0 0 0 s ∙ s.count
-  | inr l ↦ let s = IsSplit-of info (block_count info) refl l (v.parts l) in count-ids info
-      (symbol_count info) _ _ _ s
+  | inl z ↦ let s = IsSplit-none _ z in count-ids _ 0 0 0 0 s ∙ s.count
+  | inr l ↦ let s = IsSplit-of _ _ refl l (v.parts l) in count-ids _ _ _ _ _ s
 ]

@@ -48,20 +48,14 @@ last_after (f ∷ []) g r (inl e) = (
   f,
   inl refl,
   refl,
-  subst
-      (λ x. key_cmp (address x).key (address f).key ≡ Greater → ⊥) (sym e)
+  rw e
       (equal-is_not (key_cmp (address f).key (address f).key) (key_itself (address f).key)),
 )
 last_after (f ∷ []) g r (inr m) = absurd m
 last_after (f ∷ h ∷ F) g r (inl e) =
     let w = last_after (h ∷ F) h r.1 (inl refl) in
-    let l = member-after (address f) w.0 (h ∷ F) r.0 w.1 in (
-      w.0,
-      inr w.1,
-      w.2,
-      subst (λ x. key_cmp (address x).key (address w.0).key ≡ Greater → ⊥)
-          (sym e) (key-before (address f) (address w.0) l),
-    )
+    let l = member-after _ w.0 (h ∷ F) r.0 w.1 in
+    (w.0, inr w.1, w.2, rw e (key-before (address f) (address w.0) l))
 last_after (f ∷ h ∷ F) g r (inr m) = let w = last_after (h ∷ F) g r.1 m in (w.0, inr w.1, w.2, w.3)
 
 last_member : (F : List Fact) (k : Key) → IsRising F → last_key F ≡ Some k
@@ -69,15 +63,15 @@ last_member : (F : List Fact) (k : Key) → IsRising F → last_key F ≡ Some k
 unfolding Member
 last_member [] k r e = absurd (none-some k e)
 last_member (f ∷ F) k r e = let w =
-    last_after (f ∷ F) f r (inl refl) in (w.0, w.1, same_Some (address w.0).key k (sym w.2 ∙ e))
+    last_after (f ∷ F) f r (inl refl) in (w.0, w.1, same_Some _ k (sym w.2 ∙ e))
 
 last_key-more : (o : Option Key) (F : List Fact) (f : Fact)
     → last_or o (map (λ g. (address g).key) (F ++ f ∷ [])) ≡ Some (address f).key
 last_key-more o [] f = refl
-last_key-more o (g ∷ F) f = last_key-more (Some (address g).key) F f
+last_key-more o (g ∷ F) f = last_key-more _ F f
 
 last_key-snoc : (F : List Fact) (f : Fact) → last_key (F ++ f ∷ []) ≡ Some (address f).key
-last_key-snoc F f = last_key-more None F f
+last_key-snoc F f = last_key-more _ F f
 
 few-from : (n m : ℕ) → (m < n → ⊥) → n ≤ m
 few-from n m h = omega arith
@@ -92,13 +86,12 @@ module _ (F : List Fact) (f : Fact) (r : IsRising (F ++ f ∷ [])) where
   key = (address f).key
 
   front : IsRising F
-  front = rising-front F (f ∷ []) r
+  front = rising-front F _ r
 
   other_address : (g : Fact) → Member g F → address g ≡ address f → ⊥
   other_address g m e =
       let l = before-next F f g r m in
-      false≢true (sym (ap is_eq l) ∙ subst (λ a. same_address (address g) a ≡ true) e
-      (address_itself (address g)))
+      false≢true (sym (ap is_eq l) ∙ rw (← e) (address_itself (address g)))
 
   -- their objects are others if the last one is, and so are their sessions
   other_key : (last_key F ≡ Some key → ⊥) → (g : Fact) → Member g F → (address g).key ≡ key → ⊥
@@ -106,21 +99,19 @@ module _ (F : List Fact) (f : Fact) (r : IsRising (F ++ f ∷ [])) where
       let w = last_after F g front m in
       let before = key-before (address w.0) (address f) (before-next F f w.0 r w.1) in
       let after : key_cmp key (address w.0).key ≡ Greater → ⊥ = search rules in
-      let same = tied (key_cmp key (address w.0).key) (key_cmp (address w.0).key key)
-      (key_total.antisymm key (address w.0).key) after before in other
-      (w.2 ∙ sym (ap Some (key_same key (address w.0).key (ap is_eq same))))
+      let same = tied _ _ (key_total.antisymm key _) after before in
+      other (w.2 ∙ sym (ap Some (key_same key (address w.0).key (ap is_eq same))))
 
   other_session : ((k : Key) → last_key F ≡ Some k → k.session ≡ session → ⊥)
       → (g : Fact) → Member g F → (address g).key.session ≡ session → ⊥
   other_session other g m e =
       let w = last_after F g front m in
       let last = (address w.0).key in
-      let before : session_cmp last.session session ≡ Greater → ⊥ = λ h. key-before (address w.0)
-      (address f) (before-next F f w.0 r w.1) (keys-after last key h) in
+      let before : session_cmp last.session session ≡ Greater → ⊥ = λ h. key-before _ (address f)
+      (before-next F f w.0 r w.1) (keys-after last key h) in
       let after : session_cmp session last.session ≡ Greater → ⊥ = search rules in
-      let same = tied (session_cmp session last.session) (session_cmp last.session session)
-      (session_total.antisymm session last.session) after before in other last w.2
-      (sym (session_place session last.session same))
+      let same = tied _ _ (session_total.antisymm session _) after before in
+      other last w.2 (sym (session_place session _ same))
 
   -- what the facts name with it
 
@@ -129,14 +120,14 @@ module _ (F : List Fact) (f : Fact) (r : IsRising (F ++ f ∷ [])) where
   unfolding sessions
   sessions-again k e s =
       let l = last_member F k front e in
-      count-again same_session session_tells session_of F f l.0 session refl l.1
-      (ap (λ (x : Key). Some x.session) l.2 ∙ ap Some s)
+      count-again _ session_tells session_of F f l.0 _ refl l.1
+      (ap (λ x. Some x.session) l.2 ∙ ap Some s)
 
   sessions-new : ((k : Key) → last_key F ≡ Some k → k.session ≡ session → ⊥)
       → length (sessions (F ++ f ∷ [])) ≡ length (sessions F) + 1
   unfolding sessions
-  sessions-new other = count-new same_session session_tells session_of F f session refl
-      (λ g m e. other_session other g m (same_Some (address g).key.session session e))
+  sessions-new other = count-new _ session_tells session_of F f _ refl
+      (λ g m e. other_session other g m (same_Some _ _ e))
 
   named_object : object_of session (address f) ≡ Some key.object
   named_object = search rules
@@ -147,8 +138,7 @@ module _ (F : List Fact) (f : Fact) (r : IsRising (F ++ f ∷ [])) where
   objects-again e =
       let l = last_member F key front e in
       let named : object_of session (address l.0) ≡ Some key.object = search rules in
-      count-again same_object object_tells (object_of session) F f l.0 key.object named_object l.1
-      named
+      count-again _ object_tells (object_of _) F f l.0 _ named_object l.1 named
 
   objects-new : (last_key F ≡ Some key → ⊥)
       → length (objects (F ++ f ∷ []) session) ≡ length (objects F session) + 1
@@ -167,20 +157,13 @@ module _ (F : List Fact) (f : Fact) (r : IsRising (F ++ f ∷ [])) where
   objects-none : ((k : Key) → last_key F ≡ Some k → k.session ≡ session → ⊥)
       → length (objects F session) ≡ 0
   unfolding objects
-  objects-none other = search (
-    rules,
-    count-empty,
-    same_object,
-    object_tells,
-    object_of,
-    other_session,
-    object_of-some,
-  )
+  objects-none other = search
+      (rules, count-empty, same_object, object_tells, object_of, other_session, object_of-some)
 
   symbols-none : (last_key F ≡ Some key → ⊥) → length (symbols F key) ≡ 0
   unfolding symbols
-  symbols-none other = count-empty same_symbol_id symbol_id_tells (symbol_of key) F
-      (λ x g m e. other_key other g m (symbol_of-some key (address g) x e).0)
+  symbols-none other = count-empty _ symbol_id_tells (symbol_of key) F
+      (λ x g m e. other_key other g m (symbol_of-some key _ x e).0)
 
   symbols-again : (address f).part ≡ InfoPart
       → length (symbols (F ++ f ∷ []) key) ≡ length (symbols F key)
@@ -190,9 +173,8 @@ module _ (F : List Fact) (f : Fact) (r : IsRising (F ++ f ∷ [])) where
   symbols-new : (id : SymbolId) → (address f).part ≡ SymbolPart id
       → length (symbols (F ++ f ∷ []) key) ≡ length (symbols F key) + 1
   unfolding symbols
-  symbols-new id e = count-new same_symbol_id symbol_id_tells (symbol_of key) F f id
-      (symbol_of-inside key (address f) refl ∙ ap symbol_in e) (λ g m n. let q = symbol_of-some key
-      (address g) id n in
+  symbols-new id e = count-new _ symbol_id_tells (symbol_of key) F f id
+      (symbol_of-inside key _ refl ∙ ap symbol_in e) (λ g m n. let q = symbol_of-some key _ id n in
       let part = q.1 ∙ sym e in
       other_address g m (λ i. record { key = q.0 i; part = part i }))
 
@@ -217,8 +199,8 @@ module _ (F : List Fact) (f : Fact) (r : IsRising (F ++ f ∷ [])) where
   unfolding symbols
   few_symbols k y few here = elim (cases_Bool (same_key key k)) [
     | inl t ↦ search rules
-    | inr t ↦ let e = count-none same_symbol_id symbol_id_tells (symbol_of k) F f
-        (symbol_of-elsewhere k (address f) t) in omega (arith, few, e)
+    | inr t ↦ let e = count-none _ symbol_id_tells (symbol_of k) F f
+        (symbol_of-elsewhere k _ t) in omega (arith, few, e)
   ]
 
   module _ (s o y : ℕ) (within : Over F s o y → ⊥) where
@@ -226,10 +208,10 @@ module _ (F : List Fact) (f : Fact) (r : IsRising (F ++ f ∷ [])) where
         length (symbols (F ++ f ∷ []) key) ≤ y → Over (F ++ f ∷ []) s o y → ⊥
     within-more few few_here few_there (more_sessions l) = omega (arith, few, l)
     within-more few few_here few_there (more_objects x l) =
-        let n = few_objects x o (few-from (length (objects F x)) o (λ m. within (more_objects x m)))
+        let n = few_objects x o (few-from _ o (λ m. within (more_objects x m)))
         few_here in omega (arith, n, l)
     within-more few few_here few_there (more_symbols k l) =
-        let n = few_symbols k y (few-from (length (symbols F k)) y (λ m. within (more_symbols k m)))
+        let n = few_symbols k y (few-from _ y (λ m. within (more_symbols k m)))
         few_there in omega (arith, n, l)
 
 -- ---- names distinguished by their parts
@@ -267,7 +249,7 @@ module _ {s o y : ℕ} (F : List Fact) (f : Fact) (tally : Tally s o y)
       let here = objects-again F f r at in
       let known = c.object_count (address f).key e in
       let few = few-from (length (sessions F)) s (λ l. c.within (more_sessions l)) in
-      let few_here = few-from (length (objects F (address f).key.session)) o
+      let few_here = few-from _ o
       (λ l. c.within (more_objects (address f).key.session l)) in record {
         last = e;
         session_count = c.session_count ∙ sym all;
@@ -295,7 +277,7 @@ module _ {s o y : ℕ} (F : List Fact) (f : Fact) (tally : Tally s o y)
     count-object n m below =
         let all = sessions-again F f r k (sym c.last ∙ e) inside in
         let here = objects-new F f r other in
-        let few = few-from (length (sessions F)) s (λ l. c.within (more_sessions l)) in
+        let few = few-from _ s (λ l. c.within (more_sessions l)) in
         let was = known in
         record {
           last = ap Some (sym d);
@@ -351,8 +333,7 @@ module _ {s o y : ℕ} (F : List Fact) (f : Fact) (tally : Tally s o y)
   -- the last object and its symbols
   module _ (c : CountsKey s o y F f tally) where
     few_before : length (symbols F (address f).key) ≤ y
-    few_before = few-from (length (symbols F (address f).key)) y
-        (λ l. c.within (more_symbols (address f).key l))
+    few_before = few-from _ y (λ l. c.within (more_symbols _ l))
 
     counted : (n : ℕ) → n ≡ length (symbols (F ++ f ∷ []) (address f).key) → n ≤ y
         → Counts s o y (F ++ f ∷ []) (record {
@@ -366,8 +347,7 @@ module _ {s o y : ℕ} (F : List Fact) (f : Fact) (tally : Tally s o y)
       session_count = c.session_count;
       object_count = search rules;
       symbol_count = search rules;
-      within = within-more F f r s o y c.within c.few_sessions c.few_objects
-          (subst (λ m. m ≤ y) e few);
+      within = within-more F f r s o y c.within c.few_sessions c.few_objects (rw e at few);
     }
 
     pub count-information : (address f).part ≡ InfoPart → Counts s o y (F ++ f ∷ []) tally
@@ -375,7 +355,7 @@ module _ {s o y : ℕ} (F : List Fact) (f : Fact) (tally : Tally s o y)
         let same = symbols-again F f r e in
         let was = c.symbol_count in
         let few = few_before in
-        counted tally.symbols (was ∙ sym same) (omega (arith, was, few))
+        counted _ (was ∙ sym same) (omega (arith, was, few))
 
     pub count-symbol : (id : SymbolId) → (address f).part ≡ SymbolPart id → (n : ℕ) → n ≡
         tally.symbols + 1 → tally.symbols < y → Counts s o y (F ++ f ∷ []) (record {

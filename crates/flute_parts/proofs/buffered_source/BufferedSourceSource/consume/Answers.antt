@@ -12,11 +12,8 @@ taken : (none : Bool) (n : ℕ) (buffer : List ℕ) (rest : Option (List ℕ))
 taken true n buffer rest = tt
 taken false n buffer None = tt
 taken false n buffer (Some rest) = ap (λ front. front ++ rest) (sym (take-append-drop n buffer)) ∙
-    append_assoc (take n buffer) (drop n buffer) rest
+    append_assoc _ _ rest
 
 pub returns-clause-bytes : goal.returns-clause-bytes
-returns-clause-bytes g c =
-    rw (c.consume.ensures.buffer, c.consume.ensures.inner, c.consume.ensures.capacity)
-    (taken (reader_capacity c.args.self.now.source.reader == 0) c.args.count
-    (reader_buffer c.args.self.now.source.reader)
-    (g.R.Read.remaining c.args.self.now.source.reader.inner))
+returns-clause-bytes g c = rw
+    (c.consume.ensures.buffer, c.consume.ensures.inner, c.consume.ensures.capacity) (taken _ _ _ _)

@@ -13,12 +13,11 @@ use Rattle.flute_parts.proofs.device.Sink.write_all.Goals as goal
 part_of : (old mid new : Option (List ℕ)) (bytes : List ℕ) (n : ℕ) → n < length bytes
     → Appends old mid (take n bytes) → Keeps mid new → AppendsPart old new bytes
 part_of old mid new bytes n lt done kept = record {
-  part = take n bytes;
-  rest = drop n bytes;
+  part = take n _;
+  rest = drop n _;
   appended = Appends-kept _ _ _ _ done kept;
-  whole = sym (take-append-drop n bytes);
-  cut = λ e. absurd (let l : length (drop n bytes) ≡ 0 =
-      ap length e in omega (arith, length-drop n bytes, l));
+  whole = sym (take-append-drop n _);
+  cut = λ e. absurd (let l = ap length e in omega (arith, length-drop n bytes, l));
 }
 
 -- the first n bytes were taken
@@ -29,8 +28,7 @@ Took old new bytes n = (n ≤ length bytes) × Appends old new (take n bytes)
 goes_on : (old mid new : Option (List ℕ)) (bytes : List ℕ) (w n : ℕ) → Took old mid bytes w
     → Took mid new (take (length bytes - w) (drop w bytes)) n → Took old new bytes (w + n)
 goes_on old mid new bytes w n (le, done) (fits, more) =
-    let rest : take (length bytes - w) (drop w bytes) ≡ drop w bytes = take_all (length bytes - w)
-    (drop w bytes) (omega (arith, length-drop w bytes)) in
+    let rest = take_all (length bytes - w) (drop w bytes) (omega (arith, length-drop w bytes)) in
     let fits' : n ≤ length (drop w bytes) = search rules in
     let more' : Appends mid new (take n (drop w bytes)) = search rules in (
       omega (arith, fits', length-drop w bytes),

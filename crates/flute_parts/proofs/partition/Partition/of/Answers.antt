@@ -15,5 +15,4 @@ invariant_of-result-2 c =
     let t : c.div_ceil-symbols.result ≡ symbol_count i = cc in
     let b : n ≡ block_count i = cc in
     let l : 0 < i.transfer_length = omega arith in
-    subst (λ x. IsSplit i x (x % n) (n - x % n) (x / n)) (sym t)
-    (IsSplit-of i n b l (c.length.ensures.valid.parts l))
+    rw t (IsSplit-of i n b l (c.length.ensures.valid.parts l))
