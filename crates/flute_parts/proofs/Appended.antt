@@ -35,5 +35,4 @@ AppendsPart-second old mid new a b done p = record {
 -- what was appended, and then what a write did
 pub Writes-behind : {T E : Type 0} (old mid new : Option (List ℕ)) (a b : List ℕ)
     (r : Result T E) → Appends old mid a → Writes mid new b r → Writes old new (a ++ b) r
-Writes-behind x0 x1 x2 x3 x4 x5 x6 x7 = search (rules, Appends-trans, AppendsPart-second) steps
-    400000
+Writes-behind x0 x1 x2 x3 x4 x5 x6 x7 = search (rules, Appends-trans, AppendsPart-second)

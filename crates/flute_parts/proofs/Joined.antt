@@ -118,8 +118,7 @@ agreed_heads a f g gs = elim (cases_Bool (same_fact f g)) [
 agreed_pair : (a : Address) (f g : Fact) (fs gs : List Fact) → choice a f
     (list_all (same_fact f) fs && (same_fact f g && list_all (same_fact f) gs)) ≡ joined_fact a
     (choice a f (list_all (same_fact f) fs)) (choice a g (list_all (same_fact g) gs))
-agreed_pair a f g fs gs = search (rules, cases_Bool, joined-conflict_left, agreed_heads) steps
-    400000
+agreed_pair a f g fs gs = search (rules, cases_Bool, joined-conflict_left, agreed_heads)
 
 agreed-append : (a : Address) (xs ys : List Fact)
     → agreed a (xs ++ ys) ≡ joined a (agreed a xs) (agreed a ys)

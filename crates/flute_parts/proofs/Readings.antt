@@ -91,7 +91,7 @@ joined-stands a (Some f) (Some g) p q = elim (cases_Bool (same_fact f g)) [
 ]
 
 fact_at-stands : (F : List Fact) (a : Address) → Stands a (fact_at F a)
-fact_at-stands [] a = rw ((fact_at-nil a)) tt
+fact_at-stands [] a = rw (fact_at-nil a) tt
 fact_at-stands (f ∷ F) a =
     subst (Stands a) (sym (fact_at-cons f F a))
     (joined-stands a _ _
@@ -100,8 +100,8 @@ fact_at-stands (f ∷ F) a =
     alone_stands : ((same_address (address f) a ≡ true)
         ⊎ (same_address (address f) a ≡ false)) → Stands a (alone a f)
     alone_stands (inl e) = let p =
-        address_same _ a e in rw ((alone-at f a p)) p
-    alone_stands (inr e) = rw ((alone-elsewhere f a e)) tt
+        address_same _ a e in rw (alone-at f a p) p
+    alone_stands (inr e) = rw (alone-elsewhere f a e) tt
 
 pub fact_at-address : (F : List Fact) (a : Address) (f : Fact) → fact_at F a ≡ Some f
     → address f ≡ a
