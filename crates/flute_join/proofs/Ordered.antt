@@ -26,33 +26,25 @@ module _ {K X : Type 0} (cmp : K → K → Ordering) (join : X → X → X) wher
     keys_first : {e f : K × X} {es fs : List (K × X)} {r : Ordering} → cmp e.0 f.0 ≡ r → P e.0 → P
         f.0 → EachKey es (f ∷ fs) → EachKey es fs → EachKey (e ∷ es) fs → EachKey (e ∷ es) (f ∷ fs)
     keys_first {e = e} {f = f} {es = es} {fs = fs} {r = Less} l p q a b c = record {
-      each = subst (λ l. AllByRecursion P (keys_of l)) (sym (first_less cmp join e f es fs l))
-          (p, a.each);
+      each = rw (first_less cmp join e f es fs l) (p, a.each);
     }
     keys_first {e = e} {f = f} {es = es} {fs = fs} {r = Equal} l p q a b c = record {
-      each = subst (λ l. AllByRecursion P (keys_of l)) (sym (first_equal cmp join e f es fs l))
-          (p, b.each);
+      each = rw (first_equal cmp join e f es fs l) (p, b.each);
     }
     keys_first {e = e} {f = f} {es = es} {fs = fs} {r = Greater} l p q a b c = record {
-      each = subst (λ l. AllByRecursion P (keys_of l))
-          (sym (first_greater cmp join e f es fs l)) (q, c.each);
+      each = rw (first_greater cmp join e f es fs l) (q, c.each);
     }
 
     keys_past : (e : K × X) (es : List (K × X)) → P e.0 →
         ((fs : List (K × X)) → AllByRecursion P (keys_of fs) → EachKey es fs) → AllByRecursion P
         (keys_of es) → (fs : List (K × X)) → AllByRecursion P (keys_of fs) → EachKey (e ∷ es) fs
-    keys_past e es p ih s [] t = record {
-      each = subst (λ l. AllByRecursion P (keys_of l)) (sym (join_nothing cmp join (e ∷ es)))
-          (p, s);
-    }
+    keys_past e es p ih s [] t = record { each = rw (join_nothing cmp join (e ∷ es)) (p, s) }
     keys_past e es p ih s (f ∷ fs) t =
-        keys_first refl p t.0 (ih (f ∷ fs) t) (ih fs t.1) (keys_past e es p ih s fs t.1)
+        keys_first refl p t.0 (ih _ t) (ih fs t.1) (keys_past e es p ih s fs t.1)
 
     each_key : (es fs : List (K × X)) → AllByRecursion P (keys_of es)
         → AllByRecursion P (keys_of fs) → EachKey es fs
-    each_key [] fs s t = record {
-      each = subst (λ l. AllByRecursion P (keys_of l)) (sym (nothing_join cmp join fs)) t;
-    }
+    each_key [] fs s t = record { each = rw (nothing_join cmp join fs) t }
     each_key (e ∷ es) fs s t = keys_past e es s.0 (λ gs u. each_key es gs s.1 u) s.1 fs t
 
     all_keys : (es fs : List (K × X)) → AllByRecursion P (keys_of es)
@@ -65,22 +57,22 @@ module _ {K X : Type 0} (cmp : K → K → Ordering) (join : X → X → X) wher
         EachValue P (map_join cmp join (e ∷ es) fs) → EachValue P
         (map_join cmp join (e ∷ es) (f ∷ fs))
     values_first {e = e} {f = f} es fs {r = Less} l p q a b c =
-        subst (EachValue P) (sym (first_less cmp join e f es fs l)) (p, a)
+        rw (first_less cmp join e f es fs l) (p, a)
     values_first {e = e} {f = f} es fs {r = Equal} l p q a b c =
-        subst (EachValue P) (sym (first_equal cmp join e f es fs l)) (kept e.1 f.1 p q, b)
+        rw (first_equal cmp join e f es fs l) (kept e.1 f.1 p q, b)
     values_first {e = e} {f = f} es fs {r = Greater} l p q a b c =
-        subst (EachValue P) (sym (first_greater cmp join e f es fs l)) (q, c)
+        rw (first_greater cmp join e f es fs l) (q, c)
 
     values_past : (e : K × X) (es : List (K × X)) → P e.1 → EachValue P es →
         ((fs : List (K × X)) → EachValue P fs → EachValue P (map_join cmp join es fs)) →
         (fs : List (K × X)) → EachValue P fs → EachValue P (map_join cmp join (e ∷ es) fs)
-    values_past e es p s ih [] t = subst (EachValue P) (sym (join_nothing cmp join (e ∷ es))) (p, s)
-    values_past e es p s ih (f ∷ fs) t = values_first es fs refl p t.0 (ih (f ∷ fs) t) (ih fs t.1)
+    values_past e es p s ih [] t = rw (join_nothing cmp join (e ∷ es)) (p, s)
+    values_past e es p s ih (f ∷ fs) t = values_first es fs refl p t.0 (ih _ t) (ih fs t.1)
         (values_past e es p s ih fs t.1)
 
     pub EachValue-map_join : (es fs : List (K × X)) → EachValue P es → EachValue P fs
         → EachValue P (map_join cmp join es fs)
-    EachValue-map_join [] fs s t = subst (EachValue P) (sym (nothing_join cmp join fs)) t
+    EachValue-map_join [] fs s t = rw (nothing_join cmp join fs) t
     EachValue-map_join (e ∷ es) fs s t =
         values_past e es s.0 s.1 (λ gs u. EachValue-map_join es gs s.1 u) fs t
 
@@ -101,33 +93,25 @@ module _ {K X : Type 0} {cmp : K → K → Ordering} (order : IsTotalOrder cmp) 
       IsOrdered cmp (map_join cmp join es fs) × IsOrdered cmp (map_join cmp join (e ∷ es) fs) →
       IsOrdered cmp (map_join cmp join (e ∷ es) (f ∷ fs))
   unfolding IsStrictlySortedBy
-  ordered_first e f es fs {r = Less} l s t (a, b, c) = rw (first_less cmp join e f es fs l) (
-    all_keys cmp join (λ y. cmp e.0 y ≡ Less) es (f ∷ fs) s.0
-        (l, all_above e.0 f.0 l (keys_of fs) t.0),
-    a,
-  )
-  ordered_first e f es fs {r = Equal} l s t (a, b, c) = rw (first_equal cmp join e f es fs l) (
-    all_keys cmp join (λ y. cmp e.0 y ≡ Less) es fs s.0 (all_tied e.0 f.0 l (keys_of fs) t.0),
-    b,
-  )
+  ordered_first e f es fs {r = Less} l s t (a, b, c) = rw (first_less cmp join e f es fs l)
+      (all_keys cmp _ _ es _ s.0 (l, all_above e.0 f.0 l _ t.0), a)
+  ordered_first e f es fs {r = Equal} l s t (a, b, c) = rw (first_equal cmp join e f es fs l)
+      (all_keys cmp _ _ es fs s.0 (all_tied e.0 f.0 l _ t.0), b)
   ordered_first e f es fs {r = Greater} l s t (a, b, c) =
-      let u : cmp f.0 e.0 ≡ Less = order.antisymm f.0 e.0 ∙ ap ordering_reverse l in
-      rw (first_greater cmp join e f es fs l) (
-        all_keys cmp join (λ y. cmp f.0 y ≡ Less) (e ∷ es)
-            fs (u, all_above f.0 e.0 u (keys_of es) s.0) t.0,
-        c,
-      )
+      let u = order.antisymm f.0 e.0 ∙ ap ordering_reverse l in
+      rw (first_greater cmp join e f es fs l)
+      (all_keys cmp _ _ _ fs (u, all_above f.0 e.0 u _ s.0) t.0, c)
 
   ordered_past : (e : K × X) (es : List (K × X)) → IsOrdered cmp (e ∷ es) →
       ((fs : List (K × X)) → IsOrdered cmp fs → IsOrdered cmp (map_join cmp join es fs)) →
       (fs : List (K × X)) → IsOrdered cmp fs → IsOrdered cmp (map_join cmp join (e ∷ es) fs)
-  ordered_past e es s ih [] t = subst (IsOrdered cmp) (sym (join_nothing cmp join (e ∷ es))) s
+  ordered_past e es s ih [] t = rw (join_nothing cmp join (e ∷ es)) s
   ordered_past e es s ih (f ∷ fs) t =
-      let u = sorted_tail cmp f.0 (keys_of fs) t in
-      ordered_first e f es fs refl s t (ih (f ∷ fs) t, ih fs u, ordered_past e es s ih fs u)
+      let u = sorted_tail cmp f.0 _ t in
+      ordered_first e f es fs refl s t (ih _ t, ih fs u, ordered_past e es s ih fs u)
 
   pub ordered-map_join : (es fs : List (K × X)) → IsOrdered cmp es → IsOrdered cmp fs
       → IsOrdered cmp (map_join cmp join es fs)
-  ordered-map_join [] fs s t = subst (IsOrdered cmp) (sym (nothing_join cmp join fs)) t
+  ordered-map_join [] fs s t = rw (nothing_join cmp join fs) t
   ordered-map_join (e ∷ es) fs s t = ordered_past e es s
-      (λ gs u. ordered-map_join es gs (sorted_tail cmp e.0 (keys_of es) s) u) fs t
+      (λ gs u. ordered-map_join es gs (sorted_tail cmp e.0 _ s) u) fs t

@@ -24,20 +24,18 @@ module _ {K X C : Type 0} {cmp : K → K → Ordering} (order : IsTotalOrder cmp
 
   holds_first : (test : Bool) (e : K × X) (o : Option X) → P e.1 → Holds o
       → Holds (cond test (Some e.1) o)
-  holds_first x0 x1 x2 x3 x4 = search rules steps 1000000
+  holds_first x0 x1 x2 x3 x4 = search rules
 
   holds_at : (es : List (K × X)) (q : K) → EachValue P es → Holds (value_at cmp es q)
   holds_at [] q a = tt
-  holds_at (e ∷ es) q a =
-      holds_first (is_at (cmp q) e.0) e (value_at cmp es q) a.0 (holds_at es q a.1)
+  holds_at (e ∷ es) q a = holds_first _ e _ a.0 (holds_at es q a.1)
 
   read_values : (a b : Option X) → Holds a → Holds b → option_map_or read (join_values join a b)
       nothing ≡ join_read (option_map_or read a nothing) (option_map_or read b nothing)
-  read_values x0 x1 x2 x3 = search rules steps 1000000
+  read_values x0 x1 x2 x3 = search rules
 
   pub reading_at : (es fs : List (K × X)) (q : K) → IsOrdered cmp es → IsOrdered cmp fs → EachValue
       P es → EachValue P fs → option_map_or read (value_at cmp (map_join cmp join es fs) q) nothing
       ≡ join_read (option_map_or read (value_at cmp es q) nothing)
       (option_map_or read (value_at cmp fs q) nothing)
   reading_at es fs q s t a b = search (rules, value_at-map_join, read_values, value_at, holds_at)
-      steps 1000000

@@ -39,21 +39,21 @@ module _ {K X : Type 0} {cmp : K → K → Ordering} (order : IsTotalOrder cmp) 
         (map_join cmp join) (e ∷ es) (f ∷ fs) → (IsBelow (map_join cmp join) es fs → Q es fs) →
         (IsBelow (map_join cmp join) (e ∷ es) fs → Q (e ∷ es) fs) → Q (e ∷ es) (f ∷ fs)
     below_first {e = e} {f = f} {es = es} {fs = fs} Less l b outer inner =
-        let same : e ≡ f = ap (head_or f) (sym (first_less cmp join e f es fs l) ∙ b) in
+        let same = ap (head_or f) (sym (first_less cmp _ e f es fs l) ∙ b) in
         absurd (not_less_equal (sym l ∙ ap (λ x. cmp x.0 f.0) same ∙ tied_itself order f.0))
     below_first {e = e} {f = f} {es = es} {fs = fs} Equal l b outer inner =
-        let whole = sym (first_equal cmp join e f es fs l) ∙ b in
-        let same : (e.0, join e.1 f.1) ≡ f = ap (head_or f) whole in
+        let whole = sym (first_equal cmp _ e f es fs l) ∙ b in
+        let same = ap (head_or f) whole in
         over e f es fs (ap (λ x. x.0) same) (ap (λ x. x.1) same) (ap tail_of whole)
         (outer (ap tail_of whole))
     below_first {e = e} {f = f} {es = es} {fs = fs} Greater l b outer inner =
-        skip e f es fs (inner (ap tail_of (sym (first_greater cmp join e f es fs l) ∙ b)))
+        skip e f es fs (inner (ap tail_of (sym (first_greater cmp _ e f es fs l) ∙ b)))
 
     below_past : (e : K × X) (es : List (K × X))
         → ((fs : List (K × X)) → IsBelow (map_join cmp join) es fs → Q es fs)
         → (fs : List (K × X)) → IsBelow (map_join cmp join) (e ∷ es) fs → Q (e ∷ es) fs
-    below_past e es ih [] b = absurd (not_cons_nil e es (sym (join_nothing cmp join (e ∷ es)) ∙ b))
-    below_past e es ih (f ∷ fs) b = below_first (cmp e.0 f.0) refl b (ih fs) (below_past e es ih fs)
+    below_past e es ih [] b = absurd (not_cons_nil e es (sym (join_nothing cmp _ _) ∙ b))
+    below_past e es ih (f ∷ fs) b = below_first _ refl b (ih fs) (below_past e es ih fs)
 
     pub below_induction : (es fs : List (K × X)) → IsBelow (map_join cmp join) es fs → Q es fs
     below_induction [] fs b = none fs
@@ -62,18 +62,13 @@ module _ {K X : Type 0} {cmp : K → K → Ordering} (order : IsTotalOrder cmp) 
   -- what holds of each key of the greater map holds of each of the lower one
   keys_under : (P : K → Type 0) (es fs : List (K × X)) → IsBelow (map_join cmp join) es fs
       → AllByRecursion P (keys_of fs) → AllByRecursion P (keys_of es)
-  keys_under P = below_induction
-      (λ es fs. AllByRecursion P (keys_of fs) → AllByRecursion P (keys_of es)) (λ fs a. tt)
-      (λ e f es fs k v b ih a. (subst P (sym k) a.0, ih a.1)) (λ e f es fs ih a. ih a.1)
+  keys_under P = below_induction _ _ (λ e f es fs k v b ih a. (rw k a.0, ih a.1))
+      (λ e f es fs ih a. ih a.1)
 
   ordered_over : (e f : K × X) (es fs : List (K × X)) → e.0 ≡ f.0 → IsBelow (map_join cmp join) es
       fs → IsOrdered cmp es → IsOrdered cmp (f ∷ fs) → IsOrdered cmp (e ∷ es)
   unfolding IsStrictlySortedBy
-  ordered_over e f es fs k b s t = (
-    subst (λ x. AllByRecursion (λ y. cmp x y ≡ Less) (keys_of es))
-        (sym k) (keys_under (λ y. cmp f.0 y ≡ Less) es fs b t.0),
-    s,
-  )
+  ordered_over e f es fs k b s t = (rw k (keys_under _ es fs b t.0), s)
 
   ordered_nothing : (fs : List (K × X)) → IsOrdered cmp fs → IsOrdered {X = X} cmp []
   unfolding IsStrictlySortedBy
@@ -82,6 +77,6 @@ module _ {K X : Type 0} {cmp : K → K → Ordering} (order : IsTotalOrder cmp) 
   -- the keys of the lower map ascend where those of the greater one do
   pub ordered_under : (es fs : List (K × X)) → IsBelow (map_join cmp join) es fs
       → IsOrdered cmp fs → IsOrdered cmp es
-  ordered_under = below_induction (λ es fs. IsOrdered cmp fs → IsOrdered cmp es) ordered_nothing (λ
-      e f es fs k v b ih t. ordered_over e f es fs k b (ih (sorted_tail cmp f.0 (keys_of fs) t)) t)
-      (λ e f es fs ih t. ih (sorted_tail cmp f.0 (keys_of fs) t))
+  ordered_under = below_induction _ ordered_nothing (λ
+      e f es fs k v b ih t. ordered_over e f es fs k b (ih (sorted_tail cmp f.0 _ t)) t)
+      (λ e f es fs ih t. ih (sorted_tail cmp f.0 _ t))

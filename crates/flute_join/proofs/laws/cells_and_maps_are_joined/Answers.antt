@@ -12,8 +12,8 @@ pub returns : goal.returns
 returns g c = record {
   cells = cell_join_laws g.met.T.Eq.laws g.met.T.Value.same_where_equal;
   maps = map_join_laws g.met.K.Ord.total g.met.K.MapKey.same_where_equal g.met.V.Join.join_laws;
-  values = value_at-map_join g.met.K.Ord.total g.V.Join.joined;
-  ordered = ordered-map_join g.met.K.Ord.total g.V.Join.joined;
+  values = value_at-map_join g.met.K.Ord.total _;
+  ordered = ordered-map_join g.met.K.Ord.total _;
   held = single_held g.met.K.Ord.total g.met.V.Join.join_laws;
   new = single_new g.met.K.Ord.total g.met.V.Join.join_laws;
 }

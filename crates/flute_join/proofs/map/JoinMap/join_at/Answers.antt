@@ -15,27 +15,22 @@ use Rattle.flute_join.proofs.map.JoinMap.join_at.Goals as goal
 
 pub returns-in-Some-clause-ok : goal.returns-in-Some-clause-ok
 returns-in-Some-clause-ok g c =
-    let joined = single_held g.met.K.Ord.total g.met.V.Join.join_laws c.args.self.now c.args.key _
-    c.args.value.now c.in-Some.ensures.ordered (sym c.in-Some.ensures.value) in on_ok_weaker
-    c.join_from.result
-    (λ p. ap (set_value (is_at (g.K.Ord.cmp c.args.key)) c.args.self.now) p ∙ sym joined)
-    c.join_from.ensures.ok
+    let joined = single_held g.met.K.Ord.total g.met.V.Join.join_laws _ c.args.key _ _
+    c.in-Some.ensures.ordered (sym c.in-Some.ensures.value) in on_ok_weaker c.join_from.result
+    (λ p. ap (set_value _ c.args.self.now) p ∙ sym joined) c.join_from.ensures.ok
 
 pub returns-in-Some-clause-above_old : goal.returns-in-Some-clause-above_old
-returns-in-Some-clause-above_old g c =
-    held_above g.met.K.Ord.total g.met.V.Join.join_laws c.args.self.now c.args.key _
-    c.join_from.new.self (sym c.in-Some.ensures.value) c.join_from.ensures.above_old
+returns-in-Some-clause-above_old g c = held_above g.met.K.Ord.total g.met.V.Join.join_laws _ _ _ _
+    (sym c.in-Some.ensures.value) c.join_from.ensures.above_old
 
 pub returns-in-Some-clause-below_join : goal.returns-in-Some-clause-below_join
-returns-in-Some-clause-below_join g c = held_below g.met.K.Ord.total g.met.V.Join.join_laws
-    c.args.self.now c.args.key _ c.join_from.new.self c.args.value.now c.in-Some.ensures.ordered
-    (sym c.in-Some.ensures.value) c.join_from.ensures.below_join
+returns-in-Some-clause-below_join g c = held_below g.met.K.Ord.total g.met.V.Join.join_laws _ _ _ _
+    _ c.in-Some.ensures.ordered (sym c.in-Some.ensures.value) c.join_from.ensures.below_join
 
 pub returns-in-Some-clause-within : goal.returns-in-Some-clause-within
-returns-in-Some-clause-within g c = on_ok_weaker c.join_from.result (not_over_held g.met.K.Ord.total
-    g.met.V.Join.join_laws g.met.K.MapKey.same_where_equal g.row.LIMIT g.V.Join.over c.args.self.now
-    c.args.key _ c.args.value.now c.in-Some.ensures.ordered c.in-Some.ensures.within
-    (sym c.in-Some.ensures.value)) c.join_from.ensures.within
+returns-in-Some-clause-within g c = on_ok_weaker _ (not_over_held g.met.K.Ord.total
+    g.met.V.Join.join_laws g.met.K.MapKey.same_where_equal _ _ _ _ _ _ c.in-Some.ensures.ordered
+    c.in-Some.ensures.within (sym c.in-Some.ensures.value)) c.join_from.ensures.within
 
 pub returns-then-len-clause-above_old : goal.returns-then-len-clause-above_old
 returns-then-len-clause-above_old g c = below_self
@@ -58,51 +53,48 @@ returns-then-len-clause-full g c =
     let absent = sym c.in_default.ensures.value in
     let full = sym c.len.ensures.value ∙ c.if-len.true in
     λ _. over_new g.met.K.Ord.total g.met.V.Join.join_laws g.met.K.MapKey.same_where_equal
-    g.row.LIMIT g.V.Join.over c.args.self.now c.args.key c.args.value.now full absent
+    _ _ _ _ _ full absent
 
 pub returns-clause-ok : goal.returns-clause-ok
 returns-clause-ok g c = rw c.in_ok-copy.ensures.equal at c.add_new.ensures.joins
 
 pub returns-clause-above_old : goal.returns-clause-above_old
 returns-clause-above_old g c =
-    let laws = map_join_laws g.met.K.Ord.total g.met.K.MapKey.same_where_equal g.met.V.Join.join_laws
-    in
+    let laws = map_join_laws g.met.K.Ord.total g.met.K.MapKey.same_where_equal
+    g.met.V.Join.join_laws in
     let es = c.args.self.now in
-    by_outcome (IsBelow (map_join g.K.Ord.cmp g.V.Join.joined) es) c.add_new.result
-    (returns-clause-ok g c) c.add_new.ensures.err (below_join laws es _) (below_self laws es)
+    by_outcome (IsBelow (map_join _ _) es) _ (returns-clause-ok g c) c.add_new.ensures.err
+    (below_join laws es _) (below_self laws es)
 
 pub returns-clause-below_join : goal.returns-clause-below_join
 returns-clause-below_join g c =
-    let laws = map_join_laws g.met.K.Ord.total g.met.K.MapKey.same_where_equal g.met.V.Join.join_laws
-    in
+    let laws = map_join_laws g.met.K.Ord.total g.met.K.MapKey.same_where_equal
+    g.met.V.Join.join_laws in
     let es = c.args.self.now in
-    let joined = map_join g.K.Ord.cmp g.V.Join.joined es ((c.args.key, c.args.value.now) ∷ []) in
-    by_outcome (λ m. IsBelow (map_join g.K.Ord.cmp g.V.Join.joined) m joined) c.add_new.result
-    (returns-clause-ok g c) c.add_new.ensures.err (below_self laws joined) (below_join laws es _)
+    let joined = map_join _ _ es ((c.args.key, c.args.value.now) ∷ []) in
+    by_outcome (λ m. IsBelow (map_join g.K.Ord.cmp g.V.Join.joined) m joined) _
+    (returns-clause-ok g c) c.add_new.ensures.err (below_self laws _) (below_join laws es _)
 
 pub returns-clause-within : goal.returns-clause-within
 returns-clause-within g c =
     let room : length c.args.self.now < g.row.LIMIT = omega
     (arith, c.len.ensures.value, c.len.ensures.within, c.if-len.false) in on_ok_weaker
     c.add_new.result (λ _. not_over_new g.met.K.Ord.total g.met.V.Join.join_laws
-    g.met.K.MapKey.same_where_equal g.row.LIMIT g.V.Join.over c.args.self.now c.args.key
+    g.met.K.MapKey.same_where_equal _ _ c.args.self.now _
     c.args.value.now room (sym c.in_default.ensures.value)) c.add_new.ensures.ok
 
 pub returns-in-Some-clause-each : goal.returns-in-Some-clause-each
 returns-in-Some-clause-each g c =
     let P = g.V.Join.sound in
     let es = c.args.self.now in
-    λ a p. each-set_value g.K.Ord.cmp P (is_at (g.K.Ord.cmp c.args.key)) es c.join_from.new.self a
-    (c.join_from.ensures.stays_sound (each-value_at g.K.Ord.cmp P es c.args.key _ a
-    (sym c.in-Some.ensures.value)) p)
+    λ a p. each-set_value g.K.Ord.cmp P _ es _ a (c.join_from.ensures.stays_sound
+    (each-value_at g.K.Ord.cmp P es _ _ a (sym c.in-Some.ensures.value)) p)
 
 pub returns-clause-each : goal.returns-clause-each
 returns-clause-each g c = λ each value. c.add_new.ensures.each each
-    (subst g.V.Join.sound (sym c.in_ok-copy.ensures.equal) value)
+    (rw c.in_ok-copy.ensures.equal value)
 
 pub returns-in-Some-clause-within_limit : goal.returns-in-Some-clause-within_limit
 returns-in-Some-clause-within_limit g c =
-    let same_length =
-    length-set_value (is_at (g.K.Ord.cmp c.args.key)) c.args.self.now c.join_from.new.self in
-    let within = c.in-Some.ensures.within in
-    omega arith
+    let same_length = length-set_value (is_at (g.K.Ord.cmp c.args.key)) c.args.self.now
+    c.join_from.new.self in omega arith

@@ -25,15 +25,13 @@ loop-key-init g c =
     record {
       before = [];
       parts = all;
-      done = sym (join_nothing g.K.Ord.cmp g.V.Join.joined es);
-      left = ap (map_join g.K.Ord.cmp g.V.Join.joined es) all;
+      done = sym (join_nothing _ _ es);
+      left = ap (map_join _ _ es) all;
       above_old = below_self laws es;
-      forbidden = λ o.
-          subst (MapOver g.K.Ord.cmp g.V.Join.joined g.row.LIMIT g.V.Join.over es) all o;
-      forbids = λ o. subst (MapOver g.K.Ord.cmp g.V.Join.joined g.row.LIMIT g.V.Join.over es)
-          (sym all) o;
-      ordered = subst (IsOrdered g.K.Ord.cmp) (sym all) c.iter-key-items.ensures.ordered;
-      each = λ x y. (x, subst (EachValue g.V.Join.sound) (sym all) y);
+      forbidden = λ o. rw all at o;
+      forbids = λ o. rw all o;
+      ordered = rw all c.iter-key-items.ensures.ordered;
+      each = λ x y. (x, rw all y);
     }
 
 pub loop-key-preserved : goal.loop-key-preserved
@@ -67,8 +65,7 @@ loop-key-preserved g c =
           (subst (λ m. MapOver g.K.Ord.cmp g.V.Join.joined g.row.LIMIT g.V.Join.over m rest)
           joined o));
       forbids = λ o.
-          subst (λ m. MapOver g.K.Ord.cmp g.V.Join.joined g.row.LIMIT g.V.Join.over m rest)
-          (sym joined) (over_later order same inner g.row.LIMIT g.V.Join.over es p rest
+          rw joined (over_later order same inner g.row.LIMIT g.V.Join.over es p rest
           c.join_at.ensures.ordered before.ordered c.in_ok-join_at.ensures.within
           (before.forbids o));
       ordered = sorted_tail g.K.Ord.cmp c.in-Some.key.now (keys_of rest) before.ordered;
@@ -78,9 +75,9 @@ loop-key-preserved g c =
 
 pub returns-in_err-join_at-clause-above_old : goal.returns-in_err-join_at-clause-above_old
 returns-in_err-join_at-clause-above_old g c =
-    let laws = map_join_laws g.met.K.Ord.total g.met.K.MapKey.same_where_equal g.met.V.Join.join_laws
-    in below_trans laws c.args.self.now c.loop-key.self c.join_at.new.self
-    c.loop-key.invariant.above_old c.join_at.ensures.above_old
+    let laws = map_join_laws g.met.K.Ord.total g.met.K.MapKey.same_where_equal
+    g.met.V.Join.join_laws in below_trans laws _ _ _ c.loop-key.invariant.above_old
+    c.join_at.ensures.above_old
 
 pub returns-in_err-join_at-clause-below_join : goal.returns-in_err-join_at-clause-below_join
 returns-in_err-join_at-clause-below_join g c =
@@ -92,12 +89,10 @@ returns-in_err-join_at-clause-below_join g c =
     let p : g.row.K.Denot × g.row.V.Denot = (c.in-Some.key.now, c.in-Some.value.now) in
     let rest = c.next.new.self in
     let before = rw c.in-Some.ensures.steps at c.loop-key.invariant in
-    let joined = map_join g.K.Ord.cmp g.V.Join.joined es (p ∷ []) in
-    let whole : map_join g.K.Ord.cmp g.V.Join.joined joined rest ≡ map_join g.K.Ord.cmp
-    g.V.Join.joined c.args.self.now c.args.other.now = sym
+    let joined = map_join g.K.Ord.cmp _ es (p ∷ []) in
+    let whole = sym
     (join_step order same inner es p rest before.ordered) ∙ before.left in below_trans laws
-    c.join_at.new.self joined _ c.join_at.ensures.below_join (subst
-    (IsBelow (map_join g.K.Ord.cmp g.V.Join.joined) joined) whole (below_join laws joined rest))
+    _ joined _ c.join_at.ensures.below_join (rw whole at (below_join laws joined rest))
 
 pub returns-in_err-join_at-clause-full : goal.returns-in_err-join_at-clause-full
 returns-in_err-join_at-clause-full g c =
@@ -108,26 +103,23 @@ returns-in_err-join_at-clause-full g c =
     let before = rw c.in-Some.ensures.steps at c.loop-key.invariant in
     let refused = err_from_is_err_and c.from_residual.result c.from_residual.ensures.1 in
     rw (refused.1, refused.2) (λ e. before.forbidden
-    (over_first order same inner g.row.LIMIT g.V.Join.over c.loop-key.self p c.next.new.self
-    before.ordered (c.in_err-join_at.ensures.full e)))
+    (over_first order same inner _ _ _ p _ before.ordered (c.in_err-join_at.ensures.full e)))
 
 pub returns-clause-ok : goal.returns-clause-ok
 returns-clause-ok g c =
     let after = rw c.in-None.ensures.steps.0 at c.loop-key.invariant in
-    sym (join_nothing g.K.Ord.cmp g.V.Join.joined c.loop-key.self) ∙ after.left
+    sym (join_nothing _ _ _) ∙ after.left
 
 pub returns-clause-below_join : goal.returns-clause-below_join
 returns-clause-below_join g c =
-    let laws = map_join_laws g.met.K.Ord.total g.met.K.MapKey.same_where_equal g.met.V.Join.join_laws
-    in subst (IsBelow (map_join g.K.Ord.cmp g.V.Join.joined) c.loop-key.self)
-    (returns-clause-ok g c) (below_self laws c.loop-key.self)
+    let laws = map_join_laws g.met.K.Ord.total g.met.K.MapKey.same_where_equal
+    g.met.V.Join.join_laws in rw (← returns-clause-ok g c) (below_self laws _)
 
 pub returns-clause-within : goal.returns-clause-within
 returns-clause-within g c =
     let after = rw c.in-None.ensures.steps.0 at c.loop-key.invariant in
-    λ o. not_over_nothing g.met.K.Ord.total g.met.K.MapKey.same_where_equal g.met.V.Join.join_laws
-    g.row.LIMIT g.V.Join.over c.loop-key.self (rw c.self.view_is at c.self.invariant.1)
-    (after.forbids o)
+    λ o. not_over_nothing g.met.K.Ord.total g.met.K.MapKey.same_where_equal g.met.V.Join.join_laws _
+    _ _ (rw c.self.view_is at c.self.invariant.1) (after.forbids o)
 
 pub returns-in_err-join_at-clause-each : goal.returns-in_err-join_at-clause-each
 returns-in_err-join_at-clause-each g c =
@@ -136,10 +128,8 @@ returns-in_err-join_at-clause-each g c =
 
 pub returns-in_err-join_at-clause-ordered : goal.returns-in_err-join_at-clause-ordered
 returns-in_err-join_at-clause-ordered g c =
-    let before = rw c.in-Some.ensures.steps at c.loop-key.invariant in
     let p : g.row.K.Denot × g.row.V.Denot = (c.in-Some.key.now, c.in-Some.value.now) in
-    ordered_between g.met.K.Ord.total g.V.Join.joined c.loop-key.self
-    (p ∷ []) c.join_at.new.self c.join_at.ensures.below_join c.join_at.ensures.ordered
+    ordered_between g.met.K.Ord.total _ _ _ _ c.join_at.ensures.below_join c.join_at.ensures.ordered
     (ordered_one g.met.K.Ord.total g.met.K.MapKey.same_where_equal g.met.V.Join.join_laws p)
 
 pub returns-clause-each : goal.returns-clause-each
@@ -151,8 +141,7 @@ returns-in_err-join_at-clause-stays_sound g c =
     λ x y. record {
       ordered = returns-in_err-join_at-clause-ordered g c;
       within = c.join_at.ensures.within_limit;
-      some = some_above g.met.K.Ord.total g.V.Join.joined c.args.self.now c.join_at.new.self
-          above x.some;
+      some = some_above g.met.K.Ord.total _ _ _ above x.some;
       each = returns-in_err-join_at-clause-each g c x.each y.each;
     }
 
@@ -160,8 +149,7 @@ pub returns-clause-stays_sound : goal.returns-clause-stays_sound
 returns-clause-stays_sound g c = λ x y. record {
   ordered = rw c.self.view_is at c.self.invariant.0;
   within = rw c.self.view_is at c.self.invariant.1;
-  some = some_above g.met.K.Ord.total g.V.Join.joined c.args.self.now c.loop-key.self
-      c.loop-key.invariant.above_old x.some;
+  some = some_above g.met.K.Ord.total _ _ _ c.loop-key.invariant.above_old x.some;
   each = returns-clause-each g c x.each y.each;
 }
 
@@ -171,21 +159,19 @@ returns-in_err-join_at-clause-stops g c =
     let order = g.met.K.Ord.total in
     let same = g.met.K.MapKey.same_where_equal in
     let inner = g.met.V.Join.join_laws in
-    let join = map_join cmp g.V.Join.joined in
+    let join = map_join cmp _ in
     let es = c.loop-key.self in
     let p : g.row.K.Denot × g.row.V.Denot = (c.in-Some.key.now, c.in-Some.value.now) in
     let rest = c.next.new.self in
     let so_far = c.loop-key.invariant.before in
     let done = c.loop-key.invariant.done in
     let parts = ap (λ l. so_far ++ l) (sym c.in-Some.ensures.steps) ∙ c.loop-key.invariant.parts in
-    let whole : IsOrdered cmp (so_far ++ p ∷ rest) =
-    subst (IsOrdered cmp) (sym parts) c.iter-key-items.ensures.ordered in
-    let start : IsOrdered cmp c.args.self.now =
-    ordered_under order g.V.Join.joined c.args.self.now es c.loop-key.invariant.above_old
-    c.join_at.ensures.ordered in
-    let past : value_at cmp es p.0 ≡ value_at cmp c.args.self.now p.0 =
-    ap (λ m. value_at cmp m p.0) done
-    ∙ value_past order same inner c.args.self.now so_far p rest start whole in
+    let whole : IsOrdered cmp (so_far ++ p ∷ rest) = subst (IsOrdered cmp) (sym parts)
+    c.iter-key-items.ensures.ordered in
+    let start : IsOrdered cmp c.args.self.now = ordered_under order _ _ es
+    c.loop-key.invariant.above_old c.join_at.ensures.ordered in
+    let past : value_at cmp es p.0 ≡ value_at cmp c.args.self.now p.0 = ap (λ m. value_at cmp m p.0)
+    done ∙ value_past order same inner _ so_far p rest start whole in
     let was = c.in_err-join_at.was in
     let refused = err_from_is_err_and c.from_residual.result c.from_residual.ensures.1 in
     rw (refused.1, refused.2) (record {
@@ -194,16 +180,12 @@ returns-in_err-join_at-clause-stops g c =
       after = rest;
       parts = sym parts;
       above = subst (λ m. IsBelow join m c.join_at.new.self) done c.join_at.ensures.above_old;
-      below = subst (IsBelow join c.join_at.new.self)
-          (ap (λ m. join m (p ∷ [])) done
-          ∙ join_more order same inner c.args.self.now so_far p rest whole)
-          c.join_at.ensures.below_join;
-      new_unchanged =
-          λ n. c.in_err-join_at.ensures.new_unchanged (subst IsNone (sym past) n) ∙ done;
-      new_full = λ n.
-          let new = subst IsNone (sym past) n in
+      below = subst (IsBelow join c.join_at.new.self) (ap (λ m. join m (p ∷ [])) done ∙ join_more
+          order same inner c.args.self.now so_far p rest whole) c.join_at.ensures.below_join;
+      new_unchanged = λ n. c.in_err-join_at.ensures.new_unchanged (rw past n) ∙ done;
+      new_full = λ n. let new = subst IsNone (sym past) n in
           let unchanged = c.in_err-join_at.ensures.new_unchanged new in
-          rw unchanged (error_iff c.join_at.result _ _ _ was (c.join_at.ensures.new_full new));
+          rw unchanged (error_iff _ _ _ _ was (c.join_at.ensures.new_full new));
       held_full = λ v f q. c.join_at.ensures.held_full v (past ∙ f) (was ∙ ap Err q);
       held_memory = λ v f q. c.join_at.ensures.held_memory v (past ∙ f) (was ∙ ap Err q);
     })
@@ -220,8 +202,7 @@ returns-in_err-join_at-clause-memory g c =
     c.iter-key-items.ensures.ordered in
     let start : IsOrdered cmp c.args.self.now = ordered_under order g.V.Join.joined c.args.self.now
     c.loop-key.self c.loop-key.invariant.above_old c.join_at.ensures.ordered in
-    let past : value_at cmp c.loop-key.self p.0 ≡ value_at cmp c.args.self.now p.0 = ap
-    (λ m. value_at cmp m p.0) c.loop-key.invariant.done ∙ value_past order
+    let past = ap (λ m. value_at cmp m p.0) c.loop-key.invariant.done ∙ value_past order
     g.met.K.MapKey.same_where_equal g.met.V.Join.join_laws c.args.self.now so_far p rest start whole
     in
     let found : value_at cmp c.args.other.now p.0 ≡ Some p.1 = ap (λ l. value_at cmp l p.0)
