@@ -92,11 +92,7 @@ impl<C: FolderCalls + Drop> DiskNewFolder<C> {
     {
         // The folder that it is in is opened first, so that later it only needs to be synced.
         let parent = self.calls.open_parent(self.names.out.as_str())?;
-        let beside = make_folder(
-            &mut self.calls,
-            self.names.out.as_str(),
-            &self.names.beside,
-        )?;
+        let beside = make_folder(&mut self.calls, self.names.out.as_str(), &self.names.beside)?;
         self.parent = Some(parent);
         self.beside = Some(beside);
         self.is_broken = false;
