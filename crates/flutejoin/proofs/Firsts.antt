@@ -1,17 +1,15 @@
 -- Lists read place by place, and the first input that has something.
-use Rattle.std.proofs.lemmas.Grind.{common_steps}
 use Rattle.std.proofs.Common.{rules}
 use Rattle.std.proofs.Common.{◌≡◌, ℕ, zero, suc, ◌+◌, ◌<◌, List, [], ◌∷◌}
-use Rattle.std.proofs.Common.{◌++◌, length, take, drop, Some, refl, sym, ap, arith}
+use Rattle.std.proofs.Common.{◌++◌, length, take, drop, Some, refl, ap, arith}
 use Rattle.std.specs.Prelude.{slice_get}
 use Rattle.std.specs.List.{AllByRecursion}
-use Rattle.std.proofs.lemmas.List.{length-take-le}
 use Rattle.std.proofs.lemmas.Option.{slice_get_within}
 use Rattle.flutejoin.specs.JoinFaults.{FirstInput}
 
 split_at : {X : Type 0} (xs : List X) (k : ℕ) (x : X) → slice_get xs k ≡ Some x
     → xs ≡ take k xs ++ x ∷ drop (suc k) xs
-split_at [] k x e = let within = slice_get_within [] k x e in absurd (omega (arith, within))
+split_at [] k x e = let within = slice_get_within [] k x e in absurd (omega arith)
 split_at (y ∷ ys) zero x e = cc
 split_at (y ∷ ys) (suc k) x e = ap (λ zs. y ∷ zs) (split_at ys k x e)
 
@@ -22,19 +20,19 @@ taken_many xs k x e = search (rules, slice_get_within)
 -- a list has an element at each number below its length
 pub at_place : {X : Type 0} (xs : List X) (k : ℕ) → k < length xs
     → (x : X) × (slice_get xs k ≡ Some x)
-at_place [] k within = absurd (omega (arith, within))
-at_place (x ∷ xs) zero within = (x, refl)
-at_place (x ∷ xs) (suc k) within = at_place xs k (omega (arith, within))
+at_place [] k within = absurd (omega arith)
+at_place (x ∷ xs) zero _ = (x, refl)
+at_place (x ∷ xs) (suc k) within = at_place xs k (omega arith)
 
 -- what holds at each place before this one
 pub all_before : {X : Type 0} (P : X → Type 0) (k : ℕ) (xs : List X) →
     ((j : ℕ) (x : X) → j < k → slice_get xs j ≡ Some x → P x) → AllByRecursion P (take k xs)
-all_before P zero xs each = tt
-all_before P (suc k) [] each = tt
+all_before P zero xs _ = tt
+all_before P (suc k) [] _ = tt
 all_before P (suc k) (x ∷ xs) each = (
   each 0 x (omega arith) refl,
   all_before P k xs
-      (λ j y below e. each (suc j) y (omega (arith, below)) e),
+      (λ j y below e. each (suc j) y (omega arith) e),
 )
 
 -- the input at a place is the first with P, where all before it have Q
@@ -45,8 +43,8 @@ first_at Q P inputs k bytes e all one = record {
   before = take k inputs;
   bytes = bytes;
   after = drop (suc k) inputs;
-  split = split_at inputs k bytes e;
-  number_is = ap (λ n. n + 1) (sym (taken_many inputs k bytes e));
+  split = split_at _ k _ e;
+  number_is = cc (taken_many _ k _ e);
   earlier = all;
   here = one;
 }
@@ -58,8 +56,8 @@ first_after bytes one first = record {
   before = bytes ∷ first.before;
   bytes = first.bytes;
   after = first.after;
-  split = ap (λ l. bytes ∷ l) first.split;
-  number_is = omega (arith, first.number_is);
+  split = cc;
+  number_is = omega arith;
   earlier = (one, first.earlier);
   here = first.here;
 }

@@ -1,15 +1,13 @@
 -- forget: the journal without the entries that are taken out (specs/Forget).
-use Rattle.std.proofs.lemmas.Grind.{common_steps}
 use Rattle.std.proofs.Common.{rules}
-use Rattle.std.proofs.Common.{◌≡◌, ℕ, ◌+◌, ◌<◌, ◌^◌, Bool, true, false, List}
-use Rattle.std.proofs.Common.{arith, Option, Some, None, refl, ap, ◌∙◌, subst}
+use Rattle.std.proofs.Common.{◌≡◌, ℕ, ◌+◌, ◌<◌, ◌^◌, Bool, List}
+use Rattle.std.proofs.Common.{arith, Option, Some, None, refl}
 use Rattle.std.specs.Prelude.{IfSome, not}
 use Rattle.std.specs.List.{count_by}
 use Rattle.std.proofs.lemmas.List.Sums.{count_by-le-length}
 use Rattle.flute_parts.specs.declared.fact.Fact.{Fact}
 use Rattle.flute_streams.specs.ChosenStreams.{chosen_behaviour, others_of}
 use Rattle.flute_journal.specs.Journal.{IsJournalWithin}
-use Rattle.flute_journal.specs.JournalWriters.{WritesJournal}
 use Rattle.flute_streams.specs.OneStream.{WritesAll, WritesPart}
 use Rattle.flute_streams.specs.OwnedStreams.{left_in, owned_behaviour, owned_limit}
 use Rattle.flute_streams.specs.Selections.{left, leaves, leaves_out}
@@ -21,7 +19,7 @@ use Rattle.flute_streams.specs.declared.streams.chosen.Chosen.{Chosen}
 use Rattle.flute_streams.specs.declared.streams.owned_journal_stream.OwnedJournalStream.{OwnedJournalStream}
 
 not_not : (b : Bool) → not (not b) ≡ b
-not_not x0 = search rules
+not_not = search rules
 
 -- what is not left is selected
 not_left : (p : Fact → Bool) (facts : List Fact)
@@ -39,13 +37,13 @@ module _ {R : Type 0} (unread : R → Option (List ℕ)) (buffered : R → List 
         (leaves s.choice) all < 2 ^ 64 → t.others ≡ s.others + others_of (leaves s.choice) all)
         → IfSome input (λ bytes. IsJournalWithin (owned_limit s.stream) bytes all) → IfSome input
         (IsForgetful s.choice t.others all)
-    journal_of None all none counts is = tt
+    journal_of None _ _ _ is = tt
     journal_of (Some bytes) all none counts is =
         let within : IsJournalWithin MAX_ENTRIES bytes all = search rules in
         let few = count_by-le-length (λ f. not (leaves s.choice f)) all in
         let same = not_left (leaves_out s.choice) all in
-        let count = counts (omega (arith, none, few, within.are_items.few)) in
-        (within, omega (arith, count, none, same))
+        let count = counts (omega arith) in
+        (within, omega arith)
 
   module _ {s : Chosen (OwnedJournalStream R) AllBut}
       (limit : owned_limit s.stream ≡ MAX_ENTRIES) {old new : Option (List ℕ)} where
@@ -53,7 +51,7 @@ module _ {R : Type 0} (unread : R → Option (List ℕ)) (buffered : R → List 
         → WritesAll rests s t old new count
         → Forgets s.choice (record { forgotten = t.others; entries = count })
         (left_in unread buffered s.stream) old new
-    forgets {t = t} {count = count} none w = search (rules, journal_of)
+    forgets {t} {count} none w = search (rules, journal_of)
 
     pub forgets_part : WritesPart rests s old new
         → ForgetsPart s.choice (left_in unread buffered s.stream) old new
@@ -65,7 +63,7 @@ module _ {R : Type 0} (unread : R → Option (List ℕ)) (buffered : R → List 
         entries,
         record {
           version = within.are_items.told;
-          bytes_are = is ∙ ap Some within.bytes_are;
+          bytes_are = cc;
           valid = within.are_items.valid;
           rising = within.are_items.in_order;
         },

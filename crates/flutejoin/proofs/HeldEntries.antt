@@ -18,20 +18,19 @@ use Rattle.flute_journal.specs.declared.readers.reader_state.ReaderState.{Reader
 -- what was read up to the end of the entry that is held is read once that is let go of
 pub let_go_after : (input u v : Option (List ℕ)) (held bytes : List ℕ) → Consumes u v held
     → Consumes input (left_behind held u) bytes → Consumes input v bytes
-let_go_after x0 x1 x2 x3 x4 x5 x6 = grind (arith, common_steps)
+let_go_after = grind (arith, common_steps)
 
 pub let_go_given : {limit : ℕ} {from to : ReaderState Before} {w : Option (List ℕ)} {f : Fact}
-    (u v : Option (List ℕ)) (held : List ℕ) → Consumes u v held
-    → GivesItem journal_framing limit from to w (left_behind held u) f
-    → GivesItem journal_framing limit from to w v f
-let_go_given {w = w} u v held taken g = record {
+    (u v : Option (List ℕ)) (held : List ℕ) → Consumes u v held → GivesItem journal_framing limit
+    from to w (left_behind held u) f → GivesItem journal_framing limit from to w v f
+let_go_given {w} u v held taken g = record {
   told = g.told;
   open_before = g.open_before;
   valid = g.valid;
   in_order = g.in_order;
   within = g.within;
   goes_on = g.goes_on;
-  bytes = let_go_after w u v held _ taken g.bytes;
+  bytes = let_go_after w u v _ _ taken g.bytes;
 }
 
 -- ---- what is lent of the entry that is held
@@ -39,10 +38,10 @@ let_go_given {w = w} u v held taken g = record {
 module _ {r : Option FactRef} {b buffer : List ℕ} (e : HeldEntry)
     (lent : fact_in r ≡ fact_held b e) (of_buffer : b ≡ buffer) where
   pub one_held : {fact : FactRef} → r ≡ Some fact → fact_held buffer e ≡ Some (fact_of fact)
-  one_held is = sym (ap (λ x. fact_held x e) of_buffer) ∙ sym lent ∙ ap fact_in is
+  one_held is = sym (cc) ∙ sym lent ∙ ap fact_in is
 
   pub none_held : r ≡ None → fact_held buffer e ≡ None
-  none_held is = sym (ap (λ x. fact_held x e) of_buffer) ∙ sym lent ∙ ap fact_in is
+  none_held is = sym (cc) ∙ sym lent ∙ ap fact_in is
 
 -- the address that is lent is that of the fact
 pub address_held : (held : Option Fact) {r : Option (Bor Address)} {place : Bor Address}
@@ -54,4 +53,4 @@ address_held None lent is = absurd cc
 pub none_addressed : (held : Option Fact) {r : Option (Bor Address)}
     → option_copied r ≡ address_of held → r ≡ None → held ≡ None
 none_addressed (Some f) lent is = absurd cc
-none_addressed None lent is = refl
+none_addressed None _ is = refl

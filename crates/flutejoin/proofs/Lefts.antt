@@ -1,19 +1,17 @@
 -- forget: nothing is taken out of a journal, or the same is taken out again (specs/Laws).
-use Rattle.std.proofs.lemmas.Grind.{common_steps}
 use Rattle.std.proofs.Common.{rules}
 use Rattle.std.proofs.Common.{◌≡◌, ℕ, suc, Bool, List, [], ◌∷◌, length}
-use Rattle.std.proofs.Common.{arith, refl, sym, ap, ◌∙◌, subst, inl, inr}
+use Rattle.std.proofs.Common.{arith, refl, sym, ap, ◌∙◌, inl, inr}
 use Rattle.std.specs.Prelude.{not, filter}
 use Rattle.std.proofs.lemmas.Bool.{cases_Bool}
 use Rattle.std.proofs.lemmas.List.{append_cancel_left}
 use Rattle.std.proofs.lemmas.List.Sums.{length-filter}
-use Rattle.flute_parts.specs.Addresses.{address}
-use Rattle.flute_parts.specs.Facts.{IsRising, Same, StandAfter}
+use Rattle.flute_parts.specs.Facts.{IsRising, StandAfter}
 use Rattle.flute_parts.specs.declared.address.Address.{Address}
 use Rattle.flute_parts.specs.declared.fact.Fact.{Fact}
 use Rattle.flute_parts.proofs.Public.{rising_unique}
 use Rattle.flute_journal.specs.Journal.{IsJournalWithin, Journal}
-use Rattle.flute_streams.specs.Selections.{left, leaves, leaves_out, left_out_in}
+use Rattle.flute_streams.specs.Selections.{left, leaves_out, left_out_in}
 use Rattle.flute_journal.specs.declared.format.version.Version.TheVariants.{Two}
 use Rattle.flute_streams.specs.declared.choice.selection.AllBut.{AllBut}
 use Rattle.flutejoin.specs.Laws.{Leaves}
@@ -35,7 +33,7 @@ none_left : (p : Fact → Bool) (facts : List Fact) → length (filter p facts) 
     → filter (λ f. not (p f)) facts ≡ facts
 none_left p [] e = refl
 none_left p (f ∷ facts) e = elim (cases_Bool (p f)) [
-  | inl t ↦ absurd (let h : suc (length (filter p facts)) ≡ 0 = rw t at e in omega (arith, h))
+  | inl t ↦ absurd (let h : suc (length (filter p facts)) ≡ 0 = rw t at e in omega arith)
   | inr t ↦ rw t (ap (λ l. f ∷ l) (none_left p facts (rw t at e)))
 ]
 
@@ -45,7 +43,7 @@ none_selected p [] = refl
 none_selected p (f ∷ facts) = search (rules, none_selected p facts)
 
 left_of_none : (s : AllBut) (facts : List Fact) → left_out_in s facts ≡ 0 → left s facts ≡ facts
-left_of_none s facts none = none_left (leaves_out s) facts (length-filter (leaves_out s) facts ∙ none)
+left_of_none s facts none = none_left _ _ (length-filter (leaves_out s) facts ∙ none)
 
 none_in_left : (s : AllBut) (facts : List Fact) → left_out_in s (left s facts) ≡ 0
 none_in_left s facts =
@@ -64,8 +62,8 @@ module _ (s : AllBut) (bytes written : List ℕ) (counts : ForgetCounts)
 
   pub journal_left : Journal written (left s entries_of)
   journal_left =
-      let is : written ≡ h.1.writes.bytes = append_cancel_left h.0 written h.1.writes.bytes
-      h.1.writes.appended in subst (λ l. Journal l (left s entries_of)) (sym is) h.1.writes.journal
+      let is = append_cancel_left h.0 written h.1.writes.bytes
+      h.1.writes.appended in rw (← is) at h.1.writes.journal
 
 -- with nothing to forget the journal is the same
 pub none_forgotten : (s : AllBut) (bytes written : List ℕ) (counts : ForgetCounts)
@@ -73,12 +71,9 @@ pub none_forgotten : (s : AllBut) (bytes written : List ℕ) (counts : ForgetCou
     → Journal bytes facts → written ≡ bytes
 none_forgotten s bytes written counts facts h none journal =
     let E = entries_of s bytes written counts h in
-    let all : left s E ≡ E = left_of_none s E (sym (count_of s bytes written counts h) ∙ none) in
-    let same : Same E facts = Same-from_journals bytes E facts
-    (IsJournal-from_within bytes E (within_of s bytes written counts h)) (Two, journal) in
-    Journal-only written bytes E facts same
-    (subst (λ (l : List Fact). Journal written l) all (journal_left s bytes written counts h))
-    journal
+    let all = left_of_none s E (cc) in
+    let same = Same-from_journals _ E _ (IsJournal-from_within _ E (within_of s _ _ _ h))
+    (Two, journal) in Journal-only _ _ E _ same (rw (← all) (journal_left s _ _ _ h)) journal
 
 -- what is left is left again
 pub forgotten_twice : (s : AllBut) (bytes once twice : List ℕ) (counts again : ForgetCounts) →
@@ -86,11 +81,10 @@ pub forgotten_twice : (s : AllBut) (bytes once twice : List ℕ) (counts again :
 forgotten_twice s bytes once twice counts again h k =
     let E = entries_of s bytes once counts h in
     let F = entries_of s once twice again k in
-    let within = within_of s once twice again k in
-    let journal = journal_left s bytes once counts h in
-    let same : Same F (left s E) = Same-from_journals once F (left s E)
-    (IsJournal-from_within once F within) (Two, journal) in
-    let one : F ≡ left s E = rising_unique F (left s E) within.are_items.in_order
-    (rising_left (leaves s) E (within_of s bytes once counts h).are_items.in_order) same in
-    let none : again.forgotten ≡ 0 = count_of s once twice again k ∙ ap (left_out_in s) one ∙
-    none_in_left s E in (none, none_forgotten s once twice again (left s E) k none journal)
+    let within = within_of s _ _ _ k in
+    let journal = journal_left s _ _ _ h in
+    let same = Same-from_journals _ F _ (IsJournal-from_within _ F within) (Two, journal) in
+    let one = rising_unique F _ within.are_items.in_order
+    (rising_left _ E (within_of s _ _ _ h).are_items.in_order) same in
+    let none = count_of s _ _ _ k ∙ ap (left_out_in s) one ∙ none_in_left s E in
+    (none, none_forgotten s _ _ _ _ k none journal)

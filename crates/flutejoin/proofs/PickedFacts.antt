@@ -1,7 +1,7 @@
 -- The entries that are picked, entry by entry.
 use Rattle.std.proofs.Common.{rules}
 use Rattle.std.proofs.Common.{◌≡◌, ◌≤◌, Bool, true, false, List, [], ◌∷◌, ◌++◌, length}
-use Rattle.std.proofs.Common.{refl, sym, ap, ◌∙◌, subst, append-nil}
+use Rattle.std.proofs.Common.{refl, ap, ◌∙◌, append-nil}
 use Rattle.std.specs.Prelude.{filter}
 use Rattle.std.proofs.lemmas.Bool.{cases_Bool}
 use Rattle.std.proofs.lemmas.List.Elements.{filter-append}
@@ -21,8 +21,7 @@ module _ (picks : Fact → Bool) where
   rising_picked (f ∷ facts) r = search (rules, cases_Bool, after_picked, rising_picked facts r.1)
 
   pub few_picked : (F : List Fact) → length (filter picks F) ≤ length F
-  few_picked F = subst (λ n. n ≤ length F) (sym (length-filter picks F))
-      (count_by-le-length picks F)
+  few_picked F = rw ((length-filter _ F)) (count_by-le-length _ F)
 
   module _ (f : Fact) where
     pub just_picked : picks f ≡ true → filter picks (f ∷ []) ≡ f ∷ []
@@ -30,14 +29,13 @@ module _ (picks : Fact → Bool) where
 
     module _ (F : List Fact) where
       pub one_picked : picks f ≡ true → filter picks (F ++ f ∷ []) ≡ filter picks F ++ f ∷ []
-      one_picked e = filter-append picks F (f ∷ []) ∙ ap (λ l. filter picks F ++ l) (just_picked e)
+      one_picked e = filter-append _ F _ ∙ ap (λ l. filter picks F ++ l) (just_picked e)
 
       pub none_picked : picks f ≡ false → filter picks (F ++ f ∷ []) ≡ filter picks F
       none_picked e =
           let none : filter picks (f ∷ []) ≡ [] = rw e refl in
-          filter-append picks F (f ∷ []) ∙ ap (λ l. filter picks F ++ l) none
-          ∙ append-nil (filter picks F)
+          filter-append _ F _ ∙ ap (λ l. filter picks F ++ l) none ∙ append-nil (filter picks F)
 
       pub picked_rises : picks f ≡ true → IsRising (F ++ f ∷ [])
           → IsRising (filter picks F ++ f ∷ [])
-      picked_rises e r = subst IsRising (one_picked e) (rising_picked (F ++ f ∷ []) r)
+      picked_rises e r = rw (← one_picked e) (rising_picked _ r)

@@ -1,10 +1,9 @@
 -- show: a journal whose entries are printed as they are read (specs/Show).
-use Rattle.std.proofs.lemmas.Grind.{common_steps}
 use Rattle.std.proofs.Common.{rules}
 use Rattle.std.proofs.Common.{◌≡◌, ℕ, ◌+◌, ◌≤◌, Bool, true, false, List, [], ◌∷◌, ◌++◌, length}
-use Rattle.std.proofs.Common.{Option, Some, None, Result, Ok, Err, ap, refl, sym, ◌∙◌, subst, arith}
+use Rattle.std.proofs.Common.{Option, Some, None, Result, Ok, Err, ap, refl, sym, subst, arith}
 use Rattle.std.specs.Prelude.{IfSome, IfErr, OnOk, filter}
-use Rattle.std.specs.Io.KnownBytes.{Appends, Consumes}
+use Rattle.std.specs.Io.KnownBytes.{Appends}
 use Rattle.std.proofs.KnownBytes.{Appends-nil, Appends-trans}
 use Rattle.std.proofs.lemmas.List.{length-append}
 use Rattle.std.proofs.lemmas.List.Elements.{filter-append}
@@ -20,7 +19,7 @@ use Rattle.flute_journal.specs.Input.{Fails, FailsIf}
 use Rattle.flute_journal.specs.Journal.{IsJournalWithin}
 use Rattle.flute_journal.specs.JournalFraming.{journal_framing}
 use Rattle.flute_journal.specs.Framing.{is_open, GivesItem, GivesEnd, GivesFault, Gives, Sofar}
-use Rattle.flute_journal.proofs.Public.{whole-at, open_after, read_some, side-from, journal_sound}
+use Rattle.flute_journal.proofs.Public.{whole-at, read_some, side-from, journal_sound}
 use Rattle.flute_journal.proofs.Public.{sofar-next, sofar-none, sofar-stops}
 use Rattle.flute_journal.specs.declared.format.version.Version.TheVariants.{Two}
 use Rattle.flute_journal.specs.declared.readers.reader_state.ReaderState.TheVariants.{Header}
@@ -38,8 +37,7 @@ use Rattle.flutejoin.proofs.PickedFacts.{few_picked, just_picked, none_picked, o
 pub whole : {u v w : Option (List ℕ)} {from to : ReaderState Before} {es : List Fact}
     → Sofar journal_framing MAX_ENTRIES u v from es → GivesEnd journal_framing from to v w
     → IfSome u (λ x. IsJournalWithin MAX_ENTRIES x es)
-whole {u = u} {w = w} {to = to} {es = es} h g =
-    whole-at journal_sound MAX_ENTRIES u w es (side-from journal_sound w to None h g)
+whole {u} {w} {to} {es} h g = whole-at journal_sound _ u w _ (side-from journal_sound w to None h g)
 
 -- these entries were read, and the lines of those that are picked written, and nothing else
 pub record Shown (style : ShowStyle) (picks : Fact → Bool) (first now : Option (List ℕ)) (state : ReaderState Before)
@@ -54,9 +52,9 @@ pub none_shown : (style : ShowStyle) (picks : Fact → Bool) (u : Option (List �
     → state ≡ Header → Shown style picks u v state written written 0
 none_shown style picks u written same new = record {
   entries = [];
-  sofar = rw (same, new) (sofar-none journal_sound Two MAX_ENTRIES u);
+  sofar = rw (same, new) (sofar-none journal_sound Two _ u);
   counted = refl;
-  written = Appends-nil written;
+  written = Appends-nil _;
 }
 
 lines_more : (style : ShowStyle) (picks : Fact → Bool) (es : List Fact) (f : Fact)
@@ -84,7 +82,7 @@ module _ {style : ShowStyle} {picks : Fact → Bool} {u v : Option (List ℕ)} {
         record {
           entries = h.entries ++ f ∷ [];
           sofar = sofar-next journal_sound h.sofar g;
-          counted = h.counted ∙ ap length same;
+          counted = cc;
           written = search rules;
         }
 
@@ -98,10 +96,9 @@ module _ {style : ShowStyle} {picks : Fact → Bool} {u v : Option (List ℕ)} {
       counted =
           let more = ap length (one_picked picks f h.entries chosen) in
           let all = length-append (filter picks h.entries) (f ∷ []) in
-          omega (arith, h.counted, more, all);
+          omega arith;
       written =
-          subst (λ (x : List ℕ). Appends s t' x) (lines_more style picks h.entries f)
-          (Appends-trans s t t' (entry_lines style (filter picks h.entries))
+          rw (← lines_more style picks h.entries f) (Appends-trans s t t' (entry_lines style (filter picks h.entries))
           (entry_lines style (filter picks (f ∷ []))) h.written
           (subst (λ (x : List ℕ). Appends t t' x) (sym (just_line picks f style chosen)) line));
     }
@@ -112,15 +109,13 @@ module _ {style : ShowStyle} {picks : Fact → Bool} {u v : Option (List ℕ)} {
     shown-part part =
         let all = sofar-next journal_sound h.sofar g in
         of_entries (h.entries ++ f ∷ []) all.are_items
-        (subst (Consumes u w) (read_some journal_framing all.are_items.told h.entries f) all.read)
-        (subst (λ (x : List ℕ). AppendsPart s t' x) (lines_more style picks h.entries f)
-        (AppendsPart-second s t t' (entry_lines style (filter picks h.entries))
-        (entry_lines style (filter picks (f ∷ []))) h.written part))
+        (rw (← read_some journal_framing all.are_items.told h.entries f) all.read)
+        (rw (← lines_more style picks h.entries f) (AppendsPart-second s t _ _ _ h.written part))
 
   -- A fault after the entries.
   pub shown-fault : {w : Option (List ℕ)} {to : ReaderState Before} {f : ReadFault}
       → GivesFault journal_framing MAX_ENTRIES from to v w f → ShowsUntil style picks u w s t f
-  shown-fault {w = w} {to = to} {f = f} g = record {
+  shown-fault g = record {
     entries = h.entries;
     are_items = h.sofar.are_items;
     stops = (sofar-stops h.sofar g).0;
@@ -135,23 +130,21 @@ module _ {style : ShowStyle} {picks : Fact → Bool} {u v : Option (List ℕ)} {
         record {
           entries = h.entries;
           journal = whole h.sofar g;
-          written = Appends-trans s t t' (entry_lines style chosen) (number_line style.form (length chosen))
-              h.written (subst (λ n. Appends t t' (number_line style.form n)) h.counted line);
+          written = Appends-trans s t _ _ _ h.written (rw (← h.counted) line);
         }
 
     pub shown-cut : AppendsPart t t' (number_line style.form count) → ShowsPart style picks u w s t'
     shown-cut part =
         let chosen = filter picks h.entries in
         of_journal h.entries (whole h.sofar g)
-        (AppendsPart-second s t t' (entry_lines style chosen) (number_line style.form (length chosen)) h.written
-        (subst (λ n. AppendsPart t t' (number_line style.form n)) h.counted part))
+        (AppendsPart-second s t _ _ _ h.written (rw (← h.counted) part))
 
 -- What a call of the reader gave, and a write did.
 
 pub entry_given : {limit : ℕ} (from to : ReaderState Before) (v w : Option (List ℕ))
     {r : Result (Option Fact) ReadFault} {f : Fact} → Gives journal_framing limit from to v w r →
     limit ≡ MAX_ENTRIES → r ≡ Ok (Some f) → GivesItem journal_framing MAX_ENTRIES from to v w f
-entry_given {limit = limit} from to v w {f = f} h l e = search rules
+entry_given {limit} from to v w {f} h l e = search rules
 
 pub end_given : (limit : ℕ) (from to : ReaderState Before) (v w : Option (List ℕ))
     {r : Result (Option Fact) ReadFault} → Gives journal_framing limit from to v w r → r ≡ Ok None →
@@ -161,11 +154,11 @@ end_given limit from to v w h e = search rules
 pub fault_given : {limit : ℕ} (from to : ReaderState Before) (v w : Option (List ℕ))
     {r : Result (Option Fact) ReadFault} {f : ReadFault} → Gives journal_framing limit from to v w r
     → limit ≡ MAX_ENTRIES → r ≡ Err f → GivesFault journal_framing MAX_ENTRIES from to v w f
-fault_given {limit = limit} from to v w {f = f} h l e = search rules
+fault_given {limit} from to v w {f} h l e = search rules
 
 pub no_read_failure : (r : Result (Option Fact) ReadFault) {o : Option Fact} (b : Bool)
     {n m k : ℕ} → r ≡ Ok o → FailsIf b m n r → m ≡ k → n ≡ k
-no_read_failure x0 x1 x2 x3 x4 = search rules
+no_read_failure = search rules
 
 pub fails_same : (T X : Type 0) (f : ReadFault) (n m : ℕ) → Fails {T = T} n m (Err f)
     → Fails {T = X} n m (Err f)
@@ -177,8 +170,7 @@ pub read_failures : (T : Type 0) {u v : Option (List ℕ)} {state : ReaderState 
     {es : List Fact} {r : Result (Option Fact) ReadFault} {f : ReadFault} (number n : ℕ)
     {m k : ℕ} → Sofar journal_framing MAX_ENTRIES u v state es → r ≡ Err f
     → FailsIf (is_open state) m n r → m ≡ k → FailsToRead {T = T} k n (Err (Input number f))
-read_failures T {u = u} {v = v} {state = state} {es = es} {r = r} {f = f} number n
-    {m = m} h is fails e =
+read_failures T {u} {v} {state} {es} {r} {f} number n {m} h is fails e =
     let P : Bool → Type 0 = λ b. FailsIf b m n r in
     let now : Fails m n r = search rules in
     let Q : Result (Option Fact) ReadFault → Type 0 = λ x. Fails m n x in
@@ -188,7 +180,7 @@ read_failures T {u = u} {v = v} {state = state} {es = es} {r = r} {f = f} number
 -- The last line: the count.
 
 pub if_done : {A B : Type 0} (r : Result (Unit {0}) CommandFault) → (A → B) → OnOk r A → OnOk r B
-if_done x0 x1 x2 = search rules
+if_done = search rules
 
 module _ {A : Type 0} (style : ShowStyle) (picks : Fact → Bool) where
   pub cut_short : (u v s t : Option (List ℕ)) (r : Result (Unit {0}) CommandFault)
@@ -200,4 +192,4 @@ module _ {A : Type 0} (style : ShowStyle) (picks : Fact → Bool) where
 
 pub only_written : (A : Type 0) (old new : ℕ) (r : Result (Unit {0}) CommandFault)
     → IfErr r (FailsToWrite A) → new ≡ old → FailsToRead old new r
-only_written x0 x1 x2 x3 x4 x5 = search rules
+only_written = search rules

@@ -1,5 +1,5 @@
 -- minus: a part that was written is one of the journal of what is missing (specs/Minus).
-use Rattle.std.proofs.Common.{◌≡◌, ℕ, List, Option, Some, refl, ap, ◌∙◌, subst, sym}
+use Rattle.std.proofs.Common.{◌≡◌, ℕ, List, Option, Some, refl}
 use Rattle.flute_parts.specs.declared.fact.Fact.{Fact}
 use Rattle.flute_journal.specs.Journal.{IsJournalWithin}
 use Rattle.flute_streams.specs.JournalStreams.{IsJournalOfAll}
@@ -14,9 +14,9 @@ use Rattle.flutejoin.specs.declared.limits.TheConstants.{MAX_ENTRIES}
 
 known : (input : Option (List ℕ)) (bytes : List ℕ) (facts : List Fact) → input ≡ Some bytes
     → IsJournalWithin MAX_ENTRIES bytes facts → IsJournalOfAll input facts
-known input bytes facts is within = record {
+known _ _ _ is within = record {
   version = within.are_items.told;
-  bytes_are = is ∙ ap Some within.bytes_are;
+  bytes_are = cc;
   valid = within.are_items.valid;
   rising = within.are_items.in_order;
 }
@@ -35,8 +35,8 @@ module _ {A B : Type 0} (ua : A → Option (List ℕ)) (ba : A → List ℕ) (fa
     prefix = λ xs ys whole F G is other j k. w.prefix (minus F G) (record {
       all = F;
       others = G;
-      first = subst (λ x. IsJournalOfAll x F) (sym one) (known first xs F is j);
-      second = subst (λ x. IsJournalOfAll x G) (sym two) (known second ys G other k);
+      first = rw one (known _ _ F is j);
+      second = rw two (known _ _ G other k);
       left = refl;
     }) whole;
   }

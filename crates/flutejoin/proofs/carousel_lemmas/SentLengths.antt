@@ -1,16 +1,13 @@
 -- carousel: if one packet of an object can be written, all can.
 use Rattle.std.proofs.lemmas.Grind.{common_steps}
 use Rattle.std.proofs.Common.{rules}
-use Rattle.std.proofs.Common.{◌≡◌, ℕ, zero, suc, ◌+◌, ◌-◌, ◌*◌, ◌^◌, ◌<◌, ◌≤◌, min, max, inl}
-use Rattle.std.proofs.Common.{inr, List, [], ◌∷◌, ◌++◌, length, take, drop, Bool, true, false, cond}
-use Rattle.std.proofs.Common.{leb, ltb, Option, Some, None, refl, sym, ap, subst, ◌∙◌, arith}
-use Rattle.std.proofs.Common.{length-append, length-take, length-drop}
+use Rattle.std.proofs.Common.{◌≡◌, ℕ, zero, suc, ◌+◌, ◌-◌, ◌*◌, ◌<◌, ◌≤◌, min, max, inl}
+use Rattle.std.proofs.Common.{inr, List, [], ◌∷◌, length, take, Bool, false, cond}
+use Rattle.std.proofs.Common.{Option, Some, None, refl, ap, ◌∙◌, arith}
 use Rattle.std.specs.Prelude.{slice_get}
 use Rattle.std.specs.Int.{div_ceil}
-use Rattle.std.specs.Option.{option_map, option_or}
-use Rattle.std.proofs.Math.Nat.{eq-zero-or-pos, mul-le-mul_right}
-use Rattle.std.proofs.lemmas.Bool.{le-ltb, ltb-false}
-use Rattle.std.proofs.lemmas.Bool.Decides.{nat_tests}
+use Rattle.std.specs.Option.{option_or}
+use Rattle.std.proofs.Math.Nat.{eq-zero-or-pos}
 use Rattle.std.proofs.lemmas.Grind.{div_ceil_times}
 use Rattle.std.proofs.lemmas.Option.{slice_get_within, slice_get_cases, slice_get-get_or, same_Some}
 use Rattle.flute_parts.specs.Information.{Information, IsValid}
@@ -20,12 +17,12 @@ use Rattle.flute_parts.specs.declared.symbol_id.SymbolId.{SymbolId}
 use Rattle.flute_parts.proofs.Public.{ids_counted}
 use Rattle.flute_wire.specs.Carousel.{piece, packets_of, first_object_fault}
 use Rattle.flute_wire.specs.Content.{Content}
-use Rattle.flute_wire.specs.Writing.{packet_at, spelling, fdt_bytes, fti_bytes, symbol_bytes}
-use Rattle.flute_wire.specs.Writing.{has_no_byte, write_fault}
+use Rattle.flute_wire.specs.Writing.{packet_at}
+use Rattle.flute_wire.specs.Writing.{write_fault}
 use Rattle.flute_wire.specs.declared.writing.WriteFault.{WriteFault}
 use Rattle.flute_wire.specs.declared.writing.WriteFault.TheVariants.{Tsi, Toi, EmptySymbol, TooLong}
 use Rattle.flutejoin.specs.Sending.{packet_with}
-use Rattle.flutejoin.proofs.carousel_lemmas.SentPackets.{length-packets_of, no_symbol, or_none}
+use Rattle.flutejoin.proofs.carousel_lemmas.SentPackets.{length-packets_of, no_symbol}
 use Rattle.flutejoin.proofs.carousel_lemmas.SentPackets.{packet_there}
 
 abbrev chain : Bool → Bool → Bool → Bool → Option WriteFault
@@ -74,35 +71,28 @@ module _ (key : Key) (i : Information) (content : List ℕ) (valid : IsValid i)
 
   begins_within : (k : ℕ) → k < length (ids i) → k * i.symbol_length < i.transfer_length
   begins_within k h = elim (eq-zero-or-pos i.transfer_length) [
-    | inl z ↦ absurd (omega (arith, h, no_symbol i valid z))
+    | inl z ↦ absurd (omega (arith, no_symbol i valid z))
     | inr l ↦ below k (div_ceil i.transfer_length i.symbol_length) i.symbol_length
-        i.transfer_length (omega (arith, h, ids_counted i valid))
+        i.transfer_length (omega (arith, ids_counted i valid))
         (div_ceil_times i.transfer_length i.symbol_length (valid.parts l).symbol).1
   ]
 
   each_sent : write_fault (packet 0) ≡ None → (k : ℕ) → k < max (length (ids i)) 1
       → write_fault (packet k) ≡ None
   each_sent none k h = elim ((slice_get_cases (ids i) k).1) [
-    | inr past ↦ let first : k ≡ 0 = omega (arith, h, past.0) in subst
-        (λ (j : ℕ). write_fault (packet j) ≡ None) (sym first) none
+    | inr past ↦ let first : k ≡ 0 = omega arith in rw first none
     | inl there ↦ let id = there.0 in
-        let some : slice_get (ids i) 0 ≡ Some _ = slice_get-get_or (ids i) 0 id
-        (omega (arith, there.1)) in
+        let some : slice_get (ids i) 0 ≡ Some _ = slice_get-get_or (ids i) 0 id (omega arith) in
         let begins = begins_within k there.1 in
-        let size : 0 < i.symbol_length = (valid.parts (omega (arith, begins))).symbol in
-        let one = subst (λ (o : Option SymbolId). write_fault
-        (packet_at key (Some i) (option_map (λ d. (d, piece i content 0)) o)) ≡ None) some none
-        in
+        let size : 0 < i.symbol_length = (valid.parts (omega arith)).symbol in
+        let one = rw some at none in
         let fits : (0 < length (piece i content k)) ×
         (length (piece i content k) ≤ length (piece i content 0)) = (
           omega
-              (arith, length-piece i content k, begins, size, whole),
+              (arith, length-piece i content k),
           omega
               (arith, length-piece i content k, length-piece i content 0),
-        ) in subst (λ
-        (o : Option SymbolId). write_fault
-        (packet_at key (Some i) (option_map (λ d. (d, piece i content k)) o)) ≡ None)
-        (sym there.2)
+        ) in rw there.2
         (shorter key (Some i) id _ (piece i content k) (piece i content 0) fits one)
   ]
 
@@ -116,7 +106,7 @@ module _ (key : Key) (i : Information) (content : List ℕ) (valid : IsValid i)
       first : write_fault (packet 0) ≡ None
       first = first_of (packets_of key i content) place (packet place) (packet 0) before
           (packet_there key i content place valid within) h
-          (packet_there key i content 0 valid (omega (arith, within)))
+          (packet_there key i content 0 valid (omega arith))
 
       each : (k : ℕ) (c : Content) → slice_get (packets_of key i content) k ≡ Some c
           → write_fault c ≡ None
@@ -128,5 +118,5 @@ module _ (key : Key) (i : Information) (content : List ℕ) (valid : IsValid i)
             length-packets_of key i content valid,
           ) in
           let is : packet k ≡ c =
-          same_Some (packet k) c (sym (packet_there key i content k valid w) ∙ some) in
-          subst (λ e. write_fault e ≡ None) is (each_sent first k w)
+          same_Some (packet k) c (cc (packet_there key i content k valid w)) in
+          rw (← is) (each_sent first k w)

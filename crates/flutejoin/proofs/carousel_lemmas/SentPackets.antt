@@ -1,26 +1,22 @@
 -- carousel: the packets of an object, by their numbers (flute_wire: specs/Carousel).
-use Rattle.std.proofs.lemmas.Grind.{common_steps}
 use Rattle.std.proofs.Common.{rules}
-use Rattle.std.proofs.Common.{◌≡◌, ℕ, zero, suc, ◌+◌, ◌==◌, ◌<◌, ◌≤◌, max, min, inl, inr, List}
-use Rattle.std.proofs.Common.{[], ◌∷◌, ◌++◌, length, map, take, drop, Bool, true, false, cond}
-use Rattle.std.proofs.Common.{Option, Some, None, Result, Ok, Err, refl, sym, ap, subst, ◌∙◌, arith}
+use Rattle.std.proofs.Common.{◌≡◌, ℕ, zero, suc, ◌+◌, ◌<◌, ◌≤◌, max, min, inl, inr, List}
+use Rattle.std.proofs.Common.{[], ◌∷◌, ◌++◌, length, map, take, drop}
+use Rattle.std.proofs.Common.{Option, Some, None, Result, Ok, Err, refl, ap, ◌∙◌, arith}
 use Rattle.std.proofs.Common.{append-nil, length-append, take_at, drop_at, take_all}
 use Rattle.std.specs.Prelude.{slice_get, IfSome}
-use Rattle.std.specs.Int.{div_ceil}
 use Rattle.std.specs.Io.KnownBytes.{Consumes}
 use Rattle.std.specs.List.{AllZip, enumerate_from}
 use Rattle.std.specs.Option.{option_map, option_or}
 use Rattle.std.proofs.Math.ListN.{drop_of_length-le}
 use Rattle.std.proofs.Math.Nat.{eq-zero-or-pos}
 use Rattle.std.proofs.lemmas.Bool.{cases_lt}
-use Rattle.std.proofs.lemmas.Bool.Decides.{nat_tests}
 use Rattle.std.proofs.lemmas.List.{length-map, nil_from_length}
 use Rattle.std.proofs.lemmas.List.FromFn.{length-enumerate_from}
 use Rattle.std.proofs.lemmas.Option.{slice_get-map, slice_get_past}
 use Rattle.flute_parts.specs.Information.{Information, IsValid}
 use Rattle.flute_parts.specs.Partition.{ids}
 use Rattle.flute_parts.specs.declared.key.Key.{Key}
-use Rattle.flute_parts.specs.declared.symbol_id.SymbolId.{SymbolId}
 use Rattle.flute_parts.proofs.Public.{div_ceil-pos, div_ceil-zero, ids_counted}
 use Rattle.flute_wire.specs.Carousel.{piece, with_piece, symbols_of, payloads_of, packets_of}
 use Rattle.flute_wire.specs.Carousel.{first_object_fault}
@@ -29,7 +25,6 @@ use Rattle.flute_wire.specs.Writing.{packet_at, IsWritten, write_fault}
 use Rattle.flute_wire.specs.declared.writing.WriteFault.{WriteFault}
 use Rattle.flutejoin.specs.Sending.{packet_with, symbol_with, UnlessRead}
 use Rattle.flutejoin.specs.declared.command_fault.CommandFault.{CommandFault}
-use Rattle.flutejoin.specs.declared.command_fault.CommandFault.TheVariants.{Input}
 
 -- what was written has no fault
 pub no_fault : {T : Type 0} (r : Result T WriteFault) (d : T) (o : Option WriteFault)
@@ -41,26 +36,26 @@ pub taken : {u : Option (List ℕ)} (v : Option (List ℕ)) (bytes : List ℕ) {
     (size : ℕ) → u ≡ Some rest → length rest ≡ left → Consumes u v bytes → length bytes ≡ min left
     size → (bytes ≡ take size rest) × (v ≡ Some (drop size rest))
 taken v bytes {rest = rest} {left = left} size known whole read count =
-    of_rest v (subst (λ x. Consumes x v bytes) known read)
+    of_rest v (rw (← known) read)
   where
     of_rest : (v : Option (List ℕ)) → Consumes (Some rest) v bytes
         → (bytes ≡ take size rest) × (v ≡ Some (drop size rest))
     of_rest None r = absurd r
     of_rest (Some more) r =
-        let n : length rest ≡ length bytes + length more = ap length r ∙ length-append bytes more in
+        let n : length rest ≡ length bytes + length more = cc (length-append bytes more) in
         elim (cases_lt left size) [
           | inr enough ↦
-              let full : length bytes ≡ size = omega (arith, count, enough) in (
-                sym (ap (take size) r ∙ take_at bytes more size full),
-                ap (λ x. Some x) (sym (ap (drop size) r ∙ drop_at bytes more size full)),
+              let full : length bytes ≡ size = omega arith in (
+                cc (take_at bytes more size full),
+                cc (drop_at bytes more size full),
               )
           | inl few ↦
               let none : more ≡ [] =
-              nil_from_length more (omega (arith, n, whole, count, few)) in
-              let all : rest ≡ bytes = r ∙ ap (λ x. bytes ++ x) none ∙ append-nil bytes in
-              let short : length rest ≤ size = omega (arith, whole, few) in (
-                sym all ∙ sym (take_all size rest short),
-                ap (λ x. Some x) (none ∙ sym (drop_of_length-le rest short)),
+              nil_from_length more (omega arith) in
+              let all : rest ≡ bytes = cc (append-nil bytes) in
+              let short : length rest ≤ size = omega arith in (
+                cc (take_all size rest short),
+                cc (drop_of_length-le rest short),
               )
         ]
 
@@ -106,14 +101,14 @@ length-payloads_of : (i : Information) (content : List ℕ) → IsValid i
 length-payloads_of i content v = elim (eq-zero-or-pos i.transfer_length) [
   | inl z ↦ omega (arith, ap length (payloads_none i content z), no_symbol i v z)
   | inr l ↦ let is = ap length (payloads_some i content l) ∙ length-map (symbols_of i content)
-      (λ s. Some s) ∙ length-symbols_of i content in omega (arith, is, some_symbol i v l)
+      (λ s. Some s) ∙ length-symbols_of i content in omega (arith, some_symbol i v l)
 ]
 
 wrapped : {X : Type 0} (xs : List X) (k : ℕ) → k < length xs
     → option_map (λ s. Some s) (slice_get xs k) ≡ Some (slice_get xs k)
-wrapped [] k h = absurd (omega (arith, h))
+wrapped [] k h = absurd (omega arith)
 wrapped (x ∷ xs) zero h = refl
-wrapped (x ∷ xs) (suc k) h = wrapped xs k (omega (arith, h))
+wrapped (x ∷ xs) (suc k) h = wrapped xs k (omega arith)
 
 -- payload k and packet k of an object
 payload_there : (i : Information) (content : List ℕ) (k : ℕ) → IsValid i → k < max (length (ids i))

@@ -1,16 +1,13 @@
 -- send_symbols: how far an object was sent (specs/Sending).
 use Rattle.std.proofs.lemmas.Grind.{common_steps}
 use Rattle.std.proofs.Common.{rules}
-use Rattle.std.proofs.Common.{◌≡◌, ℕ, ◌+◌, ◌*◌, ◌==◌, ◌<◌, max, inl, inr, List, [], ◌∷◌}
-use Rattle.std.proofs.Common.{◌++◌, length, take, drop, Bool, true, false, cond, Option, Some, None}
-use Rattle.std.proofs.Common.{Err, refl, sym, ap, subst, ◌∙◌, arith}
-use Rattle.std.proofs.Common.{append-nil, length-append, take_all, drop-drop}
+use Rattle.std.proofs.Common.{◌≡◌, ℕ, ◌+◌, ◌*◌, ◌<◌, max, inl, inr, List, [], ◌∷◌}
+use Rattle.std.proofs.Common.{◌++◌, length, take, drop, Bool, true, false, Option, Some, None}
+use Rattle.std.proofs.Common.{Err, sym, ap, subst, ◌∙◌, arith}
+use Rattle.std.proofs.Common.{length-append, take_all, drop-drop}
 use Rattle.std.specs.Prelude.{◌⊎◌, flat_map}
-use Rattle.std.specs.Io.KnownBytes.{Appends, Consumes}
 use Rattle.std.specs.List.{AllZip, AllByRecursion}
 use Rattle.std.proofs.KnownBytes.{Appends-trans, Consumes-trans}
-use Rattle.std.proofs.lemmas.Bool.Decides.{nat_tests}
-use Rattle.std.proofs.lemmas.List.{flat_map_more}
 use Rattle.flute_parts.specs.Devices.{AppendsPart, times_failed}
 use Rattle.flute_parts.specs.Information.{Information, IsValid}
 use Rattle.flute_parts.specs.Partition.{ids}
@@ -38,18 +35,18 @@ use Rattle.flutejoin.proofs.carousel_lemmas.SentPackets.{take_one_more, both_mor
 
 file_more : (place : ℕ) (ds : List (List ℕ)) (d : List ℕ) → place ≡ length ds
     → file_up_to (ds ++ d ∷ []) ≡ file_up_to ds ++ record_at place d
-file_more x0 x1 x2 x3 = grind (arith, common_steps)
+file_more = grind (arith, common_steps)
 
 file_whole : (ds : List (List ℕ)) → 0 < length ds
     → file_up_to ds ≡ file_header ++ flat_map record_of ds
-file_whole x0 x1 = search rules
+file_whole = search rules
 
 -- the sink has the next bytes too, or has failed
 pub grows_on : (f g : Bool) (a b c : Option (List ℕ)) (front more : List ℕ)
     → Grows f a b front × GrowsOn f g b c more → Grows g a c (front ++ more)
 grows_on true g a b c front more p = search (rules, AppendsPart-first)
-grows_on false false a b c front more p = Appends-trans a b c front more p.0 p.1
-grows_on false true a b c front more p = AppendsPart-second a b c front more p.0 p.1
+grows_on false false a b c front more p = Appends-trans a b c _ _ p.0 p.1
+grows_on false true a b c front more p = AppendsPart-second a b c _ _ p.0 p.1
 
 -- ---- what was read
 
@@ -57,14 +54,14 @@ pub reads_on : (u v w : Option (List ℕ)) (a b c : ℕ) → ReadsOf u v a b →
     → ReadsOf u w a c
 reads_on u v w a b c p q = record {
   bytes = p.bytes ++ q.bytes;
-  read = Consumes-trans u v w p.bytes q.bytes p.read q.read;
-  counted = omega (arith, length-append p.bytes q.bytes, p.counted, q.counted);
+  read = Consumes-trans u v w _ _ p.read q.read;
+  counted = omega (arith, length-append p.bytes q.bytes);
 }
 
 -- as many bytes are left as were not read
 pub left_are : {content rest : List ℕ} {u v : Option (List ℕ)} {a b : ℕ} → ReadsOf u v a b
     → u ≡ Some content → v ≡ Some rest → length content ≡ a → length rest ≡ b
-left_are {content = content} {rest = rest} {v = v} r known now whole = grind (arith, common_steps)
+left_are {content} {rest} {v} r known now whole = grind (arith, common_steps)
 
 -- ---- the object
 
@@ -91,11 +88,11 @@ module _ (key : Key) (i : Information) (content : List ℕ) where
 
     pub sent_all : {u old now : Option (List ℕ)} → SentSoFar count u false old now
         → OfPackets (packets_of key i content) (λ d. WritesFile d count old now)
-    sent_all {u = u} {old = old} {now = now} s = search (rules, file_whole, whole)
+    sent_all {u} {old} {now} s = search (rules, file_whole, whole)
 
     pub sent_part : {u old now : Option (List ℕ)} → SentSoFar count u true old now → OfPackets
         (packets_of key i content) (λ d. AppendsPart old now (file_header ++ flat_map record_of d))
-    sent_part {u = u} {old = old} {now = now} s = search (rules, file_whole, whole)
+    sent_part {u} {old} {now} s = search (rules, file_whole, whole)
 
 -- One packet more: it was sent, or it was not.
 module _ {key : Key} {i : Information} {content : List ℕ} (valid : IsValid i) {place : ℕ}
@@ -105,26 +102,22 @@ module _ {key : Key} {i : Information} {content : List ℕ} (valid : IsValid i) 
       (write_fault (packet key i content place) ≡ None) → IsDatagram d → GrowsOn f g mid now
       (record_at place d) → v ≡ Some (drop i.symbol_length (drop (place * i.symbol_length) content))
       → SentSoFar key i content (place + 1) v g old now
-  sent_next {u = u} {v = v} {old = old} {mid = mid} {now = now} {f = f} {g = g} d s made is put left
-      =
+  sent_next {u} {v} {old} {mid} {now} {f} {g} d s made is put left =
       let cs = packets_of key i content in
       let one = packet key i content place in
-      let here = packet_there key i content place valid within in
-      let more = take_one_more cs place one here in
-      let next : drop i.symbol_length (drop (place * i.symbol_length) content) ≡ drop
-      ((place + 1) * i.symbol_length) content = drop-drop i.symbol_length (place * i.symbol_length)
-      content ∙ ap (λ n. drop n content) (let e : place * i.symbol_length + i.symbol_length ≡
-      (place + 1) * i.symbol_length = grind arith in e) in record {
+      let here = packet_there _ i _ _ valid within in
+      let more = take_one_more _ _ _ here in
+      let next = drop-drop i.symbol_length (place * i.symbol_length) content ∙ ap
+      (λ n. drop n content) (let e : place * i.symbol_length + i.symbol_length ≡ (place + 1) *
+      i.symbol_length = grind arith in e) in record {
         datagrams = s.datagrams ++ d ∷ [];
         written = subst (AllZip IsWritten (s.datagrams ++ d ∷ [])) (sym more)
-            (both_more s.datagrams (take place cs) d one s.written made.0);
-        sound = subst (λ xs. first_object_fault xs ≡ None) (sym more)
-            (none_more (take place cs) one s.sound made.1);
-        valid = all_more IsDatagram s.datagrams d s.valid is;
-        counted = omega (arith, s.counted, length-append s.datagrams (d ∷ []));
-        grown = subst (Grows g old now) (sym (file_more place s.datagrams d s.counted))
-            (grows_on f g old mid now (file_up_to s.datagrams) (record_at place d) (s.grown, put));
-        rest = left ∙ ap (λ x. Some x) next;
+            (both_more _ _ d _ s.written made.0);
+        sound = rw more (none_more (take place cs) one s.sound made.1);
+        valid = all_more _ _ d s.valid is;
+        counted = omega (arith, length-append s.datagrams (d ∷ []));
+        grown = rw ((file_more _ _ d s.counted)) (grows_on f g _ _ _ _ _ (s.grown, put));
+        rest = cc;
       }
 
   pub fails_at : {u old mid : Option (List ℕ)} {f : Bool} (fault : CommandFault)
@@ -133,12 +126,12 @@ module _ {key : Key} {i : Information} {content : List ℕ} (valid : IsValid i) 
       → SendsPackets (packets_of key i content) old mid (Err fault)
   fails_at (CannotSend w) whole s (inl h) = absurd (cc)
   fails_at (CannotSend w) whole s (inr h) = search (rules, first_at, packet_there)
-  fails_at (Input n w) whole s h = tt
+  fails_at (Input n w) _ s h = tt
   fails_at OutOfMemory whole s (inl h) = absurd (cc)
   fails_at OutOfMemory whole s (inr h) = search (rules, none_fails)
   fails_at CannotWrite whole s (inl h) = absurd (cc)
-  fails_at CannotWrite whole s (inr h) = absurd h
-  fails_at _ whole s h = tt
+  fails_at CannotWrite _ s (inr h) = absurd h
+  fails_at _ _ s h = tt
 
 -- ---- results with a fault
 
@@ -150,4 +143,4 @@ unless_on S T P Q _ go p = search rules
 -- the sink failed or not, and a packet has no datagram
 pub sink_fails : (failed : Bool) (old new : ℕ) (f : CommandFault) → new ≡ old + times_failed failed
     → IsNextFault f → SinkFails old new (Err f)
-sink_fails x0 x1 x2 x3 x4 x5 = search rules
+sink_fails = search rules

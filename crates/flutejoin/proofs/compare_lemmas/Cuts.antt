@@ -33,13 +33,11 @@ module _ {T : Type 0} (session_in : T → Session) where
   unfolding parts_of
   one_part t [] a = refl
   one_part t (u ∷ us) a =
-      let of_u : (xs : List T) → AreOf (session_in t) xs → AreOf (session_in u) xs =
-      λ xs. subst (λ s. AreOf s xs) (sym a.0) in
-      let rest : parts (u ∷ us) ≡ (u, us) ∷ [] = one_part u us (of_u us a.1) in
-      let same : same_session (session_in t) (session_in u) ≡ true =
-      same_true (session_in t) (session_in u) (sym a.0) in
-      ap (before t) rest
-      ∙ ap (λ (b : Bool). if b then (t, u ∷ us) ∷ [] else ((t, []) ∷ (u, us) ∷ [])) same
+      let of_u : (xs : List T) → AreOf (session_in t) xs → AreOf (session_in u) xs = λ xs. subst
+      (λ s. AreOf s xs) (sym a.0) in
+      let rest = one_part u us (of_u us a.1) in
+      let same = same_true _ _ (sym a.0) in
+      ap (before t) rest ∙ ap (λ b. if b then (t, u ∷ us) ∷ [] else ((t, []) ∷ (u, us) ∷ [])) same
 
   -- the parts of a list begin with its first
   pub record Begins (t : T) (ts : List T) : Type 0 where
@@ -50,7 +48,7 @@ module _ {T : Type 0} (session_in : T → Session) where
   in_front : (t : T) (ps : List (T × List T)) → (others : List T) × ((rest : List (T × List T))
       × (before t ps ≡ (t, others) ∷ rest))
   in_front t [] = ([], ([], refl))
-  in_front t ((u, us) ∷ ps) = by (same_session (session_in t) (session_in u))
+  in_front t ((u, us) ∷ ps) = by _
     where
       by : (b : Bool) → (others : List T) × ((rest : List (T × List T))
           × ((if b then (t, u ∷ us) ∷ ps else ((t, []) ∷ (u, us) ∷ ps)) ≡ (t, others) ∷ rest))
@@ -60,13 +58,13 @@ module _ {T : Type 0} (session_in : T → Session) where
   begins : (t : T) (ts : List T) → Begins t ts
   unfolding parts_of
   begins t ts =
-      let h = in_front t (parts ts) in
+      let h = in_front t _ in
       record { others = h.0; rest = h.1.0; are = h.1.1 }
 
   -- what follows a part stays as it is
   before_more : (t : T) (p : T × List T) (ps more : List (T × List T))
       → before t ((p ∷ ps) ++ more) ≡ before t (p ∷ ps) ++ more
-  before_more t (u, us) ps more = by (same_session (session_in t) (session_in u))
+  before_more t (u, us) ps more = by _
     where
       by : (b : Bool) → (if b then (t, u ∷ us) ∷ (ps ++ more)
           else ((t, []) ∷ (u, us) ∷ (ps ++ more)))
@@ -78,41 +76,34 @@ module _ {T : Type 0} (session_in : T → Session) where
   next_front : (t next : T) (more : List T) → (session_in next ≡ session_in t → ⊥)
       → before t (parts (next ∷ more)) ≡ (t, []) ∷ parts (next ∷ more)
   next_front t next more h =
-      let b = begins next more in
-      let apart : same_session (session_in t) (session_in next) ≡ false =
-      other_false (session_in t) (session_in next) (λ e. h (sym e)) in
-      ap (before t) b.are
-      ∙ ap (λ (c : Bool). if c then (t, next ∷ b.others) ∷ b.rest
-      else ((t, []) ∷ (next, b.others) ∷ b.rest)) apart
-      ∙ ap (λ ps. (t, []) ∷ ps) (sym b.are)
+      let b = begins _ _ in
+      let apart = other_false _ _ (λ e. h (sym e)) in
+      ap (before t) b.are ∙ ap
+      (λ c. if c then (t, next ∷ b.others) ∷ b.rest else ((t, []) ∷ (next, b.others) ∷ b.rest))
+      apart ∙ ap (λ ps. (t, []) ∷ ps) (sym b.are)
 
   -- more in front of a list whose first part stays
-  in_front_of : (u t : T) (ts more : List T)
-      → parts ((t ∷ ts) ++ more) ≡ parts (t ∷ ts) ++ parts more
-      → parts (u ∷ ((t ∷ ts) ++ more)) ≡ parts (u ∷ (t ∷ ts)) ++ parts more
+  in_front_of : (u t : T) (ts more : List T) → parts ((t ∷ ts) ++ more) ≡ parts (t ∷ ts) ++ parts
+      more → parts (u ∷ ((t ∷ ts) ++ more)) ≡ parts (u ∷ (t ∷ ts)) ++ parts more
   unfolding parts_of
   in_front_of u t ts more e =
       let b = begins t ts in
-      ap (before u) (e ∙ ap (λ ps. ps ++ parts more) b.are)
-      ∙ before_more u (t, b.others) b.rest (parts more)
-      ∙ ap (λ ps. before u ps ++ parts more) (sym b.are)
+      ap (before u) (e ∙ ap (λ ps. ps ++ parts more) b.are) ∙ before_more u _ _ _ ∙ ap
+      (λ ps. before u ps ++ parts more) (sym b.are)
 
   next_part : (s : Session) (t : T) (ts : List T) (next : T) (more : List T) → session_in t ≡ s
       → AreOf s ts → (session_in next ≡ s → ⊥)
       → parts ((t ∷ ts) ++ next ∷ more) ≡ parts (t ∷ ts) ++ parts (next ∷ more)
   unfolding parts_of
-  next_part s t [] next more e a h = next_front t next more (λ same. h (same ∙ e))
+  next_part s t [] next more e a h = next_front t _ more (λ same. h (same ∙ e))
   next_part s t (u ∷ us) next more e a h =
-      in_front_of t u us (next ∷ more) (next_part s u us next more a.0 a.1 h)
+      in_front_of t u us (next ∷ more) (next_part s u us _ more a.0 a.1 h)
 
   -- and those before stay as they are
-  pub apart_from : (earlier : List T) (t : T) (ts : List T) (next : T) (more : List T)
-      → AreOf (session_in t) ts → (session_in next ≡ session_in t → ⊥)
-      → parts ((earlier ++ t ∷ ts) ++ next ∷ more)
-      ≡ parts (earlier ++ t ∷ ts) ++ parts (next ∷ more)
-  apart_from [] t ts next more a h = next_part (session_in t) t ts next more refl a h
-  apart_from (u ∷ []) t ts next more a h =
-      in_front_of u t ts (next ∷ more) (apart_from [] t ts next more a h)
-  apart_from (u ∷ v ∷ earlier) t ts next more a h =
-      in_front_of u v (earlier ++ t ∷ ts) (next ∷ more)
-      (apart_from (v ∷ earlier) t ts next more a h)
+  pub apart_from : (earlier : List T) (t : T) (ts : List T) (next : T) (more : List T) → AreOf
+      (session_in t) ts → (session_in next ≡ session_in t → ⊥) → parts
+      ((earlier ++ t ∷ ts) ++ next ∷ more) ≡ parts (earlier ++ t ∷ ts) ++ parts (next ∷ more)
+  apart_from [] t ts next more a h = next_part _ t _ _ _ refl a h
+  apart_from (u ∷ []) t ts next more a h = in_front_of u t _ _ (apart_from [] t _ _ _ a h)
+  apart_from (u ∷ v ∷ earlier) t ts next more a h = in_front_of u v _ _
+      (apart_from (v ∷ earlier) t _ _ _ a h)

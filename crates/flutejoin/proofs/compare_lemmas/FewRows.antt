@@ -1,6 +1,6 @@
 -- compare: the rows of two journals are few enough to be counted (specs/RowsTold).
 use Rattle.std.proofs.Common.{◌≡◌, ◌+◌, ◌*◌, ◌≤◌, ◌^◌, false, ◌||◌, ◌&&◌, List, []}
-use Rattle.std.proofs.Common.{◌∷◌, ◌++◌, length, length-append, refl, sym, ap, ◌∙◌, subst, arith}
+use Rattle.std.proofs.Common.{◌∷◌, ◌++◌, length, length-append, refl, sym, ap, ◌∙◌, arith}
 use Rattle.std.specs.Prelude.{map}
 use Rattle.std.specs.Cmp.{IsEquivalence}
 use Rattle.std.specs.List.{AllByRecursion, IsDistinct, sum_by}
@@ -15,7 +15,7 @@ use Rattle.std.proofs.lemmas.Map.Made.{length-le_from_is_member}
 use Rattle.flute_parts.specs.Addresses.{address}
 use Rattle.flute_parts.specs.Equality.{key_itself, key_same}
 use Rattle.flute_parts.specs.Facts.{fact_at}
-use Rattle.flute_parts.specs.Order.{key_cmp, same_key}
+use Rattle.flute_parts.specs.Order.{same_key}
 use Rattle.flute_parts.specs.Totality.{key_total}
 use Rattle.flute_parts.specs.declared.fact.Fact.{Fact}
 use Rattle.flute_parts.specs.declared.key.Key.{Key}
@@ -32,35 +32,34 @@ turned Greater = refl
 laws : IsEquivalence same_key
 laws = record {
   refl = key_itself;
-  symm = λ x y. ap is_eq (key_total.antisymm x y) ∙ turned (key_cmp y x);
+  symm = λ x y. ap is_eq (key_total.antisymm x y) ∙ turned _;
   congr = λ x y z e. ap (λ k. same_key k z) (key_same x y e);
 }
 
 apart : (x : Key) (keys : List Key) → KeysAfter x keys
     → AllByRecursion (λ y. same_key x y ≡ false) keys
 apart x [] a = tt
-apart x (k ∷ ks) a = (ap is_eq a.0, apart x ks a.1)
+apart x (k ∷ ks) a = (cc, apart x ks a.1)
 
 distinct : (keys : List Key) → KeysRise keys → IsDistinct same_key keys
 unfolding IsDistinct
 distinct [] r = tt
-distinct (k ∷ ks) r = (apart k ks r.0, distinct ks r.1)
+distinct (k ∷ ks) r = (apart k _ r.0, distinct ks r.1)
 
 abbrev key_in : Fact → Key
 key_in f = (address f).key
 
 named : (key : Key) (F : List Fact) → is_named key F ≡ is_member same_key (map key_in F) key
-named key [] = refl
-named key (f ∷ F) = ap (λ b. same_key key (key_in f) || b) (named key F)
+named _ [] = refl
+named key (f ∷ F) = ap (λ b. same_key key (key_in f) || b) (named _ F)
 
 few_keys : (keys : List Key) (F G : List Fact) → KeysRise keys
     → ((key : Key) → is_listed key keys ≡ (is_named key F || is_named key G))
     → length keys ≤ length F + length G
 few_keys keys F G r e =
-    let few = length-le_from_is_member laws keys (map key_in (F ++ G)) (distinct keys r)
-    (λ q l. sym (named q (F ++ G)) ∙ list_any-append (λ f. same_key q (key_in f)) F G
-    ∙ sym (e q) ∙ l) in
-    omega (arith, few, length-map (F ++ G) key_in, length-append F G)
+    let few = length-le_from_is_member laws keys (map key_in (F ++ G)) (distinct _ r)
+    (λ q l. sym (named q _) ∙ list_any-append _ F G ∙ sym (e q) ∙ l) in omega
+    (arith, length-map (F ++ G) key_in, length-append F G)
 
 -- ---- how much is counted of a row
 
@@ -75,8 +74,7 @@ module _ (F G : List Fact) (few : length F ≤ 2 ^ 24) (few_others : length G �
       let lone = count_by-le-length
       (λ f. is_symbol_of key (address f) && is_lone (fact_at G (address f)) f) F in
       let others = count_by-le-length
-      (λ f. is_symbol_of key (address f) && is_lone (fact_at F (address f)) f) G in
-      omega (arith, same, other, lone, others, few, few_others)
+      (λ f. is_symbol_of key (address f) && is_lone (fact_at F (address f)) f) G in omega arith
 
   all_light : (keys : List Key) → sum_by weight (map (row_of F G) keys) ≤ length keys * 2 ^ 27
   all_light [] = omega arith
@@ -87,4 +85,4 @@ module _ (F G : List Fact) (few : length F ≤ 2 ^ 24) (few_others : length G �
   few_rows rows a =
       let keys = few_keys a.keys F G a.rise a.all in
       let all = all_light a.keys in
-      subst AreFew (sym a.are) (omega (arith, keys, all, few, few_others))
+      rw a.are (omega (arith, keys, all, few, few_others))

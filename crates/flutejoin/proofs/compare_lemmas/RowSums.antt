@@ -17,8 +17,8 @@ use Rattle.flute_streams.specs.declared.merge.sides.Side.{Side}
 use Rattle.flute_streams.specs.declared.merge.sides.Side.TheVariants.{Same, Differ, First, Second}
 use Rattle.flute_streams.specs.declared.merge.sides.Sides.{Sides}
 use Rattle.flutejoin.specs.CompareLines.{compared, row_line}
-use Rattle.flutejoin.specs.CompareSums.{information_of, is_in_first, is_in_none, is_in_second}
-use Rattle.flutejoin.specs.CompareSums.{is_other_in, is_same_in, last_sums, no_sums, row_session}
+use Rattle.flutejoin.specs.CompareSums.{information_of, is_in_none}
+use Rattle.flutejoin.specs.CompareSums.{last_sums, no_sums, row_session}
 use Rattle.flutejoin.specs.CompareSums.{session_line, sums_after, sums_before, sums_line, sums_of}
 use Rattle.flutejoin.specs.CompareSums.{symbols_of, with_information, with_row}
 use Rattle.flutejoin.specs.Parts.{parts_of}
@@ -31,7 +31,7 @@ use Rattle.flutejoin.proofs.compare_lemmas.Cuts.{apart_from, of_more, one_part}
 -- ---- sums that are few enough
 
 later : (before more : List Row) → AreFew (before ++ more) → AreFew more
-later before more few = omega (arith, sum_by-append weight before more, few)
+later before more few = omega (arith, sum_by-append weight before more)
 
 below : (f : Row → ℕ) → ((row : Row) → f row ≤ weight row) → (rows : List Row)
     → sum_by f rows ≤ sum_by weight rows
@@ -64,26 +64,25 @@ module _ (rows : List Row) (row : Row) (few : AreFew (rows ++ row ∷ [])) where
 
   more_of : (f : Row → ℕ) → ((row : Row) → f row ≤ weight row)
       → capped (sum_by f rows + f row) ≡ sum_by f all
-  more_of f l = omega (arith, sum_by_push f rows row, below f l all, few)
+  more_of f l = omega (arith, sum_by_push f rows row, below f l all)
 
   more_rows : capped (length rows + 1) ≡ length all
-  more_rows = omega (arith, length-append rows (row ∷ []), below_length all, few)
+  more_rows = omega (arith, length-append rows (row ∷ []), below_length all)
 
   count_on : (p : Option Side → Bool) (i : Option Side) → row.information ≡ i → p i ≡ true
       → capped (count_by (λ (r : Row). p r.information) rows + 1)
       ≡ count_by (λ (r : Row). p r.information) all
   count_on p i e is =
       let f : Row → ℕ = λ r. cond (p r.information) 1 0 in
-      let one : f row ≡ 1 = ap (λ i. cond (p i) 1 0) e ∙ ap (λ b. cond b 1 0) is in
-      omega (arith, more_of f (λ r. one_or_none (p r.information) (weight r) (omega arith)), one)
+      let one : f row ≡ 1 = cc in
+      omega (arith, more_of f (λ r. one_or_none _ _ (omega arith)))
 
-  count_off : (p : Option Side → Bool) (i : Option Side) → row.information ≡ i → p i ≡ false
-      → count_by (λ (r : Row). p r.information) rows
-      ≡ count_by (λ (r : Row). p r.information) all
+  count_off : (p : Option Side → Bool) (i : Option Side) → row.information ≡ i → p i ≡ false →
+      count_by (λ (r : Row). p r.information) rows ≡ count_by (λ (r : Row). p r.information) all
   count_off p i e is =
       let f : Row → ℕ = λ r. cond (p r.information) 1 0 in
-      let none : f row ≡ 0 = ap (λ i. cond (p i) 1 0) e ∙ ap (λ b. cond b 1 0) is in
-      omega (arith, sum_by_push f rows row, none)
+      let none : f row ≡ 0 = cc in
+      omega (arith, sum_by_push f rows row)
 
   module _ (session : Session) where
     abbrev counted : CompareSums
@@ -101,47 +100,24 @@ module _ (rows : List Row) (row : Row) (few : AreFew (rows ++ row ∷ [])) where
     }
 
     symbols_more : counted.symbols ≡ symbols_of all
-    symbols_more = sides counted.symbols (symbols_of all)
-        (more_of (λ r. r.symbols.same) (λ r. omega arith))
-        (more_of (λ r. r.symbols.differ) (λ r. omega arith))
-        (more_of (λ r. r.symbols.first) (λ r. omega arith))
-        (more_of (λ r. r.symbols.second) (λ r. omega arith))
+    symbols_more = sides _ _ (more_of _ (λ r. omega arith)) (more_of _ (λ r. omega arith))
+        (more_of _ (λ r. omega arith)) (more_of _ (λ r. omega arith))
 
     with : (i : Option Side) → row.information ≡ i
         → with_information counted i ≡ sums_of session all
-    with None e = sums (with_information counted None) (sums_of session all) refl more_rows
-        symbols_more
-        (sides (information_of rows) (information_of all)
-        (count_off is_same_in None e refl) (count_off is_other_in None e refl)
-        (count_off is_in_first None e refl) (count_off is_in_second None e refl))
-        (count_on is_in_none None e refl)
-    with (Some Same) e = sums (with_information counted (Some Same)) (sums_of session all) refl
-        more_rows symbols_more
-        (sides (with_information counted (Some Same)).information (information_of all)
-        (count_on is_same_in (Some Same) e refl) (count_off is_other_in (Some Same) e refl)
-        (count_off is_in_first (Some Same) e refl) (count_off is_in_second (Some Same) e refl))
-        (count_off is_in_none (Some Same) e refl)
-    with (Some Differ) e = sums (with_information counted (Some Differ)) (sums_of session all) refl
-        more_rows symbols_more
-        (sides (with_information counted (Some Differ)).information (information_of all)
-        (count_off is_same_in (Some Differ) e refl) (count_on is_other_in (Some Differ) e refl)
-        (count_off is_in_first (Some Differ) e refl) (count_off is_in_second (Some Differ) e refl))
-        (count_off is_in_none (Some Differ) e refl)
-    with (Some First) e = sums (with_information counted (Some First)) (sums_of session all) refl
-        more_rows symbols_more
-        (sides (with_information counted (Some First)).information (information_of all)
-        (count_off is_same_in (Some First) e refl) (count_off is_other_in (Some First) e refl)
-        (count_on is_in_first (Some First) e refl) (count_off is_in_second (Some First) e refl))
-        (count_off is_in_none (Some First) e refl)
-    with (Some Second) e = sums (with_information counted (Some Second)) (sums_of session all) refl
-        more_rows symbols_more
-        (sides (with_information counted (Some Second)).information (information_of all)
-        (count_off is_same_in (Some Second) e refl) (count_off is_other_in (Some Second) e refl)
-        (count_off is_in_first (Some Second) e refl) (count_on is_in_second (Some Second) e refl))
-        (count_off is_in_none (Some Second) e refl)
+    with None e = sums _ _ refl more_rows symbols_more (sides _ _ (count_off _ _ e refl)
+        (count_off _ _ e refl) (count_off _ _ e refl) (count_off _ _ e refl)) (count_on _ _ e refl)
+    with (Some Same) e = sums _ _ refl more_rows symbols_more (sides _ _ (count_on _ _ e refl)
+        (count_off _ _ e refl) (count_off _ _ e refl) (count_off _ _ e refl)) (count_off _ _ e refl)
+    with (Some Differ) e = sums _ _ refl more_rows symbols_more (sides _ _ (count_off _ _ e refl)
+        (count_on _ _ e refl) (count_off _ _ e refl) (count_off _ _ e refl)) (count_off _ _ e refl)
+    with (Some First) e = sums _ _ refl more_rows symbols_more (sides _ _ (count_off _ _ e refl)
+        (count_off _ _ e refl) (count_on _ _ e refl) (count_off _ _ e refl)) (count_off _ _ e refl)
+    with (Some Second) e = sums _ _ refl more_rows symbols_more (sides _ _ (count_off _ _ e refl)
+        (count_off _ _ e refl) (count_off _ _ e refl) (count_on _ _ e refl)) (count_off _ _ e refl)
 
     with_more : with_row (sums_of session rows) row ≡ sums_of session all
-    with_more = with row.information refl
+    with_more = with _ refl
 
 -- ---- the sums of the last session
 
@@ -156,61 +132,55 @@ first_added row few = record {
   same = tt;
   apart = λ more. refl;
   lines_are = refl;
-  sums_are = with_more [] row few (row_session row);
+  sums_are = with_more [] row few _;
 }
 
 same_added : {form : Form} (rows : List Row) (lines : List ℕ) (old : CompareSums) (row : Row)
     → AreFew (rows ++ row ∷ []) → AreSummed form rows lines old → old.session ≡ row_session row
     → AreSummed form (rows ++ row ∷ []) lines (with_row old row)
-same_added {form} rows lines old row few h e =
+same_added rows _ _ row few h e =
     let mine = h.first ∷ h.others in
-    let is : rows ++ row ∷ [] ≡ h.before ++ (mine ++ row ∷ []) =
-    ap (λ l. l ++ row ∷ []) h.all ∙ append_assoc h.before mine (row ∷ []) in
-    let few_mine = later h.before (mine ++ row ∷ []) (subst AreFew is few) in
+    let is = ap (λ l. l ++ row ∷ []) h.all ∙ append_assoc h.before mine (row ∷ []) in
+    let few_mine = later h.before (mine ++ row ∷ []) (rw (← is) few) in
     record {
       before = h.before;
       first = h.first;
       others = h.others ++ row ∷ [];
       all = is;
-      same = of_more row_session (row_session h.first) h.others row h.same
-          (sym e ∙ ap (λ (s : CompareSums). s.session) h.sums_are);
+      same = of_more _ _ _ _ h.same (cc);
       apart = h.apart;
       lines_are = h.lines_are;
-      sums_are = ap (λ s. with_row s row) h.sums_are
-          ∙ with_more mine row few_mine (row_session h.first);
+      sums_are = cc (with_more mine row few_mine _);
     }
 
 -- the lines of all sessions
 pub all_summed : {form : Form} (rows : List Row) (lines : List ℕ) (old : CompareSums) → AreSummed form rows lines old
     → lines ++ sums_line form old ≡ flat_map (session_line form) (parts_of row_session rows)
 unfolding parts_of
-all_summed {form} rows lines old h =
+all_summed {form} _ _ old h =
     let mine = parts_of row_session (h.first ∷ h.others) in
-    let last : flat_map (session_line form) mine ≡ sums_line form old =
-    ap (flat_map (session_line form)) (one_part row_session h.first h.others h.same)
-    ∙ append-nil (session_line form (h.first, h.others)) ∙ ap (sums_line form) (sym h.sums_are) in
-    ap (λ l. l ++ sums_line form old) h.lines_are
-    ∙ ap (λ l. flat_map (session_line form) (parts_of row_session h.before) ++ l) (sym last)
-    ∙ sym (flat_map-append (session_line form) (parts_of row_session h.before) mine)
-    ∙ ap (flat_map (session_line form)) (sym (h.apart h.others))
-    ∙ ap (λ l. flat_map (session_line form) (parts_of row_session l)) (sym h.all)
+    let last = ap (flat_map (session_line form)) (one_part _ h.first _ h.same) ∙ append-nil
+    (session_line form (h.first, h.others)) ∙ ap (sums_line form) (cc) in ap
+    (λ l. l ++ sums_line form old) h.lines_are ∙ ap
+    (λ l. flat_map (session_line form) (parts_of row_session h.before) ++ l) (sym last) ∙ sym
+    (flat_map-append (session_line form) (parts_of row_session h.before) mine) ∙ ap
+    (flat_map (session_line form)) (sym (h.apart h.others)) ∙ ap
+    (λ l. flat_map (session_line form) (parts_of row_session l)) (sym h.all)
 
 next_added : {form : Form} (rows : List Row) (lines : List ℕ) (old : CompareSums) (row : Row)
     → AreFew (rows ++ row ∷ []) → AreSummed form rows lines old → (old.session ≡ row_session row → ⊥)
     → AreSummed form (rows ++ row ∷ []) (lines ++ sums_line form old)
     (with_row (no_sums (row_session row)) row)
-next_added {form} rows lines old row few h apart = record {
+next_added rows lines old row few h apart = record {
   before = rows;
   first = row;
   others = [];
   all = refl;
   same = tt;
-  apart = λ more. subst (λ l. parts_of row_session (l ++ row ∷ more)
-      ≡ parts_of row_session l ++ parts_of row_session (row ∷ more)) (sym h.all)
-      (apart_from row_session h.before h.first h.others row more h.same
+  apart = λ more. rw h.all (apart_from _ _ _ _ _ _ h.same
       (λ e. apart (ap (λ (s : CompareSums). s.session) h.sums_are ∙ sym e)));
-  lines_are = all_summed rows lines old h;
-  sums_are = with_more [] row (later rows (row ∷ []) few) (row_session row);
+  lines_are = all_summed _ _ _ h;
+  sums_are = with_more [] row (later rows (row ∷ []) few) _;
 }
 
 -- ---- one row more
@@ -220,22 +190,17 @@ added : (form : Form) (rows : List Row) (lines : List ℕ) (old : Option Compare
     → AreTheirs form true (rows ++ row ∷ []) (lines ++ sums_before form old (row_session row))
     (Some (with_row (sums_after old (row_session row)) row))
 added form rows lines None row few h =
-    subst (λ l. AreSummed form (l ++ row ∷ []) (lines ++ [])
-    (with_row (no_sums (row_session row)) row)) (sym h.0)
-    (subst (λ l. AreSummed form (row ∷ []) (l ++ []) (with_row (no_sums (row_session row)) row))
-    (sym h.1) (first_added row (later rows (row ∷ []) few)))
+    rw h.0 (subst (λ l. AreSummed form (row ∷ []) (l ++ []) (with_row (no_sums (row_session row)) row))
+    (sym h.1) (first_added _ (later rows (row ∷ []) few)))
 added form rows lines (Some old) row few h =
-    elim (cases_Bool (same_session old.session (row_session row))) [
+    elim (cases_Bool _) [
       | inl t ↦ subst (λ b. AreSummed form (rows ++ row ∷ [])
           (lines ++ (if b then [] else sums_line form old))
           (with_row (if b then old else no_sums (row_session row)) row)) (sym t)
           (subst (λ l. AreSummed form (rows ++ row ∷ []) l (with_row old row))
           (sym (append-nil lines))
-          (same_added rows lines old row few h (session_same old.session (row_session row) t)))
-      | inr n ↦ subst (λ b. AreSummed form (rows ++ row ∷ [])
-          (lines ++ (if b then [] else sums_line form old))
-          (with_row (if b then old else no_sums (row_session row)) row)) (sym n)
-          (next_added rows lines old row few h (apart old.session (row_session row) n))
+          (same_added _ _ _ _ few h (session_same old.session (row_session row) t)))
+      | inr n ↦ rw n (next_added _ _ _ _ few h (apart _ _ n))
     ]
   where
     apart : (s t : Session) → same_session s t ≡ false → s ≡ t → ⊥
@@ -250,22 +215,19 @@ pub added_to : (form : Form) (summary : Bool) (rows : List Row) (lines : List �
     → AreTheirs form summary (rows ++ row ∷ [])
     (lines ++ (if summary then sums_before form old (row_session row) else row_line form row))
     (if summary then Some (with_row (sums_after old (row_session row)) row) else old)
-added_to form true rows lines old row few h = added form rows lines old row few h
-added_to form false rows lines old row few h = (
-  ap (λ l. l ++ row_line form row) h.0 ∙ flat_map_more (row_line form) [] rows row,
-  h.1,
-)
+added_to form true rows lines old row few h = added _ _ _ _ _ few h
+added_to form false rows _ _ row _ h = (cc (flat_map_more (row_line form) [] rows row), h.1)
 
 -- all lines
 pub all_put : (style : CompareStyle) (rows : List Row) (lines : List ℕ) (old : Option CompareSums)
     → AreTheirs style.form style.summary rows lines old → lines ++ last_sums style.form old ≡ compared style rows
 unfolding compared parts_of
-all_put style rows lines old h = by style.summary old h
+all_put style rows lines old h = by _ _ h
   where
     by : (b : Bool) (old : Option CompareSums) → AreTheirs style.form b rows lines old
         → lines ++ last_sums style.form old
         ≡ (if b then flat_map (session_line style.form) (parts_of row_session rows) else flat_map (row_line style.form) rows)
     by true None h = ap (λ l. l ++ []) h.1
         ∙ ap (λ l. flat_map (session_line style.form) (parts_of row_session l)) (sym h.0)
-    by true (Some s) h = all_summed rows lines s h
-    by false old h = ap (λ o. lines ++ last_sums style.form o) h.1 ∙ append-nil lines ∙ h.0
+    by true (Some s) h = all_summed _ _ s h
+    by false _ h = ap (λ o. lines ++ last_sums style.form o) h.1 ∙ append-nil lines ∙ h.0

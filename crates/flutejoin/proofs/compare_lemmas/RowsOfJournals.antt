@@ -11,7 +11,6 @@ use Rattle.flute_streams.specs.declared.choice.selection.Selection.{Selection}
 use Rattle.flute_streams.specs.declared.merge.sides.Row.{Row}
 use Rattle.flutejoin.specs.Compare.{ComparesJournals}
 use Rattle.flutejoin.specs.RowsTold.{AreFew, HasRows, TakesRows}
-use Rattle.flutejoin.specs.Selected.{selected}
 use Rattle.flutejoin.specs.declared.compare.compare_lines.CompareLines.{CompareLines}
 use Rattle.flutejoin.specs.declared.limits.TheConstants.{MAX_ENTRIES}
 use Rattle.flutejoin.proofs.compare_lemmas.FewRows.{few_rows}
@@ -21,11 +20,9 @@ abbrev pub AreOf : Selection → Option (List ℕ) → ℕ → List Fact → Typ
 AreOf s input limit facts =
     OfAll (selects s) (λ all. IfSome input (λ bytes. IsJournalWithin limit bytes all)) facts
 
-pub of_source : (s : Selection) {left input : Option (List ℕ)} {limit : ℕ} (facts : List Fact)
-    → left ≡ input → limit ≡ MAX_ENTRIES → AreOf s left limit facts
-    → AreOf s input MAX_ENTRIES facts
-of_source s {left = left} facts e l a =
-    subst (λ u. AreOf s u MAX_ENTRIES facts) e (subst (λ n. AreOf s left n facts) l a)
+pub of_source : (s : Selection) {left input : Option (List ℕ)} {limit : ℕ} (facts : List Fact) →
+    left ≡ input → limit ≡ MAX_ENTRIES → AreOf s left limit facts → AreOf s input MAX_ENTRIES facts
+of_source s {left} facts e l a = rw (← e) (subst (λ n. AreOf s left n facts) l a)
 
 -- the rows, and the facts that they are of
 pub record Facts (s t : Selection) (first second : Option (List ℕ)) (rows : List Row) : Type 0 where
@@ -49,8 +46,7 @@ module _ {s t : Selection} {first second : Option (List ℕ)} {rows : List Row} 
         first_is = one.1;
         second_is = other.1;
         rows = rows;
-        are = subst (λ F. AreRows F (selected t other.0) rows) one.2
-            (subst (λ G. AreRows f.facts G rows) other.2 f.are);
+        are = rw (← one.2) (subst (λ G. AreRows f.facts G rows) other.2 f.are);
         so = p;
       }
 
@@ -64,6 +60,6 @@ module _ {s t : Selection} {first second : Option (List ℕ)} {rows : List Row} 
       {old new : CompareLines A} {told : List Row} → Facts s t first second rows
       → told ≡ [] ++ rows → TakesRows written failures old told new
       → HasRows written true [] old → HasRows written true rows new
-  all_put_aside written failures {new = new} f e taken h =
-      let few = few_rows f.facts f.others f.first_few f.second_few rows f.are in
-      subst (λ l. HasRows written true l new) e (taken.has true [] (subst AreFew (sym e) few) h)
+  all_put_aside written _ {new} f e taken h =
+      let few = few_rows _ _ f.first_few f.second_few _ f.are in
+      rw (← e) (taken.has true [] (subst AreFew (sym e) few) h)

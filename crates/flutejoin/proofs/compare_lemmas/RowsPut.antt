@@ -4,7 +4,6 @@ use Rattle.std.proofs.Common.{◌++◌, Option, Some, None, refl, sym, ap, ◌�
 use Rattle.std.proofs.Common.{Result, Ok, Err}
 use Rattle.std.specs.Prelude.{if◌then◌else◌, is_ok, OnOk}
 use Rattle.std.specs.Io.KnownBytes.{Appends}
-use Rattle.std.specs.List.{list_any}
 use Rattle.std.proofs.lemmas.List.Folds.{list_any-append}
 use Rattle.flute_parts.specs.Devices.{Writes}
 use Rattle.flute_parts.specs.declared.device.DeviceFault.{DeviceFault}
@@ -16,15 +15,14 @@ use Rattle.flutejoin.specs.Listing.{Knows}
 use Rattle.flutejoin.specs.RowsTold.{AreFew, AreTheirs, HasRows, TakesRows}
 use Rattle.flutejoin.specs.declared.compare.compare_lines.CompareLines.{CompareLines}
 use Rattle.flutejoin.specs.declared.compare.compare_sums.CompareSums.{CompareSums}
-use Rattle.flutejoin.specs.declared.lines.compare_style.CompareStyle.{CompareStyle}
 use Rattle.flutejoin.proofs.compare_lemmas.RowSums.{added_to, all_put}
 use Rattle.flutejoin.proofs.gaps_lemmas.MovedAside.{knows_more}
 
 same_more : (rows : List Row) (row : Row) (old now : Bool) → old ≡ are_same rows
     → now ≡ (old && not (differs row)) → now ≡ are_same (rows ++ row ∷ [])
-same_more rows row old now e n =
+same_more rows row _ _ e n =
     n ∙ ap (λ b. b && not (differs row)) e
-    ∙ both (list_any differs rows) (differs row)
+    ∙ both _ _
     ∙ ap not (sym (list_any-append differs rows (row ∷ [])))
   where
     both : (a b : Bool) → (not a && not b) ≡ not (a || (b || false))
@@ -34,43 +32,39 @@ same_more rows row old now e n =
 
 -- one row was told
 pub row_put : {A : Type 0} (written : A → Option (List ℕ)) {known : Bool} {before : List Row}
-    {old : CompareLines A} (new : CompareLines A) (row : Row) → AreFew (before ++ row ∷ [])
-    → HasRows written known before old → new.style ≡ old.style
-    → new.same ≡ (old.same && not (differs row))
-    → (Appends (written old.lines.now) (written new.lines.now)
-    (if old.style.summary then sums_before old.style.form old.sums (row_session row) else row_line old.style.form row))
-    × (new.sums ≡ (if old.style.summary
-    then Some (with_row (sums_after old.sums (row_session row)) row) else old.sums))
-    → HasRows written known (before ++ row ∷ []) new
-row_put written {before = before} {old = old} new row few h style same put =
+    {old : CompareLines A} (new : CompareLines A) (row : Row) → AreFew (before ++ row ∷ []) →
+    HasRows written known before old → new.style ≡ old.style → new.same ≡
+    (old.same && not (differs row)) → (Appends (written old.lines.now) (written new.lines.now) (if
+    old.style.summary then sums_before old.style.form old.sums (row_session row) else row_line
+    old.style.form row)) × (new.sums ≡ (if old.style.summary then Some
+    (with_row (sums_after old.sums (row_session row)) row) else old.sums)) → HasRows written known
+    (before ++ row ∷ []) new
+row_put _ {before} {old} new row few h style same put =
     let more = if old.style.summary then sums_before old.style.form old.sums (row_session row)
     else row_line old.style.form row in
-    let theirs = added_to old.style.form old.style.summary before h.lines old.sums row few h.theirs in
+    let theirs = added_to _ _ _ _ _ _ few h.theirs in
     record {
       lines = h.lines ++ more;
-      same = same_more before row old.same new.same h.same same;
-      theirs = subst (λ (s : CompareStyle). AreTheirs s.form s.summary (before ++ row ∷ [])
-          (h.lines ++ more) new.sums) (sym style)
-          (subst (λ (o : Option CompareSums). AreTheirs old.style.form old.style.summary (before ++ row ∷ [])
+      same = same_more before row _ _ h.same same;
+      theirs = rw style (subst (λ o. AreTheirs old.style.form old.style.summary (before ++ row ∷ [])
           (h.lines ++ more) o) (sym put.1) theirs);
-      lines_known = knows_more more h.lines_known put.0;
+      lines_known = knows_more _ h.lines_known put.0;
     }
 
 module _ {A : Type 0} (written : A → Option (List ℕ)) (failures : A → ℕ) (old new : CompareLines A)
     (row : Row) (style : new.style ≡ old.style)
     (name : new.lines.ghost_name ≡ old.lines.ghost_name)
     (same : new.same ≡ (old.same && not (differs row))) where
-  taken : failures new.lines.now ≡ failures old.lines.now
-      → (Appends (written old.lines.now) (written new.lines.now)
-      (if old.style.summary then sums_before old.style.form old.sums (row_session row) else row_line old.style.form row))
-      × (new.sums ≡ (if old.style.summary
-      then Some (with_row (sums_after old.sums (row_session row)) row) else old.sums))
-      → TakesRows written failures old (row ∷ []) new
+  taken : failures new.lines.now ≡ failures old.lines.now → (Appends (written old.lines.now)
+      (written new.lines.now) (if old.style.summary then sums_before old.style.form old.sums
+      (row_session row) else row_line old.style.form row)) × (new.sums ≡ (if old.style.summary then
+      Some (with_row (sums_after old.sums (row_session row)) row) else old.sums)) → TakesRows
+      written failures old (row ∷ []) new
   taken quiet put = record {
     style = style;
     name = name;
     quiet = quiet;
-    has = λ known before few h. row_put written new row few h style same put;
+    has = λ known before few h. row_put _ _ _ few h style same put;
   }
 
   -- its line was put aside
@@ -78,25 +72,15 @@ module _ {A : Type 0} (written : A → Option (List ℕ)) (failures : A → ℕ)
       → Writes (written old.lines.now) (written new.lines.now) (row_line old.style.form row) r
       → failures new.lines.now ≡ failures old.lines.now + (if is_ok r then 0 else 1)
       → new.sums ≡ old.sums → OnOk r (TakesRows written failures old (row ∷ []) new)
-  lined (Err e) off line counted sums = tt
-  lined (Ok u) off line counted sums = taken (omega (arith, counted))
-      (subst (λ b. (Appends (written old.lines.now) (written new.lines.now)
-      (if b then sums_before old.style.form old.sums (row_session row) else row_line old.style.form row))
-      × (new.sums ≡ (if b then Some (with_row (sums_after old.sums (row_session row)) row)
-      else old.sums))) (sym off) (line, sums))
+  lined (Err e) _ _ _ _ = tt
+  lined (Ok u) off line counted sums = taken (omega arith) (rw off (line, sums))
 
   -- it was added to sums
-  pub summed : old.style.summary ≡ true
-      → Appends (written old.lines.now) (written new.lines.now)
-      (sums_before old.style.form old.sums (row_session row))
-      → failures new.lines.now ≡ failures old.lines.now
-      → new.sums ≡ Some (with_row (sums_after old.sums (row_session row)) row)
-      → TakesRows written failures old (row ∷ []) new
-  summed on line quiet sums = taken quiet
-      (subst (λ b. (Appends (written old.lines.now) (written new.lines.now)
-      (if b then sums_before old.style.form old.sums (row_session row) else row_line old.style.form row))
-      × (new.sums ≡ (if b then Some (with_row (sums_after old.sums (row_session row)) row)
-      else old.sums))) (sym on) (line, sums))
+  pub summed : old.style.summary ≡ true → Appends (written old.lines.now) (written new.lines.now)
+      (sums_before old.style.form old.sums (row_session row)) → failures new.lines.now ≡ failures
+      old.lines.now → new.sums ≡ Some (with_row (sums_after old.sums (row_session row)) row) →
+      TakesRows written failures old (row ∷ []) new
+  summed on line quiet sums = taken quiet (rw on (line, sums))
 
 -- no row yet
 pub none_put : {A : Type 0} (written : A → Option (List ℕ)) (known : Bool) (v : CompareLines A)
@@ -105,7 +89,7 @@ pub none_put : {A : Type 0} (written : A → Option (List ℕ)) (known : Bool) (
 none_put written known v same sums k = record {
   lines = [];
   same = same;
-  theirs = by v.style.summary v.sums sums;
+  theirs = by _ _ sums;
   lines_known = k;
 }
   where
@@ -121,6 +105,5 @@ none_put written known v same sums k = record {
 pub all_written : {A : Type 0} (written : A → Option (List ℕ)) {rows : List Row}
     {v : CompareLines A} (s : Option (List ℕ)) → HasRows written true rows v
     → Appends (written v.lines.now) s (last_sums v.style.form v.sums) → s ≡ Some (compared v.style rows)
-all_written written {rows = rows} {v = v} s h line =
-    subst (λ (l : List ℕ). s ≡ Some l) (all_put v.style rows h.lines v.sums h.theirs)
-    (knows_more (last_sums v.style.form v.sums) h.lines_known line refl)
+all_written _ {rows} {v} s h line =
+    rw (all_put _ _ _ _ h.theirs) at (knows_more _ h.lines_known line refl)

@@ -1,14 +1,11 @@
 -- extract_to: what was written of an object, by the entries that were read (specs/Extract).
-use Rattle.std.proofs.lemmas.Grind.{common_steps}
 use Rattle.std.proofs.Common.{rules}
-use Rattle.std.proofs.Common.{◌≡◌, ℕ, ◌+◌, Bool, true, false, List, [], ◌∷◌}
-use Rattle.std.proofs.Common.{◌++◌, length, Option, Some, None, Result, Ok, Err, inl, inr, refl}
-use Rattle.std.proofs.Common.{sym, ◌∙◌, subst, append-nil, arith}
+use Rattle.std.proofs.Common.{◌≡◌, ℕ, ◌+◌, Bool, List, [], ◌∷◌}
+use Rattle.std.proofs.Common.{◌++◌, Option, Some, None, Result, Ok, Err, inl, inr, refl}
+use Rattle.std.proofs.Common.{sym, ◌∙◌, append-nil}
 use Rattle.std.specs.Prelude.{◌⊎◌, IfSome, IfErr}
-use Rattle.std.specs.Io.KnownBytes.{Appends}
 use Rattle.std.proofs.lemmas.Option.{none-some}
-use Rattle.flute_parts.specs.Addresses.{info_address}
-use Rattle.flute_parts.specs.Devices.{AppendsPart, times_failed}
+use Rattle.flute_parts.specs.Devices.{times_failed}
 use Rattle.flute_parts.specs.Facts.{IsRising, Same}
 use Rattle.flute_parts.specs.Tally.{Counts}
 use Rattle.flute_parts.specs.declared.fact.Fact.{Fact}
@@ -35,10 +32,7 @@ use Rattle.flutejoin.specs.ObjectWriters.{Stands, PassesAll}
 use Rattle.flutejoin.specs.Show.{FailsToRead}
 use Rattle.flutejoin.specs.Status.{of_load}
 use Rattle.flutejoin.specs.declared.command_fault.CommandFault.{CommandFault}
-use Rattle.flutejoin.specs.declared.command_fault.CommandFault.TheVariants.{Input, Full, NoObject}
-use Rattle.flutejoin.specs.declared.command_fault.CommandFault.TheVariants.{NoInformation}
-use Rattle.flutejoin.specs.declared.command_fault.CommandFault.TheVariants.{ConflictingInformation}
-use Rattle.flutejoin.specs.declared.command_fault.CommandFault.TheVariants.{NotWhole, CannotWrite}
+use Rattle.flutejoin.specs.declared.command_fault.CommandFault.TheVariants.{Full}
 use Rattle.flutejoin.specs.declared.limits.TheConstants.{MAX_ENTRIES}
 use Rattle.flutejoin.specs.declared.extract.object_writer.Found.{Found}
 use Rattle.flutejoin.specs.declared.extract.object_writer.ObjectWriter.{ObjectWriter}
@@ -55,10 +49,10 @@ pub record Passing {a b d : ℕ} (input left : Option (List ℕ)) (state : Reade
 begins_at : (u v : Option (List ℕ)) (state : ReaderState Before) (es : List Fact)
     → Sofar journal_framing MAX_ENTRIES u v state es
     → (es ≡ []) ⊎ IfSome u (λ bytes. BeginsWith MAX_ENTRIES bytes es)
-begins_at u v state [] s = inl refl
-begins_at None v state (e ∷ es) s = inr tt
-begins_at (Some x) None state (e ∷ es) s = absurd s.read
-begins_at (Some x) (Some z) state (e ∷ es) s =
+begins_at u v _ [] s = inl refl
+begins_at None v _ (e ∷ es) s = inr tt
+begins_at (Some x) None _ (e ∷ es) s = absurd s.read
+begins_at (Some x) (Some z) _ (e ∷ es) s =
     inr (record { are_items = s.are_items; rest = z; whole = s.read })
 
 module _ {a b d : ℕ} {u v w : Option (List ℕ)} {from to : ReaderState Before} {tally : Tally a b d}
@@ -83,7 +77,7 @@ module _ {a b d : ℕ} {u v w : Option (List ℕ)} {from to : ReaderState Before
   passing-fault f g = record {
     entries = p.entries;
     rising = p.sofar.are_items.in_order;
-    begins = begins_at u v from p.entries p.sofar;
+    begins = begins_at u v _ _ p.sofar;
     stands = p.stands;
     ended = (p.entries, p.counts.within, (sofar-stops p.sofar g).0);
   }
@@ -92,17 +86,17 @@ module _ {a b d : ℕ} {u v w : Option (List ℕ)} {from to : ReaderState Before
       → GivesItem journal_framing MAX_ENTRIES from to v w f
       → ((F : List Fact) → IsRising (F ++ f ∷ []) → Counts a b d F tally
       → Over (F ++ f ∷ []) a b d) → PassesAll (at_most a b d) u left writer s t (Err load.Full)
-  passing-full f left g over =
+  passing-full f _ g over =
       let more = sofar-next journal_sound p.sofar g in
       let loaded : Loaded a b d MAX_ENTRIES u v from p.entries = record {
         entries = p.entries;
         sofar = p.sofar;
-        same = Same-itself p.entries;
+        same = Same-itself _;
         fits = p.counts.within;
       } in record {
         entries = p.entries;
         rising = p.sofar.are_items.in_order;
-        begins = begins_at u v from p.entries p.sofar;
+        begins = begins_at u v _ _ p.sofar;
         stands = p.stands;
         ended = loaded-over loaded g (over p.entries more.are_items.in_order p.counts);
       }
@@ -125,7 +119,7 @@ module _ {a b d : ℕ} {u v w : Option (List ℕ)} {from to : ReaderState Before
 pub given-fault : {limit bound : ℕ} {v w : Option (List ℕ)} {old new : ReaderState Before}
     {f : ReadFault} → bound ≡ limit → GivesFault journal_framing bound old new v w f
     → GivesFault journal_framing limit old new v w f
-given-fault {v = v} {w = w} {old = old} {new = new} {f = f} e h = search rules
+given-fault {v} {w} {old} {new} {f} e h = search rules
 
 pub given-end : (bound : ℕ) (v w : Option (List ℕ)) (old new : ReaderState Before)
     (given : Option Fact) → given ≡ None → Gives journal_framing bound old new v w (Ok given)
@@ -137,30 +131,28 @@ given-end bound v w old new given e h = search rules
 pub at_left : {most : Limits} {u v w : Option (List ℕ)} {writer : ObjectWriter}
     {s t : Option (List ℕ)} {r : Result (Unit {0}) LoadFault} → v ≡ w
     → PassesAll most u v writer s t r → PassesAll most u w writer s t r
-at_left {most} {u} {writer = writer} {s} {t} {r} e p =
-    subst (λ (left : Option (List ℕ)). PassesAll most u left writer s t r) e p
+at_left {most} {u} {writer} {s} {t} {r} e p = rw (← e) p
 
 pub of_source : {R : Type 0} {most : Limits} (unread : R → Option (List ℕ)) {x y : R}
     {left : Option (List ℕ)} {writer : ObjectWriter} {s t : Option (List ℕ)}
     {r : Result (Unit {0}) LoadFault} → x ≡ y → PassesAll most (unread x) left writer s t r
     → PassesAll most (unread y) left writer s t r
-of_source {R} {most} unread {left = left} {writer = writer} {s = s} {t = t} {r = r} e p = search
-    rules
+of_source {R} {most} unread {left} {writer} {s} {t} {r} e p = search rules
 
 pub if_err : (r : Result ℕ CommandFault) (X : Type 0) → X → IfErr r (λ _. X)
-if_err x0 x1 x2 = search rules
+if_err = search rules
 
 module _ {W : Type 0} (written : W → Option (List ℕ)) (key : Key) (old new : W) where
   -- a result stated of the bytes is one stated of the sink
   pub lifted : (F : List Fact) (what : Found) (r : Result ℕ CommandFault)
       → Extracts (λ x. x) F key (written old) (written new) r → IfErr r (TellsUntouched what)
       → (WritesNothing what → new ≡ old) → Extracts written F key old new r
-  lifted x0 x1 x2 x3 x4 x5 = search rules
+  lifted = search rules
 
   -- facts with the same values at each address give the same result
   pub alike : (F G : List Fact) (r : Result ℕ CommandFault) → Same F G
       → Extracts written F key old new r → Extracts written G key old new r
-  alike x0 x1 x2 x3 x4 = search (rules, object-same, Whole-same, gaps-same)
+  alike = search (rules, object-same, Whole-same, gaps-same)
 
   -- of a journal that was read to its end
   pub answered : {most : Limits} (input left : Option (List ℕ)) (F : List Fact)
@@ -189,27 +181,25 @@ module _ {W : Type 0} (written : W → Option (List ℕ)) (key : Key) (old new :
       List Fact) (start now : Option (List ℕ)) → IsRising P → Stands P writer start now → Extracts
       (λ x. x) P writer.key start now r) → IfErr r (TellsUntouched writer.found) → Answers most
       input left r
-  answers {input = input} {left = left} {writer = writer} {x = x} r p is same tells t =
+  answers {input} {left} {writer} {x} r p is same tells t =
       let F = p.entries in
-      let here = subst (λ k. Extracts (λ x. x) F k (written old) (written new) r) is
-      (tells F (written old) (written new) p.rising p.stands) in
-      let h = lifted F writer.found r here t same in
+      let here = rw is at (tells F (written old) (written new) p.rising p.stands) in
+      let h = lifted F _ r here t same in
       record {
-        extracts = answered input left F r (λ F. Extracts written F key old new r) h (record {
+        extracts = answered _ _ F r _ h (record {
           entries = F;
           journal = p.ended.0;
           read = p.ended.1;
           within = p.ended.2;
           holds = h;
         });
-        as_others = λ others. answered input left F r
-            (λ F. Same F others → Extracts written others key old new r) h (record {
-              entries = F;
-              journal = p.ended.0;
-              read = p.ended.1;
-              within = p.ended.2;
-              holds = λ s. alike F others r s h;
-            });
+        as_others = λ others. answered _ _ F r _ h (record {
+          entries = F;
+          journal = p.ended.0;
+          read = p.ended.1;
+          within = p.ended.2;
+          holds = λ s. alike F _ r s h;
+        });
         reads = read_none F r h;
       }
 
@@ -217,20 +207,20 @@ module _ {W : Type 0} (written : W → Option (List ℕ)) (key : Key) (old new :
       {r : Result (Unit {0}) LoadFault}
       → PassesAll most input left writer (written old) (written new) r → writer.key ≡ key
       → (WritesNothing writer.found → new ≡ old) → WritesFirst written input key old new
-  first_part {input = input} {writer = writer} p is same =
-      elim (wrote-some p.entries writer.key writer.failed (written old) (written new) writer.found
+  first_part {input} {writer} p is same =
+      elim (wrote-some _ _ _ _ _ _
       p.stands) [
         | inl none ↦ inl (same none)
-        | inr w ↦ inr (begun p.entries p.rising p.begins
-            (subst (λ k. WroteFirst p.entries k (written old) (written new)) is w))
+        | inr w ↦ inr (begun _ p.rising p.begins
+            (rw (← is) w))
       ]
     where
       begun : (F : List Fact) → IsRising F
           → (F ≡ []) ⊎ IfSome input (λ bytes. BeginsWith MAX_ENTRIES bytes F)
           → WroteFirst F key (written old) (written new)
           → FirstWritten input (written old) (written new) key
-      begun F rising (inl e) w =
-          absurd (none-some _ (sym (fact_at-nil (info_address key)) ∙
+      begun F _ (inl e) w =
+          absurd (none-some _ (sym (fact_at-nil _) ∙
           (w.held [] [] (sym (append-nil F ∙ e)) tt).information))
       begun F rising (inr b) w =
           record {
@@ -247,7 +237,7 @@ module _ {W : Type 0} (written : W → Option (List ℕ)) (key : Key) (old new :
 -- how often the sink failed
 pub sink_fails : (n m : ℕ) (failed : Bool) (r : Result ℕ CommandFault) → m ≡ n + times_failed failed
     → FailedBy failed r → SinkFails n m r
-sink_fails x0 x1 x2 x3 x4 x5 = search rules
+sink_fails = search rules
 
 -- The fault is that of the journal.
 
@@ -255,8 +245,8 @@ pub journal_fault : {most : Limits} {input left : Option (List ℕ)} {writer : O
     {s t : Option (List ℕ)} {f : LoadFault} {fault : CommandFault} → fault ≡ of_load 1 f
     → (P : List Fact → Type 0) → PassesAll most input left writer s t (Err f)
     → AnswersFrom most input left P (Err fault)
-journal_fault {most} {input = input} {left = left} {writer = writer} {s = s} {t = t} {f = f} e P p =
-    subst (λ x. AnswersFrom most input left P (Err x)) (sym e) (told f p)
+journal_fault {most} {input} {left} {writer} {s} {t} {f} e P p =
+    rw e (told f p)
   where
     told : (g : LoadFault) → PassesAll most input left writer s t (Err g)
         → AnswersFrom most input left P (Err (of_load 1 g))

@@ -11,12 +11,12 @@ use Rattle.flute_parts.proofs.Public.{of_equal}
 use Rattle.flute_parts.specs.Devices.{Writes}
 use Rattle.flute_parts.specs.declared.fact.Fact.{Fact}
 use Rattle.flute_output.specs.NewFolders.{Fills, FolderStays, IsReady, LeadsTo, Makes, NamedFile}
-use Rattle.flute_output.specs.NewFolders.{Places, keeps, puts, with_bytes}
+use Rattle.flute_output.specs.NewFolders.{Places, keeps, puts}
 use Rattle.flutejoin.specs.ExtractAll.{ExtractsAll}
 use Rattle.flutejoin.specs.FileNames.{file_name}
 use Rattle.flutejoin.specs.Gaps.{ListsJournal}
 use Rattle.flutejoin.specs.Limits.{Limits}
-use Rattle.flutejoin.specs.ObjectFiles.{HasFiles, Lasting, file_so_far, first_line, lasting}
+use Rattle.flutejoin.specs.ObjectFiles.{HasFiles, file_so_far, first_line, lasting}
 use Rattle.flutejoin.specs.ObjectFiles.{left_so_far, named_file, object_file, one_file}
 use Rattle.flutejoin.specs.Progress.{EndsAs, Progress, with_value}
 use Rattle.flutejoin.specs.Told.{Told}
@@ -29,8 +29,7 @@ pub lasts : (a b : Option Places) → LeadsTo FolderStays a b → option_map las
 lasts None None h = refl
 lasts None (Some b) h = absurd h
 lasts (Some a) None h = absurd h
-lasts (Some a) (Some b) h =
-    λ i. Some (record { out = h.out i; past = h.past i; named = h.named i })
+lasts (Some a) (Some b) h = λ i. Some (record { out = h.out i; past = h.past i; named = h.named i })
 
 pub stays : (a b : Option Places) → option_map lasting b ≡ option_map lasting a → LeadsTo FolderStays a b
 stays None None e = tt
@@ -39,17 +38,17 @@ stays (Some a) None e = absurd cc
 stays (Some a) (Some b) e =
     let same : lasting b ≡ lasting a = cc in
     record {
-      out = ap (λ (x : Lasting). x.out) same;
-      past = ap (λ (x : Lasting). x.past) same;
-      named = ap (λ (x : Lasting). x.named) same;
+      out = ap (λ x. x.out) same;
+      past = ap (λ x. x.past) same;
+      named = ap (λ x. x.named) same;
     }
 
 -- a call of a folder that did this, or failed
 pub stays_called : (f : Places → Places) → ((p : Places) → FolderStays p (f p))
     → {T E : Type 0} (r : Result T E) (a b : Option Places) → OnOk r (Makes f a b)
     → OnErr r (LeadsTo FolderStays a b) → LeadsTo FolderStays a b
-stays_called f h (Ok x) a b made failed = did_stay f h a b made
-stays_called f h (Err x) a b made failed = failed
+stays_called f h (Ok x) a b made _ = did_stay f h a b made
+stays_called f h (Err x) a b _ failed = failed
 
 -- ---- the open file
 
@@ -61,22 +60,18 @@ both_some f g (Some x) = refl
 pub same_some : (progress : Option Progress)
     → is_some (left_so_far progress) ≡ is_some (file_so_far progress)
 same_some None = refl
-same_some (Some p) = both_some
-    (λ bytes. p.info.transfer_length - length bytes)
-    (λ bytes. record { name = file_name p.key; bytes = take p.info.transfer_length bytes }) p.bytes
+same_some (Some p) = both_some _ _ _
 
 -- none is open, as nothing is left to be written
 pub no_file : {left : Option ℕ} (file : Option NamedFile) → left ≡ None
     → is_some left ≡ is_some file → file ≡ None
-no_file None e same = refl
+no_file None e _ = refl
 no_file (Some f) e same = absurd (let x = sym (ap is_some e) ∙ same in cc)
 
 pub no_files : {left : Option ℕ} (files : List NamedFile) (file : Option NamedFile)
-    (p0 p : Option Places) → left ≡ None → is_some left ≡ is_some file
-    → LeadsTo (Fills files file) p0 p
-    → LeadsTo (Fills (files ++ one_file file) None) p0 p × (0 ≡ length (one_file file))
-no_files files None p0 p e same filled =
-    (subst (λ x. LeadsTo (Fills x None) p0 p) (sym (append-nil files)) filled, refl)
+    (p0 p : Option Places) → left ≡ None → is_some left ≡ is_some file → LeadsTo (Fills files file)
+    p0 p → LeadsTo (Fills (files ++ one_file file) None) p0 p × (0 ≡ length (one_file file))
+no_files files None p0 p e _ filled = (rw ((append-nil files)) filled, refl)
 no_files files (Some f) p0 p e same filled = absurd (let x = sym (ap is_some e) ∙ same in cc)
 
 -- one is open, and is kept
@@ -85,7 +80,7 @@ pub kept_one : {left : Option ℕ} {n : ℕ} (files : List NamedFile) (file : Op
     → LeadsTo (Fills files file) p0 p → Makes keeps p q
     → LeadsTo (Fills (files ++ one_file file) None) p0 q × (1 ≡ length (one_file file))
 kept_one files None p0 p q e filled made = absurd (let x = sym (ap is_some e.0) ∙ e.1 in cc)
-kept_one files (Some f) p0 p q e filled made = (fills_keeps files f p0 p q filled made, refl)
+kept_one files (Some f) p0 p q e filled made = (fills_keeps _ f p0 p q filled made, refl)
 
 none_mapped : {A : Type 0} (f : List ℕ → A) (g : List ℕ → List ℕ) (o : Option (List ℕ))
     → None ≡ option_map f o → option_map g o ≡ o
@@ -107,47 +102,41 @@ module _ {at : Option Places × Option (List ℕ)} {objects : List Told} {p : Pr
   pub fits_none : left ≡ None
       → HasFiles at objects (Some (with_value value p)) places lines written left
   fits_none e =
-      let same : option_map (λ bytes. bytes ++ value) p.bytes ≡ p.bytes = none_mapped
-      (λ bytes. p.info.transfer_length - length bytes) (λ bytes. bytes ++ value) p.bytes
-      (sym e ∙ h.left_is) in
+      let same = none_mapped _ _ _ (sym e ∙ h.left_is) in
       record {
-        filled = subst (λ (x : Option (List ℕ)). LeadsTo
-            (Fills (flat_map object_file objects) (option_map
-            (λ bytes. record { name = file_name p.key; bytes = take p.info.transfer_length bytes })
-            x)) at.0 places) (sym same) h.filled;
+        filled = rw same h.filled;
         told = h.told;
         count = h.count;
-        left_is = h.left_is ∙ ap (λ (x : Option (List ℕ)). option_map
-            (λ bytes. p.info.transfer_length - length bytes) x) (sym same);
+        left_is = h.left_is ∙ ap
+            (λ x. option_map (λ bytes. p.info.transfer_length - length bytes) x) (sym same);
       }
 
   -- the open file takes what is of the object
-  pub fits_some : (n : ℕ) {places' : Option Places} → left ≡ Some n
-      → Makes (puts (take n value)) places places'
-      → HasFiles at objects (Some (with_value value p)) places' lines written
+  pub fits_some : (n : ℕ) {places' : Option Places} → left ≡ Some n → Makes (puts (take n value))
+      places places' → HasFiles at objects (Some (with_value value p)) places' lines written
       (Some (n - length (take n value)))
-  fits_some n {places' = places'} e made =
+  fits_some n {places'} e made =
       let len = p.info.transfer_length in
-      let b = some_mapped (λ bytes. len - length bytes) p.bytes n (sym e ∙ h.left_is) in
+      let b = some_mapped _ _ n (sym e ∙ h.left_is) in
       let file : List ℕ → NamedFile =
       λ bytes. record { name = file_name p.key; bytes = take len bytes } in
-      let before = subst (λ (x : Option (List ℕ)). LeadsTo (Fills (flat_map object_file objects)
+      let before = subst (λ x. LeadsTo (Fills (flat_map object_file objects)
       (option_map file x)) at.0 places) b.1 h.filled in
-      let after = fills_puts (take n value) (flat_map object_file objects) (file b.0) at.0 places
+      let after = fills_puts _ _ _ at.0 places
       places' before made in
-      let all : with_bytes (take n value) (file b.0) ≡ file (b.0 ++ value) =
-      ap (λ (x : List ℕ). record { name = file_name p.key; bytes = x })
-      (ap (λ k. take len b.0 ++ take k value) b.2 ∙ sym (take-append len b.0 value)) in
+      let all =
+      ap (λ x. record { name = file_name p.key; bytes = x })
+      (ap (λ k. take len b.0 ++ take k value) b.2 ∙ sym (take-append _ _ _)) in
       let left : n - length (take n value) ≡ len - length (b.0 ++ value) =
       omega (arith, left_of n value, b.2, length-append b.0 value) in
       record {
-        filled = subst (λ (x : Option (List ℕ)). LeadsTo (Fills (flat_map object_file objects)
+        filled = subst (λ x. LeadsTo (Fills (flat_map object_file objects)
             (option_map file (option_map (λ bytes. bytes ++ value) x))) at.0 places') (sym b.1)
-            (subst (λ (x : NamedFile). LeadsTo (Fills (flat_map object_file objects) (Some x)) at.0
+            (subst (λ x. LeadsTo (Fills (flat_map object_file objects) (Some x)) at.0
             places') all after);
         told = h.told;
         count = h.count;
-        left_is = subst (λ (x : Option (List ℕ)). Some (n - length (take n value)) ≡ option_map
+        left_is = subst (λ x. Some (n - length (take n value)) ≡ option_map
             (λ bytes. len - length bytes) (option_map (λ bytes. bytes ++ value) x)) (sym b.1)
             (ap Some left);
       }
@@ -158,7 +147,7 @@ module _ {at : Option Places × Option (List ℕ)} {objects : List Told} {p : Pr
 file_told : (t : Told) (progress : Option Progress) → EndsAs t progress
     → object_file t ≡ one_file (file_so_far progress)
 file_told t None e = ap (named_file t.key) e.bytes
-file_told t (Some p) e = ap (named_file t.key) e.bytes ∙ go p.bytes
+file_told t (Some p) e = ap (named_file t.key) e.bytes ∙ go _
   where
     go : (o : Option (List ℕ))
         → named_file t.key (option_map (λ bytes. take p.info.transfer_length bytes) o)
@@ -176,12 +165,7 @@ pub few_files : (objects : List Told) → length (flat_map object_file objects) 
 few_files [] = omega arith
 few_files (t ∷ objects) =
     let one : length (object_file t) ≤ 1 = go t.bytes in
-    omega (
-      arith,
-      length-append (object_file t) (flat_map object_file objects),
-      one,
-      few_files objects,
-    )
+    omega (arith, length-append (object_file t) (flat_map object_file objects), few_files objects)
   where
     go : (o : Option (List ℕ)) → length (named_file t.key o) ≤ 1
     go None = omega arith
@@ -189,31 +173,23 @@ few_files (t ∷ objects) =
 
 pub if_written : {E B : Type 0} (r : Result (Unit {0}) E) (s t : Option (List ℕ)) (bytes : List ℕ)
     → Writes s t bytes r → (Appends s t bytes → B) → OnOk r B
-if_written (Ok x) s t bytes h f = f h
-if_written (Err e) s t bytes h f = tt
+if_written (Ok x) s t _ h f = f h
+if_written (Err e) s t _ h f = tt
 
 pub one_more : {at : Option Places × Option (List ℕ)} {objects : List Told}
     {progress : Option Progress} {places : Option Places} {lines : Option (List ℕ)} {written : ℕ}
-    {left : Option ℕ} (h : HasFiles at objects progress places lines written left) (t : Told)
-    → EndsAs t progress → {places' : Option Places} {lines' : Option (List ℕ)} {n count : ℕ}
-    → LeadsTo (Fills (flat_map object_file objects ++ one_file (file_so_far progress)) None) at.0
-    places' × (n ≡ length (one_file (file_so_far progress)))
-    → Appends lines lines' (first_line t) → count ≡ written + n
-    → {left' : Option ℕ} → left' ≡ None
-    → HasFiles at (objects ++ t ∷ []) None places' lines' count left'
-one_more {at} {objects} {progress} {places} {lines} h t e {places'} {lines'} {n} f line c none =
-    let files : flat_map object_file objects ++ one_file (file_so_far progress)
-    ≡ flat_map object_file (objects ++ t ∷ []) =
-    ap (λ x. flat_map object_file objects ++ x) (sym (file_told t progress e))
-    ∙ flat_map_more object_file [] objects t in
-    record {
-      filled = subst (λ x. LeadsTo (Fills x None) at.0 places') files f.0;
-      told = subst (Appends at.1 lines') (flat_map_more first_line [] objects t)
-          (Appends-trans at.1 lines lines' (flat_map first_line objects) (first_line t) h.told line);
-      count = c ∙ ap (λ x. x + n) h.count
-          ∙ ap (λ x. length (flat_map object_file objects) + x) f.1
-          ∙ sym (length-append (flat_map object_file objects) (one_file (file_so_far progress)))
-          ∙ ap (λ x. length x) files;
+    {left : Option ℕ} (h : HasFiles at objects progress places lines written left) (t : Told) →
+    EndsAs t progress → {places' : Option Places} {lines' : Option (List ℕ)} {n count : ℕ} → LeadsTo
+    (Fills (flat_map object_file objects ++ one_file (file_so_far progress)) None) at.0 places' ×
+    (n ≡ length (one_file (file_so_far progress))) → Appends lines lines' (first_line t) → count ≡
+    written + n → {left' : Option ℕ} → left' ≡ None → HasFiles at (objects ++ t ∷ []) None places'
+    lines' count left'
+one_more {at} {objects} {progress} {lines} h t e {places'} {lines'} {n} f line c none =
+    let files = ap (λ x. flat_map object_file objects ++ x) (sym (file_told t _ e)) ∙ flat_map_more
+    object_file [] objects t in record {
+      filled = rw (← files) f.0;
+      told = rw (← flat_map_more first_line [] objects t) (Appends-trans _ _ _ _ _ h.told line);
+      count = cc (length-append (flat_map object_file objects) (one_file (file_so_far progress)));
       left_is = none;
     }
 
@@ -241,15 +217,14 @@ none_written p w ready none left = record {
 -- what holds of two parts of equal values
 pub of_equals : {A B C D : Type 0} (f : A → C) (g : B → D) (E : C → D → Type 0) {x : A} {y : B}
     → E (f x) (g y) → (x' : A) (y' : B) → x ≡ x' → y ≡ y' → E (f x') (g y')
-of_equals f g E {y = y} h x' y' e d = of_equal g (E (f x')) (of_equal f (λ c. E c (g y)) h x' e) y' d
+of_equals f g E {y} h x' y' e d = of_equal g (E (f x')) (of_equal f (λ c. E c (g y)) h _ e) _ d
 
 pub extracted : {most : Limits} (picks : Fact → Bool) (u left : Option (List ℕ))
     {at : Option Places × Option (List ℕ)} {places : Option Places} {lines : Option (List ℕ)}
-    {written : ℕ} {open_left : Option ℕ}
-    → ListsJournal most picks u
-    (λ objects. HasFiles at objects None places lines written open_left) → IsAtEnd left
-    → ExtractsAll most u left picks at.0 places at.1 lines written
-extracted picks u left h end = record {
+    {written : ℕ} {open_left : Option ℕ} → ListsJournal most picks u
+    (λ objects. HasFiles at objects None places lines written open_left) → IsAtEnd left →
+    ExtractsAll most u left picks at.0 places at.1 lines written
+extracted _ u _ h end = record {
   entries = h.entries;
   journal = h.journal;
   read = end;

@@ -1,7 +1,7 @@
 -- extract --all: a folder that is filled, call after call (flute_output: specs/NewFolders).
 use Rattle.std.proofs.Common.{rules}
-use Rattle.std.proofs.Common.{◌≡◌, ℕ, List, [], ◌∷◌, ◌++◌, Option, Some, None, refl, sym, ap, ◌∙◌}
-use Rattle.std.proofs.Common.{subst, append_assoc}
+use Rattle.std.proofs.Common.{◌≡◌, ℕ, List, [], ◌∷◌, ◌++◌, Option, Some, None, refl}
+use Rattle.std.proofs.Common.{append_assoc}
 use Rattle.std.specs.Prelude.{IsSome, option_map}
 use Rattle.flute_output.specs.NewFolders.{NamedFile, Filled, Places, LeadsTo, Makes, Fills}
 use Rattle.flute_output.specs.NewFolders.{FolderStays, begins, puts, keeps, keeps_open}
@@ -26,10 +26,10 @@ pub puts_stay : (more : List ℕ) (p : Places) → FolderStays p (puts more p)
 puts_stay more p = search rules
 
 kept_stay : (o : Option NamedFile) (p : Places) → FolderStays p (keeps_open o p)
-kept_stay x0 x1 = search rules
+kept_stay = search rules
 
 pub keeps_stay : (p : Places) → FolderStays p (keeps p)
-keeps_stay p = kept_stay p.open_file p
+keeps_stay p = kept_stay _ p
 
 pub leaves_stay : (p : Places) → FolderStays p (leaves p)
 leaves_stay p = search rules
@@ -59,20 +59,19 @@ fills_leaves files o = search rules
 
 kept_there : (f : NamedFile) (b : Option Filled) → IsSome b → IsSome
     (option_map (with_files (f ∷ [])) b)
-kept_there x0 x1 x2 = search rules
+kept_there = search rules
 
 kept_files : (f : NamedFile) (b : Option Filled) → IsSome b → files_in
     (option_map (with_files (f ∷ [])) b) ≡ files_in b ++ f ∷ []
-kept_files x0 x1 x2 = search rules
+kept_files = search rules
 
 keeps_as : (files : List NamedFile) (f : NamedFile) (p0 p : Places) → Fills files (Some f) p0 p →
     Fills (files ++ f ∷ []) None p0 (keeps_open (Some f) p)
 keeps_as files f p0 p l = record {
-  beside = kept_files f p.beside l.there ∙ ap (λ x. x ++ f ∷ []) l.beside ∙ append_assoc
-      (files_beside p0) files (f ∷ []);
-  there = kept_there f p.beside l.there;
+  beside = cc (kept_files f _ l.there, append_assoc (files_beside p0) files (f ∷ []));
+  there = kept_there f _ l.there;
   open_is = refl;
-  stays = both_stay p0 p (keeps_open (Some f) p) l.stays (kept_stay (Some f) p);
+  stays = both_stay _ p _ l.stays (kept_stay (Some f) p);
 }
 
 pub fills_keeps : (files : List NamedFile) (f : NamedFile)

@@ -1,5 +1,5 @@
 -- What is asked for is enough for whoever has the rest (specs/Laws).
-use Rattle.std.proofs.Common.{◌≡◌, ℕ, Bool, true, false, cond, List, [], ◌∷◌, ◌++◌, sym, subst, inl}
+use Rattle.std.proofs.Common.{◌≡◌, ℕ, Bool, false, cond, List, [], ◌∷◌, ◌++◌, sym, subst, inl}
 use Rattle.std.proofs.Common.{inr, refl, arith, suc}
 use Rattle.std.specs.Prelude.{Contains, filter}
 use Rattle.std.proofs.lemmas.Bool.{cases_Bool}
@@ -8,7 +8,7 @@ use Rattle.flute_parts.specs.Facts.{Below, Same}
 use Rattle.flute_parts.specs.declared.fact.Fact.{Fact}
 use Rattle.flute_parts.proofs.Public.{Below-append, Below-from_Same, Below-itself, Below-trans}
 use Rattle.flute_parts.proofs.Public.{Same-from_Below, Same-itself, Same-swap, Same-twice}
-use Rattle.flute_journal.specs.Journal.{IsJournal, Journal}
+use Rattle.flute_journal.specs.Journal.{IsJournal}
 use Rattle.flute_journal.proofs.Public.{written_journal}
 use Rattle.flutejoin.specs.FillLists.{IsListing, asked, asks}
 use Rattle.flutejoin.specs.JoinTrees.{Joined}
@@ -33,76 +33,65 @@ right : (F G : List Fact) → Below G (F ++ G)
 right F G = Below-append [] F G G (none_below F) (Below-itself G)
 
 left : (F G : List Fact) → Below F (F ++ G)
-left F G =
-    Below-trans F (G ++ F) (F ++ G) (right G F) (Below-from_Same (G ++ F) (F ++ G) (Same-swap G F))
+left F G = Below-trans F _ _ (right G F) (Below-from_Same _ _ (Same-swap G F))
 
 both : (F G X : List Fact) → Below F X → Below G X → Below (F ++ G) X
-both F G X p q =
-    Below-trans (F ++ G) (X ++ X) X (Below-append F X G X p q)
-    (Below-from_Same (X ++ X) X (Same-twice X))
+both F G X p q = Below-trans _ _ X (Below-append F X G X p q) (Below-from_Same _ X (Same-twice X))
 
 module _ (takes : Fact → Bool) where
   taken_below : (S : List Fact) → Below (filter takes S) S
   taken_below [] = Below-itself []
-  taken_below (f ∷ S) = elim (cases_Bool (takes f)) [
+  taken_below (f ∷ S) = elim (cases_Bool _) [
     | inl e ↦ subst (λ b. Below (cond b (f ∷ filter takes S) (filter takes S)) (f ∷ S)) (sym e)
-        (Below-append (f ∷ []) (f ∷ []) (filter takes S) S (Below-itself (f ∷ [])) (taken_below S))
-    | inr e ↦ subst (λ b. Below (cond b (f ∷ filter takes S) (filter takes S)) (f ∷ S)) (sym e)
-        (Below-trans (filter takes S) S (f ∷ S) (taken_below S) (right (f ∷ []) S))
+        (Below-append (f ∷ []) (f ∷ []) _ S (Below-itself _) (taken_below S))
+    | inr e ↦ rw e (Below-trans _ S _ (taken_below S) (right (f ∷ []) S))
   ]
 
-  all_below : (C S : List Fact)
-      → ((f : Fact) → Contains S f → takes f ≡ false → Below (f ∷ []) C)
-      → Below S (C ++ filter takes S)
-  all_below C [] h = none_below (C ++ [])
+  all_below : (C S : List Fact) → ((f : Fact) → Contains S f → takes f ≡ false → Below (f ∷ []) C) →
+      Below S (C ++ filter takes S)
+  all_below C [] h = none_below _
   all_below C (f ∷ S) h =
       let F = filter takes S in
       let later = λ (g : Fact) (i : Contains S g) (e : takes g ≡ false). h g (Contains-tail f S g i) e
       in
       elim (cases_Bool (takes f)) [
-        | inl e ↦ subst (λ b. Below (f ∷ S) (C ++ cond b (f ∷ F) F)) (sym e)
-            (both (f ∷ []) S (C ++ (f ∷ F))
+        | inl e ↦ rw e (both (f ∷ []) S (C ++ (f ∷ F))
             (Below-trans (f ∷ []) (f ∷ F) (C ++ (f ∷ F)) (left (f ∷ []) F) (right C (f ∷ F)))
             (Below-trans S (C ++ F) (C ++ (f ∷ F)) (all_below C S later)
             (Below-append C C F (f ∷ F) (Below-itself C) (right (f ∷ []) F))))
-        | inr e ↦ subst (λ b. Below (f ∷ S) (C ++ cond b (f ∷ F) F)) (sym e)
-            (both (f ∷ []) S (C ++ F)
+        | inr e ↦ rw e (both (f ∷ []) S (C ++ F)
             (Below-trans (f ∷ []) C (C ++ F) (h f (Contains-head f S) e) (left C F))
             (all_below C S later))
       ]
 
-pub enough : (asking : Asking) (listed : List ListedLine) (facts held : List Fact)
-    → HaveTheRest asking listed facts held
-    → Same (held ++ asked asking listed facts) (held ++ facts)
+pub enough : (asking : Asking) (listed : List ListedLine) (facts held : List Fact) → HaveTheRest
+    asking listed facts held → Same (held ++ asked asking listed facts) (held ++ facts)
 enough asking listed facts held h =
     let A = asked asking listed facts in
-    Same-from_Below (held ++ A) (held ++ facts)
-    (Below-append held held A facts (Below-itself held) (taken_below (asks asking listed) facts))
-    (both held facts (held ++ A) (left held A) (all_below (asks asking listed) held facts h))
+    Same-from_Below _ _
+    (Below-append _ held A facts (Below-itself _) (taken_below (asks asking listed) _))
+    (both _ _ _ (left _ A) (all_below _ _ _ h))
 
 module _ (one : OneReading) (choice : Choice) (asking : Asking)
     {asker journal lines answer : List ℕ} {count : ℕ} (bs cs : List ℕ) where
-  pub joined_by : (others : List (List ℕ)) (held : List Fact) → IsJournal asker held
-      → (h : IsAnswer asking journal lines answer count)
-      → HaveTheRest asking h.writes.listed h.writes.facts held
-      → Joined choice (asker ∷ answer ∷ others) bs → Joined choice (asker ∷ journal ∷ others) cs
-      → bs ≡ cs
+  pub joined_by : (others : List (List ℕ)) (held : List Fact) → IsJournal asker held →
+      (h : IsAnswer asking journal lines answer count) → HaveTheRest asking h.writes.listed
+      h.writes.facts held → Joined choice (asker ∷ answer ∷ others) bs → Joined choice
+      (asker ∷ journal ∷ others) cs → bs ≡ cs
   joined_by others held s h rest j k =
       let w = h.writes in
       let A = asked asking w.listed w.facts in
-      let is : answer ≡ w.writes.bytes =
-      append_cancel_left h.before answer w.writes.bytes w.writes.appended in
-      let written = written_journal answer A (subst (λ l. Journal l A) (sym is) w.writes.journal) in
-      alike one choice held A w.facts others s written (IsJournal-from_within _ w.facts w.journal_is)
-      (enough asking w.listed w.facts held rest) j k
+      let is = append_cancel_left h.before answer w.writes.bytes w.writes.appended in
+      let written = written_journal _ A (rw is w.writes.journal) in
+      alike one _ _ A _ _ s written (IsJournal-from_within _ _ w.journal_is) (enough _ _ _ _ rest) j
+      k
 
-  pub joined_alike : (others : List (List ℕ)) (held : List Fact) → IsJournal asker held
-      → IsAnswer asking journal lines answer count
-      → ((listed : List ListedLine) (facts : List Fact) → IsListing lines listed
-      → IsJournal journal facts → HaveTheRest asking listed facts held)
-      → Joined choice (asker ∷ answer ∷ others) bs → Joined choice (asker ∷ journal ∷ others) cs
-      → bs ≡ cs
+  pub joined_alike : (others : List (List ℕ)) (held : List Fact) → IsJournal asker held → IsAnswer
+      asking journal lines answer count → ((listed : List ListedLine) (facts : List Fact) →
+      IsListing lines listed → IsJournal journal facts → HaveTheRest asking listed facts held) →
+      Joined choice (asker ∷ answer ∷ others) bs → Joined choice (asker ∷ journal ∷ others) cs → bs
+      ≡ cs
   joined_alike others held s h rest j k =
       let w = h.writes in
-      joined_by others held s h
-      (rest w.listed w.facts w.lines_are (IsJournal-from_within _ w.facts w.journal_is)) j k
+      joined_by _ _ s h
+      (rest w.listed w.facts w.lines_are (IsJournal-from_within _ _ w.journal_is)) j k

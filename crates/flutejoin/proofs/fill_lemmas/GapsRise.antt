@@ -1,14 +1,14 @@
 -- Symbols of an object, what is wanted of them, and its gaps, in their order and within their ranges
 -- (flute_store specs/Objects).
-use Rattle.std.proofs.Common.{◌≡◌, ℕ, zero, suc, ◌+◌, ◌*◌, ◌-◌, ◌<◌, ◌≤◌, ◌^◌, ◌⊎◌, true, cond, ◌==◌, ◌&&◌}
+use Rattle.std.proofs.Common.{◌≡◌, ℕ, zero, suc, ◌+◌, ◌*◌, ◌<◌, ◌≤◌, ◌^◌, ◌⊎◌, true, ◌==◌, ◌&&◌}
 use Rattle.std.proofs.Common.{List, [], ◌∷◌, ◌++◌, length, map, get_or, Option, Some, None, inl, inr}
-use Rattle.std.proofs.Common.{refl, sym, subst, arith}
+use Rattle.std.proofs.Common.{refl, arith}
 use Rattle.std.specs.Prelude.{filter_map, option_map, ⊤}
 use Rattle.std.specs.List.{cons_option, enumerate_from, flat_map, range_with_len}
 use Rattle.std.proofs.lemmas.Bool.{cases_Bool}
 use Rattle.std.proofs.lemmas.Bool.Decides.{nat_tests}
 use Rattle.flute_parts.specs.Equality.{both}
-use Rattle.flute_parts.specs.Information.{Information, IsValid, sizes}
+use Rattle.flute_parts.specs.Information.{Information, IsValid}
 use Rattle.flute_parts.specs.Partition.{block_ids, ids, symbol_id}
 use Rattle.flute_parts.specs.Ranges.{IsId}
 use Rattle.flute_parts.specs.declared.symbol_id.SymbolId.{SymbolId}
@@ -32,8 +32,7 @@ Want = SymbolId × Reason
 
 unfoldable pub WantsFrom : ℕ → ℕ → List Want → Type 0
 WantsFrom n i [] = ⊤
-WantsFrom n i (w ∷ ws) =
-    From n i w.0.sbn w.0.esi × IsId w.0 × WantsFrom w.0.sbn (w.0.esi + 1) ws
+WantsFrom n i (w ∷ ws) = From n i w.0.sbn w.0.esi × IsId w.0 × WantsFrom w.0.sbn (w.0.esi + 1) ws
 
 unfoldable pub GapsFrom : ℕ → ℕ → List Gap → Type 0
 GapsFrom n i [] = ⊤
@@ -43,51 +42,45 @@ GapsFrom n i (g ∷ gaps) =
 -- ---- symbols
 
 earlier : (n i m j b f : ℕ) → From n i m j → From m j b f → From n i b f
-earlier n i m j b f (inl p) (inl q) = inl (omega (arith, p, q))
-earlier n i m j b f (inl p) (inr q) = inl (omega (arith, p, q.0))
-earlier n i m j b f (inr p) (inl q) = inl (omega (arith, p.0, q))
-earlier n i m j b f (inr p) (inr q) = inr (omega (arith, p.0, q.0), omega (arith, p.1, q.1))
+earlier n i m j b f (inl p) (inl q) = inl (omega arith)
+earlier n i m j b f (inl p) (inr q) = inl (omega arith)
+earlier n i m j b f (inr p) (inl q) = inl (omega arith)
+earlier n i m j b f (inr p) (inr q) = inr (omega arith, omega arith)
 
 ids_earlier : (n i m j : ℕ) (xs : List SymbolId) → From n i m j → IdsFrom m j xs → IdsFrom n i xs
 unfolding IdsFrom
 ids_earlier n i m j [] f h = tt
-ids_earlier n i m j (x ∷ xs) f h = (earlier n i m j x.sbn x.esi f h.0, h.1, h.2)
+ids_earlier n i m j (x ∷ xs) f h = (earlier n i m j _ _ f h.0, h.1, h.2)
 
 -- a block, and then others
 block : (n a k : ℕ) (xs : List SymbolId) → n < 2 ^ 16 → a + k ≤ 2 ^ 16 → IdsFrom (n + 1) 0 xs
     → IdsFrom n a (map (symbol_id n) (range_with_len a k) ++ xs)
 unfolding IdsFrom
-block n a zero xs p q h = ids_earlier n a (n + 1) 0 xs (inl (omega arith)) h
-block n a (suc k) xs p q h = (
-  inr (refl, omega arith),
-  (p, omega (arith, q)),
-  block n (a + 1) k xs p (omega (arith, q)) h,
-)
+block n a zero xs p q h = ids_earlier n a _ 0 _ (inl (omega arith)) h
+block n a (suc k) xs p q h =
+    (inr (refl, omega arith), (p, omega arith), block n (a + 1) k xs p (omega arith) h)
 
 blocks : (n : ℕ) (ss : List ℕ) → n + length ss ≤ 2 ^ 16 → ((k : ℕ) → get_or ss k 0 ≤ 2 ^ 16)
     → IdsFrom n 0 (flat_map block_ids (enumerate_from n ss))
 unfolding IdsFrom
 blocks n [] p q = tt
-blocks n (s ∷ ss) p q =
-    block n 0 s (flat_map block_ids (enumerate_from (n + 1) ss)) (omega (arith, p)) (omega (arith, q 0))
-    (blocks (n + 1) ss (omega (arith, p)) (λ k. q (suc k)))
+blocks n (s ∷ ss) p q = block n 0 s _ (omega arith) (omega (arith, q 0))
+    (blocks (n + 1) ss (omega arith) (λ k. q (suc k)))
 
 pub ids_rise : (info : Information) → IsValid info → IdsFrom 0 0 (ids info)
 unfolding ids
-ids_rise info valid =
-    blocks 0 (sizes info) (omega (arith, sizes-few info valid)) (λ k. sizes-short info k valid)
+ids_rise info valid = blocks 0 _ (omega (arith, sizes-few _ valid)) (λ k. sizes-short _ k valid)
 
 -- ---- what is wanted
 
 above : (n i b f : ℕ) → From n i b f → From n i b (f + 1)
 above n i b f (inl p) = inl p
-above n i b f (inr p) = inr (p.0, omega (arith, p.1))
+above n i b f (inr p) = inr (p.0, omega arith)
 
-wants_earlier : (n i m j : ℕ) (ws : List Want) → From n i m j → WantsFrom m j ws
-    → WantsFrom n i ws
+wants_earlier : (n i m j : ℕ) (ws : List Want) → From n i m j → WantsFrom m j ws → WantsFrom n i ws
 unfolding WantsFrom
 wants_earlier n i m j [] f h = tt
-wants_earlier n i m j (w ∷ ws) f h = (earlier n i m j w.0.sbn w.0.esi f h.0, h.1, h.2)
+wants_earlier n i m j (w ∷ ws) f h = (earlier n i m j _ _ f h.0, h.1, h.2)
 
 -- what is wanted of symbols rises as they do
 module _ (w : SymbolId → Option Reason) where
@@ -102,21 +95,21 @@ module _ (w : SymbolId → Option Reason) where
       go : (r : Option Reason) → WantsFrom x.sbn (x.esi + 1) (wanted xs)
           → WantsFrom n i (cons_option (option_map (λ reason. (x, reason)) r) (wanted xs))
       go None later =
-          wants_earlier n i x.sbn (x.esi + 1) (wanted xs) (above n i x.sbn x.esi h.0) later
+          wants_earlier n i _ _ _ (above n i _ _ h.0) later
       go (Some r) later = (h.0, h.1, later)
 
 -- there are no more than two numbers of 16 bits tell apart
 pub wants_few : (n i : ℕ) (ws : List Want) → n < 65536 → i ≤ 65536 → WantsFrom n i ws
     → length ws + (n * 65536 + i) ≤ 2 ^ 32
 unfolding WantsFrom
-wants_few n i [] p q h = omega (arith, p, q)
+wants_few n i [] p q h = omega arith
 wants_few n i (w ∷ ws) p q h =
-    let rest = wants_few w.0.sbn (w.0.esi + 1) ws (omega (arith, h.1.0)) (omega (arith, h.1.1)) h.2 in
-    omega (arith, rest, over h.0)
+    let rest = wants_few w.0.sbn (w.0.esi + 1) ws (omega arith) (omega arith) h.2 in
+    omega arith
   where
     over : From n i w.0.sbn w.0.esi → n * 65536 + i ≤ w.0.sbn * 65536 + w.0.esi
-    over (inl f) = omega (arith, f, q)
-    over (inr f) = omega (arith, f.0, f.1)
+    over (inl f) = omega arith
+    over (inr f) = omega arith
 
 -- ---- gaps
 
@@ -127,21 +120,17 @@ goes_tells g h e =
     (grind (arith, nat_tests, p.0), grind (arith, nat_tests, q.0))
 
 moved : (n i a b f : ℕ) → a ≡ b → From n i a f → From n i b f
-moved n i a b f e (inl p) = inl (omega (arith, e, p))
-moved n i a b f e (inr p) = inr (omega (arith, e, p.0), p.1)
+moved n i a b f e (inl p) = inl (omega arith)
+moved n i a b f e (inr p) = inr (omega arith, p.1)
 
 gaps_before : (n i : ℕ) (id : SymbolId) (r : Reason) (gaps : List Gap) → From n i id.sbn id.esi
     → IsId id → GapsFrom id.sbn (id.esi + 1) gaps → GapsFrom n i (before (one (id, r)) gaps)
 unfolding GapsFrom
 gaps_before n i id r [] f is h = (f, omega arith, (is.0, is.1, is.1), tt)
-gaps_before n i id r (g ∷ gaps) f is h = elim (cases_Bool (goes_on (one (id, r)) g)) [
-  | inl e ↦ let t = goes_tells (one (id, r)) g e in
-      subst (λ b. GapsFrom n i (cond b (record g { first = id.esi } ∷ gaps) (one (id, r) ∷ g ∷ gaps)))
-      (sym e)
-      (moved n i id.sbn g.sbn id.esi t.0 f, omega (arith, t.1, h.1), (h.2.0, is.1, h.2.2), h.3)
-  | inr e ↦
-      subst (λ b. GapsFrom n i (cond b (record g { first = id.esi } ∷ gaps) (one (id, r) ∷ g ∷ gaps)))
-      (sym e) (f, omega arith, (is.0, is.1, is.1), h)
+gaps_before n i id r (g ∷ gaps) f is h = elim (cases_Bool _) [
+  | inl e ↦ let t = goes_tells (one (id, r)) g e in rw e
+      (moved n i _ _ _ t.0 f, omega (arith, t.1, h.1), (h.2.0, is.1, h.2.2), h.3)
+  | inr e ↦ rw e (f, omega arith, (is.0, is.1, is.1), h)
 ]
 
 pub gaps_rise : (n i : ℕ) (ws : List Want) → WantsFrom n i ws → GapsFrom n i (runs ws)

@@ -1,7 +1,7 @@
 -- Bytes are lines of gaps in one way (specs/FillLists: IsListing).
 use Rattle.std.proofs.Common.{rules}
-use Rattle.std.proofs.Common.{◌≡◌, ℕ, ◌==◌, ◌<◌, ◌*◌, ◌^◌, false, List, [], ◌∷◌, ◌++◌, codes, decimal}
-use Rattle.std.proofs.Common.{length, length-append, append_assoc, get_or, add-zero, refl, sym, ap, ◌∙◌, subst, arith}
+use Rattle.std.proofs.Common.{◌≡◌, ℕ, ◌<◌, ◌*◌, ◌^◌, false, List, [], ◌∷◌, ◌++◌, codes, decimal}
+use Rattle.std.proofs.Common.{length, length-append, append_assoc, get_or, add-zero, refl, sym, ap, ◌∙◌, arith}
 use Rattle.std.proofs.Common.{inl, inr, Option, Some, None}
 use Rattle.std.specs.Char.{is_ascii_digit}
 use Rattle.std.specs.Int.{bytes_high_first}
@@ -45,21 +45,18 @@ digits_of : (n : ℕ) (x : List ℕ) → n < 2 ^ 128 → Stops x
     → DigitsOf (decimal n ++ x) (length (decimal n))
 digits_of n x small ends = record {
   within = omega (arith, length-append (decimal n) x);
-  before = λ k l. ap is_ascii_digit (get_or_append_left (decimal n) x 0 k l)
-      ∙ digit_in_decimal n k small l;
-  stops = λ _.
-      let at : get_or (decimal n ++ x) (length (decimal n)) 0 ≡ get_or x 0 0 =
-      (rw add-zero at (get_or-append-add (decimal n) x 0 0)) in
-      ap is_ascii_digit at ∙ ends;
+  before = λ k l. ap is_ascii_digit (get_or_append_left (decimal n) x 0 k l) ∙ digit_in_decimal
+      n k small l;
+  stops = λ _. let at = (rw add-zero at (get_or-append-add (decimal n) x 0 0)) in ap
+      is_ascii_digit at ∙ ends;
 }
 
 -- a number ends where its digits do
 number : (n m : ℕ) (x y : List ℕ) → n < 2 ^ 128 → m < 2 ^ 128 → Stops x × Stops y
     → decimal n ++ x ≡ decimal m ++ y → (n ≡ m) × (x ≡ y)
 number n m x y p q h e =
-    let len = digits_end (decimal m ++ y) x n (length (decimal m)) p h.0 (sym e) (digits_of m y q h.1)
-    in
-    let both = same_split (decimal n) (decimal m) x y (sym len) e in
+    let len = digits_end _ x n _ p h.0 (sym e) (digits_of m y q h.1) in
+    let both = same_split _ _ x y (sym len) e in
     (numbers_same n m (wide n p) (wide m q) both.0, both.1)
 
 -- a number after a word
@@ -109,16 +106,13 @@ gap_chain g x =
 gap : (g h : Gap) (x y : List ℕ) → HasIds g → HasIds h → gap_line g ++ x ≡ gap_line h ++ y
     → (g ≡ h) × (x ≡ y)
 gap g h x y p q e =
-    let a = after (codes "gap ") g.sbn h.sbn (omega (arith, p.0)) (omega (arith, q.0)) (refl, refl)
+    let a = after (codes "gap ") _ _ (omega arith) (omega arith) (refl, refl)
     (sym (gap_chain g x) ∙ e ∙ gap_chain h y) in
-    let b = after (codes "/") g.first h.first (omega (arith, p.1)) (omega (arith, q.1)) (refl, refl)
-    a.1 in
-    let c = after (codes "-") g.last h.last (omega (arith, p.2)) (omega (arith, q.2))
+    let b = after (codes "/") _ _ (omega arith) (omega arith) (refl, refl) a.1 in
+    let c = after (codes "-") _ _ (omega arith) (omega arith)
     (reason_stops g.reason (ended x), reason_stops h.reason (ended y)) b.1 in
-    let d = reason g.reason h.reason x y c.1 in (
-      λ i. record { sbn = a.0 i; first = b.0 i; last = c.0 i; reason = d.0 i },
-      d.1,
-    )
+    let d = reason _ _ x y c.1 in
+    (λ i. record { sbn = a.0 i; first = b.0 i; last = c.0 i; reason = d.0 i }, d.1)
 
 -- ---- the line of an object
 
@@ -149,15 +143,13 @@ status NoInformation NoInformation x y p q e =
 status ConflictingInformation ConflictingInformation x y p q e =
     (refl, append_cancel_left (codes "conflicting information\n") x y e)
 status (Whole n) (Whole m) x y p q e =
-    let a = after (codes "whole ") n m (omega (arith, p)) (omega (arith, q)) (refl, refl)
-    (sym (whole_chain n x) ∙ e ∙ whole_chain m y) in
-    (ap Whole a.0, append_cancel_left (codes "\n") x y a.1)
+    let a = after (codes "whole ") n m (omega arith) (omega arith) (refl, refl) (cc) in
+    (cc a.0, append_cancel_left (codes "\n") x y a.1)
 status (Partial m d f) (Partial n c g) x y p q e =
-    let a = after (codes "partial missing ") m n (omega (arith, p.0)) (omega (arith, q.0)) (refl, refl)
+    let a = after (codes "partial missing ") m n (omega arith) (omega arith) (refl, refl)
     (sym (partial_chain m d f x) ∙ e ∙ partial_chain n c g y) in
-    let b = after (codes " conflicting ") d c (omega (arith, p.1)) (omega (arith, q.1)) (refl, refl)
-    a.1 in
-    let k = after (codes " misfit ") f g (omega (arith, p.2)) (omega (arith, q.2)) (refl, refl) b.1 in
+    let b = after (codes " conflicting ") d c (omega arith) (omega arith) (refl, refl) a.1 in
+    let k = after (codes " misfit ") f g (omega arith) (omega arith) (refl, refl) b.1 in
     (λ i. Partial (a.0 i) (b.0 i) (k.0 i), append_cancel_left (codes "\n") x y k.1)
 status NoInformation ConflictingInformation x y p q e = search rules
 status NoInformation (Partial m d f) x y p q e = search rules
@@ -176,53 +168,46 @@ fdt_chain : (n : ℕ) (x : List ℕ)
     → object_words (Instance n) ++ x ≡ codes "object " ++ (codes "fdt " ++ (decimal n ++ x))
 fdt_chain n x = append_assoc (codes "object fdt ") (decimal n) x
 
-file_chain : (n : ℕ) (x : List ℕ)
-    → object_words (File n) ++ x ≡ codes "object " ++ (decimal n ++ x)
+file_chain : (n : ℕ) (x : List ℕ) → object_words (File n) ++ x ≡ codes "object " ++ (decimal n ++ x)
 file_chain n x = append_assoc (codes "object ") (decimal n) x
 
 object : (o p : ObjectName) (x y : List ℕ) → IsObjectName o → IsObjectName p → Stops x × Stops y
     → object_words o ++ x ≡ object_words p ++ y → (o ≡ p) × (x ≡ y)
 object (Instance n) (Instance m) x y p q h e =
-    let a = after (codes "object fdt ") n m (omega (arith, p)) (omega (arith, q)) h
-    (sym (append_assoc (codes "object fdt ") (decimal n) x) ∙ e
-    ∙ append_assoc (codes "object fdt ") (decimal m) y) in
-    (ap Instance a.0, a.1)
+    let a = after (codes "object fdt ") n m (omega arith) (omega arith) h (cc) in
+    (cc a.0, a.1)
 object (File n) (File m) x y p q h e =
-    let a = after (codes "object ") n m (omega (arith, p.1)) (omega (arith, q.1)) h
-    (sym (file_chain n x) ∙ e ∙ file_chain m y) in
+    let a = after (codes "object ") n m (omega arith) (omega arith) h (cc) in
     (ap File a.0, a.1)
-object (Instance n) (File m) x y p q h e =
-    absurd (no_fdt m y _ (omega (arith, q.1))
+object (Instance n) (File m) x y p q h e = absurd (no_fdt m y _ (omega arith)
     (sym (append_cancel_left (codes "object ") _ _ (sym (fdt_chain n x) ∙ e ∙ file_chain m y))))
-object (File n) (Instance m) x y p q h e =
-    absurd (no_fdt n x _ (omega (arith, p.1))
+object (File n) (Instance m) x y p q h e = absurd (no_fdt n x _ (omega arith)
     (append_cancel_left (codes "object ") _ _ (sym (file_chain n x) ∙ e ∙ fdt_chain m y)))
 
 no_source : (x y : List ℕ) → codes "session " ++ x ≡ codes "source " ++ y → ⊥
 no_source x y e = search rules
 
-source : (n m : ℕ) (x y : List ℕ) → IsSender n → IsSender m
-    → source_words n ++ (codes "session " ++ x) ≡ source_words m ++ (codes "session " ++ y)
-    → (n ≡ m) × (x ≡ y)
-source n m x y p q e = elim (cases_Bool (n == 0)) [
-  | inl a ↦ elim (cases_Bool (m == 0)) [
+source : (n m : ℕ) (x y : List ℕ) → IsSender n → IsSender m → source_words n ++
+    (codes "session " ++ x) ≡ source_words m ++ (codes "session " ++ y) → (n ≡ m) × (x ≡ y)
+source n m x y p q e = elim (cases_Bool _) [
+  | inl a ↦ elim (cases_Bool _) [
     | inl b ↦ (
       grind (arith, nat_tests, a, b),
       append_cancel_left (codes "session ") x y
-          (sym (source_none n (codes "session " ++ x) a) ∙ e
-          ∙ source_none m (codes "session " ++ y) b),
+          (sym (source_none n _ a) ∙ e
+          ∙ source_none m _ b),
     )
-    | inr b ↦ absurd (no_source x _ (sym (source_none n (codes "session " ++ x) a) ∙ e
-        ∙ source_chain m (codes "session " ++ y) b))
+    | inr b ↦ absurd (no_source x _ (sym (source_none n _ a) ∙ e
+        ∙ source_chain m _ b))
   ]
-  | inr a ↦ elim (cases_Bool (m == 0)) [
-    | inl b ↦ absurd (no_source y _ (sym (source_none m (codes "session " ++ y) b) ∙ sym e
-        ∙ source_chain n (codes "session " ++ x) a))
+  | inr a ↦ elim (cases_Bool _) [
+    | inl b ↦ absurd (no_source y _ (sym (source_none m _ b) ∙ sym e
+        ∙ source_chain n _ a))
     | inr b ↦
-        let both = same_split (encode_lower (bytes_high_first 16 n))
-        (encode_lower (bytes_high_first 16 m)) _ _ (digits n ∙ sym (digits m))
-        (append_cancel_left (codes "source ") _ _ (sym (source_chain n (codes "session " ++ x) a) ∙ e
-        ∙ source_chain m (codes "session " ++ y) b)) in (
+        let both = same_split _
+        _ _ _ (digits n ∙ sym (digits m))
+        (append_cancel_left (codes "source ") _ _ (sym (source_chain n _ a) ∙ e
+        ∙ source_chain m _ b)) in (
           senders_same n m p q both.0,
           append_cancel_left (codes " session ") x y both.1,
         )
@@ -239,9 +224,8 @@ from_status s x = status_words s ++ ended x
 abbrev from_name : Key → Status → List ℕ → List ℕ
 from_name key s x = codes " " ++ (object_words key.object ++ (codes " " ++ from_status s x))
 
-object_chain : (key : Key) (s : Status) (x : List ℕ)
-    → status_line key s ++ x ≡ source_words key.session.sender
-    ++ (codes "session " ++ (decimal key.session.tsi ++ from_name key s x))
+object_chain : (key : Key) (s : Status) (x : List ℕ) → status_line key s ++ x ≡ source_words
+    key.session.sender ++ (codes "session " ++ (decimal key.session.tsi ++ from_name key s x))
 unfolding status_line
 object_chain key s x =
     eight (source_words key.session.sender) (codes "session ") (decimal key.session.tsi) (codes " ")
@@ -255,17 +239,12 @@ object_line : (k l : Key) (s t : Status) (x y : List ℕ)
     → IsListed (ObjectLine k s) × IsListed (ObjectLine l t) → status_line k s ++ x ≡ status_line l t ++ y
     → (ObjectLine k s ≡ ObjectLine l t) × (x ≡ y)
 object_line k l s t x y (p, q) e =
-    let a = source k.session.sender l.session.sender _ _ p.0.0.0 q.0.0.0
-    (sym (object_chain k s x) ∙ e ∙ object_chain l t y) in
-    let b = number k.session.tsi l.session.tsi _ _ (omega (arith, p.0.0.1))
-    (omega (arith, q.0.0.1)) (refl, refl) a.1 in
-    let c = object k.object l.object _ _ p.0.1 q.0.1 (refl, refl)
-    (append_cancel_left (codes " ") _ _ b.1) in
+    let a = source _ _ _ _ p.0.0.0 q.0.0.0 (sym (object_chain k s x) ∙ e ∙ object_chain l t y) in
+    let b = number _ _ _ _ (omega arith) (omega arith) (refl, refl) a.1 in
+    let c = object _ _ _ _ p.0.1 q.0.1 (refl, refl) (append_cancel_left (codes " ") _ _ b.1) in
     let d = status s t x y p.1 q.1 (append_cancel_left (codes " ") _ _ c.1) in (
-      λ i. ObjectLine (record {
-        session = record { sender = a.0 i; tsi = b.0 i };
-        object = c.0 i;
-      }) (d.0 i),
+      λ i. ObjectLine (record { session = record { sender = a.0 i; tsi = b.0 i }; object = c.0 i })
+          (d.0 i),
       d.1,
     )
 
@@ -273,8 +252,7 @@ object_line k l s t x y (p, q) e =
 
 no_gap : (g : Gap) (key : Key) (s : Status) (x y : List ℕ)
     → gap_line g ++ x ≡ status_line key s ++ y → ⊥
-no_gap g key s x y e =
-    apart key.session.sender _ _ (sym (gap_chain g x) ∙ e ∙ object_chain key s y)
+no_gap g key s x y e = apart _ _ _ (sym (gap_chain g x) ∙ e ∙ object_chain _ s y)
 
 same_line : (p : Option ListedLine) (l m : ListedLine) (x y : List ℕ) → IsListed l × IsListed m
     → MayCome p l × MayCome p m → text_of l ++ x ≡ text_of m ++ y → (l ≡ m) × (x ≡ y)
@@ -287,36 +265,31 @@ same_line (Some b) (GapLine k g) (GapLine l h) x y i c e =
     (λ n. GapLine ((sym c.0.1 ∙ c.1.1) n) (same.0 n), same.1)
 
 ended_some : (w x : List ℕ) → 0 < length (line w ++ x)
-ended_some w x =
-    omega (arith, length-append (w ++ codes "\n") x, length-append w (codes "\n"))
+ended_some w x = omega (arith, length-append (w ++ codes "\n") x, length-append w (codes "\n"))
 
 no_text : (l : ListedLine) (x : List ℕ) → text_of l ++ x ≡ [] → ⊥
 unfolding gap_line status_line
 no_text (ObjectLine key s) x e =
     omega (arith, ended_some (key_words key ++ codes " " ++ status_words s) x, ap length e)
-no_text (GapLine key g) x e =
-    omega (
-      arith,
-      ended_some (codes "gap " ++ decimal g.sbn ++ codes "/" ++ decimal g.first
-          ++ codes "-" ++ decimal g.last ++ reason_words g.reason) x,
-      ap length e,
-    )
+no_text (GapLine key g) x e = omega (
+  arith,
+  ended_some (codes "gap " ++ decimal g.sbn ++ codes "/"
+      ++ decimal g.first ++ codes "-" ++ decimal g.last ++ reason_words g.reason) x,
+  ap length e,
+)
 
 same_lines : (p : Option ListedLine) (xs ys : List ListedLine) → AllByRecursion IsListed xs
     → AllByRecursion IsListed ys → AreInOrder p xs × AreInOrder p ys
     → flat_map text_of xs ≡ flat_map text_of ys → xs ≡ ys
 unfolding AreInOrder
 same_lines p [] [] i j o e = refl
-same_lines p [] (m ∷ ys) i j o e = absurd (no_text m (flat_map text_of ys) (sym e))
-same_lines p (l ∷ xs) [] i j o e = absurd (no_text l (flat_map text_of xs) e)
+same_lines p [] (m ∷ ys) i j o e = absurd (no_text m _ (sym e))
+same_lines p (l ∷ xs) [] i j o e = absurd (no_text l _ e)
 same_lines p (l ∷ xs) (m ∷ ys) i j o e =
-    let same = same_line p l m (flat_map text_of xs) (flat_map text_of ys) (i.0, j.0) (o.0.0, o.1.0) e
-    in
-    let rest = same_lines (Some l) xs ys i.1 j.1
-    (o.0.1, subst (λ z. AreInOrder (Some z) ys) (sym same.0) o.1.1) same.1 in
+    let same = same_line p l m _ _ (i.0, j.0) (o.0.0, o.1.0) e in
+    let rest = same_lines _ xs ys i.1 j.1 (o.0.1, rw same.0 o.1.1) same.1 in
     λ n. same.0 n ∷ rest n
 
 pub one_listing : (bytes : List ℕ) (lines others : List ListedLine) → IsListing bytes lines
     → IsListing bytes others → lines ≡ others
-one_listing bytes lines others h k =
-    same_lines None lines others h.listed k.listed (h.in_order, k.in_order) (sym h.text ∙ k.text)
+one_listing _ lines others h k = same_lines _ _ _ h.listed k.listed (h.in_order, k.in_order) (cc)

@@ -58,7 +58,7 @@ has_append : {X : Type 0} (x : X) (xs ys : List X) → Has x (xs ++ ys) → Has 
 unfolding Has
 has_append x [] ys h = inr h
 has_append x (y ∷ xs) ys (inl e) = inl (inl e)
-has_append x (y ∷ xs) ys (inr h) = elim (has_append x xs ys h) [
+has_append x (y ∷ xs) ys (inr h) = elim (has_append x xs _ h) [
   | inl k ↦ inl (inr k)
   | inr k ↦ inr k
 ]
@@ -86,10 +86,10 @@ in_run : (id : SymbolId) (r : Reason) (n : ℕ) (s : Reason) (a k : ℕ)
 unfolding Has
 in_run id r n s a zero h = absurd h
 in_run id r n s a (suc k) (inl e) = record {
-  block = ap (λ (w : SymbolId × Reason). w.0.sbn) e;
-  first = omega (arith, ap (λ (w : SymbolId × Reason). w.0.esi) e);
-  last = omega (arith, ap (λ (w : SymbolId × Reason). w.0.esi) e);
-  reason = ap (λ (w : SymbolId × Reason). w.1) e;
+  block = ap (λ w. w.0.sbn) e;
+  first = omega (arith, ap (λ w. w.0.esi) e);
+  last = omega (arith, ap (λ w. w.0.esi) e);
+  reason = ap (λ w. w.1) e;
 }
 in_run id r n s a (suc k) (inr h) =
     let later = in_run id r n s (a + 1) k h in
@@ -102,7 +102,7 @@ in_run id r n s a (suc k) (inr h) =
 
 in_gap : (id : SymbolId) (r : Reason) (g : Gap) → Has {X = SymbolId × Reason} (id, r) (listed g) → IsIn id r g
 in_gap id r g h =
-    let is = in_run id r g.sbn g.reason g.first (g.last + 1 - g.first) h in
+    let is = in_run _ r _ _ _ _ h in
     record {
       block = is.block;
       first = is.first;
@@ -119,24 +119,20 @@ most m n h = grind (arith, nat_tests, h)
 module _ (key : Key) (id : SymbolId) where
   missing_there : (g : Gap) → IsIn id Missing g
       → is_missing_by (symbol_address key id) (GapLine key g) ≡ true
-  missing_there g is =
-      both_true (same_key key key) _ (key_itself key)
-      (both_true (same_reason g.reason Missing) _
-      (ap (λ r. same_reason r Missing) (sym is.reason))
-      (both_true (nat_eq id.sbn g.sbn) _ (yes id.sbn g.sbn is.block)
-      (both_true (nat_le g.first id.esi) _ (most g.first id.esi is.first)
-      (most id.esi g.last is.last))))
+  missing_there g is = both_true (same_key key key) _ (key_itself key) (both_true
+      (same_reason g.reason Missing) _ (cc is.reason) (both_true (nat_eq id.sbn g.sbn) _
+      (yes _ _ is.block)
+      (both_true (nat_le g.first id.esi) _ (most _ _ is.first) (most _ _ is.last))))
 
-  missing_in : (gaps : List Gap)
-      → Has {X = SymbolId × Reason} (id, Missing) (flat_map listed gaps)
+  missing_in : (gaps : List Gap) → Has {X = SymbolId × Reason} (id, Missing) (flat_map listed gaps)
       → list_any (is_missing_by (symbol_address key id)) (map (GapLine key) gaps) ≡ true
   unfolding Has
   missing_in [] h = absurd h
   missing_in (g ∷ gaps) h =
       let at = is_missing_by (symbol_address key id) (GapLine key g) in
       let rest = list_any (is_missing_by (symbol_address key id)) (map (GapLine key) gaps) in
-      elim (has_append {X = SymbolId × Reason} (id, Missing) (listed g) (flat_map listed gaps) h) [
-        | inl k ↦ or_left at rest (missing_there g (in_gap id Missing g k))
+      elim (has_append {X = SymbolId × Reason} _ _ _ h) [
+        | inl k ↦ or_left at rest (missing_there g (in_gap _ _ g k))
         | inr k ↦ or_right at rest (missing_in gaps k)
       ]
 
@@ -144,11 +140,10 @@ module _ (w : SymbolId → Option Reason) (id : SymbolId) (r : Reason) (is : w i
   has_wanted : (xs : List SymbolId) → Has id xs → Has {X = SymbolId × Reason} (id, r) (wanted w xs)
   unfolding Has
   has_wanted [] h = absurd h
-  has_wanted (x ∷ xs) (inl e) =
-      subst (λ y. Has {X = SymbolId × Reason} (id, r) (wanted w (y ∷ xs))) e
-      (subst (λ o. Has {X = SymbolId × Reason} (id, r)
+  has_wanted (x ∷ xs) (inl e) = subst (λ y. Has {X = SymbolId × Reason} (id, r) (wanted w (y ∷ xs)))
+      e (subst (λ o. Has {X = SymbolId × Reason} (id, r)
       (cons_option (option_map (λ reason. (id, reason)) o) (wanted w xs))) (sym is) (inl refl))
-  has_wanted (x ∷ xs) (inr h) = go (w x) (has_wanted xs h)
+  has_wanted (x ∷ xs) (inr h) = go _ (has_wanted xs h)
     where
       go : (o : Option Reason) → Has {X = SymbolId × Reason} (id, r) (wanted w xs)
           → Has {X = SymbolId × Reason} (id, r)
@@ -169,8 +164,8 @@ module _ (F : List Fact) where
   status_later : (k key : Key) (gaps : List Gap) (rest : List ListedLine)
       → status_in (map (GapLine k) gaps ++ rest) key ≡ status_in rest key
   unfolding status_in
-  status_later k key [] rest = refl
-  status_later k key (g ∷ gaps) rest = status_later k key gaps rest
+  status_later k _ [] _ = refl
+  status_later k key (g ∷ gaps) rest = status_later k _ gaps _
 
   tells_own : (key : Key) (rest : List ListedLine) → Tell key (lines_in (told_of F key) ++ rest)
   unfolding status_in
@@ -189,22 +184,20 @@ module _ (F : List Fact) where
   told_or_not : (keys : List Key) (key : Key)
       → (status_in (told_lines keys) key ≡ None) ⊎ Tell key (told_lines keys)
   unfolding status_in
-  told_or_not [] key = inl refl
-  told_or_not (k ∷ keys) key = elim (cases_Bool (same_key k key)) [
-    | inl e ↦ subst (λ z. (status_in (lines_in (told_of F z) ++ told_lines keys) key ≡ None)
-        ⊎ Tell key (lines_in (told_of F z) ++ told_lines keys)) (sym (key_same k key e))
-        (inr (tells_own key (told_lines keys)))
-    | inr e ↦
-        let t = told_of F k in
-        let next : status_in (told_lines (k ∷ keys)) key ≡ status_in (told_lines keys) key =
-        ap (λ b. cond b (Some t.status) (status_in (map (GapLine k) t.gaps ++ told_lines keys) key)) e
-        ∙ status_later k key t.gaps (told_lines keys) in
-        elim (told_or_not keys key) [
+  told_or_not [] _ = inl refl
+  told_or_not (k ∷ keys) key = elim (cases_Bool _) [
+    | inl e ↦ subst (λ z. (status_in (lines_in (told_of F z) ++ told_lines keys) key ≡ None) ⊎
+        Tell key (lines_in (told_of F z) ++ told_lines keys)) (sym (key_same k key e))
+        (inr (tells_own _ _))
+    | inr e ↦ let t = told_of F k in
+        let next = ap (λ b. cond b (Some t.status)
+        (status_in (map (GapLine k) t.gaps ++ told_lines keys) key)) e ∙ status_later k key
+        t.gaps (told_lines keys) in elim (told_or_not keys key) [
           | inl n ↦ inl (next ∙ n)
           | inr h ↦ inr (record {
             status = next ∙ h.status;
-            gaps = λ at m. list_any-append (is_missing_by at) (map (GapLine k) t.gaps) (told_lines keys)
-                ∙ or_right (list_any (is_missing_by at) (map (GapLine k) t.gaps)) _ (h.gaps at m);
+            gaps = λ at m. list_any-append (is_missing_by at) (map (GapLine k) t.gaps) _ ∙
+                or_right _ _ (h.gaps at m);
           })
         ]
   ]
@@ -212,25 +205,20 @@ module _ (F : List Fact) where
   -- ---- what is asked for
 
   -- a symbol of the partition at whose address nothing is held is in a gap
-  in_a_gap : (key : Key) (info : Information) (id : SymbolId) → Contains (ids info) id
-      → fact_at F (symbol_address key id) ≡ None
-      → Has {X = SymbolId × Reason} (id, Missing) (wants F key info)
+  in_a_gap : (key : Key) (info : Information) (id : SymbolId) → Contains (ids info) id → fact_at F
+      (symbol_address key id) ≡ None → Has {X = SymbolId × Reason} (id, Missing) (wants F key info)
   unfolding wants
-  in_a_gap key info id c none =
-      has_wanted (λ id. want info id (fact_at F (symbol_address key id))) id Missing
-      (ap (want info id) none) (ids info) (has id (ids info) c)
+  in_a_gap key info id c none = has_wanted _ _ _ (ap (want info id) none) _ (has _ _ c)
 
   asked_in : (key : Key) (info : Information) (id : SymbolId) (ws : List (SymbolId × Reason))
-      (lines : List ListedLine) → Has {X = SymbolId × Reason} (id, Missing) ws
-      → ((at : Address) → list_any (is_missing_by at) (map (GapLine key) (runs ws)) ≡ true
-      → is_missing_in lines at ≡ true)
-      → asks_for AskAll (Some (status_wanting info ws)) (is_missing_in lines (symbol_address key id))
-      (SymbolPart id) ≡ true
+      (lines : List ListedLine) → Has {X = SymbolId × Reason} (id, Missing) ws → ((at : Address) →
+      list_any (is_missing_by at) (map (GapLine key) (runs ws)) ≡ true → is_missing_in lines at ≡
+      true) → asks_for AskAll (Some (status_wanting info ws))
+      (is_missing_in lines (symbol_address key id)) (SymbolPart id) ≡ true
   unfolding Has
-  asked_in key info id [] lines h tell = absurd h
-  asked_in key info id (w ∷ ws) lines h tell =
-      tell (symbol_address key id) (missing_in key id (runs (w ∷ ws))
-      (subst (Has {X = SymbolId × Reason} (id, Missing)) (sym (runs-listed (w ∷ ws))) h))
+  asked_in _ _ id [] _ h _ = absurd h
+  asked_in key _ id (w ∷ ws) _ h tell = tell (symbol_address key id) (missing_in key id
+      (runs (w ∷ ws)) (subst (Has {X = SymbolId × Reason} (id, Missing)) (sym (runs-listed _)) h))
 
   abbrev Asked : Key → Part → List ListedLine → Option Status → Type 0
   Asked key part lines status =
@@ -241,27 +229,26 @@ module _ (F : List Fact) where
       → IsAsked o (fact_at F (record { key = key; part = part })) part
       → ((at : Address) → list_any (is_missing_by at) (map (GapLine key) (gaps_at F key o)) ≡ true
       → is_missing_in lines at ≡ true) → Asked key part lines (Some (status_at F key o))
-  asked_by key part lines None is tell = refl
-  asked_by key InfoPart lines (Some (Info k info)) is tell = absurd is
+  asked_by _ _ _ None is _ = refl
+  asked_by _ InfoPart _ (Some (Info k info)) is _ = absurd is
   asked_by key (SymbolPart id) lines (Some (Info k info)) is tell =
-      asked_in key info id (wants F key info) lines (in_a_gap key info id is.1 is.0) tell
-  asked_by key part lines (Some (InfoConflict k)) is tell = ap not is
-  asked_by key part lines (Some (Symbol k i b)) is tell = ap not is
-  asked_by key part lines (Some (SymbolConflict k i)) is tell = ap not is
+      asked_in _ info _ _ lines (in_a_gap _ _ _ is.1 is.0) tell
+  asked_by _ _ _ (Some (InfoConflict k)) is _ = ap not is
+  asked_by _ _ _ (Some (Symbol k i b)) is _ = ap not is
+  asked_by _ _ _ (Some (SymbolConflict k i)) is _ = ap not is
 
   pub asked_at : (keys : List Key) (key : Key) (part : Part)
       → IsAsked (fact_at F (info_address key)) (fact_at F (record { key = key; part = part })) part
       → Asked key part (told_lines keys) (status_in (told_lines keys) key)
-  asked_at keys key part is = elim (told_or_not keys key) [
+  asked_at keys key part is = elim (told_or_not _ _) [
     | inl n ↦ subst (Asked key part (told_lines keys)) (sym n) refl
-    | inr h ↦ subst (Asked key part (told_lines keys)) (sym h.status)
-        (asked_by key part (told_lines keys) (fact_at F (info_address key)) is h.gaps)
+    | inr h ↦ rw (← h.status) at (asked_by _ _ (told_lines keys) _ is h.gaps)
   ]
 
 -- so it is by the lines of the objects that are taken of facts, and of all others
 pub asked_of : (takes : Key → Bool) (F : List Fact) (keys : List Key) (f : Fact) → AsksFor F f
     → asks AskAll (lines_of (map (told_of (chosen takes F)) keys)) f ≡ true
-asked_of takes F keys f is = go (cases_Bool (takes key))
+asked_of takes F keys f is = go (cases_Bool _)
   where
     key : Key
     key = (address f).key
@@ -271,12 +258,12 @@ asked_of takes F keys f is = go (cases_Bool (takes key))
 
     go : ((takes key ≡ true) ⊎ (takes key ≡ false)) → asks AskAll (lines_of (map (told_of G) keys)) f ≡ true
     go (inl t) =
-        asked_at G keys key (address f).part
+        asked_at G _ _ _
         (subst (λ o. IsAsked o (fact_at G (address f)) (address f).part)
-        (sym (taken_at takes (info_address key) F t))
+        (sym (taken_at takes _ F t))
         (subst (λ v. IsAsked (fact_at F (info_address key)) v (address f).part)
-        (sym (taken_at takes (address f) F t)) is))
+        (sym (taken_at takes _ F t)) is))
     go (inr t) =
-        asked_at G keys key (address f).part
+        asked_at G _ _ _
         (subst (λ o. IsAsked o (fact_at G (address f)) (address f).part)
-        (sym (passed_at takes (info_address key) F t)) tt)
+        (sym (passed_at takes _ F t)) tt)

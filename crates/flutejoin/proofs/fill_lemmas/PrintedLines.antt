@@ -1,7 +1,7 @@
 -- What `gaps` prints, with all gaps and in words, are lines that `fill` reads (specs/FillLists).
 use Rattle.std.proofs.Common.{rules}
 use Rattle.std.proofs.Common.{◌≡◌, ℕ, ◌+◌, ◌<◌, ◌^◌, ◌⊎◌, Bool, true, false, cond, List, [], ◌∷◌, ◌++◌}
-use Rattle.std.proofs.Common.{length, map, Option, Some, None, refl, sym, ap, ◌∙◌, subst, inl, inr, arith}
+use Rattle.std.proofs.Common.{map, Option, Some, None, refl, sym, ap, ◌∙◌, subst, inl, inr, arith}
 use Rattle.std.proofs.Common.{zero, suc}
 use Rattle.std.specs.Prelude.{Contains, filter, ⊤}
 use Rattle.std.specs.Cmp.{nat_cmp_is}
@@ -70,34 +70,25 @@ gaps_text key (g ∷ gaps) = ap (λ l. gap_line g ++ l) (gaps_text key gaps)
 
 module _ (check : Bool) where
   abbrev plain : Style
-  plain = record {
-    check = check;
-    summary = false;
-    conflicts = false;
-    ranges = false;
-    form = Plain;
-  }
+  plain = record { check = check; summary = false; conflicts = false; ranges = false; form = Plain }
 
   told_text : (t : Told) → told_lines plain t ≡ flat_map text_of (lines_in t)
   unfolding told_lines object_line_in
-  told_text t =
-      ap (λ l. status_line t.key t.status ++ flat_map gap_line l)
-      (filter_all (λ (gap : Gap). true) (λ gap. refl) t.gaps)
-      ∙ ap (λ l. status_line t.key t.status ++ l) (gaps_text t.key t.gaps)
+  told_text t = ap (λ l. status_line t.key t.status ++ flat_map gap_line l)
+      (filter_all (λ (gap : Gap). true) (λ gap. refl) t.gaps) ∙ ap
+      (λ l. status_line t.key t.status ++ l) (gaps_text t.key t.gaps)
 
   objects_text : (objects : List Told)
       → flat_map (told_lines plain) objects ≡ flat_map text_of (lines_of objects)
   objects_text [] = refl
-  objects_text (t ∷ objects) =
-      ap (λ l. l ++ flat_map (told_lines plain) objects) (told_text t)
-      ∙ ap (λ l. flat_map text_of (lines_in t) ++ l) (objects_text objects)
-      ∙ sym (flat_map-append text_of (lines_in t) (lines_of objects))
+  objects_text (t ∷ objects) = ap (λ l. l ++ flat_map (told_lines plain) objects) (told_text t) ∙ ap
+      (λ l. flat_map text_of (lines_in t) ++ l) (objects_text objects) ∙ sym
+      (flat_map-append text_of (lines_in t) (lines_of objects))
 
   plain_text : (objects : List Told) → printed plain objects ≡ flat_map text_of (lines_of objects)
   unfolding printed
-  plain_text objects =
-      ap (λ l. flat_map (told_lines plain) l) (filter_all (λ (t : Told). true) (λ t. refl) objects)
-      ∙ objects_text objects
+  plain_text objects = ap (λ l. flat_map (told_lines plain) l)
+      (filter_all (λ (t : Told). true) (λ t. refl) objects) ∙ objects_text objects
 
 pub printed_text : (style : Style) (objects : List Told) → IsPlain style
     → printed style objects ≡ flat_map text_of (lines_of objects)
@@ -108,8 +99,7 @@ printed_text style objects is =
       conflicts = is.conflicts i;
       ranges = is.ranges i;
       form = is.form i;
-    } in
-    ap (λ s. printed s objects) same ∙ plain_text style.check objects
+    } in ap (λ s. printed s objects) same ∙ plain_text style.check objects
 
 -- ---- facts
 
@@ -121,7 +111,7 @@ pub record IsSound (F : List Fact) : Type 0 where
 member_valid : (f : Fact) (F : List Fact) → Member f F → AllByRecursion IsFact F → IsFact f
 unfolding Member
 member_valid f [] m h = absurd m
-member_valid f (g ∷ F) (inl e) h = subst IsFact (sym e) h.0
+member_valid f (g ∷ F) (inl e) h = rw e h.0
 member_valid f (g ∷ F) (inr m) h = member_valid f F m h.1
 
 key_valid : (f : Fact) → IsFact f → IsKey (address f).key
@@ -136,7 +126,7 @@ no_fault info e = search rules
 module _ (F : List Fact) (sound : IsSound F) where
   fact_valid : (a : Address) (f : Fact) → fact_at F a ≡ Some f → IsFact f × (address f ≡ a)
   fact_valid a f e = elim (fact_at-some_named F a) [
-    | inr none ↦ absurd (apart (sym none ∙ e))
+    | inr none ↦ absurd cc
     | inl named ↦
         let g = named.0 in
         let m = Contains-from F g named.1 in
@@ -144,13 +134,9 @@ module _ (F : List Fact) (sound : IsSound F) where
         subst (λ x. fact_at F x ≡ Some g) named.2 (rising_tells F g sound.rising m) in
         let same : g ≡ f = given (sym at ∙ e) in
         (subst IsFact same (member_valid g F named.1 sound.valid), subst (λ x. address x ≡ a) same named.2)
-  ]
-    where
-      apart : None ≡ Some f → ⊥
-      apart e = cc
-
-      given : {g h : Fact} → Some g ≡ Some h → g ≡ h
-      given e = cc
+  ] where
+    given : {g h : Fact} → Some g ≡ Some h → g ≡ h
+    given e = cc
 
   key_held : (key : Key) → HoldsObject F key → IsKey key
   key_held key (part, some) = go (fact_at F (record { key = key; part = part })) refl
@@ -159,7 +145,7 @@ module _ (F : List Fact) (sound : IsSound F) where
       go None e = absurd (some e)
       go (Some f) e =
           let v = fact_valid (record { key = key; part = part }) f e in
-          subst (λ (a : Address). IsKey a.key) v.1 (key_valid f v.0)
+          rw v.1 at (key_valid f v.0)
 
   -- what is told of an object
   record IsTold (key : Key) (status : Status) (gaps : List Gap) : Type 0 where
@@ -173,26 +159,25 @@ module _ (F : List Fact) (sound : IsSound F) where
 
   all_wanted : (key : Key) (info : Information) → IsValid info → WantsFrom 0 0 (wants F key info)
   unfolding wants
-  all_wanted key info valid =
-      wants_rise (λ id. want info id (fact_at F (symbol_address key id))) 0 0 (ids info)
-      (ids_rise info valid)
+  all_wanted key info valid = wants_rise (λ id. want info id (fact_at F (symbol_address key id))) 0
+      0 (ids info) (ids_rise info valid)
 
   few : (r : Reason) (ws : List (SymbolId × Reason)) → WantsFrom 0 0 ws → how_many r ws < 2 ^ 64
   unfolding how_many
-  few r ws h =
-      omega (
-        arith,
-        wants_few 0 0 ws (omega arith) (omega arith) h,
-        length-filter (λ w. same_reason r w.1) ws,
-        count_by-le-length (λ w. same_reason r w.1) ws,
-      )
+  few r ws h = omega (
+    arith,
+    wants_few 0 0 ws (omega arith) (omega arith) h,
+    length-filter
+        (λ w. same_reason r w.1) ws,
+    count_by-le-length (λ w. same_reason r w.1) ws,
+  )
 
   of_wanted : (key : Key) (info : Information) (ws : List (SymbolId × Reason)) → IsValid info → WantsFrom 0 0 ws
       → IsTold key (status_wanting info ws) (runs ws)
   unfolding runs
   of_wanted key info [] valid h = record {
     rise = none_rise;
-    counts = omega (arith, valid.length);
+    counts = omega arith;
     partial = inl refl;
   }
   of_wanted key info (w ∷ ws) valid h = record {
@@ -241,7 +226,7 @@ module _ (F : List Fact) (sound : IsSound F) where
       ids (inl l) = ap (λ o. ordering_then o (nat_cmp g.last h.first)) (less g.sbn h.sbn l)
       ids (inr p) =
           ap (λ o. ordering_then o (nat_cmp g.last h.first)) (equal g.sbn h.sbn (sym p.0))
-          ∙ less g.last h.first (omega (arith, p.1))
+          ∙ less g.last h.first (omega arith)
 
   -- the gaps of an object, and then other lines
   module _ (key : Key) (rest : List ListedLine)
@@ -279,8 +264,8 @@ module _ (F : List Fact) (sound : IsSound F) where
   objects_in_order b (key ∷ keys) rises h =
       let t = of_object key (fact_at F (info_address key)) refl in (
         first_may_come b key keys (told_of F key).status h,
-        gaps_in_order key (told_lines_of keys) (λ l e. objects_in_order (Some l) keys rises.1
-            (subst (λ x. AllByRecursion (λ k. key_cmp x k ≡ Less) keys) (sym e) rises.0))
+        gaps_in_order key (told_lines_of keys)
+            (λ l e. objects_in_order (Some l) keys rises.1 (rw e rises.0))
             (ObjectLine key (told_of F key).status) 0 0 (told_of F key).gaps refl t.partial
             (object_precedes key (told_of F key).status) t.rise,
       )
@@ -297,17 +282,16 @@ module _ (F : List Fact) (sound : IsSound F) where
   objects_listed (key ∷ keys) h =
       let t = of_object key (fact_at F (info_address key)) refl in (
         (h key (zero, omega arith, refl), t.counts),
-        all_append IsListed (map (GapLine key) (told_of F key).gaps) (told_lines_of keys)
+        all_append IsListed
+            (map (GapLine key) (told_of F key).gaps) (told_lines_of keys)
             (gaps_listed key 0 0 (told_of F key).gaps t.rise)
-            (objects_listed keys (λ k c. h k (suc c.0, omega (arith, c.1), c.2))),
+            (objects_listed keys (λ k c. h k (suc c.0, omega arith, c.2))),
       )
 
   pub told_listing : (bytes : List ℕ) (objects : List Told) → AreTold F objects
       → bytes ≡ flat_map text_of (lines_of objects) → IsListing bytes (lines_of objects)
   told_listing bytes objects told text = record {
     text = text;
-    in_order = subst (λ l. AreInOrder None (lines_of l)) (sym told.told)
-        (objects_in_order None told.keys told.rising tt);
-    listed = subst (λ l. AllByRecursion IsListed (lines_of l)) (sym told.told)
-        (objects_listed told.keys (λ key c. key_held key ((told.held key).0 c)));
+    in_order = rw told.told (objects_in_order None told.keys told.rising tt);
+    listed = rw told.told (objects_listed told.keys (λ key c. key_held key ((told.held key).0 c)));
   }

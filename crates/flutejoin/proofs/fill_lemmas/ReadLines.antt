@@ -1,8 +1,7 @@
 -- Lines that `gaps` prints, by their words and numbers (specs/Lines).
-use Rattle.std.proofs.lemmas.Grind.{common_steps}
 use Rattle.std.proofs.Common.{rules}
-use Rattle.std.proofs.Common.{◌≡◌, ℕ, ◌==◌, if◌then◌else◌, true, false, List, [], ◌∷◌, ◌++◌, codes}
-use Rattle.std.proofs.Common.{decimal, append_assoc, refl, sym, ap, ◌∙◌, arith, get_or, inl, inr, Some, None}
+use Rattle.std.proofs.Common.{◌≡◌, ℕ, false, List, [], ◌++◌, codes}
+use Rattle.std.proofs.Common.{decimal, append_assoc, refl, sym, ◌∙◌, get_or, inl, inr, Some, None}
 use Rattle.std.specs.Char.{is_ascii_digit}
 use Rattle.std.proofs.lemmas.Bool.{cases_Bool}
 use Rattle.std.proofs.lemmas.List.{append_cancel_right}
@@ -15,7 +14,7 @@ use Rattle.flutejoin.specs.FillLists.{HasIds, IsListed, MayCome, object_of, text
 use Rattle.flutejoin.specs.declared.fill.listed_line.ListedLine.{ListedLine}
 use Rattle.flutejoin.specs.declared.fill.listed_line.ListedLine.TheVariants.{Object as ObjectLine}
 use Rattle.flutejoin.specs.declared.fill.listed_line.ListedLine.TheVariants.{Gap as GapLine}
-use Rattle.flutejoin.specs.Lines.{gap_line, key_words, line, object_words, reason_words}
+use Rattle.flutejoin.specs.Lines.{gap_line, line, object_words, reason_words}
 use Rattle.flutejoin.specs.Lines.{source_words, status_line, status_words}
 use Rattle.flutejoin.proofs.info_lemmas.LinePieces.{source_chain, source_none}
 
@@ -36,8 +35,7 @@ same_line x y e = append_cancel_right x y (codes "\n") e
 pub gap_is : (words : List ℕ) (g : Gap) → line words ≡ gap_line g → words ≡ gap_words g
 unfolding gap_line
 gap_is words g e =
-    same_line words (codes "gap " ++ decimal g.sbn ++ codes "/" ++ decimal g.first ++ codes "-"
-    ++ decimal g.last ++ reason_words g.reason) e
+    same_line _ _ e
     ∙ seven (codes "gap ") (decimal g.sbn) (codes "/") (decimal g.first) (codes "-") (decimal g.last)
     (reason_words g.reason)
   where
@@ -63,13 +61,12 @@ from_status status = codes " " ++ status_words status
 abbrev pub from_name : Key → Status → List ℕ
 from_name key status = codes " " ++ (object_words key.object ++ from_status status)
 
-pub status_is : (words : List ℕ) (key : Key) (status : Status)
-    → line words ≡ status_line key status
-    → words ≡ source_words key.session.sender
-    ++ (codes "session " ++ (decimal key.session.tsi ++ from_name key status))
+pub status_is : (words : List ℕ) (key : Key) (status : Status) → line words ≡ status_line key status
+    → words ≡ source_words key.session.sender ++
+    (codes "session " ++ (decimal key.session.tsi ++ from_name key status))
 unfolding status_line
 status_is words key status e =
-    same_line words (key_words key ++ codes " " ++ status_words status) e
+    same_line _ _ e
     ∙ seven (source_words key.session.sender) (codes "session ") (decimal key.session.tsi)
     (codes " ") (object_words key.object) (codes " ") (status_words status)
   where
@@ -86,17 +83,14 @@ session : (x y : List ℕ) → codes "gap " ++ x ≡ codes "session " ++ y → �
 session x y e = search rules
 
 pub apart : (n : ℕ) (x y : List ℕ) → codes "gap " ++ x ≡ source_words n ++ (codes "session " ++ y) → ⊥
-apart n x y e = elim (cases_Bool (n == 0)) [
-  | inl h ↦ session x y (e ∙ source_none n (codes "session " ++ y) h)
-  | inr h ↦ source x _ (e ∙ source_chain n (codes "session " ++ y) h)
+apart n x y e = elim (cases_Bool _) [
+  | inl h ↦ session x y (e ∙ source_none n _ h)
+  | inr h ↦ source x _ (e ∙ source_chain n _ h)
 ]
 
 pub not_both : (words : List ℕ) (g : Gap) (key : Key) (status : Status)
     → line words ≡ gap_line g → line words ≡ status_line key status → ⊥
-not_both words g key status e h =
-    apart key.session.sender (decimal g.sbn ++ from_first g)
-    (decimal key.session.tsi ++ from_name key status)
-    (sym (gap_is words g e) ∙ status_is words key status h)
+not_both words g key status e h = apart _ _ _ (sym (gap_is _ g e) ∙ status_is _ _ _ h)
 
 -- what a line is, if it is read as that of a gap
 
@@ -104,11 +98,10 @@ module _ (words : List ℕ) (g : Gap) where
   pub gap_after : (p : ListedLine) → line words ≡ gap_line g
       → ((gap : Gap) → HasIds gap → line words ≡ gap_line gap → g ≡ gap) → (l : ListedLine)
       → IsListed l → MayCome (Some p) l → line words ≡ text_of l → GapLine (object_of p) g ≡ l
-  gap_after p is finds (ObjectLine key status) i m e =
-      absurd (not_both words g key status is e)
+  gap_after p is _ (ObjectLine key status) i m e = absurd (not_both _ g _ _ is e)
   gap_after p is finds (GapLine key gap) i m e = λ j. GapLine (m.1 j) (finds gap i e j)
 
 pub gap_first : (words : List ℕ) (g : Gap) → line words ≡ gap_line g → (l : ListedLine)
     → MayCome None l → line words ≡ text_of l → ⊥
-gap_first words g is (ObjectLine key status) m e = not_both words g key status is e
-gap_first words g is (GapLine key gap) m e = m
+gap_first words g is (ObjectLine key status) m e = not_both _ g _ _ is e
+gap_first _ g is (GapLine key gap) m e = m

@@ -59,17 +59,12 @@ module _ (style : Style) (objects : List Told) (t : Told) where
 whole_more : (style : Style) (objects : List Told) (t : Told) (old whole : Bool)
     → is_told style t.status t.conflicts ≡ true → old ≡ are_whole style objects → whole ≡ is_right style t.status
     → (old && whole) ≡ are_whole style (objects ++ t ∷ [])
-whole_more style objects t old whole e o w = search (
-  rules,
-  is_whole,
-  and-true,
-  list_all-append,
-  told_more,
-)
+whole_more style objects t old whole e o w = search
+    (rules, is_whole, and-true, list_all-append, told_more)
 
 -- with a line for each session no gap has one
 none_shown : (style : Style) (gaps : List Gap) → style.summary ≡ true → shown style gaps ≡ []
-none_shown style [] e = refl
+none_shown _ [] e = refl
 none_shown style (gap ∷ gaps) e =
     let off : is_shown style gap.reason ≡ false = search rules in
     ap (λ b. if b then gap ∷ shown style gaps else shown style gaps) off ∙ none_shown style gaps e
@@ -78,16 +73,16 @@ none_shown style (gap ∷ gaps) e =
 unshown : (style : Style) (info : Option Information) (gaps : List Gap) → shown style gaps ≡ []
     → gap_lines style info gaps ≡ []
 unfolding longest
-unshown style info gaps e =
+unshown style info _ e =
     ap (λ gs. if style.ranges then flat_map (range_line style.form) (ranges_of info gs)
-    else flat_map (gap_line_in style.form) gs) e ∙ none style.form info style.ranges
+    else flat_map (gap_line_in style.form) gs) e ∙ none _ _ _
   where
     none : (form : Form) (info : Option Information) (b : Bool)
         → (if b then flat_map (range_line form) (ranges_of info [])
         else flat_map (gap_line_in form) []) ≡ []
-    none form None true = refl
-    none form (Some info) true = refl
-    none form info false = refl
+    none _ None true = refl
+    none _ (Some info) true = refl
+    none _ _ false = refl
 
 none_summed : (style : Style) (info : Option Information) (gaps : List Gap)
     → style.summary ≡ true → gap_lines style info gaps ≡ []
@@ -101,8 +96,7 @@ pub told_nothing : {known : Bool} {style : Style} {objects : List Told} {lines :
 told_nothing {known} {style} {objects} {lines} t {closed} {s} e stray h k =
     let same = told_same style objects t e in
     let off : gap_lines style t.info t.gaps ≡ [] = stray e in
-    let none : lines ≡ lines ++ gap_lines style t.info t.gaps =
-    sym (append-nil lines) ∙ ap (λ x. lines ++ x) (sym off) in
+    let none : lines ≡ lines ++ gap_lines style t.info t.gaps = cc (append-nil lines) in
     record { lines = lines; lines_known = k; are_closed = search rules }
 
 -- what the sums were of
@@ -124,7 +118,7 @@ pub told_summed : (known : Bool) {style : Style} {objects : List Told} {lines : 
     → OnOk r (AreSummedUp known style.form (listed_by style objects ++ t ∷ []) s sums)
     → OnOk r (ArePut known style (objects ++ t ∷ []) (gap_lines style t.info t.gaps) s
     (record { all_whole = closed.all_whole && whole; sums = sums }))
-told_summed known sums s (Err x) y is h m = tt
+told_summed _ _ s (Err x) y is h m = tt
 told_summed known {style} {objects} {lines} {t} {closed} {whole} sums s (Ok x) y is h m = search
     (rules, told_more, none_summed, whole_more)
 
@@ -137,20 +131,18 @@ pub told_lined : {known : Bool} {style : Style} {objects : List Told} {lines : L
     (record { all_whole = closed.all_whole && whole; sums = closed.sums }))
 unfolding told_lines
 told_lined s' (Err x) n is h k a = tt
-told_lined {known} {style} {objects} {lines} {t} {closed} {whole} {s} s' (Ok x) n is h k a =
+told_lined {style} {objects} {lines} {t} {closed} {whole} s' (Ok x) n is h k a =
     let gaps = gap_lines style t.info t.gaps in
     let line = object_line style t.key t.status t.conflicts in
     let old = subst (λ b. AreTheirs style b (listed_by style objects) lines closed.sums) n h.theirs
     in
-    let all : (lines ++ line) ++ gaps ≡ flat_map (told_lines style)
-    (listed_by style (objects ++ t ∷ [])) = append_assoc lines line gaps ∙ ap
-    (λ l. l ++ (line ++ gaps)) old.0 ∙ flat_map_more (told_lines style) [] (listed_by style objects)
-    t ∙ ap (flat_map (told_lines style)) (sym (told_more style objects t is.told)) in record {
+    let all = append_assoc lines line gaps ∙ ap (λ l. l ++ (line ++ gaps)) old.0 ∙ flat_map_more
+    (told_lines style) [] (listed_by style objects) t ∙ ap (flat_map (told_lines style))
+    (sym (told_more style _ t is.told)) in record {
       lines = lines ++ line;
-      lines_known = knows_more line k a;
+      lines_known = knows_more _ k a;
       are_closed = record {
-        all_whole = whole_more style objects t closed.all_whole whole is.told h.all_whole
-            is.whole_is;
+        all_whole = whole_more style _ t _ _ is.told h.all_whole is.whole_is;
         theirs = subst (λ b. AreTheirs style b (listed_by style (objects ++ t ∷ []))
             ((lines ++ line) ++ gaps) closed.sums) (sym n) (all, old.1);
       };
@@ -163,7 +155,7 @@ AreQuiet gaps = AllByRecursion (λ (g : Gap). same_reason Conflicting g.reason �
 
 quiet_before : (g : Gap) (gaps : List Gap) → same_reason Conflicting g.reason ≡ false
     → AreQuiet gaps → AreQuiet (before g gaps)
-quiet_before x0 x1 x2 x3 = search rules
+quiet_before = search rules
 
 quiet_runs : (ws : List (SymbolId × Reason)) → how_many Conflicting ws ≡ 0 → AreQuiet (runs ws)
 unfolding how_many runs
@@ -174,13 +166,13 @@ quiet_runs (w ∷ ws) e =
     let P : Bool → Type 0 = λ b. p w ≡ b → length (if b then w ∷ rest else rest) ≡ 0 → AreQuiet
     (before (one w) (runs ws)) in
     let cases : (b : Bool) → P b = λ b. elim b as P [
-      | true ↦ λ is none. absurd (omega (arith, none))
-      | false ↦ λ is none. quiet_before (one w) (runs ws) is (quiet_runs ws none)
+      | true ↦ λ is none. absurd (omega arith)
+      | false ↦ λ is none. quiet_before _ _ is (quiet_runs ws none)
     ] in cases (p w) refl e
 
 none_quiet : (style : Style) (gaps : List Gap) → style.conflicts ≡ true → AreQuiet gaps
     → shown style gaps ≡ []
-none_quiet style [] e a = refl
+none_quiet _ [] e a = refl
 none_quiet style (gap ∷ gaps) e a =
     let first : is_shown style gap.reason ≡ (not style.summary && false) = search rules in
     let off : (b : Bool) → (b && false) ≡ false = search rules in
@@ -194,24 +186,17 @@ no_conflict style status n e = search rules
 quiet_wanting : (info : Information) (ws : List (SymbolId × Reason))
     → has_conflict (status_wanting info ws) ≡ false → how_many Conflicting ws ≡ 0
 unfolding how_many
-quiet_wanting x0 x1 x2 = search rules
+quiet_wanting = search rules
 
-none_shown_of : (style : Style) (F : List Fact) (key : Key)
-    → is_told style (told_of F key).status (told_of F key).conflicts ≡ false
-    → shown style (told_of F key).gaps ≡ []
-none_shown_of style F key e = search (
-  rules,
-  no_conflict,
-  none_quiet,
-  runs,
-  quiet_runs,
-  quiet_wanting,
-)
+none_shown_of : (style : Style) (F : List Fact) (key : Key) → is_told style (told_of F key).status
+    (told_of F key).conflicts ≡ false → shown style (told_of F key).gaps ≡ []
+none_shown_of style F key e = search
+    (rules, no_conflict, none_quiet, runs, quiet_runs, quiet_wanting)
 
 -- an object that `--conflicts` doesn't list has no gap in conflict, so none is printed
 pub no_stray : (style : Style) (F : List Fact) (key : Key) → HasNoStray style (told_of F key)
 no_stray style F key e =
-    unshown style (told_of F key).info (told_of F key).gaps (none_shown_of style F key e)
+    unshown style (told_of F key).info (told_of F key).gaps (none_shown_of style F _ e)
 
 -- all that is printed
 pub all_printed : (style : Style) (objects : List Told) (lines : List ℕ) (closed : ClosedObjects)

@@ -1,11 +1,9 @@
 -- Two keys are equal exactly if the test of their fields returns true.
 use Rattle.std.proofs.Common.{rules}
-use Rattle.std.proofs.Common.{◌≡◌, Bool, true, false, ◌&&◌, sym, ◌∙◌, subst}
+use Rattle.std.proofs.Common.{◌≡◌, Bool, true, false, ◌&&◌}
 use Rattle.std.specs.Prelude.{◌==◌}
-use Rattle.std.proofs.lemmas.Bool.{false≢true, eqb-true}
 use Rattle.flute_parts.specs.Session.{Session}
 use Rattle.flute_parts.specs.Order.{same_object}
-use Rattle.flute_parts.specs.Equality.{both, both_true, eqb_itself, object_same, object_itself}
 use Rattle.flute_parts.specs.declared.key.Key.{Key}
 
 abbrev equal : Key → Key → Bool

@@ -25,7 +25,7 @@ first_then_last : (x : ByteRange) (ys : List ByteRange) (r : ByteRange)
     → range_before x (with_last ys r) ≡ with_last (range_before x ys) r
 unfolding with_last
 first_then_last x [] r = refl
-first_then_last x (y ∷ []) r = go (y.end == r.first) (x.end == y.first) refl refl
+first_then_last x (y ∷ []) r = go _ _ refl refl
   where
     go : (b c : Bool) → (y.end == r.first) ≡ b → (x.end == y.first) ≡ c
         → range_before x (with_last (y ∷ []) r) ≡ with_last (range_before x (y ∷ [])) r
@@ -33,7 +33,7 @@ first_then_last x (y ∷ []) r = go (y.end == r.first) (x.end == y.first) refl r
     go true false d e = rw (d, e, d) refl
     go false true d e = rw (d, e, d) refl
     go false false d e = rw (d, e, d) refl
-first_then_last x (y ∷ z ∷ others) r = go (x.end == y.first) refl
+first_then_last x (y ∷ z ∷ others) r = go _ refl
   where
     go : (c : Bool) → (x.end == y.first) ≡ c
         → range_before x (with_last (y ∷ z ∷ others) r)
@@ -45,8 +45,7 @@ longest_last : (rs : List ByteRange) (r : ByteRange)
     → longest (rs ++ r ∷ []) ≡ with_last (longest rs) r
 unfolding longest with_last
 longest_last [] r = refl
-longest_last (x ∷ rs) r =
-    ap (range_before x) (longest_last rs r) ∙ first_then_last x (longest rs) r
+longest_last (x ∷ rs) r = ap (range_before x) (longest_last rs r) ∙ first_then_last x _ r
 
 last_of : (ended : List ByteRange) (x r : ByteRange)
     → with_last (ended ++ x ∷ []) r ≡ ended ++ with_last (x ∷ []) r
@@ -66,14 +65,9 @@ first_ended : {form : Form} {rs : List ByteRange} {lines : List ℕ} (r : ByteRa
     → AreEnded form rs lines None → AreEnded form (rs ++ r ∷ []) (lines ++ []) (Some r)
 unfolding with_last
 first_ended {form} {rs} {lines} r h =
-    let none : h.ended ≡ [] = h.some refl in
-    let rs_none : longest rs ≡ [] = h.longest_are ∙ append-nil h.ended ∙ none in
-    record {
-      ended = [];
-      longest_are = longest_last rs r ∙ ap (λ l. with_last l r) rs_none;
-      some = λ e. refl;
-      lines_are = append-nil lines ∙ h.lines_are ∙ ap (flat_map (range_line form)) none;
-    }
+    let none = h.some refl in
+    let rs_none = h.longest_are ∙ append-nil h.ended ∙ none in
+    record { ended = []; longest_are = cc (longest_last _ r); some = λ e. refl; lines_are = cc }
 
 next_ended : {form : Form} {rs : List ByteRange} {lines : List ℕ} (x r : ByteRange) (b : Bool)
     → (x.end == r.first) ≡ b → AreEnded form rs lines (Some x)
@@ -84,8 +78,8 @@ next_ended {form} {rs} {lines} x r true e h =
     let one : with_last (x ∷ []) r ≡ record r { first = x.first } ∷ [] = rw e refl in
     record {
       ended = h.ended;
-      longest_are = longest_last rs r ∙ ap (λ l. with_last l r) h.longest_are
-          ∙ last_of h.ended x r ∙ ap (λ l. h.ended ++ l) one;
+      longest_are = longest_last _ r ∙ ap (λ l. with_last l r) h.longest_are
+          ∙ last_of _ x r ∙ ap (λ l. h.ended ++ l) one;
       some = λ n. absurd cc;
       lines_are = append-nil lines ∙ h.lines_are;
     }
@@ -93,25 +87,24 @@ next_ended {form} {rs} {lines} x r false e h =
     let two : with_last (x ∷ []) r ≡ x ∷ r ∷ [] = rw e refl in
     record {
       ended = h.ended ++ x ∷ [];
-      longest_are = longest_last rs r ∙ ap (λ l. with_last l r) h.longest_are
-          ∙ last_of h.ended x r ∙ ap (λ l. h.ended ++ l) two
-          ∙ sym (append_assoc h.ended (x ∷ []) (r ∷ []));
+      longest_are = longest_last _ r ∙ ap (λ l. with_last l r) h.longest_are ∙ last_of _ x r ∙ ap
+          (λ l. h.ended ++ l) two ∙ sym (append_assoc h.ended (x ∷ []) (r ∷ []));
       some = λ n. absurd cc;
-      lines_are = ap (λ l. l ++ range_line form x) h.lines_are
-          ∙ flat_map_more (range_line form) [] h.ended x;
+      lines_are = ap (λ l. l ++ range_line form x) h.lines_are ∙ flat_map_more (range_line form) []
+          h.ended x;
     }
 
 more_ended : {form : Form} {rs : List ByteRange} {lines : List ℕ} (last next : Option ByteRange)
     → AreEnded form rs lines last → AreEnded form (rs ++ one_range next)
     (lines ++ ended_line form last next) (last_range last next)
-more_ended {form} {rs} {lines} last None h = record {
+more_ended {rs} {lines} _ None h = record {
   ended = h.ended;
-  longest_are = ap longest (append-nil rs) ∙ h.longest_are;
+  longest_are = cc (append-nil rs);
   some = h.some;
-  lines_are = append-nil lines ∙ h.lines_are;
+  lines_are = cc (append-nil lines);
 }
 more_ended None (Some r) h = first_ended r h
-more_ended (Some x) (Some r) h = next_ended x r (x.end == r.first) refl h
+more_ended (Some x) (Some r) h = next_ended x r _ refl h
 
 one_filtered : (info : Information) (g : Gap) (o : Option ByteRange) → gap_range info g ≡ o
     → filter_map (gap_range info) (g ∷ []) ≡ one_range o
@@ -123,7 +116,7 @@ pub ranges_more : {form : Form} {info : Information} {gaps : List Gap} {lines : 
     (g : Gap) (new : OpenRanges) → HasRanges form info gaps lines r → new.info ≡ r.info
     → new.last ≡ last_range r.last (gap_range info g)
     → HasRanges form info (gaps ++ g ∷ []) (lines ++ ended_line form r.last (gap_range info g)) new
-ranges_more {form} {info} {gaps} {lines} {r} g new h same last =
+ranges_more {form} {info} {gaps} {lines} {r} g _ h same last =
     let next = gap_range info g in
     let e : AreEnded form (filter_map (gap_range info) gaps) lines r.last = record {
       ended = h.ended;
@@ -131,16 +124,13 @@ ranges_more {form} {info} {gaps} {lines} {r} g new h same last =
       some = h.some;
       lines_are = h.lines_are;
     } in
-    let m = more_ended r.last next e in
-    let all : filter_map (gap_range info) (gaps ++ g ∷ [])
-    ≡ filter_map (gap_range info) gaps ++ one_range next =
-    filter_map-append (gap_range info) gaps (g ∷ [])
-    ∙ ap (λ l. filter_map (gap_range info) gaps ++ l) (one_filtered info g next refl) in
-    record {
-      info_is = same ∙ h.info_is;
+    let m = more_ended _ _ e in
+    let all = filter_map-append (gap_range info) gaps (g ∷ []) ∙ ap
+    (λ l. filter_map (gap_range info) gaps ++ l) (one_filtered _ g _ refl) in record {
+      info_is = cc;
       ended = m.ended;
-      ranges_are = ap longest all ∙ m.longest_are ∙ ap (λ o. m.ended ++ one_range o) (sym last);
-      some = λ none. m.some (sym last ∙ none);
+      ranges_are = cc;
+      some = λ none. m.some (cc);
       lines_are = m.lines_are;
     }
 
@@ -151,7 +141,7 @@ unfolding longest
 ranges_none r is none = record {
   info_is = is;
   ended = [];
-  ranges_are = ap one_range (sym none);
+  ranges_are = cc;
   some = λ e. refl;
   lines_are = refl;
 }
@@ -160,7 +150,6 @@ ranges_none r is none = record {
 pub ranges_ended : {form : Form} {info : Information} {gaps : List Gap} {lines : List ℕ} {r : OpenRanges}
     → HasRanges form info gaps lines r
     → lines ++ range_lines form r.last ≡ flat_map (range_line form) (ranges info gaps)
-ranges_ended {form = form} {r = r} h =
-    ap (λ l. l ++ range_lines form r.last) h.lines_are
-    ∙ sym (flat_map-append (range_line form) h.ended (one_range r.last))
-    ∙ ap (flat_map (range_line form)) (sym h.ranges_are)
+ranges_ended {form} {r} h = ap (λ l. l ++ range_lines form r.last) h.lines_are ∙ sym
+    (flat_map-append (range_line form) h.ended (one_range r.last)) ∙ ap (flat_map (range_line form))
+    (cc)

@@ -14,7 +14,7 @@ use Rattle.std.proofs.lemmas.List.Elements.{Contains-append_left, Contains-appen
 use Rattle.std.proofs.lemmas.List.Elements.{Contains-append_cases, Contains-push}
 use Rattle.std.proofs.lemmas.List.Elements.{Contains-push_cases}
 use Rattle.flute_parts.specs.Information.{Information}
-use Rattle.flute_parts.specs.Addresses.{address, info_address}
+use Rattle.flute_parts.specs.Addresses.{address}
 use Rattle.flute_parts.specs.Facts.{fact_at, IsRising}
 use Rattle.flute_parts.specs.Order.{key_cmp, part_cmp, address_cmp, same_key}
 use Rattle.flute_parts.specs.Partition.{ids}
@@ -30,7 +30,7 @@ use Rattle.flute_parts.specs.declared.fact.Fact.{Fact}
 use Rattle.flute_parts.specs.declared.fact.Fact.TheVariants.{Info, InfoConflict, Symbol}
 use Rattle.flute_parts.specs.declared.fact.Fact.TheVariants.{SymbolConflict}
 use Rattle.flute_parts.proofs.Public.{Contains-from, fact_at-append, fact_at-none}
-use Rattle.flute_parts.proofs.Public.{fact_at-some_named, joined, joined-none, key-before, Member}
+use Rattle.flute_parts.proofs.Public.{fact_at-some_named, joined-none, key-before, Member}
 use Rattle.flute_parts.proofs.Public.{member-after, Member-from, none-at, tied}
 use Rattle.flute_store.specs.declared.gap.Reason.{Reason}
 use Rattle.flute_store.specs.Objects.{want, wants, runs, value_bytes, object as object_of}
@@ -41,7 +41,7 @@ use Rattle.flutejoin.specs.Told.{AreTold, Told, conflict_in, conflicts_of, told_
 use Rattle.flutejoin.specs.Listing.{IsFirstOf}
 
 pub in_nothing : {X : Type 0} (x : X) → Contains [] x → ⊥
-in_nothing x c = omega (arith, c.1)
+in_nothing x c = omega arith
 
 -- ---- the report of an object depends only on the values at its addresses
 
@@ -50,9 +50,9 @@ abbrev pub one_if : Bool → ℕ
 one_if b = if b then 1 else 0
 
 no_conflict_in : (key : Key) (f : Fact) → ((address f).key ≡ key → ⊥) → conflict_in key f ≡ 0
-no_conflict_in key (Info k info) h = refl
-no_conflict_in key (InfoConflict k) h = refl
-no_conflict_in key (Symbol k id b) h = refl
+no_conflict_in _ (Info k info) h = refl
+no_conflict_in _ (InfoConflict k) h = refl
+no_conflict_in _ (Symbol k id b) h = refl
 no_conflict_in key (SymbolConflict k id) h =
     let P : Bool → Type 0 = λ b. same_key k key ≡ b → one_if b ≡ 0 in
     let cases : (b : Bool) → P b = λ b. elim b as P [
@@ -63,12 +63,11 @@ no_conflict_in key (SymbolConflict k id) h =
 -- facts of other objects have no conflict of this one
 pub none_counted : (G : List Fact) (key : Key)
     → ((g : Fact) → Contains G g → (address g).key ≡ key → ⊥) → conflicts_of G key ≡ 0
-none_counted [] key h = refl
+none_counted [] _ h = refl
 none_counted (g ∷ G) key h =
-    let one = no_conflict_in key g (h g (Contains-append_left (g ∷ []) G g (Contains-push [] g))) in
-    let others =
-    none_counted G key (λ x c. h x (Contains-append_right (g ∷ []) G x c)) in
-    omega (arith, sum_by-cons (conflict_in key) g G, one, others)
+    let one = no_conflict_in _ g (h g (Contains-append_left (g ∷ []) G g (Contains-push [] g))) in
+    let others = none_counted G _ (λ x c. h x (Contains-append_right (g ∷ []) G x c)) in
+    omega (arith, sum_by-cons (conflict_in key) g G)
 
 module _ (F G : List Fact) (key : Key) (same : (part : Part) → fact_at F
     (record { key = key; part = part }) ≡ fact_at G (record { key = key; part = part })) where
@@ -79,14 +78,14 @@ module _ (F G : List Fact) (key : Key) (same : (part : Part) → fact_at F
 
   pub status_same : (o : Option Fact) → status_at F key o ≡ status_at G key o
   status_same None = refl
-  status_same (Some (Info k info)) = ap (status_wanting info) (wants_same info)
+  status_same (Some (Info k info)) = ap (status_wanting info) (wants_same _)
   status_same (Some (InfoConflict k)) = refl
   status_same (Some (Symbol k id b)) = refl
   status_same (Some (SymbolConflict k id)) = refl
 
   gaps_same : (o : Option Fact) → gaps_at F key o ≡ gaps_at G key o
   gaps_same None = refl
-  gaps_same (Some (Info k info)) = ap runs (wants_same info)
+  gaps_same (Some (Info k info)) = ap runs (wants_same _)
   gaps_same (Some (InfoConflict k)) = refl
   gaps_same (Some (Symbol k id b)) = refl
   gaps_same (Some (SymbolConflict k id)) = refl
@@ -98,30 +97,22 @@ module _ (F G : List Fact) (key : Key) (same : (part : Part) → fact_at F
 
   wanting_same : (info : Information) (ws : List (SymbolId × Reason))
       → bytes_wanting F key info ws ≡ bytes_wanting G key info ws
-  wanting_same info [] = ap Some (object_same info)
-  wanting_same info (w ∷ ws) = refl
+  wanting_same info [] = ap Some (object_same _)
+  wanting_same _ (w ∷ ws) = refl
 
   bytes_same : (o : Option Fact) → bytes_at F key o ≡ bytes_at G key o
   bytes_same None = refl
-  bytes_same (Some (Info k info)) =
-      wanting_same info (wants F key info) ∙ ap (bytes_wanting G key info) (wants_same info)
+  bytes_same (Some (Info k info)) = wanting_same _ _ ∙ ap (bytes_wanting G key info) (wants_same _)
   bytes_same (Some (InfoConflict k)) = refl
   bytes_same (Some (Symbol k id b)) = refl
   bytes_same (Some (SymbolConflict k id)) = refl
 
   told_same : conflicts_of F key ≡ conflicts_of G key → told_of F key ≡ told_of G key
   told_same counts =
-      let status : status_at F key (fact_at F (info_address key)) ≡ status_at G key
-      (fact_at G (info_address key)) = status_same (fact_at F (info_address key)) ∙ ap
-      (status_at G key) (same InfoPart) in
-      let info : info_at (fact_at F (info_address key)) ≡ info_at (fact_at G (info_address key)) =
-      ap info_at (same InfoPart) in
-      let gaps : gaps_at F key (fact_at F (info_address key)) ≡ gaps_at G key
-      (fact_at G (info_address key)) = gaps_same (fact_at F (info_address key)) ∙ ap
-      (gaps_at G key) (same InfoPart) in
-      let bytes : bytes_at F key (fact_at F (info_address key)) ≡ bytes_at G key
-      (fact_at G (info_address key)) = bytes_same (fact_at F (info_address key)) ∙ ap
-      (bytes_at G key) (same InfoPart) in
+      let status = status_same _ ∙ ap (status_at G key) (same InfoPart) in
+      let info = ap info_at (same InfoPart) in
+      let gaps = gaps_same _ ∙ ap (gaps_at G key) (same InfoPart) in
+      let bytes = bytes_same _ ∙ ap (bytes_at G key) (same InfoPart) in
       λ i. record {
         key = key;
         status = status i;
@@ -135,16 +126,12 @@ module _ (F G : List Fact) (key : Key) (same : (part : Part) → fact_at F
 
 pub holds-from : (F : List Fact) (f : Fact) (key : Key) → Contains F f → (address f).key ≡ key →
     HoldsObject F key
-holds-from F f key c e = subst (HoldsObject F) e (
-  (address f).part,
-  λ none. none-at F (address f)
-      none f c refl,
-)
+holds-from F f _ c e = rw (← e) ((address f).part, λ none. none-at F _ none f c refl)
 
 pub named-from : (F : List Fact) (key : Key) → HoldsObject F key → (f : Fact) × (Contains F f) ×
     ((address f).key ≡ key)
-named-from F key h = elim (fact_at-some_named F (record { key = key; part = h.0 })) [
-  | inl n ↦ (n.0, Contains-from F n.0 n.1, ap (λ (a : Address). a.key) n.2)
+named-from F key h = elim (fact_at-some_named F _) [
+  | inl n ↦ (n.0, Contains-from F _ n.1, ap (λ a. a.key) n.2)
   | inr e ↦ absurd (h.1 e)
 ]
 
@@ -152,12 +139,10 @@ named-from F key h = elim (fact_at-some_named F (record { key = key; part = h.0 
 other_objects : (F G : List Fact) (key : Key) → ((g : Fact) → Contains G g → (address g).key ≡ key
     → ⊥) → told_of F key ≡ told_of (F ++ G) key
 other_objects F G key h =
-    told_same F (F ++ G) key
+    told_same F _ _
     (λ part.
     let a : Address = record { key = key; part = part } in
-    sym (fact_at-append F G a ∙ ap (joined a (fact_at F a))
-    (fact_at-none G a (λ g c e. h g c (ap (λ (x : Address). x.key) e))) ∙ joined-none a
-    (fact_at F a)))
+    sym (cc (fact_at-append F G a, fact_at-none G a (λ g c e. h g c (ap (λ (x : Address). x.key) e)), joined-none a (fact_at F a))))
     (omega (arith, sum_by-append (conflict_in key) F G, none_counted G key h))
 
 -- ---- objects follow one another
@@ -170,9 +155,8 @@ rising_apart : (F G : List Fact) (f g : Fact) → IsRising (F ++ G) → Member f
     address_cmp (address f) (address g) ≡ Less
 unfolding Member
 rising_apart [] G f g r m c = absurd m
-rising_apart (x ∷ F) G f g r (inl e) c =
-    ap (λ y. address_cmp (address y) (address g)) e ∙ member-after (address x) g (F ++ G) r.0
-    (Member-from (F ++ G) g (Contains-append_right F G g c))
+rising_apart (x ∷ F) G f g r (inl e) c = ap (λ y. address_cmp (address y) (address g)) e ∙
+    member-after _ g _ r.0 (Member-from _ g (Contains-append_right F G g c))
 rising_apart (x ∷ F) G f g r (inr m) c = rising_apart F G f g r.1 m c
 
 pub stands_before : (F G : List Fact) (f g : Fact) → IsRising (F ++ G) → Contains F f → Contains G
@@ -187,17 +171,14 @@ lesser_key a b l apart =
       | Less ↦ λ e. e
       | Equal ↦ λ e. absurd (apart (key_same a.key b.key (ap is_eq e)))
       | Greater ↦ λ e. absurd (key-before a b l e)
-    ] e in
-    cases (key_cmp a.key b.key) refl
+    ] e in cases (key_cmp a.key b.key) refl
 
 -- between two facts of an object there are no facts of others
 pub same_object_between : (a b c : Address) → address_cmp a b ≡ Less → address_cmp b c ≡ Less →
     a.key ≡ c.key → b.key ≡ c.key
 same_object_between a b c p q e =
-    let after : key_cmp c.key b.key ≡ Greater → ⊥ = λ g. key-before a b p
-    (ap (λ k. key_cmp k b.key) e ∙ g) in
-    key_same b.key c.key (ap is_eq (tied (key_cmp b.key c.key) (key_cmp c.key b.key)
-    (key_total.antisymm b.key c.key) (key-before b c q) after))
+    let after : key_cmp c.key b.key ≡ Greater → ⊥ = λ g. key-before a b p (cc) in
+    key_same b.key c.key (cc (tied _ _ (key_total.antisymm b.key c.key) (key-before b c q) after))
 
 no_part : (p : Part) → part_cmp p InfoPart ≡ Less → ⊥
 no_part InfoPart e = absurd cc
@@ -207,12 +188,9 @@ no_part (SymbolPart n) e = absurd cc
 pub information_first : (a b : Address) → address_cmp a b ≡ Less → b.part ≡ InfoPart → a.key ≡
     b.key → ⊥
 information_first a b l i e =
-    let tie : key_cmp a.key b.key ≡ Equal = ap (λ k. key_cmp k b.key) e ∙ tied_itself key_total
-    b.key in
-    let rest : part_cmp a.part InfoPart ≡ Less = sym (ap
-    (λ o. ordering_then o (part_cmp a.part InfoPart)) tie) ∙ sym
-    (ap (λ p. ordering_then (key_cmp a.key b.key) (part_cmp a.part p)) i) ∙ l in
-    no_part a.part rest
+    let tie = ap (λ k. key_cmp k b.key) e ∙ tied_itself key_total b.key in
+    let rest = sym (ap (λ o. ordering_then o (part_cmp a.part InfoPart)) tie) ∙ sym (cc) ∙ l in
+    no_part _ rest
 
 all_more : (P : Key → Type 0) (ks : List Key) (k : Key) → AllByRecursion P ks → P k →
     AllByRecursion P (ks ++ k ∷ [])
@@ -224,10 +202,10 @@ pub sorted_more : (ks : List Key) (k : Key) → IsStrictlySortedBy key_cmp ks �
 unfolding IsStrictlySortedBy
 sorted_more [] k s h = (tt, tt)
 sorted_more (x ∷ ks) k s h = (
-  all_more (λ y. key_cmp x y ≡ Less) ks k s.0 (h x (Contains-append_left (x ∷ []) ks x
-      (Contains-push [] x))),
-  sorted_more ks k s.1 (λ y c. h y
-      (Contains-append_right (x ∷ []) ks y c)),
+  all_more _ _ k s.0
+      (h x (Contains-append_left (x ∷ []) ks x (Contains-push [] x))),
+  sorted_more ks k s.1
+      (λ y c. h y (Contains-append_right (x ∷ []) _ y c)),
 )
 
 told_kept : (F G : List Fact) (ks : List Key) → ((k : Key) → Contains ks k → told_of F k ≡
@@ -235,7 +213,7 @@ told_kept : (F G : List Fact) (ks : List Key) → ((k : Key) → Contains ks k �
 told_kept F G [] h = refl
 told_kept F G (k ∷ ks) h =
     let one = h k (Contains-append_left (k ∷ []) ks k (Contains-push [] k)) in
-    let others = told_kept F G ks (λ x c. h x (Contains-append_right (k ∷ []) ks x c)) in
+    let others = told_kept F G ks (λ x c. h x (Contains-append_right (k ∷ []) _ x c)) in
     λ i. one i ∷ others i
 
 -- the facts rise, and these are the last of them
@@ -244,15 +222,14 @@ pub record EndsIn (F before mine : List Fact) : Type 0 where
   pub rising : IsRising F
 
 -- the report of the objects before, and of one more, of which all other facts are
-pub one_more_told : {before : List Fact} (mine : List Fact) (key : Key) {objects : List Told}
-    → IsRising (before ++ mine) → AreTold before objects → IsFirstOf before key
-    → ((f : Fact) → Contains mine f → (address f).key ≡ key)
-    → (f : Fact) × Contains mine f
-    → AreTold (before ++ mine) (objects ++ told_of (before ++ mine) key ∷ [])
-one_more_told {before = before} mine key r l first own some =
+pub one_more_told : {before : List Fact} (mine : List Fact) (key : Key) {objects : List Told} →
+    IsRising (before ++ mine) → AreTold before objects → IsFirstOf before key →
+    ((f : Fact) → Contains mine f → (address f).key ≡ key) → (f : Fact) × Contains mine f → AreTold
+    (before ++ mine) (objects ++ told_of (before ++ mine) key ∷ [])
+one_more_told {before} mine key r l first own some =
     let all = before ++ mine in
     let earlier : (k : Key) → Contains l.keys k → (f : Fact) × (Contains before f) ×
-    ((address f).key ≡ k) = λ k c. named-from before k ((l.held k).0 c) in
+    ((address f).key ≡ k) = λ k c. named-from _ k ((l.held k).0 c) in
     let apart : (k : Key) → Contains l.keys k → k ≡ key → ⊥ = λ k c e. let f = earlier k c in first
     f.0 f.1 (f.2 ∙ e) in
     let below : (k : Key) → Contains l.keys k → key_cmp k key ≡ Less = λ k c.
@@ -260,27 +237,27 @@ one_more_told {before = before} mine key r l first own some =
     let e = own some.0 some.1 in
     subst (λ x. key_cmp x key ≡ Less) f.2
     (subst (λ x. key_cmp (address f.0).key x ≡ Less) e
-    (lesser_key (address f.0) (address some.0) (stands_before before mine f.0 some.0 r f.1 some.1)
+    (lesser_key (address f.0) (address some.0) (stands_before _ _ _ _ r f.1 some.1)
     (λ same. first f.0 f.1 (same ∙ e)))) in
-    let kept = told_kept before all l.keys (λ k c. other_objects before mine k
+    let kept = told_kept _ _ _ (λ k c. other_objects _ _ k
     (λ g d e. apart k c (sym e ∙ own g d))) in
     record {
       keys = l.keys ++ key ∷ [];
-      rising = sorted_more l.keys key l.rising below;
+      rising = sorted_more _ _ l.rising below;
       held = λ k. (
-        λ c. elim (Contains-push_cases l.keys key k c) [
-          | inl d ↦ let f = earlier k d in holds-from all f.0 k
-              (Contains-append_left before mine f.0 f.1) f.2
-          | inr e ↦ holds-from all some.0 k (Contains-append_right before mine some.0 some.1)
+        λ c. elim (Contains-push_cases _ _ k c) [
+          | inl d ↦ let f = earlier k d in holds-from _ _ k
+              (Contains-append_left _ _ _ f.1) f.2
+          | inr e ↦ holds-from _ _ k (Contains-append_right _ _ _ some.1)
               (own some.0 some.1 ∙ e)
         ],
         λ h.
-            let f = named-from all k h in
-            elim (Contains-append_cases before mine f.0 f.1) [
-              | inl d ↦ Contains-append_left l.keys (key ∷ []) k
-                  ((l.held k).1 (holds-from before f.0 k d f.2))
+            let f = named-from _ k h in
+            elim (Contains-append_cases _ _ _ f.1) [
+              | inl d ↦ Contains-append_left _ _ k
+                  ((l.held k).1 (holds-from _ _ k d f.2))
               | inr d ↦ subst (Contains (l.keys ++ key ∷ [])) (sym (own f.0 d) ∙ f.2)
-                  (Contains-push l.keys key)
+                  (Contains-push _ _)
             ],
       );
       told = ap (λ x. x ++ told_of all key ∷ []) (l.told ∙ kept)
@@ -296,7 +273,7 @@ none_told = record {
   held = λ k. (
     λ c. absurd (in_nothing k c),
     λ h. let f = named-from [] k h in absurd
-        (in_nothing f.0 f.1),
+        (in_nothing _ f.1),
   );
   told = refl;
 }

@@ -37,7 +37,7 @@ other_false a b h = search rules
 
 of_more : (s : Session) (ts : List Told) (t : Told) → AreOf s ts → t.key.session ≡ s
     → AreOf s (ts ++ t ∷ [])
-of_more x0 x1 x2 x3 x4 = grind (arith, common_steps)
+of_more = grind (arith, common_steps)
 
 -- the parts of objects begin with the first of these
 pub record Begins (t : Told) (ts : List Told) : Type 0 where
@@ -59,13 +59,13 @@ in_front_begins t ((u, us) ∷ parts) =
 begins : (t : Told) (ts : List Told) → Begins t ts
 unfolding by_session
 begins t ts =
-    let h = in_front_begins t (by_session ts) in
+    let h = in_front_begins t _ in
     record { others = h.0; parts = h.1.0; are = h.1.1 }
 
 -- what follows a part stays as it is
 in_front_before : (t : Told) (p : Told × List Told) (parts more : Parts)
     → in_front t ((p ∷ parts) ++ more) ≡ in_front t (p ∷ parts) ++ more
-in_front_before x0 x1 x2 x3 = search rules
+in_front_before = search rules
 
 -- objects of one session are one part
 pub one_part : (t : Told) (ts : List Told) → AreOf t.key.session ts
@@ -75,10 +75,9 @@ one_part t [] a = refl
 one_part t (u ∷ us) a =
     let of_u : (xs : List Told) → AreOf t.key.session xs → AreOf u.key.session xs = λ xs. subst
     (λ s. AreOf s xs) (sym a.0) in
-    let rest : by_session (u ∷ us) ≡ (u, us) ∷ [] = one_part u us (of_u us a.1) in
+    let rest = one_part u us (of_u us a.1) in
     let same : same_session t.key.session u.key.session ≡ true = search rules in
-    ap (in_front t) rest ∙ ap
-    (λ (b : Bool). if b then (t, u ∷ us) ∷ [] else ((t, []) ∷ (u, us) ∷ [])) same
+    ap (in_front t) rest ∙ ap (λ b. if b then (t, u ∷ us) ∷ [] else ((t, []) ∷ (u, us) ∷ [])) same
 
 -- objects of another session begin a part
 pub next_part : (s : Session) (t : Told) (ts : List Told) (next : Told) (more : List Told)
@@ -94,14 +93,11 @@ pub apart_from : (before : List Told) (t : Told) (ts : List Told) (next : Told) 
     AreOf t.key.session ts → (next.key.session ≡ t.key.session → ⊥) → by_session
     ((before ++ t ∷ ts) ++ next ∷ more) ≡ by_session (before ++ t ∷ ts) ++ by_session (next ∷ more)
 unfolding by_session
-apart_from [] t ts next more a h = next_part t.key.session t ts next more refl a h
+apart_from [] t ts next more a h = next_part _ t _ _ _ refl a h
 apart_from (u ∷ []) t ts next more a h = search (rules, apart_from [] t ts next more a h) steps
     400000
-apart_from (u ∷ v ∷ before) t ts next more a h = search (
-  rules,
-  apart_from (v ∷ before) t ts next
-      more a h,
-)
+apart_from (u ∷ v ∷ before) t ts next more a h = search
+    (rules, apart_from (v ∷ before) t ts next more a h)
 
 -- ---- sums
 
@@ -122,23 +118,20 @@ pub sums_more : (t : Told) (ts : List Told) (u : Told) (old sums : SessionSums)
     → old ≡ sums_of t ts → AddsObject u.status u.conflicts old sums → sums ≡ sums_of t (ts ++ u ∷ [])
 sums_more t ts u old sums o a =
     let more : (f : Told → ℕ) (x new : ℕ) → x ≡ sum_by f (t ∷ ts) → new ≡ x + f u → new ≡ sum_by f
-    (t ∷ (ts ++ u ∷ [])) = λ f x new e n. sum_more f (t ∷ ts) u x new e n in
-    let session : sums.session ≡ t.key.session = a.session ∙ ap (λ (s : SessionSums). s.session) o
-    in
-    let objects = more (λ u. 1) old.objects sums.objects (ap (λ (s : SessionSums). s.objects) o)
-    a.objects in
-    let whole = more (λ u. whole_in u.status) old.whole sums.whole
-    (ap (λ (s : SessionSums). s.whole) o) a.whole in
-    let partial = more (λ u. partial_in u.status) old.partial sums.partial
-    (ap (λ (s : SessionSums). s.partial) o) a.partial in
-    let missing = more (λ u. missing_in u.status) old.missing sums.missing
-    (ap (λ (s : SessionSums). s.missing) o) a.missing in
+    (t ∷ (ts ++ u ∷ [])) = λ f x new e n. sum_more f (t ∷ ts) u x _ e n in
+    let session = a.session ∙ ap (λ s. s.session) o in
+    let objects = more (λ u. 1) old.objects sums.objects (ap (λ s. s.objects) o) a.objects in
+    let whole = more (λ u. whole_in u.status) old.whole sums.whole (ap (λ s. s.whole) o) a.whole in
+    let partial = more (λ u. partial_in u.status) old.partial sums.partial (ap (λ s. s.partial) o)
+    a.partial in
+    let missing = more (λ u. missing_in u.status) old.missing sums.missing (ap (λ s. s.missing) o)
+    a.missing in
     let conflicting = more (λ u. u.conflicts) old.conflicting sums.conflicting
-    (ap (λ (s : SessionSums). s.conflicting) o) a.conflicting in
-    let misfit = more (λ u. misfit_in u.status) old.misfit sums.misfit
-    (ap (λ (s : SessionSums). s.misfit) o) a.misfit in
-    let unknown = more (λ u. unknown_in u.status) old.unknown sums.unknown
-    (ap (λ (s : SessionSums). s.unknown) o) a.unknown in λ i. record {
+    (ap (λ s. s.conflicting) o) a.conflicting in
+    let misfit = more (λ u. misfit_in u.status) old.misfit sums.misfit (ap (λ s. s.misfit) o)
+    a.misfit in
+    let unknown = more (λ u. unknown_in u.status) old.unknown sums.unknown (ap (λ s. s.unknown) o)
+    a.unknown in λ i. record {
       session = session i;
       objects = objects i;
       whole = whole i;
@@ -159,16 +152,15 @@ first_summed objects lines t sums e n s = search rules
 pub more_summed : {form : Form} (objects : List Told) (lines : List ℕ) (t : Told) (old sums : SessionSums)
     → HasSums form objects lines old → old.session ≡ t.key.session → AddsObject t.status t.conflicts old sums
     → HasSums form (objects ++ t ∷ []) lines sums
-more_summed objects lines t old sums h e a = record {
+more_summed _ _ t old sums h e a = record {
   before = h.before;
   first = h.first;
   others = h.others ++ t ∷ [];
-  all = ap (λ l. l ++ t ∷ []) h.all ∙ append_assoc h.before (h.first ∷ h.others) (t ∷ []);
-  same = of_more h.first.key.session h.others t h.same
-      (sym e ∙ ap (λ (s : SessionSums). s.session) h.sums_are);
+  all = cc (append_assoc h.before (h.first ∷ h.others) (t ∷ []));
+  same = of_more _ _ t h.same (cc);
   apart = h.apart;
   lines_are = h.lines_are;
-  sums_are = sums_more h.first h.others t old sums h.sums_are a;
+  sums_are = sums_more h.first h.others t _ _ h.sums_are a;
 }
 
 -- the lines of all sessions
@@ -182,17 +174,15 @@ all_summed form x0 x1 x2 x3 = search (rules, one_part, flat_map-append)
 pub next_summed : {form : Form} (objects : List Told) (lines : List ℕ) (t : Told) (old sums : SessionSums)
     → HasSums form objects lines old → (old.session ≡ t.key.session → ⊥) → sums ≡ sums_of t []
     → HasSums form (objects ++ t ∷ []) (lines ++ sums_line form old) sums
-next_summed {form} objects lines t old sums h apart s = record {
+next_summed {form} objects lines t old _ h apart s = record {
   before = objects;
   first = t;
   others = [];
   all = refl;
   same = tt;
-  apart = λ more.
-      subst (λ l. by_session (l ++ t ∷ more) ≡ by_session l ++ by_session (t ∷ more)) (sym h.all)
-      (apart_from h.before h.first h.others t more h.same
-      (λ e. apart (ap (λ (x : SessionSums). x.session) h.sums_are ∙ sym e)));
-  lines_are = all_summed form objects lines (Some old) h;
+  apart = λ more. rw h.all
+      (apart_from _ _ _ t _ h.same (λ e. apart (ap (λ x. x.session) h.sums_are ∙ sym e)));
+  lines_are = all_summed _ _ _ (Some old) h;
   sums_are = s;
 }
 
@@ -202,7 +192,7 @@ pub within_more : (m n : ℕ) (sums : SessionSums) → m ≤ n → AreWithin m s
 within_more m n sums l h = search rules
 
 pub few_more : (m n : ℕ) (sums : Option SessionSums) → m ≤ n → AreSumsWithin m sums → AreSumsWithin n sums
-few_more x0 x1 x2 x3 x4 = search rules
+few_more = search rules
 
 -- ---- and what was put aside
 
@@ -214,18 +204,17 @@ module _ (form : Form) where
       → AreSummed form objects lines old → IsOfOthers t.key.session old
       → BeginsSession t.key.session t.status t.conflicts new
       → AreSummed form (objects ++ t ∷ []) (lines ++ last_line form old) new
-  begun_sums x0 x1 x2 x3 x4 x5 x6 x7 = search (rules, first_summed, sums_one, next_summed) steps
-      400000
+  begun_sums = search (rules, first_summed, sums_one, next_summed) steps 400000
 
 pub begun_known : {known : Bool} (form : Form) (objects : List Told) {lines : List ℕ} (t : Told)
     (old : Option SessionSums) {new : Option SessionSums} {s s' : Option (List ℕ)}
     → AreSummed form objects lines old × IsOfOthers t.key.session old → Knows known s lines
     → BeginsSession t.key.session t.status t.conflicts new → Appends s s' (last_line form old)
     → AreSummedUp known form (objects ++ t ∷ []) s' new
-begun_known form objects {lines = lines} t old {new = new} h k b a = record {
+begun_known form objects {lines} t old {new} h k b a = record {
   lines = lines ++ last_line form old;
-  lines_known = knows_more (last_line form old) k a;
-  summed = begun_sums form objects lines t old new h.0 h.1 b;
+  lines_known = knows_more _ k a;
+  summed = begun_sums _ _ _ t _ _ h.0 h.1 b;
 }
 
 pub more_known : {known : Bool} {form : Form} {objects : List Told} {lines : List ℕ} (t : Told)

@@ -1,24 +1,21 @@
 -- info: the join of a journal with facts in memory, and its faults (specs/Info).
-use Rattle.std.proofs.lemmas.Grind.{common_steps}
 use Rattle.std.proofs.Common.{rules}
 use Rattle.std.proofs.Common.{◌≡◌, ℕ, zero, suc, ◌+◌, Bool, true, false, List, [], ◌∷◌, ◌++◌}
-use Rattle.std.proofs.Common.{Option, Some, None, Result, Ok, Err, refl, sym, subst, arith}
+use Rattle.std.proofs.Common.{Option, Some, Result, Err, refl, subst}
 use Rattle.std.proofs.Common.{append-nil}
 use Rattle.std.specs.Prelude.{slice_get, IfErr, IfSome}
 use Rattle.flute_parts.specs.declared.fact.Fact.{Fact}
 use Rattle.flute_parts.specs.Facts.{Same}
 use Rattle.flute_parts.proofs.Public.{Below-from_Same, Over-below, Same-append, Same-itself}
-use Rattle.flute_parts.proofs.Public.{Same-sym, Same-trans}
+use Rattle.flute_parts.proofs.Public.{Same-sym}
 use Rattle.flute_journal.specs.Journal.{IsJournalWithin}
-use Rattle.flute_journal.specs.JournalFraming.{journal_framing}
-use Rattle.flute_journal.specs.JournalWriters.{PutsJournal, WritesJournal}
+use Rattle.flute_journal.specs.JournalWriters.{PutsJournal}
 use Rattle.flute_journal.specs.Readers.{limit_of}
 use Rattle.flute_streams.specs.Streams.{Behaviour}
 use Rattle.flute_streams.specs.Eithers.{either_behaviour}
 use Rattle.flute_streams.specs.FirstFaults.{FirstFault, IsStopOf}
 use Rattle.flute_streams.specs.JournalStreams.{FailsBy, lent, lent_behaviour, unread_of}
 use Rattle.flute_streams.specs.StreamMerges.{all_of, Each, IsWithinLimits, MergedAll}
-use Rattle.flute_journal.specs.Framing.{HasFault}
 use Rattle.flute_streams.specs.declared.streams.either.Either.{Either}
 use Rattle.flute_streams.specs.declared.streams.either.Either.TheVariants.{First, Second}
 use Rattle.flute_journal.specs.declared.fault.LoadFault.{LoadFault}
@@ -39,7 +36,7 @@ use Rattle.flutejoin.specs.Status.{of_load}
 
 if_some : (o : Option (List ℕ)) (P Q : List ℕ → Type 0) → ((x : List ℕ) → P x → Q x) → IfSome o P
     → IfSome o Q
-if_some x0 x1 x2 x3 x4 = search rules
+if_some = search rules
 
 -- facts that are the same have one journal, and are within the limits together
 puts_same : (cut : Bool) (old new : Option (List ℕ)) (F G : List Fact) (count : ℕ) → Same F G
@@ -89,9 +86,8 @@ module _ {R : Type 0} (unread : R → Option (List ℕ)) (buffered : R → List 
       two (F ∷ []) h = absurd h.1
       two (F ∷ G ∷ []) h = record {
         entries = F;
-        tells = subst (λ n. IfSome bytes_of (λ bytes. IsJournalWithin n bytes F)) limit h.0;
-        all = Same-append F F (G ++ []) facts (Same-itself F)
-            (subst (λ (l : List Fact). Same l facts) (sym (append-nil G)) (same G h.1.0));
+        tells = rw (← limit) h.0;
+        all = Same-append F F _ _ (Same-itself F) (rw ((append-nil G)) (same G h.1.0));
       }
       two (F ∷ G ∷ H ∷ told) h = absurd h.1.1
 
@@ -99,7 +95,7 @@ module _ {R : Type 0} (unread : R → Option (List ℕ)) (buffered : R → List 
       module _ {most : Limits} {joined : MergedJournal} {w w' : Option (List ℕ)}
           (m : MergedAll both inputs most.sessions most.objects most.symbols joined w w') where
         t : Two m.told
-        t = two m.told m.tell
+        t = two _ m.tell
 
         abbrev together : List Fact
         together = t.entries ++ facts
@@ -109,10 +105,8 @@ module _ {R : Type 0} (unread : R → Option (List ℕ)) (buffered : R → List 
 
         pub adds_facts : joined.cut ≡ false → AddsFacts bytes_of facts w w' joined.entries
         adds_facts whole =
-            let writes : WritesJournal w w' together joined.entries = puts_same false w w'
-            (all_of m.told) together joined.entries t.all
-            (subst (λ (c : Bool). PutsJournal c w w' (all_of m.told) joined.entries) whole m.puts)
-            in if_some bytes_of _ _ (λ bytes is. (t.entries, is, writes)) t.tells
+            let writes = puts_same _ w _ _ _ _ t.all (rw (← whole) m.puts) in
+            if_some bytes_of _ _ (λ bytes is. (t.entries, is, writes)) t.tells
 
         pub over_with : joined.within ≡ false → InfoFails most bytes_of facts Full
         over_with out =
@@ -128,24 +122,23 @@ module _ {R : Type 0} (unread : R → Option (List ℕ)) (buffered : R → List 
           number ≡ Some s → both.stops s fault → (number ≡ 0) × journals.stops j fault
       stop_at zero fault s was h =
           let p : s ≡ First j = (let e = was in cc) in
-          (refl, subst (λ z. both.stops z fault) p h)
+          (refl, rw p at h)
       stop_at (suc zero) fault s was h =
           let p : s ≡ Second f = (let e = was in cc) in
-          absurd (goes_on fault (subst (λ z. both.stops z fault) p h))
-      stop_at (suc (suc number)) fault s was h = absurd (let e : None ≡ Some s = was in cc)
+          absurd (goes_on fault (rw p at h))
+      stop_at (suc (suc number)) fault s was h = absurd (let e = was in cc)
 
       journal_stops : (most : Limits) (facts : List Fact) (fault : LoadFault)
           → limit_of j.reader.now ≡ MAX_ENTRIES → journals.stops j fault
           → InfoFails most bytes_of facts (of_load 1 fault)
       journal_stops most facts (load.Read r) limit h = search rules
-      journal_stops most facts load.Full limit h = absurd h
-      journal_stops most facts load.OutOfMemory limit h = absurd h
+      journal_stops _ _ load.Full _ h = absurd h
+      journal_stops _ _ load.OutOfMemory _ h = absurd h
 
       pub first_fails : (most : Limits) (facts : List Fact) {after : List (Either (LentStream R) S)}
           {first : InputFault} → limit_of j.reader.now ≡ MAX_ENTRIES → FirstFault both inputs after
           first → InfoFails most bytes_of facts (of_load (first.number + 1) first.fault)
-      first_fails most facts {first = first} limit h = search (rules, stop_at, journal_stops) steps
-          400000
+      first_fails most facts {first} limit h = search (rules, stop_at, journal_stops) steps 400000
 
       -- its source failed as the fault says, and it is lent as before
       module _ (j' : LentStream R) (f' : S) where
@@ -158,41 +151,40 @@ module _ {R : Type 0} (unread : R → Option (List ℕ)) (buffered : R → List 
         failed_at zero fault s was h =
             let p : s ≡ First j = (let e = was in cc) in
             let q : h.stream ≡ First j' = (let e = h.is in cc) in
-            subst (λ z. both.fails (First j) z (Some fault)) q
-            (subst (λ z. both.fails z h.stream (Some fault)) p h.fails)
+            rw q at (subst (λ z. both.fails z h.stream (Some fault)) p h.fails)
         failed_at (suc zero) fault s was h =
             let p : s ≡ Second f = (let e = was in cc) in
-            absurd (goes_on fault (subst (λ z. both.stops z fault) p h.stops))
-        failed_at (suc (suc number)) fault s was h = absurd (let e : None ≡ Some s = was in cc)
+            absurd (goes_on fault (rw p at h.stops))
+        failed_at (suc (suc number)) fault s was h = absurd (let e = was in cc)
 
         pub failed_as : {first : InputFault} → FirstFault both inputs new first
             → journals.fails j j' (Some first.fault)
-        failed_as {first = first} h = search (rules, failed_at)
+        failed_as {first} h = search (rules, failed_at)
 
 -- how often the source failed that a fault of reading is of
 pub load_failures : (number old new : ℕ) (fault : LoadFault) → FailsBy old new (Some fault)
     → FailsToRead {T = ℕ} old new (Err (of_load number fault))
-load_failures number old now (load.Read read.Read) h = h
-load_failures number old now (load.Read read.Magic) h = h
-load_failures number old now (load.Read read.Version) h = h
-load_failures number old now (load.Read read.Kind) h = h
-load_failures number old now (load.Read read.Key) h = h
-load_failures number old now (load.Read (read.Information why)) h = h
-load_failures number old now (load.Read read.EmptySymbol) h = h
-load_failures number old now (load.Read read.Order) h = h
-load_failures number old now (load.Read read.Count) h = h
-load_failures number old now (load.Read read.Cut) h = h
-load_failures number old now (load.Read read.TooMany) h = h
-load_failures number old now (load.Read read.Trailing) h = h
-load_failures number old now (load.Read read.OutOfMemory) h = h
-load_failures number old now load.Full h = h
-load_failures number old now load.OutOfMemory h = h
+load_failures _ _ _ (load.Read read.Read) h = h
+load_failures _ _ _ (load.Read read.Magic) h = h
+load_failures _ _ _ (load.Read read.Version) h = h
+load_failures _ _ _ (load.Read read.Kind) h = h
+load_failures _ _ _ (load.Read read.Key) h = h
+load_failures _ _ _ (load.Read (read.Information why)) h = h
+load_failures _ _ _ (load.Read read.EmptySymbol) h = h
+load_failures _ _ _ (load.Read read.Order) h = h
+load_failures _ _ _ (load.Read read.Count) h = h
+load_failures _ _ _ (load.Read read.Cut) h = h
+load_failures _ _ _ (load.Read read.TooMany) h = h
+load_failures _ _ _ (load.Read read.Trailing) h = h
+load_failures _ _ _ (load.Read read.OutOfMemory) h = h
+load_failures _ _ _ load.Full h = h
+load_failures _ _ _ load.OutOfMemory h = h
 
 -- No fault of a journal is reported with the number 2.
 pub never_second : (most : Limits) (r : Result ℕ CommandFault) (input : Option (List ℕ))
     (facts : List Fact) (Q : Type 0) → IfErr r (InfoFails most input facts)
     → IfErr r (λ fault. fault ≡ Input 2 read.Read → Q)
-never_second x0 x1 x2 x3 x4 x5 = search rules
+never_second = search rules
 
 -- the same of the source that the journal is read of
 pub of_source : {R : Type 0} (unread : R → Option (List ℕ)) (most : Limits) (source now : R)

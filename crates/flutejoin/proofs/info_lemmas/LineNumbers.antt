@@ -2,14 +2,13 @@
 use Rattle.std.proofs.lemmas.Grind.{common_steps}
 use Rattle.std.proofs.Common.{rules}
 use Rattle.std.proofs.Common.{◌≡◌, ◌≢◌, ℕ, ◌<◌, ◌≤◌, ◌^◌, true, false, List, [], ◌∷◌, ◌++◌, length}
-use Rattle.std.proofs.Common.{take, drop, get_or, decimal, Option, Some, None, MatchOption, IfSome}
-use Rattle.std.proofs.Common.{add-zero, Bor, sym, ap, ◌∙◌, arith}
+use Rattle.std.proofs.Common.{take, drop, get_or, decimal, Option, MatchOption, IfSome}
+use Rattle.std.proofs.Common.{add-zero, Bor, ap, ◌∙◌, arith}
 use Rattle.std.specs.Char.{is_ascii_digit}
 use Rattle.std.proofs.lemmas.Str.Parse.{digit_at}
 use Rattle.std.proofs.lemmas.Fmt.{decimal_is_IsNumeral_wide}
 use Rattle.std.proofs.lemmas.Bool.{true≢false}
 use Rattle.std.proofs.lemmas.List.{length-append, get_or_append_left, get_or-append-add}
-use Rattle.std.proofs.Math.Seq.{take-append_seam, drop-append_seam}
 use Rattle.std.proofs.lemmas.Bool.Decides.{nat_tests}
 use Rattle.std.proofs.lemmas.Fmt.{IsAscii-decimal_wide}
 use Rattle.std.proofs.lemmas.Str.{IsUtf8-from_ascii}
@@ -23,11 +22,11 @@ same_rest (c ∷ p) x y e = same_rest p x y cc
 pub strip_finds : (s p tail : List ℕ) (r : Option (Bor (List ℕ))) → MatchOption r
     ((rest : List ℕ) → s ≢ p ++ rest) (λ x. s ≡ p ++ x.now)
     → s ≡ p ++ tail → MatchOption r ⊥ (λ x. x.now ≡ tail)
-strip_finds x0 x1 x2 x3 x4 x5 = search (rules, same_rest)
+strip_finds = search (rules, same_rest)
 
 pub strip_found : (s p : List ℕ) (r : Option (Bor (List ℕ))) → MatchOption r
     ((rest : List ℕ) → s ≢ p ++ rest) (λ x. s ≡ p ++ x.now) → IfSome r (λ x. s ≡ p ++ x.now)
-strip_found x0 x1 x2 x3 = search rules
+strip_found = search rules
 
 pub wide : (n : ℕ) → n < 2 ^ 128 → n < 10 ^ 64
 wide n h = omega arith
@@ -58,18 +57,17 @@ digits_end s tail n len small ends is d = omega (arith, short, long)
   where
     short : len < length (decimal n) → ⊥
     short h =
-        let at : get_or s len 0 ≡ get_or (decimal n) len 0 = ap (λ x. get_or x len 0) is ∙
+        let at = ap (λ x. get_or x len 0) is ∙
         get_or_append_left (decimal n) tail 0 len h in
         let more : len < length s = omega (arith, ap length is ∙ length-append (decimal n) tail) in
-        true≢false (sym (digit_in_decimal n len small h) ∙ ap is_ascii_digit (sym at) ∙ d.stops
-        more)
+        true≢false (cc (digit_in_decimal n _ small h, d.stops more))
 
     long : length (decimal n) < len → ⊥
     long h =
-        let at : get_or s (length (decimal n)) 0 ≡ get_or tail 0 0 = ap
+        let at = ap
         (λ x. get_or x (length (decimal n)) 0) is ∙
         (rw add-zero at (get_or-append-add (decimal n) tail 0 0)) in
-        true≢false (sym (d.before (length (decimal n)) h) ∙ ap is_ascii_digit at ∙ ends)
+        true≢false (cc (d.before (length (decimal n)) h))
 
 pub number_front : (s tail : List ℕ) (n len : ℕ) → s ≡ decimal n ++ tail → len ≡ length (decimal n)
     → take len s ≡ decimal n

@@ -1,15 +1,14 @@
 -- The pieces of a line of information, one after the other (specs/InformationLines).
 use Rattle.std.proofs.lemmas.Grind.{common_steps}
 use Rattle.std.proofs.Common.{rules}
-use Rattle.std.proofs.Common.{◌≡◌, ℕ, ◌==◌, ◌<◌, ◌^◌, if◌then◌else◌, Bool, true, false, List, []}
+use Rattle.std.proofs.Common.{◌≡◌, ℕ, ◌==◌, ◌<◌, ◌^◌, Bool, true, false, List, []}
 use Rattle.std.proofs.Common.{◌++◌, get_or, codes, decimal}
 use Rattle.std.proofs.Common.{append_assoc, refl, sym, ap, ◌∙◌, arith}
-use Rattle.std.specs.Char.{is_ascii_digit}
 use Rattle.std.specs.Int.{bytes_high_first}
 use Rattle.std.proofs.lemmas.Bool.{true≢false}
-use Rattle.std.proofs.lemmas.List.{append-nil, append_cancel_left, get_or_append_left}
+use Rattle.std.proofs.lemmas.List.{append_cancel_left, get_or_append_left}
 use Rattle.hex.specs.Hex.{encode_lower}
-use Rattle.flute_parts.specs.Information.{Information, information}
+use Rattle.flute_parts.specs.Information.{Information}
 use Rattle.flute_parts.specs.declared.object_key.ObjectName.{ObjectName}
 use Rattle.flute_parts.specs.declared.object_key.ObjectName.TheVariants.{Instance, File}
 use Rattle.flute_parts.specs.declared.key.Key.{Key}
@@ -58,10 +57,9 @@ source_none n tail none = search rules
 
 -- no number begins with the word fdt
 pub no_fdt : (n : ℕ) (x rest : List ℕ) → n < 2 ^ 128 → decimal n ++ x ≡ codes "fdt " ++ rest → ⊥
-no_fdt n x rest small e =
-    let at : get_or (decimal n) 0 0 ≡ 102 = sym (get_or_append_left (decimal n) x 0 0
-    (some_digits n small)) ∙ ap (λ l. get_or l 0 0) e in
-    true≢false (sym (digit_in_decimal n 0 small (some_digits n small)) ∙ ap is_ascii_digit at)
+no_fdt n x _ small e =
+    let at = sym (get_or_append_left (decimal n) x 0 0 (some_digits n small)) ∙ ap
+    (λ l. get_or l 0 0) e in true≢false (cc (digit_in_decimal n 0 small (some_digits n small)))
 
 apart : (x y : List ℕ) → codes "session " ++ x ≡ codes "source " ++ y → ⊥
 apart x y e = search rules
@@ -70,14 +68,13 @@ apart x y e = search rules
 pub source_rest : (s tail rest : List ℕ) (n : ℕ) → s ≡ source_words n ++ (codes "session " ++ tail)
     → s ≡ codes "source " ++ rest
     → rest ≡ encode_lower (bytes_high_first 16 n) ++ (codes " " ++ (codes "session " ++ tail))
-source_rest s tail rest n is found = go (n == 0) refl
+source_rest s tail rest n is found = go _ refl
   where
     go : (b : Bool) → (n == 0) ≡ b
         → rest ≡ encode_lower (bytes_high_first 16 n) ++ (codes " " ++ (codes "session " ++ tail))
-    go true none = absurd (apart tail rest (sym (source_none n (codes "session " ++ tail) none)
+    go true none = absurd (apart _ _ (sym (source_none n _ none)
         ∙ sym is ∙ found))
-    go false some = append_cancel_left (codes "source ") rest _ (sym found ∙ is
-        ∙ source_chain n (codes "session " ++ tail) some)
+    go false some = append_cancel_left (codes "source ") rest _ (cc (source_chain n _ some))
 
 pub same_numbers : (info : Information) (n : InfoNumbers) → n.length ≡ info.transfer_length
     → n.symbol ≡ info.symbol_length → n.block ≡ info.max_block_length → numbers_of n ≡ info

@@ -1,19 +1,17 @@
 -- information_line: a sender in 32 digits.
-use Rattle.std.proofs.lemmas.Grind.{common_steps}
 use Rattle.std.proofs.Common.{rules}
-use Rattle.std.proofs.Common.{◌≡◌, ℕ, zero, suc, ◌*◌, ◌/◌, ◌<◌, ◌≤◌, ◌^◌, List, [], ◌++◌, length}
-use Rattle.std.proofs.Common.{take, drop, get_or, Ok, sym, ap, ◌∙◌, arith, lit<}
+use Rattle.std.proofs.Common.{◌≡◌, ℕ, zero, suc, ◌*◌, ◌<◌, ◌≤◌, ◌^◌, List, [], ◌++◌, length}
+use Rattle.std.proofs.Common.{take, drop, get_or, Ok, sym, ap, ◌∙◌, arith}
 use Rattle.std.specs.Int.{bytes_high_first, byte_at}
-use Rattle.std.proofs.Math.Nat.{mod-lt}
 use Rattle.std.proofs.Math.Seq.{take-append_seam, drop-append_seam}
-use Rattle.std.proofs.lemmas.List.{length-append, append-nil}
+use Rattle.std.proofs.lemmas.List.{length-append}
 use Rattle.byteorder.specs.Endian.{big_from}
-use Rattle.byteorder.specs.Numbers.{length-bytes_high_first, big_number-reads_back}
+use Rattle.byteorder.specs.Numbers.{length-bytes_high_first}
 use Rattle.hex.specs.Hex.{encode_lower, lower_digits, decode_sized}
 use Rattle.hex.proofs.HexLemmas.{length-encode_with, decode_sized-encode_lower}
 
 byte_below : (k n : ℕ) → byte_at k n < 256
-byte_below x0 x1 = search rules
+byte_below = search rules
 
 bytes_below : (k n i : ℕ) → get_or (bytes_high_first k n) i 0 < 256
 bytes_below zero n i = omega arith

@@ -1,17 +1,13 @@
 -- Joins of journals of which objects were forgotten (specs/Laws: AreLeft).
 use Rattle.std.proofs.Common.{rules}
-use Rattle.std.proofs.Common.{◌≡◌, ℕ, Bool, true, false, List, [], ◌∷◌, ◌++◌, refl, sym, ap, ◌∙◌}
-use Rattle.std.proofs.Common.{subst}
+use Rattle.std.proofs.Common.{◌≡◌, ℕ, Bool, true, false, List, [], ◌∷◌, refl, ap, ◌∙◌}
 use Rattle.std.specs.Prelude.{not, ◌&&◌, cond, filter}
 use Rattle.std.specs.List.{flat_map}
 use Rattle.std.proofs.lemmas.List.Elements.{filter-append}
-use Rattle.flute_parts.specs.Addresses.{address}
 use Rattle.flute_parts.specs.Facts.{Same}
 use Rattle.flute_parts.specs.declared.fact.Fact.{Fact}
 use Rattle.flute_parts.specs.declared.key.Key.{Key}
 use Rattle.flute_parts.proofs.Public.{Same-append, Same-itself, Same-sym, Same-trans}
-use Rattle.flute_journal.specs.Journal.{IsJournal}
-use Rattle.flute_journal.specs.declared.format.version.Version.TheVariants.{Two}
 use Rattle.flute_journal.proofs.Public.{written_journal}
 use Rattle.flute_streams.specs.Scopes.{chosen, is_chosen}
 use Rattle.flute_streams.specs.Selections.{is_listed, leaves, left, selects_key}
@@ -28,14 +24,13 @@ use Rattle.flutejoin.proofs.join_lemmas.Receptions.{Same-from_journals}
 
 pub filter_same : (p q : Fact → Bool) → ((f : Fact) → p f ≡ q f) → (F : List Fact)
     → filter p F ≡ filter q F
-filter_same p q same [] = refl
-filter_same p q same (f ∷ F) =
-    ap (λ b. cond b (f ∷ filter p F) (filter p F)) (same f)
-    ∙ ap (λ l. cond (q f) (f ∷ l) l) (filter_same p q same F)
+filter_same p q _ [] = refl
+filter_same p q same (f ∷ F) = ap (λ b. cond b (f ∷ filter p F) (filter p F)) (same f) ∙ ap
+    (λ l. cond (q f) (f ∷ l) l) (filter_same p q same F)
 
 filter_swaps : (p q : Fact → Bool) (F : List Fact) → filter p (filter q F) ≡ filter q (filter p F)
 filter_swaps p q [] = refl
-filter_swaps p q (f ∷ F) = go (p f) (q f) refl refl (filter_swaps p q F)
+filter_swaps p q (f ∷ F) = go _ _ refl refl (filter_swaps p q F)
   where
     go : (a b : Bool) → p f ≡ a → q f ≡ b → filter p (filter q F) ≡ filter q (filter p F)
         → filter p (filter q (f ∷ F)) ≡ filter q (filter p (f ∷ F))
@@ -58,71 +53,54 @@ module _ (rest : AllBut) (of : IsOfObjects rest) where
   stays_by f = search (rules, of.symbol, of.info, of.conflicts, all_true)
 
   pub left_chosen : (F : List Fact) → left rest F ≡ chosen stays F
-  left_chosen F = filter_same (leaves rest) (is_chosen stays) stays_by F
+  left_chosen F = filter_same _ _ stays_by F
 
   abbrev facts_told : Choice → List InputContent → List Fact
   facts_told choice told = flat_map (content_facts choice) told
 
   -- what of an input is left
   module _ (choice : Choice) (bytes written : List ℕ) (counts : ForgetCounts) where
-    one_left : (x y : InputContent) → (h : Leaves rest bytes written counts)
-        → Same (content_facts choice x)
-        (chosen choice.takes (entries_of rest bytes written counts h))
-        → Same (content_facts choice y)
-        (chosen choice.takes (left rest (entries_of rest bytes written counts h)))
-        → Same (content_facts choice y) (chosen stays (content_facts choice x))
+    one_left : (x y : InputContent) → (h : Leaves rest bytes written counts) → Same
+        (content_facts choice x) (chosen choice.takes (entries_of rest bytes written counts h)) →
+        Same (content_facts choice y)
+        (chosen choice.takes (left rest (entries_of rest bytes written counts h))) → Same
+        (content_facts choice y) (chosen stays (content_facts choice x))
     one_left x y h a b =
         let E = entries_of rest bytes written counts h in
-        let e : chosen choice.takes (left rest E) ≡ chosen stays (chosen choice.takes E) =
-        ap (λ l. chosen choice.takes l) (left_chosen E)
-        ∙ filter_swaps (is_chosen choice.takes) (is_chosen stays) E in
-        Same-trans (content_facts choice y) (chosen choice.takes (left rest E))
-        (chosen stays (content_facts choice x)) b
-        (subst (λ l. Same l (chosen stays (content_facts choice x))) (sym e)
-        (Same-sym (chosen stays (content_facts choice x)) (chosen stays (chosen choice.takes E))
-        (same_chosen stays (content_facts choice x) (chosen choice.takes E) a)))
+        let e = ap (λ l. chosen choice.takes l) (left_chosen E) ∙ filter_swaps _ _ E in
+        Same-trans _ _ _ b (rw e (Same-sym _ _ (same_chosen stays _ _ a)))
 
   pub all_left : (choice : Choice) (journals written : List (List ℕ)) (xs ys : List InputContent)
       → AreLeft rest journals written → TellAll journals xs → TellAll written ys
       → Same (facts_told choice ys) (chosen stays (facts_told choice xs))
   unfolding TellAll
-  all_left choice [] [] [] [] h t u = Same-itself []
-  all_left choice [] [] (x ∷ xs) ys h t u = elim t [ ]
-  all_left choice [] [] [] (y ∷ ys) h t u = elim u [ ]
-  all_left choice [] (w ∷ ws) xs ys h t u = absurd h
-  all_left choice (j ∷ js) [] xs ys h t u = absurd h
-  all_left choice (j ∷ js) (w ∷ ws) [] ys h t u = elim t [ ]
-  all_left choice (j ∷ js) (w ∷ ws) (x ∷ xs) [] h t u = elim u [ ]
+  all_left _ [] [] [] [] h t u = Same-itself []
+  all_left _ [] [] (x ∷ xs) ys h t u = elim t [ ]
+  all_left _ [] [] [] (y ∷ ys) h t u = elim u [ ]
+  all_left _ [] (w ∷ ws) xs ys h t u = absurd h
+  all_left _ (j ∷ js) [] xs ys h t u = absurd h
+  all_left _ (j ∷ js) (w ∷ ws) [] ys h t u = elim t [ ]
+  all_left _ (j ∷ js) (w ∷ ws) (x ∷ xs) [] h t u = elim u [ ]
   all_left choice (j ∷ js) (w ∷ ws) (x ∷ xs) (y ∷ ys) h t u =
       let counts = h.0.0 in
-      let k : Leaves rest j w counts = h.0.1 in
+      let k = h.0.1 in
       let E = entries_of rest j w counts k in
-      let a = told_journal choice j E x
-      (IsJournal-from_within j E (within_of rest j w counts k)) t.0 in
-      let b = told_journal choice w (left rest E) y
-      (written_journal w (left rest E) (journal_left rest j w counts k)) u.0 in
-      let one = one_left choice j w counts x y k a b in
+      let a = told_journal choice j E x (IsJournal-from_within j E (within_of _ j w _ k)) t.0 in
+      let b = told_journal choice w _ y (written_journal w _ (journal_left _ j w _ k)) u.0 in
+      let one = one_left choice j w _ x y k a b in
       let others = all_left choice js ws xs ys h.1 t.1 u.1 in
-      subst (λ l. Same (content_facts choice y ++ facts_told choice ys) l)
-      (sym (filter-append (is_chosen stays) (content_facts choice x) (facts_told choice xs)))
-      (Same-append (content_facts choice y) (chosen stays (content_facts choice x))
-      (facts_told choice ys) (chosen stays (facts_told choice xs)) one others)
+      rw ((filter-append (is_chosen stays) (content_facts choice x) (facts_told choice xs)))
+      (Same-append _ _ _ _ one others)
 
   pub commutes : OneReading → (choice : Choice) (journals written : List (List ℕ))
       {bs cs ds : List ℕ} {counts : ForgetCounts} → AreLeft rest journals written
       → Joined choice written bs → Joined choice journals cs → Leaves rest cs ds counts → bs ≡ ds
-  commutes one choice journals written {bs = bs} {cs = cs} {ds = ds} {counts = counts} h j k l =
+  commutes one choice journals written {bs} {cs} {ds} {counts} h j k l =
       let xs = k.2.told in
       let ys = j.2.told in
       let E = entries_of rest cs ds counts l in
-      let held : Same E (facts_told choice xs) = Same-from_journals cs E (facts_told choice xs)
-      (IsJournal-from_within cs E (within_of rest cs ds counts l))
-      (written_journal cs (facts_told choice xs) (wrote one choice journals cs k)) in
-      let same : Same (facts_told choice ys) (left rest E) = subst
-      (λ m. Same (facts_told choice ys) m) (sym (left_chosen E))
-      (Same-trans (facts_told choice ys) (chosen stays (facts_told choice xs)) (chosen stays E)
-      (all_left choice journals written xs ys h k.2.tell j.2.tell)
-      (Same-sym (chosen stays E) (chosen stays (facts_told choice xs))
-      (same_chosen stays E (facts_told choice xs) held))) in
-      Journal-only bs ds (facts_told choice ys) (left rest E) same
-      (wrote one choice written bs j) (journal_left rest cs ds counts l)
+      let held = Same-from_journals _ E _ (IsJournal-from_within _ E (within_of _ _ _ _ l))
+      (written_journal _ _ (wrote one _ _ _ k)) in
+      let same = rw (← (left_chosen E)) at (Same-trans _ _ _
+      (all_left choice _ _ _ _ h k.2.tell j.2.tell) (Same-sym _ _ (same_chosen stays E _ held))) in
+      Journal-only _ _ _ _ same (wrote one _ _ _ j) (journal_left _ _ _ _ l)

@@ -1,8 +1,7 @@
 -- HeldFiles: the store holds just the facts of the datagrams that were read (specs/JoinParts).
-use Rattle.std.proofs.lemmas.Grind.{common_steps}
 use Rattle.std.proofs.Common.{rules}
-use Rattle.std.proofs.Common.{◌≡◌, ℕ, ◌+◌, Bool, true, false, cond, List, [], ◌∷◌, ◌++◌, count_by}
-use Rattle.std.proofs.Common.{Result, Ok, Err, inl, inr, refl, sym, ap, subst, ◌∙◌, arith}
+use Rattle.std.proofs.Common.{◌≡◌, ℕ, ◌+◌, Bool, true, false, cond, List, [], ◌∷◌, ◌++◌}
+use Rattle.std.proofs.Common.{Result, Ok, Err, inl, inr, sym, ap, subst, ◌∙◌, arith}
 use Rattle.std.proofs.Common.{append-nil, append_assoc}
 use Rattle.std.specs.Prelude.{Option, Some, None, IsSome, MatchResult, length}
 use Rattle.std.specs.Prelude.{option_to_list, ◌<◌, ◌≤◌}
@@ -20,7 +19,7 @@ use Rattle.flute_parts.proofs.Public.{Same-swap, Same-trans}
 use Rattle.flutejoin.specs.declared.command_fault.CommandFault.{CommandFault}
 use Rattle.flutejoin.specs.declared.command_fault.CommandFault.TheVariants.{Full, Input}
 use Rattle.flute_streams.specs.declared.streams.owned_journal_stream.OwnedJournalStream.{OwnedJournalStream}
-use Rattle.flutejoin.specs.Asides.{AreHeld, AreRunsOf, HoldTogether, IsRunOf}
+use Rattle.flutejoin.specs.Asides.{AreHeld, AreRunsOf, HoldTogether}
 use Rattle.flutejoin.specs.declared.join.held_files.HeldFiles.{HeldFiles}
 use Rattle.flutejoin.specs.Joined.{Choice, facts_by, is_of_others}
 use Rattle.flutejoin.specs.JoinParts.{CountsReason, TakesDatagram, HoldsFacts}
@@ -32,7 +31,7 @@ use Rattle.flutejoin.proofs.join_lemmas.Receptions.{Below-left}
 
 store_over : (most : Limits) (F : List Fact) (fault : CommandFault) → StoreFails most F fault
     → fault ≡ Full → IsOver most F
-store_over most F fault (inl full) is = full.1
+store_over _ F _ (inl full) is = full.1
 store_over most F fault (inr memory) is = let e = sym memory ∙ is in absurd cc
 
 -- the datagram is of a session that is not taken: nothing of it is held, and it is not refused
@@ -58,9 +57,8 @@ pub record IsUnchanged {R : Type 0} {s o y : ℕ} (old new : HeldFiles s o y R) 
 
 -- the last of three in the middle
 turn : (F G H : List Fact) → Same ((F ++ G) ++ H) ((F ++ H) ++ G)
-turn F G H = subst (λ l. Same l ((F ++ H) ++ G)) (sym (append_assoc F G H)) (subst
-    (λ l. Same (F ++ (G ++ H)) l) (sym (append_assoc F H G))
-    (Same-append F F (G ++ H) (H ++ G) (Same-itself F) (Same-swap G H)))
+turn F G H = rw ((append_assoc F G H)) (subst (λ l. Same (F ++ (G ++ H)) l)
+    (sym (append_assoc F H G)) (Same-append F F _ _ (Same-itself F) (Same-swap G H)))
 
 -- the choice of all datagrams
 module _ {R : Type 0} (unread : R → Option (List ℕ)) (buffered : R → List ℕ) (choice : Choice) where
@@ -79,27 +77,26 @@ module _ {R : Type 0} (unread : R → Option (List ℕ)) (buffered : R → List 
       let files = flat_map (facts_by choice) ds in
       record {
         aside = all.aside;
-        runs = subst (λ runs. AreRunsOf unread buffered runs.items all.aside) (sym same) all.runs;
+        runs = rw same all.runs;
         content =
-            subst (Same (new.told.store ++ all.aside)) (sym (flat_more ds d))
-            (Same-trans (new.told.store ++ all.aside) ((store ++ fresh) ++ all.aside)
-            (files ++ fresh)
-            (Same-append new.told.store (store ++ fresh) all.aside all.aside one.content
-            (Same-itself all.aside))
-            (Same-trans ((store ++ fresh) ++ all.aside) ((store ++ all.aside) ++ fresh)
-            (files ++ fresh) (turn store fresh all.aside)
-            (Same-append (store ++ all.aside) files fresh fresh all.content
-            (Same-itself fresh))));
-        count = omega (arith, one.datagrams, all.count, length_is);
+            rw ((flat_more _ d)) (Same-trans _ _
+            _
+            (Same-append _ _ _ _ one.content
+            (Same-itself _))
+            (Same-trans _ _
+            _ (turn store fresh all.aside)
+            (Same-append _ _ _ _ all.content
+            (Same-itself _))));
+        count = omega arith;
         refused =
-            rw (sum_by_push (λ x. cond (is_refused x) 1 0) ds d, one.refused)
-            (counted old.told.refused (count_by is_refused ds) (is_refused d) all.refused);
-        reasons = reasons_more old.reasons new.reasons ds d all.reasons one.reasons;
+            rw (sum_by_push _ _ d, one.refused)
+            (counted _ _ _ all.refused);
+        reasons = reasons_more _ _ _ d all.reasons one.reasons;
       }
     where
       counted : (m k : ℕ) (b : Bool) → m ≡ k → cond b (m + 1) m ≡ k + cond b 1 0
-      counted m k true e = omega (arith, e)
-      counted m k false e = omega (arith, e)
+      counted m k true e = omega arith
+      counted m k false e = omega arith
 
   -- facts over the limits are so with one datagram more
   over_more : (ds : List (List ℕ)) (d : List ℕ) → IsOver choice.most (flat_map (facts_by choice) ds)
@@ -115,13 +112,10 @@ module _ {R : Type 0} (unread : R → Option (List ℕ)) (buffered : R → List 
       let store = held.told.store in
       let files = flat_map (facts_by choice) ds in
       let more = (store ++ fresh) ++ all.aside in
-      let same : Same more (files ++ fresh) = Same-trans more ((store ++ all.aside) ++ fresh)
-      (files ++ fresh) (turn store fresh all.aside)
-      (Same-append (store ++ all.aside) files fresh fresh all.content (Same-itself fresh)) in
-      let all_over = Over-below (store ++ fresh) more choice.most.sessions choice.most.objects
-      choice.most.symbols (Below-left (store ++ fresh) all.aside) over in subst (IsOver choice.most)
-      (sym (flat_more ds d)) (Over-below more (files ++ fresh) choice.most.sessions
-      choice.most.objects choice.most.symbols (Below-from_Same more (files ++ fresh) same) all_over)
+      let same = Same-trans _ _ _ (turn store fresh all.aside)
+      (Same-append _ _ _ _ all.content (Same-itself _)) in
+      let all_over = Over-below _ _ _ _ _ (Below-left (store ++ fresh) all.aside) over in
+      rw ((flat_more _ d)) (Over-below _ _ _ _ _ (Below-from_Same _ _ same) all_over)
 
   -- the same for an equal flag `fits`
   holding : {s o y : ℕ} (b c : Bool) (held : HeldFiles s o y R) (ds : List (List ℕ)) → b ≡ c
@@ -140,21 +134,15 @@ module _ {R : Type 0} {unread : R → Option (List ℕ)} {buffered : R → List 
     all_held fits = search rules
 
     pub all_over : held.fits ≡ false → IsOver choice.most (flat_map (facts_by choice) ds)
-    all_over over = held_as unread buffered choice held.fits false held ds over h.holds
+    all_over over = held_as unread buffered choice _ _ held _ over h.holds
 
   -- a datagram more was taken
   pub holds_more : {s o y : ℕ} {old new : HeldFiles s o y R} {ds : List (List ℕ)} {d : List ℕ} →
       old.fits ≡ true → new.fits ≡ true → new.runs ≡ old.runs → TakesDatagram (facts_by choice d)
-      old d new → new.others ≡ old.others + cond (is_of_others choice d) 1 0 →
-      HoldsDatagrams unread buffered choice old ds → HoldsDatagrams unread buffered choice new
-      (ds ++ d ∷ [])
-  holds_more {old = old} {new = new} {ds = ds} {d = d} fits still same one count h = search (
-    rules,
-    sum_by_push,
-    holding,
-    takes_more,
-    all_held,
-  )
+      old d new → new.others ≡ old.others + cond (is_of_others choice d) 1 0 → HoldsDatagrams unread
+      buffered choice old ds → HoldsDatagrams unread buffered choice new (ds ++ d ∷ [])
+  holds_more {old} {new} {ds} {d} fits still same one count h = search
+      (rules, sum_by_push, holding, takes_more, all_held)
 
   -- it found no room
   pub holds_over : {s o y : ℕ} {old new : HeldFiles s o y R} {ds : List (List ℕ)} (d : List ℕ)
@@ -162,37 +150,34 @@ module _ {R : Type 0} {unread : R → Option (List ℕ)} {buffered : R → List 
       → facts_by choice d ≡ told → StoreFails choice.most (old.told.store ++ told) fault
       → fault ≡ Full → HoldsDatagrams unread buffered choice old ds
       → HoldsDatagrams unread buffered choice new (ds ++ d ∷ [])
-  holds_over {old = old} {new = new} {ds = ds} d {fault = fault} fits over e fails full h = record {
-    others = λ fitting. absurd (false≢true (sym over ∙ fitting));
-    holds = holding unread buffered choice new.fits false new (ds ++ d ∷ []) over
-        (over_with unread buffered choice old ds d (all_held h fits)
-        (subst (λ F. IsOver choice.most (old.told.store ++ F)) (sym e) (store_over choice.most _
-        fault fails full)));
+  holds_over {old} {new} {ds} d {fault} fits over e fails full h = record {
+    others = λ fitting. absurd (false≢true (cc));
+    holds = holding unread buffered choice _ _ new _ over
+        (over_with _ _ _ _ _ d (all_held h fits) (rw e (store_over _ _ _ fails full)));
   }
 
   -- there had been none before
   pub holds_past : {s o y : ℕ} {file : HeldFiles s o y R} {ds : List (List ℕ)} (d : List ℕ)
       → file.fits ≡ false → HoldsDatagrams unread buffered choice file ds
       → HoldsDatagrams unread buffered choice file (ds ++ d ∷ [])
-  holds_past {file = file} {ds = ds} d fits h = record {
-    others = λ fitting. absurd (false≢true (sym fits ∙ fitting));
-    holds = holding unread buffered choice file.fits false file (ds ++ d ∷ []) fits
-        (over_more unread buffered choice ds d (all_over h fits));
+  holds_past {file} {ds} d fits h = record {
+    others = λ fitting. absurd (false≢true (cc));
+    holds = holding unread buffered choice _ _ file _ fits
+        (over_more unread buffered choice _ d (all_over h fits));
   }
 
   -- a datagram of another session was counted
   pub holds_passed : {s o y : ℕ} {old new : HeldFiles s o y R} {ds : List (List ℕ)} {d : List ℕ} →
       old.fits ≡ true → new.fits ≡ true → new.runs ≡ old.runs → IsPassed choice d → CountsReason
-      old.reasons d new.reasons → new.told ≡
-      record {
+      old.reasons d new.reasons → new.told ≡ record {
         store = old.told.store;
         datagrams = old.told.datagrams + 1;
         refused = old.told.refused;
       } → new.others ≡ old.others + 1 → HoldsDatagrams unread buffered choice old ds →
       HoldsDatagrams unread buffered choice new (ds ++ d ∷ [])
-  holds_passed {old = old} fits still same passed reasons is count h = holds_more fits still same (record {
+  holds_passed {old} fits still same passed reasons is count h = holds_more fits still same (record {
     content = search rules;
-    datagrams = ap (λ t. t.datagrams) is;
+    datagrams = cc;
     refused = rw passed.kept (ap (λ t. t.refused) is);
     reasons = reasons;
   }) (rw passed.other count) h
@@ -203,9 +188,8 @@ module _ {R : Type 0} {unread : R → Option (List ℕ)} {buffered : R → List 
       d ≡ told → new.others ≡ old.others → is_of_others choice d ≡ false → TakesDatagram told
       old d new → HoldsDatagrams unread buffered choice old ds → HoldsDatagrams unread
       buffered choice new (ds ++ d ∷ [])
-  holds_taken {old = old} {new = new} {d = d} fits still runs e same own taken h = holds_more fits
-      still runs (subst (λ F. TakesDatagram F old d new) (sym e) taken)
-      (rw own (omega (arith, same))) h
+  holds_taken {old} {new} {d} fits still runs e same own taken h = holds_more fits still runs
+      (rw e taken) (rw own (omega arith)) h
 
   -- the store was put aside
   pub holds_aside : {s o y : ℕ} {old new : HeldFiles s o y R} → old.fits ≡ true → new.fits ≡ true →
@@ -217,7 +201,7 @@ module _ {R : Type 0} {unread : R → Option (List ℕ)} {buffered : R → List 
       let all = all_held h fits in
       let files = flat_map (facts_by choice) ds in
       let more = runs all.aside all.runs in
-      subst (HoldsDatagrams unread buffered choice new) (sym (append-nil ds)) (record {
+      rw ((append-nil ds)) (record {
         others = λ e. others ∙ h.others fits;
         holds = holding unread buffered choice new.fits true new ds still (record {
           aside = more.0;
@@ -240,17 +224,17 @@ module _ {R : Type 0} {unread : R → Option (List ℕ)} {buffered : R → List 
       HoldTogether unread buffered runs facts) → IsPopped runs rest popped → HoldsDatagrams unread
       buffered choice old ds → (facts : List Fact) × AreHeld unread buffered old.told.store popped
       facts × Same facts (flat_map (facts_by choice) ds)
-  holds_run {old = old} {popped = popped} {rest = rest} {ds = ds} fits empty merged last h =
+  holds_run {old} {popped} {rest} {ds} fits empty merged last h =
       let all = all_held h fits in
       let files = flat_map (facts_by choice) ds in
-      let in_runs : Same all.aside files =
+      let in_runs =
       subst (λ l. Same (l ++ all.aside) files) empty all.content in
       let one = merged all.aside all.runs in
-      let told : Same one.0 files = Same-trans one.0 all.aside files one.2 in_runs in
+      let told = Same-trans _ _ _ one.2 in_runs in
       let held =
-      held_in popped rest one.0 (subst (λ l. length l ≤ 1) last.split last.few)
-      (subst (λ l. 0 < length l → IsSome popped) last.split last.some)
-      (subst (λ l. AreRunsOf unread buffered l one.0) last.split one.1) in
+      held_in _ _ _ (subst (λ l. length l ≤ 1) last.split last.few)
+      (rw last.split at last.some)
+      (rw last.split at one.1) in
       (one.0, subst (λ l. AreHeld unread buffered l popped one.0) (sym empty) held, told)
     where
       held_in : (popped : Option (OwnedJournalStream R)) (rest : List (OwnedJournalStream R))
@@ -258,19 +242,18 @@ module _ {R : Type 0} {unread : R → Option (List ℕ)} {buffered : R → List 
           → (0 < length (rest ++ option_to_list popped) → IsSome popped)
           → AreRunsOf unread buffered (rest ++ option_to_list popped) facts
           → AreHeld unread buffered [] popped facts
-      held_in None [] facts few some holds = holds
-      held_in (Some run) [] facts few some holds =
-          subst (IsRunOf unread buffered run)
-          (sym (holds.3 ∙ ap (λ l. holds.0 ++ l) holds.4 ∙ append-nil holds.0)) holds.2
+      held_in None [] _ _ _ holds = holds
+      held_in (Some run) [] _ _ _ holds =
+          rw ((holds.3 ∙ ap (λ l. holds.0 ++ l) holds.4 ∙ append-nil holds.0)) holds.2
       held_in None (first ∷ rest) facts few some holds =
           let e = some (omega arith) in absurd cc
       held_in (Some run) (first ∷ rest) facts few some holds =
-          let more = length-append rest (run ∷ []) in absurd (omega (arith, few, more))
+          let more = length-append rest (run ∷ []) in absurd (omega arith)
 
   pub holds_still : {s o y : ℕ} {old new : HeldFiles s o y R} → IsUnchanged old new
       → (ds : List (List ℕ)) → HoldsDatagrams unread buffered choice old ds
       → HoldsDatagrams unread buffered choice new ds
-  holds_still {old = old} {new = new} same ds h = search rules
+  holds_still {old} {new} same ds h = search rules
 
   -- so it was before something was done
   pub holds_after : {s o y : ℕ} {first old new : HeldFiles s o y R} → IsUnchanged first old
@@ -282,7 +265,7 @@ module _ {R : Type 0} {unread : R → Option (List ℕ)} {buffered : R → List 
 pub read_some : (n : ℕ) (r : Result (Option (List ℕ)) ReadFault)
     (s : Result (Option (List ℕ)) CommandFault) (d : List ℕ) → MatchResult r (λ x. s ≡ Ok x)
     (λ f. s ≡ Err (Input n f)) → s ≡ Ok (Some d) → r ≡ Ok (Some d)
-read_some x0 x1 x2 x3 x4 x5 = search rules
+read_some = search rules
 
 -- its fault
 pub record ReadErr (n : ℕ) (r : Result (Option (List ℕ)) ReadFault) (fault : CommandFault)
@@ -295,9 +278,9 @@ pub record ReadErr (n : ℕ) (r : Result (Option (List ℕ)) ReadFault) (fault :
 pub read_err : (n : ℕ) (r : Result (Option (List ℕ)) ReadFault)
     (s : Result (Option (List ℕ)) CommandFault) (fault : CommandFault) → MatchResult r
     (λ x. s ≡ Ok x) (λ f. s ≡ Err (Input n f)) → s ≡ Err fault → ReadErr n r fault
-read_err x0 x1 x2 x3 x4 x5 = search rules
+read_err = search rules
 
 -- no failure is counted where a record was read
 pub none_failed : (b : Bool) (m k : ℕ) (r : Result (Option (List ℕ)) ReadFault)
     (x : Option (List ℕ)) → r ≡ Ok x → FailsIf {T = Option (List ℕ)} b m k r → k ≡ m
-none_failed x0 x1 x2 x3 x4 x5 x6 = search rules
+none_failed = search rules

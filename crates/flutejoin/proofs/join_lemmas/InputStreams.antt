@@ -1,8 +1,6 @@
 -- JoinInput as a stream: a journal is advanced, or stops, as it does by itself.
-use Rattle.std.proofs.Common.{arith}
-use Rattle.std.proofs.lemmas.Grind.{common_steps}
 use Rattle.std.proofs.Common.{rules}
-use Rattle.std.proofs.Common.{◌≡◌, ℕ, List, ◌++◌, Option, Some, None, Result, Ok, Err, sym, subst}
+use Rattle.std.proofs.Common.{◌≡◌, ℕ, List, ◌++◌, Option, Some, None, Result, Ok, Err}
 use Rattle.std.specs.Prelude.{OnOk, IfErr, IfSome}
 use Rattle.flute_parts.specs.declared.fact.Fact.{Fact}
 use Rattle.flute_journal.specs.Kinds.{IsNeither}
@@ -10,7 +8,7 @@ use Rattle.flute_streams.specs.Streams.{Behaviour, Gave, GoesOn, Stopped, StopsA
 use Rattle.flute_journal.specs.declared.fault.LoadFault.{LoadFault}
 use Rattle.flutejoin.specs.Begins.{Begins}
 use Rattle.flutejoin.specs.declared.join.join_input.JoinInput.{JoinInput}
-use Rattle.flutejoin.specs.declared.join.join_input.JoinInput.TheVariants.{Journal, Datagrams}
+use Rattle.flutejoin.specs.declared.join.join_input.JoinInput.TheVariants.{Journal}
 use Rattle.flutejoin.specs.declared.join.join_input.JoinInput.TheVariants.{Unknown}
 use Rattle.flutejoin.specs.InputStreams.{JournalInput}
 use Rattle.flutejoin.specs.JoinInputs.{IsInput}
@@ -30,31 +28,30 @@ module _ {R : Type 0} (unread : R → Option (List ℕ)) (buffered : R → List 
 
   goes_on : (x y : JournalInput R) → GoesOn j x y → (start : JoinInput R) (F : List Fact)
       → i.passes start (Journal x) F → Gave i start (Journal y) (F ++ option_list (j.held x))
-  goes_on x y h (Journal s) F p = gave s y (F ++ option_list (j.held x)) (h.gave s F p)
-  goes_on x y h other F p = absurd p
+  goes_on x y h (Journal s) F p = gave s y _ (h.gave s F p)
+  goes_on x y h _ F p = absurd p
 
   stops : (x y : JournalInput R) (f : LoadFault) → StopsAt j x y f → (start : JoinInput R)
       (F : List Fact) → i.passes start (Journal x) F
       → Stopped i start (Journal y) (F ++ option_list (j.held x)) f
   stops x y f h (Journal s) F p =
       let g = h s F p in record { reads = g.reads; fails = g.fails; stops = g.stops }
-  stops x y f h other F p = absurd p
+  stops x y f h _ F p = absurd p
 
   module _ (z : JoinInput R) (x y : JournalInput R) (is : z ≡ Journal x) where
     pub journal_goes_on : (r : Result (Unit {0}) LoadFault) → OnOk r (GoesOn j x y)
         → OnOk r (GoesOn i z (Journal y))
-    journal_goes_on (Ok t) h = subst (λ w. GoesOn i w (Journal y)) (sym is)
-        (record { gave = goes_on x y h; fewer = h.fewer })
+    journal_goes_on (Ok t) h = rw is (record { gave = goes_on x y h; fewer = h.fewer })
     journal_goes_on (Err f) h = tt
 
     pub journal_stops : (r : Result (Unit {0}) LoadFault) → IfErr r (StopsAt j x y)
         → IfErr r (StopsAt i z (Journal y))
     journal_stops (Ok t) h = tt
-    journal_stops (Err f) h = subst (λ w. StopsAt i w (Journal y) f) (sym is) (stops x y f h)
+    journal_stops (Err f) h = rw is (stops x y f h)
 
 -- what begins as neither is an input of no known kind
 pub unknown : {R : Type 0} (unread : R → Option (List ℕ)) (first : List ℕ)
     (old new : Option (List ℕ)) → Begins first old new → IsNeither first
     → IfSome old (IsInput {R = R} unread Unknown)
-unknown unread first None new b h = tt
-unknown unread first (Some bytes) new b h = same_neither first bytes b.1 h
+unknown _ _ None _ b h = tt
+unknown _ first (Some bytes) _ b h = same_neither _ _ b.1 h

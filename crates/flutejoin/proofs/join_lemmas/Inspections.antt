@@ -1,10 +1,9 @@
 -- inspect_all: inputs that are inspected one after the other (specs/JoinParts).
-use Rattle.std.proofs.lemmas.Grind.{common_steps}
 use Rattle.std.proofs.Common.{rules}
 use Rattle.std.proofs.Common.{◌≡◌, ℕ, zero, suc, ◌+◌, ◌*◌, ◌<◌, ◌≤◌, List}
 use Rattle.std.proofs.Common.{[], ◌∷◌, ◌++◌, length, take}
-use Rattle.std.proofs.Common.{append-nil, append_assoc, Option, Some, Err, inl, inr, refl, sym, ap}
-use Rattle.std.proofs.Common.{◌∙◌, subst, arith, Bool, true}
+use Rattle.std.proofs.Common.{append-nil, append_assoc, Option, Some, Err, inl, refl, sym, ap}
+use Rattle.std.proofs.Common.{◌∙◌, arith, Bool, true}
 use Rattle.std.proofs.Math.ListN.{set}
 use Rattle.std.specs.Prelude.{slice_get}
 use Rattle.std.specs.List.{AllByRecursion}
@@ -16,7 +15,7 @@ use Rattle.flute_journal.specs.declared.kind.Kind.{Kind}
 use Rattle.flute_journal.specs.declared.kind.Kind.TheVariants as kinds
 use Rattle.flute_journal.specs.declared.fault.ReadFault.TheVariants.{Read}
 use Rattle.flutejoin.specs.declared.command_fault.CommandFault.{CommandFault}
-use Rattle.flutejoin.specs.declared.command_fault.CommandFault.TheVariants.{Input, UnknownKind}
+use Rattle.flutejoin.specs.declared.command_fault.CommandFault.TheVariants.{Input}
 use Rattle.flutejoin.specs.declared.command_fault.CommandFault.TheVariants.{CannotWrite}
 use Rattle.flutejoin.specs.declared.join.held_files.HeldFiles.{HeldFiles}
 use Rattle.flutejoin.specs.declared.join.join_input.JoinInput.{JoinInput}
@@ -56,33 +55,32 @@ inspect_reads k fault names e = search rules
 all_more : {X : Type 0} (P : X → Type 0) {x : X} (new : X) (k : ℕ) (xs : List X) → slice_get xs k ≡
     Some x → AllByRecursion P (take k xs) → P new → AllByRecursion P (take (suc k) (set xs k new))
 all_more P {x} new k [] at h p = search rules
-all_more P new zero (y ∷ xs) at h p = (p, tt)
-all_more P new (suc k) (y ∷ xs) at h p = (h.0, all_more P new k xs at h.1 p)
+all_more P _ zero (y ∷ xs) at h p = (p, tt)
+all_more P new (suc k) (y ∷ xs) at h p = (h.0, all_more P _ k xs at h.1 p)
 
 module _ (choice : Choice) {R : Type 0} (unread : R → Option (List ℕ)) (buffered : R → List ℕ) where
   -- an input that was inspected is of a known kind
   is_known : (input : JoinInput R) (bytes : List ℕ) (datagrams : List (List ℕ))
       → IsInspected unread buffered choice input bytes datagrams → HasKnownKind bytes
-  is_known x0 x1 x2 x3 = search rules
+  is_known = search rules
 
   pub all_known : (xs : List (JoinInput R)) (contents datagrams : List (List ℕ)) → AreInspected
       unread buffered choice xs contents datagrams → AllByRecursion HasKnownKind contents
-  all_known [] [] datagrams h = tt
-  all_known (x ∷ xs) (bytes ∷ contents) datagrams h =
-      (is_known x bytes h.0 h.2, all_known xs contents h.1 h.4)
-  all_known [] (bytes ∷ contents) datagrams h = absurd h
-  all_known (x ∷ xs) [] datagrams h = absurd h
+  all_known [] [] _ h = tt
+  all_known (x ∷ xs) (bytes ∷ contents) _ h = (is_known x _ _ h.2, all_known xs contents _ h.4)
+  all_known [] (bytes ∷ contents) _ h = absurd h
+  all_known (x ∷ xs) [] _ h = absurd h
 
   -- an input is a datagram file if there are datagrams
   wants_aside : (xs : List (JoinInput R)) (contents datagrams : List (List ℕ)) → AreInspected unread
       buffered choice xs contents datagrams → 0 < length datagrams → WantsAside contents
   wants_aside [] [] datagrams h some =
-      let none = ap length h in absurd (omega (arith, none, some))
+      let none = ap length h in absurd (omega arith)
   wants_aside (Journal journal ∷ xs) (bytes ∷ contents) datagrams h some =
-      let others : datagrams ≡ h.1 = h.3 ∙ ap (λ own. own ++ h.1) h.2.0 in
-      let rest = wants_aside xs contents h.1 h.4 (subst (λ l. 0 < length l) others some) in
-      (rest.0 + 1, first_after bytes (inl h.2.1) rest.1)
-  wants_aside (Datagrams source ∷ xs) (bytes ∷ contents) datagrams h some = (
+      let others = h.3 ∙ ap (λ own. own ++ h.1) h.2.0 in
+      let rest = wants_aside xs contents _ h.4 (rw (← others) some) in
+      (rest.0 + 1, first_after _ (inl h.2.1) rest.1)
+  wants_aside (Datagrams source ∷ xs) (bytes ∷ contents) _ h _ = (
     1,
     record {
       before = [];
@@ -91,12 +89,12 @@ module _ (choice : Choice) {R : Type 0} (unread : R → Option (List ℕ)) (buff
       split = refl;
       number_is = refl;
       earlier = tt;
-      here = ap (take 4) h.2.bytes_are;
+      here = cc;
     },
   )
-  wants_aside (Unknown ∷ xs) (bytes ∷ contents) datagrams h some = absurd h.2
-  wants_aside [] (bytes ∷ contents) datagrams h some = absurd h
-  wants_aside (x ∷ xs) [] datagrams h some = absurd h
+  wants_aside (Unknown ∷ xs) (bytes ∷ contents) _ h _ = absurd h.2
+  wants_aside [] (bytes ∷ contents) _ h _ = absurd h
+  wants_aside (x ∷ xs) [] _ h _ = absurd h
 
   pub finds_wants : {s o y : ℕ} (held : HeldFiles s o y R) (xs : List (JoinInput R))
       (contents : List (List ℕ)) → Finds unread buffered choice xs contents held → held.fits ≡ true
@@ -111,25 +109,19 @@ module _ (choice : Choice) {R : Type 0} (unread : R → Option (List ℕ)) (buff
         (take k xs) (take k contents) datagrams → AreInspected unread buffered choice
         (take (suc k) (set xs k new)) (take (suc k) contents) (datagrams ++ own)
     one_more k [] contents datagrams at here h =
-        let within = slice_get_within [] k x at in absurd (omega (arith, within))
+        let within = slice_get_within [] k x at in absurd (omega arith)
     one_more k (y ∷ xs) [] datagrams at here h =
-        let within = slice_get_within [] k bytes here in absurd (omega (arith, within))
+        let within = slice_get_within [] k _ here in absurd (omega arith)
     one_more zero (y ∷ xs) (c ∷ contents) datagrams at here h =
-        let same : bytes ≡ c = cc in (
-          own,
-          [],
-          subst (λ b. IsInspected unread buffered choice new b own) same one,
-          ap
-              (λ l. l ++ own) h ∙ sym (append-nil own),
-          refl,
-        )
-    one_more (suc k) (y ∷ xs) (c ∷ contents) datagrams at here h = (
+        let same : bytes ≡ c = cc in
+        (own, [], rw (← same) one, cc (append-nil own), refl)
+    one_more (suc k) (y ∷ xs) (c ∷ contents) _ at here h = (
       h.0,
       h.1 ++ own,
       h.2,
-      ap
-          (λ l. l ++ own) h.3 ∙ append_assoc h.0 h.1 own,
-      one_more k xs contents h.1 at here h.4,
+      cc
+          (append_assoc h.0 h.1 own),
+      one_more k xs contents _ at here h.4,
     )
 
   module _ (failures : R → ℕ) where
@@ -152,7 +144,7 @@ module _ {choice : Choice} {R : Type 0} {unread : R → Option (List ℕ)}
         {held : HeldFiles s o y R} → ((c : Choice) → HoldsDatagrams unread buffered c held [])
         → IsSound unread buffered failures held → held.told.datagrams ≡ 0
         → InspectedSoFar choice unread buffered failures told start start held 0
-    inspected_none {start = start} holds sound none = search rules
+    inspected_none {start} holds sound none = search rules
 
     module _ {s o y : ℕ} {told : Bool} {start now : List (JoinInput R)}
         {held : HeldFiles s o y R} {k : ℕ}
@@ -166,8 +158,8 @@ module _ {choice : Choice} {R : Type 0} {unread : R → Option (List ℕ)}
       is_input : (contents : List (List ℕ)) → AreInputs unread start contents → (bytes : List ℕ) ×
           (slice_get contents k ≡ Some bytes) × IsInput unread one bytes
       is_input contents inputs =
-          let within = slice_get_within start k one was in
-          let here = at_place contents k (omega (arith, within, inputs.as_many)) in
+          let within = slice_get_within _ k _ was in
+          let here = at_place _ k (omega arith) in
           (here.0, here.1, inputs.each k one here.0 was here.1)
 
       -- no source failed, nor did the one that was read now
@@ -193,25 +185,22 @@ module _ {choice : Choice} {R : Type 0} {unread : R → Option (List ℕ)}
       inspected_more new ready looks counts failed =
           let next : suc k ≡ k + 1 = omega arith in
           record {
-            as_many = length-set now k new ∙ h.as_many;
-            later = λ j past. slice_get-set_other now k j new (λ same. omega (arith, same, past)) ∙
+            as_many = cc (length-set now k new);
+            later = λ j past. slice_get-set_other _ k j _ (λ same. omega (arith, same, past)) ∙
                 h.later j (omega (arith, past));
-            ready = subst
-                (λ n. AllByRecursion (IsReady unread buffered failures) (take n (set now k new)))
-                next (all_more (IsReady unread buffered failures) new k now at h.ready ready);
-            finds = λ is contents inputs. let own = is_input contents inputs in
+            ready = rw (← next) (all_more _ _ k _ at h.ready ready);
+            finds = λ is contents inputs. let own = is_input _ inputs in
                 let all = h.finds is contents inputs in
                 let more = looks is own.0 own.2 in (
                   all.0 ++ more.0,
-                  subst (λ n. AreInspected unread buffered choice
-                      (take n (set now k new)) (take n contents) (all.0 ++ more.0)) next (one_more choice
-                      unread buffered new more.0 more.1 k now contents all.0 at own.1 all.1),
-                  more.2 all.0
-                      all.2,
+                  rw (← next)
+                      (one_more choice unread buffered _ more.0 more.1 k _ _ all.0 at own.1 all.1),
+                  more.2
+                      all.0 all.2,
                 );
-            few = omega (arith, counts.0, h.few);
+            few = omega arith;
             sound = counts.1;
-            none_failed = none_more new failed;
+            none_failed = none_more _ failed;
           }
 
       pub inspect_fails : (fault : CommandFault) →
@@ -219,11 +208,10 @@ module _ {choice : Choice} {R : Type 0} {unread : R → Option (List ℕ)}
           ≡ true → (contents : List (List ℕ)) → AreInputs unread start contents →
           SomeInspectionFails contents fault
       inspect_fails fault fails is contents inputs =
-          let own = is_input contents inputs in
+          let own = is_input _ inputs in
           let all = h.finds is contents inputs in (
             k + 1,
-            first_at HasKnownKind (λ bytes. InspectionFails (k + 1) bytes fault) contents k
-                own.0 own.1 (all_known choice unread buffered (take k now) (take k contents) all.0 all.1)
+            first_at _ _ _ k _ own.1 (all_known choice unread buffered _ _ all.0 all.1)
                 (fails own.0 own.2),
           )
 
@@ -236,12 +224,8 @@ module _ {choice : Choice} {R : Type 0} {unread : R → Option (List ℕ)}
           FailsToRead {T = Unit {0}} (failures_of failures one) (failures_of failures new)
           (Err fault) → (number : ℕ) → fault ≡ Input number Read → OneFailed failures number start
           (set now k new)
-      inspect_failed new fault names fails number e = search (
-        rules,
-        slice_get_within,
-        was,
-        slice_get-set_same,
-      )
+      inspect_failed new fault names fails number e = search
+          (rules, slice_get_within, was, slice_get-set_same)
 
     -- after the last input all were inspected
     module _ {s o y : ℕ} {told : Bool} {start now : List (JoinInput R)}

@@ -1,23 +1,17 @@
 -- join_to: which input stops the join, which devices failed, and what the join returns.
-use Rattle.std.proofs.lemmas.Grind.{common_steps}
 use Rattle.std.proofs.Common.{rules}
 use Rattle.std.proofs.Common.{◌≡◌, ℕ, zero, suc, ◌+◌, ◌-◌, ◌*◌, ◌^◌, ◌≤◌, Bool, true, false}
 use Rattle.std.proofs.Common.{List, [], ◌∷◌, ◌++◌, length, count_by, Option, Some}
-use Rattle.std.proofs.Common.{None, Result, Ok, Err, inl, inr, refl, sym, ap, ◌∙◌, subst, arith}
+use Rattle.std.proofs.Common.{None, Result, inl, inr, refl, sym, ap, ◌∙◌, subst, arith}
 use Rattle.std.specs.Prelude.{min, not, sum_by, slice_get, ◌⊎◌, IfErr}
 use Rattle.std.specs.List.{flat_map, AllByRecursion}
-use Rattle.std.proofs.KnownBytes.{Appends-nil}
 use Rattle.std.proofs.lemmas.List.Sums.{count_by-le-length, sum_by-cons}
 use Rattle.std.proofs.lemmas.Option.{slice_get_within}
 use Rattle.flute_parts.specs.Facts.{Same}
 use Rattle.flute_parts.specs.declared.fact.Fact.{Fact}
 use Rattle.flute_parts.proofs.Public.{Over-below, Same-append, Same-itself, Same-sym, Same-trans}
-use Rattle.flute_journal.specs.Format.{spelling_in}
-use Rattle.flute_journal.specs.declared.format.version.Version.{Version}
-use Rattle.flute_journal.proofs.Public.{journal_parts}
 use Rattle.flute_streams.specs.Chains.{chained, taken}
 use Rattle.flute_journal.specs.JournalFraming.{journal_framing}
-use Rattle.flute_journal.specs.JournalWriters.{PutsJournal}
 use Rattle.flute_journal.specs.Kinds.{HasKind, IsNeither}
 use Rattle.flute_streams.specs.Scopes.{is_chosen}
 use Rattle.flute_streams.specs.Streams.{Behaviour}
@@ -42,7 +36,6 @@ use Rattle.flutejoin.specs.declared.command_fault.CommandFault.TheVariants.{Cann
 use Rattle.flutejoin.specs.declared.join.join_counts.JoinCounts.{JoinCounts}
 use Rattle.flutejoin.specs.declared.join.join_input.JoinInput.{JoinInput}
 use Rattle.flutejoin.specs.declared.join.join_input.JoinInput.TheVariants.{Journal, Datagrams}
-use Rattle.flutejoin.specs.declared.join.join_input.JoinInput.TheVariants.{Unknown}
 use Rattle.flutejoin.specs.InputStreams.{failures_of, NoneFailed, OneFailed}
 use Rattle.flutejoin.specs.Joined.{Choice, facts_by, InputContent, of_journal, of_file}
 use Rattle.flutejoin.specs.Joined.{content_facts, content_others, is_of_others, Tells, TellAll}
@@ -82,8 +75,8 @@ read_or_not f = search rules
 -- what holds of each element holds of element k
 one_of : {X : Type 0} (P : X → Type 0) (k : ℕ) (xs : List X) (x : X) → AllByRecursion P xs
     → slice_get xs k ≡ Some x → P x
-one_of P k [] x h e = let within = slice_get_within [] k x e in absurd (omega (arith, within))
-one_of P zero (y ∷ xs) x h e = let same : y ≡ x = cc in subst P same h.0
+one_of P k [] x h e = let within = slice_get_within [] k x e in absurd (omega arith)
+one_of P zero (y ∷ xs) x h e = let same : y ≡ x = cc in rw (← same) h.0
 one_of P (suc k) (y ∷ xs) x h e = one_of P k xs x h.1 e
 
 module _ {R : Type 0} (unread : R → Option (List ℕ)) (buffered : R → List ℕ)
@@ -103,7 +96,7 @@ module _ {R : Type 0} (unread : R → Option (List ℕ)) (buffered : R → List 
 
   one_at : (xs : List (JoinInput R)) (n : ℕ) (s : Either S (JoinInput R))
       → slice_get (streams xs) n ≡ Some s → OneAt xs n s
-  one_at [] n s e = let within = slice_get_within [] n s e in absurd (omega (arith, within))
+  one_at [] n s e = let within = slice_get_within [] n s e in absurd (omega arith)
   one_at (x ∷ xs) zero s e = record { input = x; own = refl; is = cc }
   one_at (x ∷ xs) (suc n) s e = search (rules, one_at xs n s e)
 
@@ -127,14 +120,14 @@ module _ {R : Type 0} (unread : R → Option (List ℕ)) (buffered : R → List 
         (fault : LoadFault) → slice_get (chained w xs) number ≡ Some s → all.stops s fault
         → TellBefore all number (chained w xs) → Stops w xs number fault
     stops_at xs zero s fault e h t =
-        let is : First w ≡ s = cc in subst (λ z. all.stops z fault) (sym is) h
+        let is : First w ≡ s = cc in rw (← is) at h
     stops_at xs (suc n) s fault e h t =
         let o = one_at xs n s e in record {
           place = n;
           number_is = refl;
           input = o.input;
           own = o.own;
-          stops = subst (λ z. all.stops z fault) o.is h;
+          stops = rw o.is at h;
           before = t.1;
         }
 
@@ -191,16 +184,16 @@ module _ {R : Type 0} (unread : R → Option (List ℕ)) (buffered : R → List 
           let one =
           stops_one h.input own.0 own.2.0 f.0
           (one_of (IsReady unread buffered failures) h.place xs h.input ready h.own) own.2.1
-          (subst (λ g. all.stops (Second h.input) g) f.1 h.stops) in
+          (rw (← f.1) h.stops) in
           let known = all_known choice unread buffered xs contents datagrams inspected in
           let before =
           valid_before unread buffered failures b choice h.place xs contents datagrams ready
           inspected
           h.before in
-          let at : number ≡ h.place + 1 = omega (arith, h.number_is) in
+          let at : number ≡ h.place + 1 = omega arith in
           let told : JoinToFails choice contents (Input (h.place + 1) f.0) =
           elim (read_or_not f.0) [
-            | inl is ↦ of_source (h.place + 1) (ap (Input (h.place + 1)) is)
+            | inl is ↦ of_source (h.place + 1) (cc)
                 (inr (
                   known,
                   first_at IsValid (HasKind kinds.Journal) contents h.place own.0 own.1 before
@@ -213,8 +206,7 @@ module _ {R : Type 0} (unread : R → Option (List ℕ)) (buffered : R → List 
                       (one.0, one.1, other),
                 ))
           ] in
-          subst (λ n. JoinToFails choice contents (of_load n fault)) (sym at)
-          (subst (λ g. JoinToFails choice contents (of_load (h.place + 1) g)) (sym f.1) told)
+          rw at (subst (λ g. JoinToFails choice contents (of_load (h.place + 1) g)) (sym f.1) told)
 
   -- what a fault is with which a join stopped, whatever stream it was
   pub record StopFault (w : S) (xs : List (JoinInput R)) (fault : CommandFault) : Type 0 where
@@ -230,14 +222,8 @@ module _ {R : Type 0} (unread : R → Option (List ℕ)) (buffered : R → List 
   stop_fault : (w : S) (xs : List (JoinInput R)) (number : ℕ) (fault : LoadFault)
       → Stops w xs number fault → StopFault w xs (of_stop number fault)
   stop_fault w xs zero fault h = search (rules, no_memory, no_sink, no_aside)
-  stop_fault w xs (suc n) fault h = search (
-    rules,
-    no_memory,
-    no_sink,
-    no_aside,
-    names_one,
-    first_fails,
-  )
+  stop_fault w xs (suc n) fault h = search
+      (rules, no_memory, no_sink, no_aside, names_one, first_fails)
 
   pub stopped : {w : S} (xs : List (JoinInput R)) → length xs ≤ 64 →
       {now : List (Either S (JoinInput R))} (first : InputFault) → FirstFault all
@@ -276,8 +262,7 @@ module _ {R : Type 0} (unread : R → Option (List ℕ)) (buffered : R → List 
         → OneFailed failures number xs ys
     read_failed f number e =
         let h =
-        subst (λ l. FirstFault all (chained w l) (chained now ys) first) (all_taken xs many)
-        (subst (λ l. FirstFault all (chained w (taken xs)) (chained now l) first)
+        rw (all_taken xs many) at (subst (λ l. FirstFault all (chained w (taken xs)) (chained now l) first)
         (all_taken ys (omega (arith, many, same))) f) in
         at_number first.number first.fault h.stopped.new h.stopped.was h.stopped.stop e
       where
@@ -297,15 +282,14 @@ module _ {R : Type 0} (unread : R → Option (List ℕ)) (buffered : R → List 
             let f = told_read fault (suc n) d in
             record {
               place = n;
-              number_is = omega (arith, f.1);
+              number_is = omega arith;
               before = x.input;
               after = y.input;
               was = x.own;
               is = y.own;
               failed =
                   fails_once x.input y.input
-                  (subst (λ g. all.fails (Second x.input) (Second y.input) (Some g)) f.0
-                  (subst (λ z. all.fails (Second x.input) z (Some fault)) y.is
+                  (rw (← f.0) (subst (λ z. all.fails (Second x.input) z (Some fault)) y.is
                   (subst (λ z. all.fails z stop.stream (Some fault)) x.is stop.fails)));
             }
 
@@ -314,9 +298,9 @@ module _ {R : Type 0} (unread : R → Option (List ℕ)) (buffered : R → List 
 pub none_failed_more : {R : Type 0} (failures : R → ℕ) (xs ys zs : List (JoinInput R))
     → NoneFailed failures xs ys → NoneFailed failures ys zs → NoneFailed failures xs zs
 none_failed_more failures xs ys zs h k = record {
-  as_many = k.as_many ∙ h.as_many;
+  as_many = cc;
   each = λ j x z was is. let y = at_place ys j
-      (let within = slice_get_within xs j x was in omega (arith, within, h.as_many)) in k.each j
+      (let within = slice_get_within xs j x was in omega arith) in k.each j
       y.0 z y.1 is ∙ h.each j x y.0 was y.1;
 }
 
@@ -324,8 +308,7 @@ pub one_failed_more : {R : Type 0} (failures : R → ℕ) (number : ℕ) (xs ys 
     NoneFailed failures xs ys → OneFailed failures number ys zs → OneFailed failures number xs zs
 one_failed_more failures number xs ys zs h k =
     let x = at_place xs k.place
-    (let within = slice_get_within ys k.place k.before k.was in omega (arith, within, h.as_many)) in
-    record {
+    (let within = slice_get_within ys k.place k.before k.was in omega arith) in record {
       place = k.place;
       number_is = k.number_is;
       before = x.0;
@@ -343,7 +326,7 @@ file_not_held : {choice : Choice} (P : List ℕ → Type 0) (inputs : List (List
     → JoinToFails choice inputs fault
 file_not_held {choice} P inputs number first (Input told f) kind h =
     elim (read_or_not f) [
-      | inl is ↦ of_source number (ap (λ m. Input m f) h.0 ∙ ap (Input number) is)
+      | inl is ↦ of_source number (cc)
           (inl (first_with HasKnownKind P (HasKind kinds.Datagrams) number inputs first kind))
       | inr other ↦
           let Q : CommandFault → Type 0 = λ g. JoinFails choice inputs g in
@@ -363,14 +346,14 @@ not_inspected {choice} inputs fault h = go h.1.here
     go : InspectionFails h.0 h.1.bytes fault → JoinToFails choice inputs fault
     go (of_kind is neither) =
         let P : CommandFault → Type 0 = λ g. JoinToFails choice inputs g in
-        subst P (sym is) (of_inputs
+        rw is (of_inputs
         (first_with HasKnownKind (λ bytes. InspectionFails h.0 bytes fault)
         (λ bytes. IsNeither bytes) h.0 inputs h.1 neither))
     go (of_a_file kind fails) =
         file_not_held (λ bytes. InspectionFails h.0 bytes fault) inputs h.0 h.1 fault kind fails
     go (of_a_journal kind is) =
         let P : CommandFault → Type 0 = λ g. JoinToFails choice inputs g in
-        subst P (sym is) (of_inputs (
+        rw is (of_inputs (
           h.0,
           first_with HasKnownKind
               (λ bytes. InspectionFails h.0 bytes fault) IsOfAKind h.0 inputs h.1 (inl kind),
@@ -386,15 +369,15 @@ others_few choice (bytes ∷ inputs) [] h = elim h [ ]
 others_few choice (bytes ∷ inputs) (x ∷ told) h =
     let rest = others_few choice inputs told h.1 in
     let all = sum_by-cons (content_others choice) x told in
-    omega (arith, one x h.0, rest, all)
+    omega (arith, one x h.0)
   where
     one : (x : InputContent) → Tells bytes x → content_others choice x ≤ 16777216
     one (of_journal entries) k =
         let few = count_by-le-length (λ f. not (is_chosen choice.takes f)) entries in
-        omega (arith, few, k.are_items.few)
+        omega arith
     one (of_file datagrams) k =
         let few = count_by-le-length (is_of_others choice) datagrams in
-        omega (arith, few, k.are_items.few)
+        omega arith
 
 -- what was counted: the entries that were written, and the datagrams of the files
 pub record HasCounted (choice : Choice) (datagrams : List (List ℕ)) (passed : ℕ)
@@ -444,10 +427,8 @@ module _ {choice : Choice} {inputs datagrams : List (List ℕ)} {facts : List Fa
     within_limits true e = λ over. subst
         (IsWithinLimits choice.most.sessions choice.most.objects choice.most.symbols written) e
         h.limits (over_same choice.most told written same_told over)
-    within_limits false e =
-        over_same choice.most written told (Same-sym told written same_told)
-        (subst (IsWithinLimits choice.most.sessions choice.most.objects choice.most.symbols
-        written) e h.limits)
+    within_limits false e = over_same choice.most written told (Same-sym told written same_told)
+        (rw e at h.limits)
 
     -- the join's result: `Full`, `CannotWrite`, or what JoinsTo says
     pub full_together : joined.within ≡ false → JoinToFails choice inputs Full
@@ -460,7 +441,7 @@ module _ {choice : Choice} {inputs datagrams : List (List ℕ)} {facts : List Fa
     pub joins_to : {counts : JoinCounts} → length inputs ≤ 64 → joined.within ≡ true → joined.cut ≡
         false → HasCounted choice datagrams passed joined counts → JoinsTo choice inputs counts w w'
     joins_to {counts = counts} few within whole counted =
-        let puts = subst (λ c. PutsJournal c w w' written joined.entries) whole h.puts in
+        let puts = rw whole at h.puts in
         record {
           told = h.told;
           tell = h.tell;
@@ -477,14 +458,14 @@ module _ {choice : Choice} {inputs datagrams : List (List ℕ)} {facts : List Fa
               puts.journal.2,
               puts.journal.3,
             );
-            entries = counted.entries ∙ puts.entries;
+            entries = cc;
             appended = puts.appended;
           };
-          datagrams = counted.datagrams_are ∙ ap length (sym h.datagrams_are);
-          refused = counted.refused ∙ ap (count_by is_refused) (sym h.datagrams_are);
-          reasons = subst (AreReasons counts.reasons) (sym h.datagrams_are) counted.reasons;
+          datagrams = cc;
+          refused = cc;
+          reasons = rw h.datagrams_are counted.reasons;
           for_all = counted.for_all;
           others =
               let total = others_few choice inputs h.told h.tell in
-              omega (arith, counted.others, counted.of_files_are, h.others, total, few);
+              omega arith;
         }

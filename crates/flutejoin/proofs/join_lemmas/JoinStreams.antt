@@ -28,7 +28,6 @@ use Rattle.flute_streams.specs.declared.streams.either.Either.TheVariants.{Secon
 use Rattle.flutejoin.specs.declared.join.join_input.JoinInput.{JoinInput}
 use Rattle.flutejoin.specs.declared.join.join_input.JoinInput.TheVariants.{Journal, Datagrams}
 use Rattle.flutejoin.specs.declared.join.join_input.JoinInput.TheVariants.{Unknown}
-use Rattle.flutejoin.specs.declared.limits.TheConstants.{MAX_ENTRIES}
 use Rattle.flutejoin.specs.InputStreams.{passed_over, input_behaviour}
 use Rattle.flutejoin.specs.Joined.{Choice, facts_by, is_of_others, InputContent, of_journal}
 use Rattle.flutejoin.specs.Joined.{of_file, content_facts, content_datagrams, content_others, Tells}
@@ -44,19 +43,15 @@ over_same most F G same over = search (rules, Over-below, Below-from_Same)
 -- facts in front of others, in two ways
 regroup : (O D F G R : List Fact) → Same R (D ++ G) → Same ((O ++ F) ++ R) ((O ++ D) ++ (F ++ G))
 regroup O D F G R h =
-    let turned : Same (F ++ R) (D ++ (F ++ G)) =
-    Same-trans (F ++ R) ((F ++ D) ++ G) (D ++ (F ++ G))
-    (subst (λ l. Same (F ++ R) l) (sym (append_assoc F D G))
-    (Same-append F F R (D ++ G) (Same-itself F) h))
-    (subst (λ l. Same ((F ++ D) ++ G) l) (append_assoc D F G)
-    (Same-append (F ++ D) (D ++ F) G G (Same-swap F D) (Same-itself G))) in
-    subst (λ l. Same l ((O ++ D) ++ (F ++ G))) (sym (append_assoc O F R))
-    (subst (λ l. Same (O ++ (F ++ R)) l) (sym (append_assoc O D (F ++ G)))
-    (Same-append O O (F ++ R) (D ++ (F ++ G)) (Same-itself O) turned))
+    let turned = Same-trans _ _ _
+    (rw (← (append_assoc F D G)) at (Same-append F F R _ (Same-itself F) h))
+    (rw (← append_assoc D F G) (Same-append _ _ G G (Same-swap F D) (Same-itself G))) in rw
+    ((append_assoc O F R)) (subst (λ l. Same (O ++ (F ++ R)) l) (sym (append_assoc O D (F ++ G)))
+    (Same-append O O _ _ (Same-itself O) turned))
 
 -- no input is left out
 pub all_taken : {X : Type 0} (xs : List X) → length xs ≤ 64 → taken xs ≡ xs
-all_taken xs many = taken_all xs (omega (arith, many))
+all_taken xs many = taken_all _ (omega arith)
 
 module _ {R : Type 0} (unread : R → Option (List ℕ)) (buffered : R → List ℕ)
     (failures : R → ℕ) {S : Type 0}
@@ -73,7 +68,7 @@ module _ {R : Type 0} (unread : R → Option (List ℕ)) (buffered : R → List 
   -- The streams are new, and hold few facts.
 
   new_input : (x : JoinInput R) → IsReady unread buffered failures x → IsNew joins (Second x)
-  new_input x0 x1 = grind (arith, common_steps)
+  new_input = grind (arith, common_steps)
 
   inputs_new : (xs : List (JoinInput R)) → are_ready xs → AreNew joins (as_streams xs)
   inputs_new [] h = tt
@@ -117,31 +112,28 @@ module _ {R : Type 0} (unread : R → Option (List ℕ)) (buffered : R → List 
         let P : Option (List ℕ) → Type 0 = λ o. IfSome o
         (λ bs. IsJournalWithin x.stream.max_entries bs all) in
         let Q : ℕ → Type 0 = λ n. IsJournalWithin n bytes all in
-        let journal : IsJournalWithin MAX_ENTRIES bytes all = subst Q ready.3
-        (subst P inspected.2 h.1.0) in
-        let is : F ≡ chosen choice.takes all = h.2 ∙ ap (λ takes. chosen takes all) inspected.3 in
+        let journal = rw ready.3 at (subst P inspected.2 h.1.0) in
+        let is = h.2 ∙ ap (λ takes. chosen takes all) inspected.3 in
         let few = count_by-le-length (λ f. not (is_chosen (is_taken x.choice) f)) all in
-        let count : y.others ≡ x.others + others_in (is_taken x.choice) all = h.1.1
-        (omega (arith, ready.0, few, journal.are_items.few)) in
+        let count : y.others ≡ x.others + others_in (is_taken x.choice) all = h.1.1 (omega arith) in
         let same = ap (λ takes. others_in takes all) inspected.3 in
         let none = ap (count_by (is_of_others choice)) inspected.0 in
         record {
           told = of_journal all;
           tells = journal;
-          datagrams = sym inspected.0;
-          facts = sym is ∙ ap (λ ds. flat_map (facts_by choice) ds ++ F) (sym inspected.0);
-          others = omega (arith, count, same, none, ready.0);
+          datagrams = cc;
+          facts = cc;
+          others = omega arith;
         }
     tells_one (Datagrams x) (Datagrams y) bytes own F ready inspected h = record {
       told = of_file own;
       tells = inspected;
       datagrams = refl;
-      facts = sym (append-nil (flat_map (facts_by choice) own)) ∙ ap
-          (λ l. flat_map (facts_by choice) own ++ l) (sym h.1);
+      facts = cc (append-nil (flat_map (facts_by choice) own));
       others = omega arith;
     }
-    tells_one Unknown y bytes own F ready inspected h = absurd inspected
-    tells_one other another bytes own F ready inspected h = absurd h
+    tells_one Unknown y _ _ F _ inspected h = absurd inspected
+    tells_one _ _ _ _ F _ _ h = absurd h
 
     -- what all inputs contain
     record TellsEach (contents datagrams : List (List ℕ)) (F : List Fact)
@@ -172,13 +164,10 @@ module _ {R : Type 0} (unread : R → Option (List ℕ)) (buffered : R → List 
         record {
           told = one.told ∷ all.told;
           tell = (one.tells, all.tell);
-          datagrams_are = ap (λ l. l ++ flat_map content_datagrams all.told) one.datagrams ∙ ap
-              (λ l. own ++ l) all.datagrams_are;
-          same = subst
-              (λ l. Same (l ++ rest) (flat_map (facts_by choice) (own ++ others) ++ (F ++ G)))
-              (sym one.facts) (subst (λ l. Same ((O ++ F) ++ rest) (l ++ (F ++ G)))
+          datagrams_are = cc;
+          same = rw one.facts (subst (λ l. Same ((O ++ F) ++ rest) (l ++ (F ++ G)))
               (sym (flat_map-append (facts_by choice) own others)) (regroup O D F G rest all.same));
-          others = omega (arith, one.others, all.others, of_own, of_told);
+          others = omega arith;
         }
 
     -- all inputs contain their facts, and those that are held
@@ -186,41 +175,39 @@ module _ {R : Type 0} (unread : R → Option (List ℕ)) (buffered : R → List 
         (given : List (List Fact)) → are_ready xs → AreInspected unread buffered choice xs contents
         datagrams → EachSince joins.ends (as_streams xs) (as_streams ys) given → TellsEach contents
         datagrams (all_of given) (sum_by passed_over ys)
-    tells_each [] [] [] datagrams [] r h t = subst (λ ds. TellsEach [] ds [] 0) (sym h) none_told
-    tells_each (x ∷ xs) (y ∷ ys) (bytes ∷ contents) datagrams (F ∷ given) r h t =
-        let one = tells_one x y bytes h.0 F r.0 h.2 t.0 in
-        let all = tells_each xs ys contents h.1 given r.1 h.4 t.1 in
-        subst
-        (λ ds. TellsEach (bytes ∷ contents) ds (F ++ all_of given) (sum_by passed_over (y ∷ ys)))
-        (sym h.3) (subst (TellsEach (bytes ∷ contents) (h.0 ++ h.1) (F ++ all_of given))
+    tells_each [] [] [] _ [] r h t = rw h none_told
+    tells_each (x ∷ xs) (y ∷ ys) (bytes ∷ contents) _ (F ∷ given) r h t =
+        let one = tells_one x y _ _ F r.0 h.2 t.0 in
+        let all = tells_each xs ys contents _ given r.1 h.4 t.1 in
+        rw h.3 (subst (TellsEach (bytes ∷ contents) (h.0 ++ h.1) (F ++ all_of given))
         (sym (sum_by-cons passed_over y ys)) (one_more one all))
-    tells_each [] [] [] datagrams (F ∷ given) r h t = absurd t
-    tells_each [] [] (bytes ∷ contents) datagrams given r h t = absurd h
-    tells_each [] (y ∷ ys) contents datagrams given r h t = absurd t
-    tells_each (x ∷ xs) [] contents datagrams given r h t = absurd t
-    tells_each (x ∷ xs) (y ∷ ys) [] datagrams given r h t = absurd h
-    tells_each (x ∷ xs) (y ∷ ys) (bytes ∷ contents) datagrams [] r h t = absurd t
+    tells_each [] [] [] _ (F ∷ given) r h t = absurd t
+    tells_each [] [] (bytes ∷ contents) _ _ r h t = absurd h
+    tells_each [] (y ∷ ys) _ _ _ r h t = absurd t
+    tells_each (x ∷ xs) [] _ _ _ r h t = absurd t
+    tells_each (x ∷ xs) (y ∷ ys) [] _ _ r h t = absurd h
+    tells_each (x ∷ xs) (y ∷ ys) (bytes ∷ contents) _ [] r h t = absurd t
 
     is_valid : (x : JoinInput R) (bytes : List ℕ) (own : List (List ℕ)) (F : List Fact)
         → IsReady unread buffered failures x → IsInspected unread buffered choice x bytes own
         → joins.tells (Second x) F → IsValid bytes
-    is_valid (Journal x) bytes own F ready inspected h =
+    is_valid (Journal x) bytes _ F ready inspected h =
         let P : Option (List ℕ) → Type 0 =
         λ o. IfSome o (λ bs. IsJournalWithin x.stream.max_entries bs h.0) in
         let Q : ℕ → Type 0 = λ n. IsJournalWithin n bytes h.0 in
-        (of_journal h.0, subst Q ready.3 (subst P inspected.2 h.1))
-    is_valid (Datagrams x) bytes own F ready inspected h = (of_file own, inspected)
-    is_valid Unknown bytes own F ready inspected h = absurd inspected
+        (of_journal h.0, rw (← ready.3) (subst P inspected.2 h.1))
+    is_valid (Datagrams x) _ own F _ inspected h = (of_file own, inspected)
+    is_valid Unknown _ _ F _ inspected h = absurd inspected
 
     -- those before an input that contain facts are valid
     pub valid_before : (n : ℕ) (xs : List (JoinInput R)) (contents datagrams : List (List ℕ))
         → are_ready xs → AreInspected unread buffered choice xs contents datagrams
         → TellBefore joins n (as_streams xs) → AllByRecursion IsValid (take n contents)
-    valid_before zero xs contents datagrams r h t = tt
-    valid_before (suc n) (x ∷ xs) (bytes ∷ contents) datagrams r h t =
-        (is_valid x bytes h.0 t.0.0 r.0 h.2 t.0.1, valid_before n xs contents h.1 r.1 h.4 t.1)
-    valid_before (suc n) [] contents datagrams r h t = absurd t
-    valid_before (suc n) (x ∷ xs) [] datagrams r h t = absurd h
+    valid_before zero xs _ _ r h t = tt
+    valid_before (suc n) (x ∷ xs) (bytes ∷ contents) _ r h t =
+        (is_valid x _ _ _ r.0 h.2 t.0.1, valid_before n xs contents _ r.1 h.4 t.1)
+    valid_before (suc n) [] _ _ r h t = absurd t
+    valid_before (suc n) (x ∷ xs) [] _ r h t = absurd h
 
     -- What the join of the streams wrote (specs/JoinParts: JoinsInspected).
     module _ (xs ys : List (JoinInput R)) {contents datagrams : List (List ℕ)}
@@ -233,16 +220,14 @@ module _ {R : Type 0} (unread : R → Option (List ℕ)) (buffered : R → List 
           IsWithinLimits choice.most.sessions choice.most.objects choice.most.symbols (all_of told)
           joined.within → JoinsInspected choice contents datagrams store (sum_by passed_over ys)
           joined u v
-      of_told x0 x1 x2 x3 x4 = search (rules, tells_each, all_of)
+      of_told = search (rules, tells_each, all_of)
 
       pub joins_inspected : {now : S} → length xs ≤ 64 → length ys ≡ length xs
           → {s o y : ℕ} → choice.most ≡ at_most s o y
           → EndsMerged joins (chained w (taken xs)) (chained now (taken ys)) s o y joined u v
           → JoinsInspected choice contents datagrams store (sum_by passed_over ys) joined u v
-      joins_inspected {now = now} many same e h = of_told now h.merged.told (subst
+      joins_inspected {now} many same e h = of_told _ _ (subst
           (λ l. EachSince joins.ends (chained w l) (chained now ys) h.merged.told)
-          (all_taken xs many) (subst
+          (all_taken _ many) (subst
           (λ l. EachSince joins.ends (chained w (taken xs)) (chained now l) h.merged.told)
-          (all_taken ys (omega (arith, many, same))) h.ends)) h.merged.puts (subst (λ
-          (most : Limits). IsWithinLimits most.sessions most.objects most.symbols
-          (all_of h.merged.told) joined.within) (sym e) h.merged.limits)
+          (all_taken _ (omega (arith, many, same))) h.ends)) h.merged.puts (rw e h.merged.limits)

@@ -1,8 +1,7 @@
 -- Joins of journals that joins wrote (specs/JoinTrees).
-use Rattle.std.proofs.lemmas.Grind.{common_steps}
 use Rattle.std.proofs.Common.{rules}
 use Rattle.std.proofs.Common.{◌≡◌, ℕ, List, [], ◌∷◌, None, inl, inr, refl, sym, ap}
-use Rattle.std.proofs.Common.{◌∙◌, subst, append-nil, arith}
+use Rattle.std.proofs.Common.{◌∙◌, arith}
 use Rattle.std.specs.Prelude.{slice_index, Bool, true, false}
 use Rattle.std.specs.List.{flat_map}
 use Rattle.std.proofs.lemmas.Bool.{cases_Bool, false≢true}
@@ -11,7 +10,6 @@ use Rattle.flute_parts.specs.declared.address.Address.{Address}
 use Rattle.flute_parts.specs.declared.fact.Fact.{Fact}
 use Rattle.flute_parts.specs.declared.key.Key.{Key}
 use Rattle.flute_parts.specs.Addresses.{address}
-use Rattle.flute_parts.specs.Equality.{address_same}
 use Rattle.flute_parts.specs.Facts.{fact_at, Same}
 use Rattle.flute_parts.specs.Order.{same_address}
 use Rattle.flute_parts.proofs.Public.{alone, fact_at-cons, fact_at-elsewhere, fact_at-nil, joined}
@@ -49,7 +47,7 @@ module _ (takes : Key → Bool) (a : Address) where
   passed_at [] t = fact_at-nil a
   passed_at (f ∷ F) t = elim (cases_Bool (is_chosen takes f)) [
     | inl c ↦ rw c (elim (cases_Bool (same_address (address f) a)) [
-      | inl e ↦ absurd (false≢true (sym t ∙ sym (of_address f e) ∙ c))
+      | inl e ↦ absurd (false≢true (cc (of_address f e)))
       | inr e ↦ fact_at-elsewhere f (chosen takes F) a e ∙ passed_at F t
     ])
     | inr c ↦ rw c (passed_at F t)
@@ -85,31 +83,24 @@ OneReading = (bs : List ℕ) (ds es : List (List ℕ)) → IsFileOf bs ds → Is
 module _ (one : OneReading) where
   tells_same : (choice : Choice) (bytes : List ℕ) (x y : InputContent) → Tells bytes x
       → Tells bytes y → Same (content_facts choice x) (content_facts choice y)
-  tells_same choice bytes (of_journal es) (of_journal fs) h k =
-      same_chosen choice.takes es fs (Same-from_journals bytes es fs
-      (IsJournal-from_within bytes es h) (IsJournal-from_within bytes fs k))
-  tells_same choice bytes (of_journal es) (of_file ds) h k = absurd (not_both bytes es ds h k)
-  tells_same choice bytes (of_file ds) (of_journal es) h k = absurd (not_both bytes es ds k h)
+  tells_same choice bytes (of_journal es) (of_journal fs) h k = same_chosen choice.takes _ _
+      (Same-from_journals _ _ _ (IsJournal-from_within _ _ h) (IsJournal-from_within _ _ k))
+  tells_same _ bytes (of_journal es) (of_file ds) h k = absurd (not_both _ _ _ h k)
+  tells_same _ bytes (of_file ds) (of_journal es) h k = absurd (not_both _ _ _ k h)
   tells_same choice bytes (of_file ds) (of_file es) h k =
-      subst (λ l. Same (content_facts choice (of_file ds)) (content_facts choice (of_file l)))
-      (one bytes ds es (file_of bytes ds h) (file_of bytes es k))
-      (Same-itself (content_facts choice (of_file ds)))
+      rw (← one bytes ds es (file_of _ _ h) (file_of _ _ k)) (Same-itself _)
 
   pub tell_same : (choice : Choice) (inputs : List (List ℕ)) (told further : List InputContent)
       → TellAll inputs told → TellAll inputs further
       → Same (flat_map (content_facts choice) told) (flat_map (content_facts choice) further)
   unfolding TellAll
-  tell_same choice [] [] [] h k = Same-itself []
-  tell_same choice [] [] (y ∷ ys) h k = elim k [ ]
-  tell_same choice [] (x ∷ xs) ys h k = elim h [ ]
-  tell_same choice (bytes ∷ inputs) [] ys h k = elim h [ ]
-  tell_same choice (bytes ∷ inputs) (x ∷ xs) [] h k = elim k [ ]
-  tell_same choice (bytes ∷ inputs) (x ∷ xs) (y ∷ ys) h k = search (
-    rules,
-    Same-append,
-    tells_same,
-    tell_same choice inputs xs ys h.1 k.1,
-  )
+  tell_same _ [] [] [] h k = Same-itself []
+  tell_same _ [] [] (y ∷ ys) h k = elim k [ ]
+  tell_same _ [] (x ∷ xs) ys h k = elim h [ ]
+  tell_same _ (bytes ∷ inputs) [] ys h k = elim h [ ]
+  tell_same _ (bytes ∷ inputs) (x ∷ xs) [] h k = elim k [ ]
+  tell_same choice (bytes ∷ inputs) (x ∷ xs) (y ∷ ys) h k = search
+      (rules, Same-append, tells_same, tell_same choice inputs xs ys h.1 k.1)
 
   -- The journal that a join wrote.
 
@@ -118,10 +109,9 @@ module _ (one : OneReading) where
 
   pub wrote : (choice : Choice) (inputs : List (List ℕ)) (bytes : List ℕ)
       → (j : Joined choice inputs bytes) → Journal bytes (facts_told choice j.2.told)
-  wrote choice inputs bytes j =
-      let is : bytes ≡ j.2.writes.bytes =
-      append_cancel_left j.1 bytes j.2.writes.bytes j.2.writes.appended in
-      subst (λ l. Journal l (facts_told choice j.2.told)) (sym is) j.2.writes.journal
+  wrote choice _ bytes j =
+      let is = append_cancel_left j.1 bytes j.2.writes.bytes j.2.writes.appended in
+      rw is j.2.writes.journal
 
   -- inputs that tell this were joined into these bytes
   pub record JoinedAs (choice : Choice) (inputs : List (List ℕ)) (told : List InputContent)
@@ -132,33 +122,28 @@ module _ (one : OneReading) where
   pub wrote_told : {choice : Choice} {inputs : List (List ℕ)} {told : List InputContent}
       {bytes : List ℕ} → JoinedAs choice inputs told bytes
       → (facts : List Fact) × Journal bytes facts × Same facts (facts_told choice told)
-  wrote_told {choice = choice} {inputs = inputs} {told = told} {bytes = bytes} j = (
-    facts_told
-        choice j.joined.2.told,
-    wrote choice inputs bytes j.joined,
-    tell_same choice inputs
-        j.joined.2.told told j.joined.2.tell j.tell,
+  wrote_told {choice} {inputs} {told} {bytes} j = (
+    facts_told choice j.joined.2.told,
+    wrote choice
+        inputs _ j.joined,
+    tell_same choice _ _ _ j.joined.2.tell j.tell,
   )
 
   pub same_bytes : {a b : Choice} {inputs others : List (List ℕ)} {told further : List InputContent}
       {bs cs : List ℕ} → JoinedAs a inputs told bs → JoinedAs b others further cs → Same
       (facts_told a told) (facts_told b further) → bs ≡ cs
-  same_bytes {a = a} {b = b} {told = told} {further = further} {bs = bs} {cs = cs} j l same =
+  same_bytes {a} {b} {told} {further} {bs} {cs} j l same =
       let x = wrote_told j in
       let y = wrote_told l in
-      Journal-only bs cs x.0 y.0
-      (Same-trans x.0 (facts_told a told) y.0 x.2
-      (Same-trans (facts_told a told) (facts_told b further) y.0 same
-      (Same-sym y.0 (facts_told b further) y.2))) x.1 y.1
+      Journal-only _ _ _ _ (Same-trans _ _ _ x.2 (Same-trans _ _ _ same (Same-sym _ _ y.2))) x.1 y.1
 
   -- the written journal contains the facts of the inputs that were joined
   pub read_same : {choice : Choice} {inputs : List (List ℕ)} {told : List InputContent}
       {bytes : List ℕ} {held : List Fact} → JoinedAs choice inputs told bytes
       → IsJournal bytes held → Same held (facts_told choice told)
-  read_same {choice = choice} {told = told} {bytes = bytes} {held = held} j is =
+  read_same {choice} {told} {bytes} {held} j is =
       let x = wrote_told j in
-      Same-trans held x.0 (facts_told choice told)
-      (Same-from_journals bytes held x.0 is (written_journal bytes x.0 x.1)) x.2
+      Same-trans _ _ _ (Same-from_journals _ _ _ is (written_journal _ _ x.1)) x.2
 
   -- Trees of joins.
 
@@ -199,13 +184,12 @@ module _ (one : OneReading) where
 
   pub same_trees : {a b : Choice} {inputs others : Inputs} {bs cs : List ℕ} → IsTree a inputs bs
       → IsTree b others cs → Same (leaf_facts a inputs) (leaf_facts b others) → bs ≡ cs
-  same_trees {a = a} {b = b} {inputs = inputs} {others = others} {bs = bs} {cs = cs} h k same =
+  same_trees {a} {b} {inputs} {others} {bs} {cs} h k same =
       let j = h.joined in
       let l = k.joined in
       let F = facts_told a j.2.told in
       let G = facts_told b l.2.told in
-      let x : Same F (leaf_facts a inputs) = made_same a inputs j.2.told h.made j.2.tell in
-      let y : Same G (leaf_facts b others) = made_same b others l.2.told k.made l.2.tell in
-      Journal-only bs cs F G (Same-trans F (leaf_facts a inputs) G x (Same-trans
-      (leaf_facts a inputs) (leaf_facts b others) G same (Same-sym G (leaf_facts b others) y)))
-      (wrote a (bytes_of inputs) bs j) (wrote b (bytes_of others) cs l)
+      let x = made_same a _ _ h.made j.2.tell in
+      let y = made_same b _ _ k.made l.2.tell in
+      Journal-only _ _ F G (Same-trans F _ G x (Same-trans _ _ G same (Same-sym G _ y)))
+      (wrote a _ _ j) (wrote b _ _ l)

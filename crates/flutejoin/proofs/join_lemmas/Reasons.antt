@@ -1,7 +1,7 @@
 -- Why datagrams are refused, counted (specs/Refused).
 use Rattle.std.proofs.Common.{rules}
 use Rattle.std.proofs.Common.{◌≡◌, ◌≢◌, ℕ, ◌+◌, ◌⊎◌, List, [], ◌∷◌, ◌++◌, Result, Ok, Err, inl, inr}
-use Rattle.std.proofs.Common.{refl, sym, ap, subst, arith}
+use Rattle.std.proofs.Common.{refl, sym, ap, arith}
 use Rattle.std.specs.Prelude.{◌↔◌, Some, slice_get}
 use Rattle.std.proofs.lemmas.Bool.{cases_eq}
 use Rattle.flute_wire.specs.Content.{Content}
@@ -19,14 +19,11 @@ refusal_at why = search rules
 
 at_one_place : (m n : ℕ) (why other : Refusal) → m ≡ n → slice_get refusals m ≡ Some why
     → slice_get refusals n ≡ Some other → why ≡ other
-at_one_place m n why other same here there =
-    some_same (slice_get refusals n) why other
-    (subst (λ k. slice_get refusals k ≡ Some why) same here) there
+at_one_place m n why other same here there = some_same _ _ _ (rw (← same) here) there
 
 same_or_other : (why other : Refusal) → (why ≡ other) ⊎ (why ≢ other)
 same_or_other why other = elim (cases_eq (place why) (place other)) [
-  | inl e ↦ inl (at_one_place (place why) (place other) why other e (refusal_at why)
-      (refusal_at other))
+  | inl e ↦ inl (at_one_place _ _ _ _ e (refusal_at _) (refusal_at _))
   | inr n ↦ inr (λ e. n (ap place e))
 ]
 
@@ -34,28 +31,25 @@ same_or_other why other = elim (cases_eq (place why) (place other)) [
 refused_more : (why : Refusal) (ds : List (List ℕ)) (d : List ℕ) (m n : ℕ) → AreRefusedFor why m ds
     → (Refuses d why × (n ≡ m + 1)) ⊎ (¬ Refuses d why × (n ≡ m))
     → AreRefusedFor why n (ds ++ d ∷ [])
-refused_more why [] d m n h one = (m, h, one)
+refused_more _ [] d m n h one = (m, h, one)
 refused_more why (e ∷ ds) d m n h (inl is) = (
   h.0 + 1,
-  refused_more why ds d h.0 (h.0 + 1) h.1 (inl (is.0, refl)),
+  refused_more _ ds d _ _ h.1
+      (inl (is.0, refl)),
   elim h.2 [
-    | inl own ↦ inl (own.0, omega (arith, own.1, is.1))
-    | inr own ↦ inr (own.0, omega (arith, own.1, is.1))
+    | inl own ↦ inl (own.0, omega arith)
+    | inr own ↦ inr (own.0, omega arith)
   ],
 )
 refused_more why (e ∷ ds) d m n h (inr is) = (
   h.0,
-  refused_more why ds d h.0 h.0 h.1 (inr (is.0, refl)),
-  elim h.2 [
-    | inl own ↦ inl (own.0, omega (arith, own.1, is.1))
-    | inr own ↦ inr (own.0, omega (arith, own.1, is.1))
-  ],
+  refused_more _ ds d _ _ h.1 (inr (is.0, refl)),
+  elim h.2 [ inl own ↦ inl (own.0, omega arith) | inr own ↦ inr (own.0, omega arith) ],
 )
 
 pub reasons_more : (old new : Reasons) (ds : List (List ℕ)) (d : List ℕ) → AreReasons old ds
     → CountsReason old d new → AreReasons new (ds ++ d ∷ [])
-reasons_more old new ds d all one = λ why.
-    refused_more why ds d (count_for old why) (count_for new why) (all why) (one why)
+reasons_more old new ds d all one = λ why. refused_more _ _ d _ _ (all why) (one why)
 
 -- what `read` returns of a datagram tells why it is refused
 abbrev Tells : List ℕ → Result Content Refusal → Type 0
@@ -71,13 +65,8 @@ module _ (old : Reasons) (d : List ℕ) where
       → count_for new first ≡ count_for old first + 1
       → ((other : Refusal) → other ≢ first → count_for new other ≡ count_for old other)
       → CountsReason old d new
-  counts_one new first tells one others = λ why. elim (same_or_other why first) [
-    | inl e ↦ inl (
-      (tells why).0 (ap Err (sym e)),
-      subst (λ r. count_for new r ≡ count_for old r + 1) (sym e) one,
-    )
-    | inr other ↦ inr (
-      (λ refuses. let e = (tells why).1 refuses in other cc),
-      others why other,
-    )
+  counts_one new first tells one others = λ why. elim (same_or_other _ _) [
+    | inl e ↦ inl ((tells why).0 (ap Err (sym e)), rw e one)
+    | inr other ↦ inr
+        ((λ refuses. let e = (tells why).1 refuses in other cc), others why other)
   ]

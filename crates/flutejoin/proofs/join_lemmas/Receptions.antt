@@ -1,12 +1,11 @@
 -- Lists of facts, facts above them, and their journals.
 use Rattle.std.proofs.Common.{rules}
-use Rattle.std.proofs.Common.{◌≡◌, ℕ, ◌<◌, ◌^◌, List, ◌++◌, sym, ap, subst}
-use Rattle.std.proofs.Common.{◌∙◌, append_assoc, arith}
+use Rattle.std.proofs.Common.{◌≡◌, ℕ, ◌<◌, ◌^◌, List, ◌++◌}
+use Rattle.std.proofs.Common.{append_assoc, arith}
 use Rattle.flute_parts.specs.declared.fact.Fact.{Fact}
 use Rattle.flute_parts.specs.Facts.{Same, Below}
 use Rattle.flute_parts.proofs.Public.{rising_unique, Same-append, Same-itself, Same-sym}
 use Rattle.flute_parts.proofs.Public.{Same-trans, Same-twice}
-use Rattle.flute_journal.specs.Format.{spelling}
 use Rattle.flute_journal.specs.Journal.{Journal, IsJournal, IsJournalWithin}
 use Rattle.flute_journal.specs.Stores.{IsJournalOf}
 use Rattle.flute_journal.proofs.Public.{facts_of, parts_journal, same_journal}
@@ -15,11 +14,11 @@ use Rattle.flutejoin.specs.declared.limits.TheConstants.{MAX_ENTRIES}
 pub Below-left : (F G : List Fact) → Below F (F ++ G)
 Below-left F G =
     let P : List Fact → Type 0 = λ H. Same H (F ++ G) in
-    subst P (append_assoc F F G) (Same-append (F ++ F) F G G (Same-twice F) (Same-itself G))
+    rw (← append_assoc F F G) (Same-append _ F G G (Same-twice F) (Same-itself G))
 
 pub Same-from_journals : (bs : List ℕ) (F G : List Fact) → IsJournal bs F → IsJournal bs G
     → Same F G
-Same-from_journals bs F G (v, j) (w, k) = (same_journal v w bs F G j k).1
+Same-from_journals bs F G (v, j) (w, k) = (same_journal v w _ F G j k).1
 
 pub Journal-only : (bs cs : List ℕ) (F G : List Fact) → Same F G → Journal bs F → Journal cs G
     → bs ≡ cs
@@ -31,11 +30,10 @@ IsJournal-from_bound limit small bs entries j = search (rules, parts_journal, fa
 
 pub IsJournal-from_within : (bs : List ℕ) (entries : List Fact)
     → IsJournalWithin MAX_ENTRIES bs entries → IsJournal bs entries
-IsJournal-from_within = IsJournal-from_bound MAX_ENTRIES (omega arith)
+IsJournal-from_within = IsJournal-from_bound _ (omega arith)
 
 -- facts read of a journal have the values of any facts with that journal
 pub Same-read_of_joined : (held joined others : List Fact) (bs : List ℕ) → IsJournalOf MAX_ENTRIES
     bs held → IsJournal bs joined → Same joined others → Same held others
-Same-read_of_joined held joined others bs is journal same =
-    Same-trans held is.0 others is.2 (Same-trans is.0 joined others
-    (Same-from_journals bs is.0 joined (IsJournal-from_within bs is.0 is.1) journal) same)
+Same-read_of_joined held joined others bs is journal same = Same-trans _ _ _ is.2
+    (Same-trans _ _ _ (Same-from_journals _ _ _ (IsJournal-from_within _ _ is.1) journal) same)

@@ -2,7 +2,7 @@
 use Rattle.std.proofs.lemmas.Grind.{common_steps}
 use Rattle.std.proofs.Common.{rules}
 use Rattle.std.proofs.Common.{◌≡◌, ℕ, ◌*◌, ◌^◌, ◌<◌, ◌≤◌, List, [], ◌∷◌, ◌++◌, length, Option}
-use Rattle.std.proofs.Common.{Some, None, append-nil, append_assoc, refl, sym, ap, ◌∙◌, subst}
+use Rattle.std.proofs.Common.{Some}
 use Rattle.std.proofs.Common.{arith}
 use Rattle.std.specs.Prelude.{IfSome, OnOk, Result, Ok, Err}
 use Rattle.std.specs.List.{AllByRecursion}
@@ -12,7 +12,7 @@ use Rattle.flute_parts.specs.declared.fact.Fact.{Fact}
 use Rattle.flute_parts.proofs.Public.{rising_unique, Same-append, Same-itself}
 use Rattle.flute_parts.proofs.Public.{Same-sym, Same-trans}
 use Rattle.flute_streams.specs.Advances.{AreNew}
-use Rattle.flute_journal.specs.Journal.{IsFactIn, IsJournalWithin, Journal}
+use Rattle.flute_journal.specs.Journal.{IsJournalWithin, Journal}
 use Rattle.flute_streams.specs.OwnedStreams.{owned_behaviour, owned_limit}
 use Rattle.flute_streams.specs.StreamMerges.{all_of, Each}
 use Rattle.flute_streams.specs.Listed.{listed_behaviour}
@@ -27,14 +27,13 @@ use Rattle.flutejoin.proofs.join_lemmas.Receptions.{IsJournal-from_bound, Same-f
 -- a journal that was written, within a bound
 pub within : (limit : ℕ) (bytes : List ℕ) (facts : List Fact) (j : Journal bytes facts)
     → length j.0 ≤ limit → IsJournalWithin limit bytes j.0
-within limit bytes facts j few =
-    let parts = journal_parts Two bytes facts j in
-    let one : parts.entries ≡ j.0 = rising_unique parts.entries j.0 parts.collects.rising j.1.rising
-    (Same-trans parts.entries facts j.0 (Same-sym facts parts.entries parts.collects.same) j.1.same)
-    in record {
+within _ bytes facts j few =
+    let parts = journal_parts _ _ _ j in
+    let one = rising_unique _ _ parts.collects.rising j.1.rising
+    (Same-trans _ _ _ (Same-sym _ _ parts.collects.same) j.1.same) in record {
       are_items = record {
         told = Two;
-        valid = subst (AllByRecursion (IsFactIn Two)) one parts.valid;
+        valid = rw (← one) parts.valid;
         in_order = j.1.rising;
         few = few;
       };
@@ -44,7 +43,7 @@ within limit bytes facts j few =
 -- what was written to nothing is all that there is
 pub all_written : (bytes : List ℕ) (new : Option (List ℕ)) → Appends (Some []) new bytes
     → new ≡ Some bytes
-all_written x0 x1 x2 = search rules
+all_written = search rules
 
 module _ {R : Type 0} (unread : R → Option (List ℕ)) (buffered : R → List ℕ) where
   -- one more run, with its own facts
@@ -52,19 +51,15 @@ module _ {R : Type 0} (unread : R → Option (List ℕ)) (buffered : R → List 
       (facts own : List Fact) → AreRunsOf unread buffered runs facts → IsRunOf unread buffered run
       own → AreRunsOf unread buffered (runs ++ run ∷ []) (facts ++ own)
   run_more [] run facts own h one = grind (arith, common_steps)
-  run_more (first ∷ runs) run facts own h one = grind (
-    arith,
-    common_steps,
-    run_more runs run h.1
-        own h.4 one,
-  )
+  run_more (first ∷ runs) run facts own h one = grind
+      (arith, common_steps, run_more runs run h.1 _ h.4 one)
 
   -- what runs hold together, if something was done, they hold as other facts with the same values
   pub together_on : {T E : Type 0} (runs : List (OwnedJournalStream R)) {F G : List Fact}
       (done : Result T E) → Same F G → OnOk done (HoldTogether unread buffered runs F)
       → OnOk done (HoldTogether unread buffered runs G)
-  together_on runs {F} {G} (Ok x) same h = (h.0, h.1, Same-trans h.0 F G h.2 same)
-  together_on runs (Err e) same h = tt
+  together_on _ {F} {G} (Ok x) same h = (h.0, h.1, Same-trans _ F G h.2 same)
+  together_on _ (Err e) _ h = tt
 
   module _ (failures : R → ℕ) where
     abbrev b : Behaviour (OwnedJournalStream R)
@@ -84,26 +79,20 @@ module _ {R : Type 0} (unread : R → Option (List ℕ)) (buffered : R → List 
     told_run : (run : OwnedJournalStream R) (told own : List Fact) → IsNewRun unread buffered
         failures run → b.tells run told → IsRunOf unread buffered run own → Same told own
     told_run run told own new tells is =
-        let P : Option (List ℕ) → Type 0 =
-        λ o. IfSome o (λ bytes. IsJournalWithin (owned_limit run) bytes told) in
-        let limit : owned_limit run < 2 ^ 64 = omega (arith, new.2) in
-        Same-from_journals is.0 told own
-        (IsJournal-from_bound (owned_limit run) limit is.0 told (subst P is.1 tells))
-        (IsJournal-from_bound (owned_limit run) limit is.0 own is.2)
+        let P : Option (List ℕ) → Type 0 = λ o. IfSome o
+        (λ bytes. IsJournalWithin (owned_limit run) bytes told) in
+        let limit : owned_limit run < 2 ^ 64 = omega arith in
+        Same-from_journals _ _ _ (IsJournal-from_bound _ limit _ _ (rw is.1 at tells))
+        (IsJournal-from_bound _ limit _ _ is.2)
 
     pub told_runs : (runs : List (OwnedJournalStream R)) (told : List (List Fact))
         (facts : List Fact) → AllByRecursion (IsNewRun unread buffered failures) runs
         → Each b.tells runs told → AreRunsOf unread buffered runs facts → Same (all_of told) facts
-    told_runs [] [] facts new tells h = subst (Same []) (sym h) (Same-itself [])
-    told_runs (run ∷ runs) (F ∷ told) facts new tells h = search (
-      rules,
-      all_of,
-      Same-append,
-      told_run,
-      told_runs runs told h.1 new.1 tells.1 h.4,
-    )
-    told_runs [] (F ∷ told) facts new tells h = absurd tells
-    told_runs (run ∷ runs) [] facts new tells h = absurd tells
+    told_runs [] [] _ _ _ h = rw h (Same-itself [])
+    told_runs (run ∷ runs) (F ∷ told) facts new tells h = search
+        (rules, all_of, Same-append, told_run, told_runs runs told _ new.1 tells.1 h.4)
+    told_runs [] (F ∷ told) _ _ tells h = absurd tells
+    told_runs (run ∷ runs) [] _ _ tells h = absurd tells
 
 -- What is held, as a stream.
 
@@ -112,15 +101,12 @@ module _ {R : Type 0} (unread : R → Option (List ℕ)) (buffered : R → List 
   pub run_ends : (run : OwnedJournalStream R) (facts : List Fact)
       → IsNewRun unread buffered failures run → IsRunOf unread buffered run facts
       → Ends (owned_behaviour unread buffered failures) run facts
-  run_ends run facts new is = λ now given e.
-      let P : Option (List ℕ) → Type 0 =
-      λ o. IfSome o (λ bytes. IsJournalWithin (owned_limit run) bytes given) in
-      let limit : owned_limit run < 2 ^ 64 = omega (arith, new.2) in
-      let journal = subst P is.1 e in
-      rising_unique given facts journal.are_items.in_order is.2.are_items.in_order
-      (Same-from_journals is.0 given facts
-      (IsJournal-from_bound (owned_limit run) limit is.0 given journal)
-      (IsJournal-from_bound (owned_limit run) limit is.0 facts is.2))
+  run_ends run facts new is = λ now given e. let P : Option (List ℕ) → Type 0 = λ o. IfSome o
+      (λ bytes. IsJournalWithin (owned_limit run) bytes given) in
+      let limit : owned_limit run < 2 ^ 64 = omega arith in
+      let journal = rw is.1 at e in
+      rising_unique _ _ journal.are_items.in_order is.2.are_items.in_order (Same-from_journals _ _ _
+      (IsJournal-from_bound _ limit _ _ journal) (IsJournal-from_bound _ limit _ _ is.2))
 
 module _ {W : Type 0} (held : W → Option Fact) (rest : W → List Fact) where
   pub walk_ends : (walk : W) (store facts : List Fact) → rest walk ≡ store → facts ≡ store

@@ -1,6 +1,6 @@
 -- HeldFiles::take: a datagram that was taken, or refused and counted.
 use Rattle.std.proofs.Common.{◌≡◌, ◌<◌, ◌++◌, ◌↔◌, ℕ, zero, suc, List, Option, Some, None, true}
-use Rattle.std.proofs.Common.{false, Result, Ok, Err, refl, ap, arith, append-nil, [], not, ◌∙◌, Bool}
+use Rattle.std.proofs.Common.{false, Result, Ok, Err, refl, ap, arith, append-nil, [], ◌∙◌, Bool}
 use Rattle.std.specs.Prelude.{is_none}
 use Rattle.flute_parts.specs.Information.{Information}
 use Rattle.flute_parts.specs.declared.fact.Fact.{Fact}
@@ -19,7 +19,7 @@ use Rattle.flute_streams.specs.Scopes.{chosen}
 use Rattle.flute_store.specs.declared.taken.Taken.{Taken}
 use Rattle.flute_store.specs.declared.taken.TakeFault.{TakeFault}
 use Rattle.flute_store.specs.declared.taken.TakeFault.TheVariants.{Datagram}
-use Rattle.flutejoin.specs.Joined.{Choice, facts_by, is_of_others, is_other_packet}
+use Rattle.flutejoin.specs.Joined.{Choice, facts_by, is_of_others}
 use Rattle.flutejoin.specs.Refused.{is_refused}
 use Rattle.flutejoin.proofs.join_lemmas.Held.{IsPassed}
 
@@ -31,11 +31,11 @@ pub record HasOneReading (d : List ℕ) : Type 0 where
   pub some : IsPacket d ↔ ((r : Refusal) → ¬ Applies r d)
 
 pub is_refused-no : (d : List ℕ) → IsPacket d → is_refused d ≡ false
-is_refused-no d p = ap is_none ((packet-iff d p.0).1 p.1)
+is_refused-no d p = ap is_none ((packet-iff d _).1 p.1)
 
 pub is_refused-yes : (d : List ℕ) (r : Refusal) → HasOneReading d → Applies r d
     → is_refused d ≡ true
-is_refused-yes d r one applies = go (packet d) refl
+is_refused-yes d r one applies = go _ refl
   where
     go : (o : Option Content) → packet d ≡ o → is_none o ≡ true
     go None e = refl
@@ -64,13 +64,12 @@ ok_is_packet d result t one tells is =
 pub refused_same : (sender : ℕ) (old new : List Fact) (d : List ℕ) (r : Refusal) → Applies r d
     → new ≡ old → Same new (old ++ facts sender d)
 refused_same sender old new d r applies same =
-    rw (facts-refused sender d r applies, append-nil old, same) (Same-itself old)
+    rw (facts-refused _ d r applies, append-nil old, same) (Same-itself _)
 
 -- all facts of an object are taken, or none
 module _ (takes : Key → Bool) (key : Key) where
-  all_of : (i : Option Information) (s : Option (SymbolId × List ℕ)) → takes key ≡ true
-      → chosen takes (info_facts key i ++ symbol_facts key s)
-      ≡ info_facts key i ++ symbol_facts key s
+  all_of : (i : Option Information) (s : Option (SymbolId × List ℕ)) → takes key ≡ true → chosen
+      takes (info_facts key i ++ symbol_facts key s) ≡ info_facts key i ++ symbol_facts key s
   all_of None None e = refl
   all_of (Some i) None e = rw e refl
   all_of None (Some s) e = rw e refl
@@ -98,28 +97,26 @@ module _ (choice : Choice) (d : List ℕ) where
   pub packet_taken : (p : Content) → Spells d p → choice.takes (key_of choice.sender p) ≡ true
       → IsTaken p
   packet_taken p s e =
-      let told = facts-Spells choice.sender d p s in
+      let told = facts-Spells _ d p s in
       record {
-        told = ap (chosen choice.takes) told
-            ∙ all_of choice.takes (key_of choice.sender p) p.info p.symbol e;
+        told = ap (chosen choice.takes) told ∙ all_of choice.takes _ _ _ e;
         kept = is_refused-no d (p, s);
-        own = ap (is_other_packet choice) ((packet-iff d p).1 s) ∙ ap not e;
+        own = cc ((packet-iff d p).1 s);
       }
 
   pub packet_passed : (p : Content) → Spells d p → choice.takes (key_of choice.sender p) ≡ false
       → IsPassed choice d
   packet_passed p s e = record {
-    none = ap (chosen choice.takes) (facts-Spells choice.sender d p s)
-        ∙ none_of choice.takes (key_of choice.sender p) p.info p.symbol e;
+    none = cc (facts-Spells _ d p s, none_of choice.takes (key_of choice.sender p) p.info p.symbol e);
     kept = is_refused-no d (p, s);
-    other = ap (is_other_packet choice) ((packet-iff d p).1 s) ∙ ap not e;
+    other = cc ((packet-iff d p).1 s);
   }
 
   pub no_packet : (r : Refusal) → Applies r d → ((p : Content) → ¬ Spells d p) → IsNoPacket
   no_packet r applies never = record {
-    none = ap (chosen choice.takes) (facts-refused choice.sender d r applies);
-    refused = ap is_none (go (packet d) refl);
-    own = ap (is_other_packet choice) (go (packet d) refl);
+    none = cc (facts-refused _ d r applies);
+    refused = cc (go _ refl);
+    own = cc (go _ refl);
   }
     where
       go : (o : Option Content) → packet d ≡ o → packet d ≡ None

@@ -6,7 +6,6 @@ use Rattle.std.specs.Prelude.{not, ◌&&◌, filter, is_some}
 use Rattle.std.specs.BTreeSet.{BTreeSet, contains}
 use Rattle.std.specs.List.{flat_map}
 use Rattle.std.proofs.lemmas.List.Elements.{filter-append}
-use Rattle.flute_parts.specs.Addresses.{address}
 use Rattle.flute_parts.specs.Facts.{Same}
 use Rattle.flute_parts.specs.Order.{key_cmp}
 use Rattle.flute_parts.specs.declared.fact.Fact.{Fact}
@@ -35,7 +34,7 @@ use Rattle.flutejoin.proofs.join_lemmas.Receptions.{Same-from_journals}
 filter_both : (p q : Fact → Bool) (F : List Fact)
     → filter (λ f. p f && q f) F ≡ filter p (filter q F)
 filter_both p q [] = refl
-filter_both p q (f ∷ F) = go (p f) (q f) refl refl (filter_both p q F)
+filter_both p q (f ∷ F) = go _ _ refl refl (filter_both p q F)
   where
     go : (a b : Bool) → p f ≡ a → q f ≡ b
         → filter (λ f. p f && q f) F ≡ filter p (filter q F)
@@ -45,14 +44,11 @@ filter_both p q (f ∷ F) = go (p f) (q f) refl refl (filter_both p q F)
     go false true x y h = search rules
     go false false x y h = search rules
 
-filter_all : {X : Type 0} (p : Fact → Bool) (g h : X → List Fact)
-    → ((x : X) → h x ≡ filter p (g x)) → (xs : List X)
-    → flat_map h xs ≡ filter p (flat_map g xs)
-filter_all p g h same [] = refl
-filter_all p g h same (x ∷ xs) =
-    ap (λ l. l ++ flat_map h xs) (same x)
-    ∙ ap (λ l. filter p (g x) ++ l) (filter_all p g h same xs)
-    ∙ sym (filter-append p (g x) (flat_map g xs))
+filter_all : {X : Type 0} (p : Fact → Bool) (g h : X → List Fact) → ((x : X) → h x ≡ filter p (g x))
+    → (xs : List X) → flat_map h xs ≡ filter p (flat_map g xs)
+filter_all p g h _ [] = refl
+filter_all p g h same (x ∷ xs) = ap (λ l. l ++ flat_map h xs) (same x) ∙ ap
+    (λ l. filter p (g x) ++ l) (filter_all p g h same xs) ∙ sym (filter-append p _ _)
 
 -- Of everything each fact is selected.
 
@@ -86,33 +82,33 @@ module _ (s : Selection) (e : is_everything s ≡ true) where
   symbols_are = objects_are && of_symbol
 
   conflicts_are : ((symbols_are && not s.info) ≡ true) × (not s.conflicts ≡ true)
-  conflicts_are = both_true (symbols_are && not s.info) (not s.conflicts) e
+  conflicts_are = both_true _ _ e
 
   info_is : (symbols_are ≡ true) × (not s.info ≡ true)
-  info_is = both_true symbols_are (not s.info) conflicts_are.0
+  info_is = both_true _ _ conflicts_are.0
 
   symbol_is : (objects_are ≡ true) × (of_symbol ≡ true)
-  symbol_is = both_true objects_are of_symbol info_is.0
+  symbol_is = both_true _ _ info_is.0
 
   key_is : (of_sender ≡ true) × (is_all s.scope ≡ true)
-  key_is = both_true of_sender (is_all s.scope) symbol_is.0
+  key_is = both_true _ _ symbol_is.0
 
   of_objects : (keys : BTreeSet Key) → IsOfObjects (all_but_of keys s)
-  of_objects keys = record {
-    symbol = is_none s.symbol symbol_is.1;
-    info = not_false s.info info_is.1;
-    conflicts = not_false s.conflicts conflicts_are.1;
+  of_objects _ = record {
+    symbol = is_none _ symbol_is.1;
+    info = not_false _ info_is.1;
+    conflicts = not_false _ conflicts_are.1;
   }
 
   selects_each : (f : Fact) → selects s f ≡ true
-  selects_each f =
-      rw (
-        is_none s.sender key_is.0,
-        is_none s.symbol symbol_is.1,
-        not_false s.info info_is.1,
-        not_false s.conflicts conflicts_are.1,
-        takes_each s.scope key_is.1 (address f).key,
-      ) refl
+  selects_each f = rw (
+    is_none _ key_is.0,
+    is_none _ symbol_is.1,
+    not_false _ info_is.1,
+    not_false
+        _ conflicts_are.1,
+    takes_each _ key_is.1 _,
+  ) refl
 
 abbrev facts_told : Choice → List InputContent → List Fact
 facts_told choice told = flat_map (content_facts choice) told
@@ -127,27 +123,25 @@ module _ (most : Limits) (sender : ℕ) (scope : Scope) (keys : BTreeSet Key) wh
   abbrev unlisted : Key → Bool
   unlisted key = not (contains key_cmp keys key)
 
-  facts_without : (F : List Fact)
-      → chosen with.takes F ≡ chosen unlisted (chosen all.takes F)
-  facts_without F = filter_both (is_chosen unlisted) (is_chosen all.takes) F
+  facts_without : (F : List Fact) → chosen with.takes F ≡ chosen unlisted (chosen all.takes F)
+  facts_without F = filter_both _ _ F
 
   content_without : (x : InputContent)
       → content_facts with x ≡ chosen unlisted (content_facts all x)
-  content_without (of_journal entries) = facts_without entries
+  content_without (of_journal entries) = facts_without _
   content_without (of_file datagrams) = filter_all (is_chosen unlisted) (facts_by all)
-      (facts_by with) (λ d. facts_without (facts sender d)) datagrams
+      _ (λ d. facts_without (facts sender d)) datagrams
 
   told_without : (told : List InputContent)
       → facts_told with told ≡ chosen unlisted (facts_told all told)
-  told_without told = filter_all (is_chosen unlisted) (content_facts all) (content_facts with)
-      content_without told
+  told_without told = filter_all (is_chosen unlisted) (content_facts all) _ content_without told
 
   module _ (s : Selection) (e : is_everything s ≡ true) where
     abbrev rest : AllBut
     rest = all_but_of keys s
 
     leaves_unlisted : (f : Fact) → leaves rest f ≡ is_chosen unlisted f
-    leaves_unlisted f = stays (contains key_cmp keys (address f).key) (selects s f)
+    leaves_unlisted f = stays _ _
         (selects_each s e f)
       where
         stays : (a b : Bool) → b ≡ true → not (a && b) ≡ not a
@@ -155,45 +149,31 @@ module _ (most : Limits) (sender : ℕ) (scope : Scope) (keys : BTreeSet Key) wh
         stays false b is = refl
 
     left_unlisted : (F : List Fact) → left rest F ≡ chosen unlisted F
-    left_unlisted F = filter_same (leaves rest) (is_chosen unlisted) leaves_unlisted F
+    left_unlisted F = filter_same _ _ leaves_unlisted F
 
     module _ (one : OneReading) where
       -- what was forgotten of the join
       pub forgotten_after : {inputs : List (List ℕ)} {bs cs ds : List ℕ} {counts : ForgetCounts}
           → Joined with inputs bs → Joined all inputs cs → Leaves rest cs ds counts → bs ≡ ds
-      forgotten_after {inputs = inputs} {bs = bs} {cs = cs} {ds = ds} {counts = counts} j k l =
+      forgotten_after {inputs} {bs} {cs} {ds} {counts} j k l =
           let xs = j.2.told in
           let ys = k.2.told in
           let E = entries_of rest cs ds counts l in
-          let held : Same E (facts_told all ys) = Same-from_journals cs E (facts_told all ys)
-          (IsJournal-from_within cs E (within_of rest cs ds counts l))
-          (written_journal cs (facts_told all ys) (wrote one all inputs cs k)) in
-          let taken : Same (facts_told with xs) (chosen unlisted (facts_told all ys)) =
-          subst (λ m. Same (facts_told with xs) m) (told_without ys)
-          (tell_same one with inputs xs ys j.2.tell k.2.tell) in
-          let same : Same (facts_told with xs) (left rest E) =
-          subst (λ m. Same (facts_told with xs) m) (sym (left_unlisted E))
-          (Same-trans (facts_told with xs) (chosen unlisted (facts_told all ys))
-          (chosen unlisted E) taken
-          (Same-sym (chosen unlisted E) (chosen unlisted (facts_told all ys))
-          (same_chosen unlisted E (facts_told all ys) held))) in
-          Journal-only bs ds (facts_told with xs) (left rest E) same
-          (wrote one with inputs bs j) (journal_left rest cs ds counts l)
+          let held = Same-from_journals _ E _ (IsJournal-from_within _ E (within_of _ _ _ _ l))
+          (written_journal _ _ (wrote one _ _ _ k)) in
+          let taken = rw (told_without ys) at (tell_same one with _ _ _ j.2.tell k.2.tell) in
+          let same = rw (← (left_unlisted E)) at
+          (Same-trans _ _ _ taken (Same-sym _ _ (same_chosen unlisted E _ held))) in Journal-only _
+          _ _ _ same (wrote one _ _ _ j) (journal_left _ _ _ _ l)
 
       -- what was forgotten of each journal
-      pub forgotten_before : {journals written : List (List ℕ)} {bs cs : List ℕ}
-          → AreLeft rest journals written → Joined with journals bs → Joined all written cs
-          → bs ≡ cs
-      forgotten_before {journals = journals} {written = written} {bs = bs} {cs = cs} h j k =
+      pub forgotten_before : {journals written : List (List ℕ)} {bs cs : List ℕ} → AreLeft rest
+          journals written → Joined with journals bs → Joined all written cs → bs ≡ cs
+      forgotten_before {journals} {written} {bs} {cs} h j k =
           let xs = j.2.told in
           let ys = k.2.told in
           let of = of_objects s e keys in
-          let of_left : chosen (stays rest of) (facts_told all xs)
-          ≡ chosen unlisted (facts_told all xs) =
-          sym (left_chosen rest of (facts_told all xs)) ∙ left_unlisted (facts_told all xs) in
-          let taken : Same (facts_told all ys) (facts_told with xs) =
-          subst (λ m. Same (facts_told all ys) m) (of_left ∙ sym (told_without xs))
-          (all_left rest of all journals written xs ys h j.2.tell k.2.tell) in
-          Journal-only bs cs (facts_told with xs) (facts_told all ys)
-          (Same-sym (facts_told all ys) (facts_told with xs) taken)
-          (wrote one with journals bs j) (wrote one all written cs k)
+          let of_left = sym (left_chosen _ of _) ∙ left_unlisted _ in
+          let taken = subst (λ m. Same (facts_told all ys) m) (of_left ∙ sym (told_without xs))
+          (all_left _ _ all _ _ _ _ h j.2.tell k.2.tell) in Journal-only _ _ _ _
+          (Same-sym _ _ taken) (wrote one _ _ _ j) (wrote one _ _ _ k)

@@ -5,8 +5,7 @@ use Rattle.hex.specs.Hex.{encode_lower}
 use Rattle.flute_parts.specs.Devices.{Writes}
 use Rattle.flute_parts.specs.declared.symbol_id.SymbolId.{SymbolId}
 use Rattle.flute_wire.specs.Content.{Content}
-use Rattle.flute_wire.specs.Facts.{object_named}
-use Rattle.flutejoin.specs.Json.{json_info_or_null, json_object, json_packet_lines}
+use Rattle.flutejoin.specs.Json.{json_packet_lines}
 use Rattle.flutejoin.specs.Json.{json_symbol, json_symbol_or_null}
 use Rattle.flutejoin.specs.Lines.{line}
 use Rattle.flutejoin.specs.Pieces.{json_packet_head}
@@ -16,8 +15,7 @@ use Rattle.flutejoin.specs.Pieces.{json_packet_head}
 pub members3 : (a b c d : List ℕ) → ((a ++ b) ++ c) ++ d ≡ a ++ ((b ++ c) ++ d)
 members3 a b c d = simp append_assoc refl
 
-pub members4 : (a b c d e : List ℕ)
-    → (((a ++ b) ++ c) ++ d) ++ e ≡ a ++ (((b ++ c) ++ d) ++ e)
+pub members4 : (a b c d e : List ℕ) → (((a ++ b) ++ c) ++ d) ++ e ≡ a ++ (((b ++ c) ++ d) ++ e)
 members4 a b c d e = simp append_assoc refl
 
 pub members5 : (a b c d e f : List ℕ)
@@ -27,19 +25,17 @@ members5 a b c d e f = simp append_assoc refl
 -- The lines of a packet: those before the symbol's, and that.
 
 -- with the words `a` to `n` for an opening brace, "tsi": , a closing brace and a line feed
-regroup : (a s e n t o i l : List ℕ)
-    → (((a ++ (s ++ t)) ++ e) ++ n) ++ ((((a ++ o) ++ e) ++ n) ++ ((((a ++ i) ++ e) ++ n)
-    ++ (((a ++ l) ++ e) ++ n)))
-    ≡ (((((((a ++ s) ++ t) ++ ((e ++ n) ++ a)) ++ o) ++ ((e ++ n) ++ a)) ++ i) ++ (e ++ n))
-    ++ (a ++ (l ++ (e ++ n)))
+regroup : (a s e n t o i l : List ℕ) → (((a ++ (s ++ t)) ++ e) ++ n) ++
+    ((((a ++ o) ++ e) ++ n) ++ ((((a ++ i) ++ e) ++ n) ++ (((a ++ l) ++ e) ++ n))) ≡
+    (((((((a ++ s) ++ t) ++ ((e ++ n) ++ a)) ++ o) ++ ((e ++ n) ++ a)) ++ i) ++ (e ++ n)) ++
+    (a ++ (l ++ (e ++ n)))
 regroup a s e n t o i l = simp append_assoc refl
 
 packet_pieces : (c : Content) → json_packet_lines c
     ≡ json_packet_head c ++ (codes "{" ++ (json_symbol_or_null c.symbol ++ codes "}\n"))
 unfolding json_packet_lines json_packet_head
-packet_pieces c = regroup (codes "{") (codes "\"tsi\":") (codes "}") (codes "\n") (decimal c.tsi)
-    (json_object (object_named c.toi c.instance))
-    (json_info_or_null c.info) (json_symbol_or_null c.symbol)
+packet_pieces c = regroup (codes "{") (codes "\"tsi\":") (codes "}") (codes "\n") (decimal c.tsi) _
+    _ _
 
 with_bytes : (h s b e : List ℕ)
     → (((h ++ codes "{") ++ s) ++ b) ++ (e ++ codes "\"}}\n")
@@ -74,8 +70,6 @@ module _ {T E : Type 0} (c : Content) (old new : Option (List ℕ)) where
   pub none_written : {words : List ℕ} (r : Result T E) → c.symbol ≡ None
       → words ≡ (json_packet_head c ++ codes "{") ++ codes "\"symbol\":null}"
       → Writes old new (line words) r → Writes old new (json_packet_lines c) r
-  none_written {words = words} r is w done =
-      let all = last_line c None is
-      ∙ sym (with_none (json_packet_head c) (codes "\"symbol\":null")) in
-      subst (λ (x : List ℕ). Writes old new x r) (sym all)
-      (subst (λ (x : List ℕ). Writes old new (line x) r) w done)
+  none_written r is w done =
+      let all = last_line c _ is ∙ sym (with_none _ (codes "\"symbol\":null")) in
+      rw all (subst (λ x. Writes old new (line x) r) w done)

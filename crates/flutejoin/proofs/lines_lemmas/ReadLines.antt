@@ -1,7 +1,7 @@
 -- A list that is read line by line (specs/ListedLines: HasRead).
 use Rattle.std.proofs.Common.{rules}
-use Rattle.std.proofs.Common.{◌≡◌, ◌≢◌, ℕ, ◌+◌, ◌-◌, ◌^◌, List, [], ◌∷◌, ◌++◌, length, Option, Some}
-use Rattle.std.proofs.Common.{None, arith, refl, sym, ap, ◌∙◌, subst, append-nil, append_assoc}
+use Rattle.std.proofs.Common.{◌≡◌, ℕ, ◌+◌, ◌-◌, ◌^◌, List, [], ◌∷◌, ◌++◌, Option, Some}
+use Rattle.std.proofs.Common.{None, arith, refl, append-nil, append_assoc}
 use Rattle.std.proofs.Common.{length-append}
 use Rattle.std.specs.Prelude.{IfSome, ⊤}
 use Rattle.std.specs.Io.KnownBytes.{Consumes}
@@ -9,7 +9,7 @@ use Rattle.std.specs.List.{flat_map}
 use Rattle.std.proofs.KnownBytes.{Consumes-nil, Consumes-trans}
 use Rattle.std.proofs.lemmas.Grind.{flat_map-append}
 use Rattle.flutejoin.specs.Lines.{line}
-use Rattle.flutejoin.specs.ListedLines.{BeginsLine, HasLine, HasNoEnd, HasRead, HasRest, HasBadLine}
+use Rattle.flutejoin.specs.ListedLines.{BeginsLine, HasLine, HasNoEnd, HasRead, HasBadLine}
 use Rattle.flutejoin.specs.ListedLines.{IsOneLine, LinesTell, ListTells, no_end, nothing, too_many}
 
 module _ {X : Type 0} (Tells : List ℕ → List X → Type 0) where
@@ -21,15 +21,14 @@ module _ {X : Type 0} (Tells : List ℕ → List X → Type 0) where
       → LinesTell Tells lines items → IsOneLine words → Tells words here
       → LinesTell Tells (lines ++ words ∷ []) (items ++ here)
   unfolding LinesTell
-  tell_more [] items words here told one tells =
-      (here, [], one, tells, refl, ap (λ (F : List X). F ++ here) told ∙ sym (append-nil here))
-  tell_more (l ∷ lines) items words here (h, later, o, t, rest, e) one tells = (
+  tell_more [] _ _ here told one tells = (here, [], one, tells, refl, cc (append-nil here))
+  tell_more (l ∷ lines) _ words here (h, later, o, t, rest, e) one tells = (
     h,
     later ++ here,
     o,
     t,
-    tell_more lines later words here rest one tells,
-    ap (λ (F : List X). F ++ here) e ∙ append_assoc h later here,
+    tell_more lines _ _ _ rest one tells,
+    cc (append_assoc h later here),
   )
 
   text_more : (lines : List (List ℕ)) (words : List ℕ)
@@ -39,17 +38,16 @@ module _ {X : Type 0} (Tells : List ℕ → List X → Type 0) where
   pub read_nothing : (all : Option (List ℕ)) → HasRead Tells all all 1 []
   read_nothing all = record {
     bytes = [];
-    taken = Consumes-nil all;
+    taken = Consumes-nil _;
     begins = record { lines = []; text = refl; tell = tell_none; number_is = refl };
   }
 
   -- what is left of known bytes, with what was read before
-  known : (all left : Option (List ℕ)) (bytes : List ℕ) (P Q : List ℕ → Type 0)
-      → Consumes all left bytes → IfSome left P → ((rest : List ℕ) → P rest → Q (bytes ++ rest))
-      → IfSome all Q
-  known None left bytes P Q taken h f = tt
-  known (Some x) None bytes P Q taken h f = absurd taken
-  known (Some x) (Some y) bytes P Q taken h f = subst Q (sym taken) (f y h)
+  known : (all left : Option (List ℕ)) (bytes : List ℕ) (P Q : List ℕ → Type 0) → Consumes all left
+      bytes → IfSome left P → ((rest : List ℕ) → P rest → Q (bytes ++ rest)) → IfSome all Q
+  known None _ _ P Q _ h f = tt
+  known (Some x) None _ P Q taken h f = absurd taken
+  known (Some x) (Some y) _ P Q taken h f = rw taken (f y h)
 
   some_left : (left : Option (List ℕ)) → IfSome left (λ rest. ⊤)
   some_left None = tt
@@ -60,58 +58,46 @@ module _ {X : Type 0} (Tells : List ℕ → List X → Type 0) where
     before : (rest : List ℕ) → BeginsLine Tells (r.bytes ++ rest) number items rest
     before rest = record {
       lines = r.begins.lines;
-      text = ap (λ b. b ++ rest) (r.begins.text ∙ append-nil (flat_map line r.begins.lines));
+      text = cc (append-nil (flat_map line r.begins.lines));
       tell = r.begins.tell;
       number_is = r.begins.number_is;
     }
 
     -- a list that begins with what was read
     pub begins : IfSome all (λ bytes. (rest : List ℕ) × BeginsLine Tells bytes number items rest)
-    begins =
-        known all left r.bytes (λ rest. ⊤)
-        (λ bytes. (rest : List ℕ) × BeginsLine Tells bytes number items rest) r.taken
-        (some_left left) (λ rest t. (rest, before rest))
+    begins = known _ _ _ _ _ r.taken (some_left _) (λ rest t. (rest, before _))
 
     pub read_more : (new : Option (List ℕ)) (words : List ℕ) (here : List X)
         → Consumes left new (line words) → IsOneLine words → Tells words here
         → HasRead Tells all new (number + 1) (items ++ here)
     read_more new words here taken one tells = record {
       bytes = r.bytes ++ line words;
-      taken = Consumes-trans all left new r.bytes (line words) r.taken taken;
+      taken = Consumes-trans _ _ _ _ _ r.taken taken;
       begins = record {
         lines = r.begins.lines ++ words ∷ [];
-        text = ap (λ b. b ++ line words) (r.begins.text ∙ append-nil (flat_map line r.begins.lines))
-            ∙ sym (text_more r.begins.lines words)
-            ∙ sym (append-nil (flat_map line (r.begins.lines ++ words ∷ [])));
-        tell = tell_more r.begins.lines items words here r.begins.tell one tells;
-        number_is = omega
-            (arith, r.begins.number_is, length-append r.begins.lines (words ∷ []));
+        text = cc (append-nil (flat_map line r.begins.lines), text_more _ _, append-nil (flat_map line (r.begins.lines ++ words ∷ [])));
+        tell = tell_more _ _ _ _ r.begins.tell one tells;
+        number_is = omega (arith, length-append r.begins.lines (words ∷ []));
       };
     }
 
     pub read_all : IfSome left (λ rest. rest ≡ [])
         → IfSome all (λ bytes. ListTells Tells bytes items)
-    read_all end =
-        known all left r.bytes (λ rest. rest ≡ []) (λ bytes. ListTells Tells bytes items) r.taken
-        end (λ rest none. record {
-          lines = r.begins.lines;
-          text = ap (λ x. r.bytes ++ x) none ∙ append-nil r.bytes ∙ r.begins.text
-              ∙ append-nil (flat_map line r.begins.lines);
-          tell = r.begins.tell;
-        })
+    read_all end = known _ _ _ _ _ r.taken end (λ rest none. record {
+      lines = r.begins.lines;
+      text = cc (append-nil r.bytes, append-nil (flat_map line r.begins.lines));
+      tell = r.begins.tell;
+    })
 
     pub has_line : (P : List ℕ → Type 0) (new : Option (List ℕ)) (words : List ℕ)
         → Consumes left new (line words) → IsOneLine words → P words
         → IfSome all (λ bytes. HasLine Tells P bytes number)
-    has_line P new words taken one here =
-        known all new (r.bytes ++ line words) (λ rest. ⊤) (λ bytes. HasLine Tells P bytes number)
-        (Consumes-trans all left new r.bytes (line words) r.taken taken) (some_left new)
-        (λ rest t. record {
+    has_line P new words taken one here = known _ _ _ _ _ (Consumes-trans _ _ _ _ _ r.taken taken)
+        (some_left _) (λ rest t. record {
           items = items;
           words = words;
           rest = rest;
-          begins = subst (λ b. BeginsLine Tells b number items (line words ++ rest))
-              (sym (append_assoc r.bytes (line words) rest)) (before (line words ++ rest));
+          begins = rw ((append_assoc r.bytes (line words) rest)) (before _);
           one_line = one;
           here = here;
         })
@@ -121,8 +107,8 @@ module _ {X : Type 0} (Tells : List ℕ → List X → Type 0) where
           → IsOneLine words → TellsNothing words
           → IfSome all (λ bytes. HasBadLine Tells TellsNothing bytes number)
       bad_line new words taken one here =
-          each all (λ bytes. HasLine Tells TellsNothing bytes number) (λ bytes h. nothing h)
-          (has_line TellsNothing new words taken one here)
+          each _ _ (λ bytes h. nothing h)
+          (has_line _ _ _ taken one here)
         where
           each : (o : Option (List ℕ)) (P : List ℕ → Type 0)
               → ((bytes : List ℕ) → P bytes → HasBadLine Tells TellsNothing bytes number)
@@ -132,19 +118,10 @@ module _ {X : Type 0} (Tells : List ℕ → List X → Type 0) where
 
       pub without_end : IfSome left HasNoEnd
           → IfSome all (λ bytes. HasBadLine Tells TellsNothing bytes number)
-      without_end h =
-          known all left r.bytes HasNoEnd (λ bytes. HasBadLine Tells TellsNothing bytes number)
-          r.taken h (λ rest here. no_end (record {
-            items = items;
-            rest = rest;
-            begins = before rest;
-            here = here;
-          }))
+      without_end h = known _ _ _ _ _ r.taken h (λ rest here. no_end
+          (record { items = items; rest = rest; begins = before _; here = here }))
 
       pub beyond : number ≡ 2 ^ 64
           → IfSome all (λ bytes. HasBadLine Tells TellsNothing bytes (2 ^ 64 - 1))
-      beyond last =
-          known all left r.bytes (λ rest. ⊤)
-          (λ bytes. HasBadLine Tells TellsNothing bytes (2 ^ 64 - 1)) r.taken (some_left left)
-          (λ rest t. too_many items rest
-          (subst (λ n. BeginsLine Tells (r.bytes ++ rest) n items rest) last (before rest)) refl)
+      beyond last = known _ _ _ _ _ r.taken (some_left _)
+          (λ rest t. too_many items rest (rw (← last) (before _)) refl)

@@ -1,6 +1,6 @@
 -- write_line: a line that was written (specs/Pieces).
 use Rattle.std.proofs.Common.{rules}
-use Rattle.std.proofs.Common.{◌≡◌, ℕ, List, Option, Result, subst}
+use Rattle.std.proofs.Common.{◌≡◌, ℕ, List, Option, Result}
 use Rattle.flute_parts.specs.Devices.{Writes}
 use Rattle.flutejoin.specs.Lines.{line}
 

@@ -1,5 +1,5 @@
 -- walk_objects: a journal whose objects are told as it is read (specs/Gaps).
-use Rattle.std.proofs.Common.{◌≡◌, ◌≤◌, ℕ, Bool, true, List, [], ◌∷◌, ◌++◌, Option, None, Ok}
+use Rattle.std.proofs.Common.{◌≡◌, ℕ, Bool, true, List, [], ◌∷◌, ◌++◌, Option, None}
 use Rattle.std.proofs.Common.{Err, inl, inr, refl, length, arith, ap, ◌∙◌, ◌-◌, ◌<◌, subst}
 use Rattle.std.proofs.Common.{length-append}
 use Rattle.std.specs.Prelude.{filter}
@@ -19,7 +19,7 @@ use Rattle.flute_journal.specs.HeldEntries.{spelled_of}
 use Rattle.flutejoin.proofs.HeldEntries.{let_go_after}
 use Rattle.std.specs.Io.KnownBytes.{Consumes}
 use Rattle.flutejoin.specs.Limits.{Limits, at_most}
-use Rattle.flutejoin.specs.declared.command_fault.CommandFault.TheVariants.{CannotWrite, Input}
+use Rattle.flutejoin.specs.declared.command_fault.CommandFault.TheVariants.{CannotWrite}
 use Rattle.flutejoin.specs.declared.command_fault.CommandFault.TheVariants.{OutOfMemory}
 use Rattle.flutejoin.specs.Packet.{write_failures}
 use Rattle.flutejoin.specs.Show.{FailsToRead}
@@ -47,7 +47,7 @@ module _ (most : Limits) (input left : Option (List ℕ)) where
 -- how often the source failed
 pub fails_since : (f : CommandFault) {n : ℕ} (m : ℕ) {k : ℕ} → n ≡ k
     → FailsToRead {T = Unit {0}} n m (Err f) → FailsToRead {T = Unit {0}} k m (Err f)
-fails_since f m e h = subst (λ (x : ℕ). FailsToRead {T = Unit {0}} x m (Err f)) e h
+fails_since f m e h = subst (λ x. FailsToRead {T = Unit {0}} x m (Err f)) e h
 
 -- entries were read within the limits, and the visitor was told of those that are picked
 pub record WalksRead {R : Type 0} (unread : R → Option (List ℕ)) (buffered : R → List ℕ)
@@ -60,8 +60,8 @@ pub record WalksRead {R : Type 0} (unread : R → Option (List ℕ)) (buffered :
       → Stands Has at (filter picks entries) walk now
 
 counted : (F : List Fact) (told : Version) → entries_at (state_at journal_framing told F) ≡ length F
-counted [] told = refl
-counted (f ∷ F) told = refl
+counted [] _ = refl
+counted (f ∷ F) _ = refl
 
 module _ {R : Type 0} {unread : R → Option (List ℕ)} {buffered : R → List ℕ} {s o y : ℕ}
     {At V : Type 0} {Has : At → List Told → Option Progress → V → Type 0} {picks : Fact → Bool}
@@ -70,11 +70,10 @@ module _ {R : Type 0} {unread : R → Option (List ℕ)} {buffered : R → List 
     (h : WalksRead unread buffered Has picks u journal tally walk first now) where
   -- how many entries were read
   pub read_count : entries_at (state_of journal.reader) ≡ length h.entries
-  read_count = ap entries_at h.read.sofar.state_is
-      ∙ counted h.entries h.read.sofar.are_items.told
+  read_count = ap entries_at h.read.sofar.state_is ∙ counted _ _
 
   pub read_rises : IsRising (filter picks h.entries)
-  read_rises = rising_picked picks h.entries h.read.sofar.are_items.in_order
+  read_rises = rising_picked _ _ h.read.sofar.are_items.in_order
 
   -- where the walk is, whatever is known of what devices were given
   abbrev pub is_at : (at : At) → Has at [] None first → IsAt Has walk now
@@ -96,22 +95,19 @@ module _ {R : Type 0} {unread : R → Option (List ℕ)} {buffered : R → List 
     pub fewer : MAX_ENTRIES - entries_at (state_of to.reader)
         < MAX_ENTRIES - entries_at (state_of journal.reader)
     fewer =
-        let few : length (h.entries ++ f ∷ []) ≤ MAX_ENTRIES = more.sofar.are_items.few in
-        let now : entries_at (state_of to.reader) ≡ length (h.entries ++ f ∷ []) =
-        ap entries_at more.sofar.state_is
-        ∙ counted (h.entries ++ f ∷ []) more.sofar.are_items.told in
+        let few = more.sofar.are_items.few in
+        let now = ap entries_at more.sofar.state_is ∙ counted _ _ in
         omega (arith, few, now, read_count, length-append h.entries (f ∷ []))
 
     pub can_add : picks f ≡ true → (at : At) → Has at [] None first → CanAdd Has f walk now
     can_add e at none = record {
       at = is_at at none;
-      onward = picked_rises picks f h.entries e more.sofar.are_items.in_order;
+      onward = picked_rises _ f _ e more.sofar.are_items.in_order;
     }
 
-    pub one_more : {walk' : Option OpenObject} {now' : V}
-        → ((at : At) → Stands Has at (filter picks h.entries) walk now
-        → Stands Has at (filter picks (h.entries ++ f ∷ [])) walk' now')
-        → WalksRead unread buffered Has picks u to next walk' first now'
+    pub one_more : {walk' : Option OpenObject} {now' : V} → ((at : At) → Stands Has at
+        (filter picks h.entries) walk now → Stands Has at (filter picks (h.entries ++ f ∷ [])) walk'
+        now') → WalksRead unread buffered Has picks u to next walk' first now'
     one_more l = record {
       entries = h.entries ++ f ∷ [];
       read = more;
@@ -125,7 +121,7 @@ module _ {R : Type 0} {unread : R → Option (List ℕ)} {buffered : R → List 
       entries = h.entries ++ f ∷ [];
       are_items = more.sofar.are_items;
       within = more.counts.within;
-      read = inl (let_go_after u (unread (source_of to.reader).now) left _ _ taken more.sofar.read);
+      read = inl (let_go_after u _ _ _ _ taken more.sofar.read);
     }
 
   module _ (to : JournalState R) (next : Tally s o y)
@@ -138,9 +134,8 @@ module _ {R : Type 0} {unread : R → Option (List ℕ)} {buffered : R → List 
       read = inr end;
     }
 
-    pub all_read : {P : List Told → Type 0} (objects : List Told)
-        → AreTold (filter picks h.entries) objects → P objects
-        → ListsJournal (at_most s o y) picks u P
+    pub all_read : {P : List Told → Type 0} (objects : List Told) → AreTold (filter picks h.entries)
+        objects → P objects → ListsJournal (at_most s o y) picks u P
     all_read objects l p = record {
       entries = h.entries;
       journal = end.0;

@@ -10,7 +10,7 @@ use Rattle.flute_store.specs.declared.gap.Gap.{Gap}
 use Rattle.flute_store.specs.declared.turn.Turn.{Turn}
 use Rattle.flute_store.specs.Extract.{IsNotWhole}
 use Rattle.flute_store.specs.Scan.{Scanned, next_fact, coming_fact, value_of, CanFollow, CanCome}
-use Rattle.flute_store.specs.Scan.{Turned, GaveGap, Follows, ComeNext, PassedNext}
+use Rattle.flute_store.specs.Scan.{Turned, GaveGap, Follows, PassedNext}
 use Rattle.flute_store.specs.Scans.{ScanState, Scans}
 use Rattle.flutejoin.specs.Progress.{HasGap, IsBroken, PassesOn, Progress, lacking, progress_of}
 use Rattle.flutejoin.specs.Progress.{value_in, with_value}
@@ -45,12 +45,11 @@ gave_none s next scan h e b = record {
 passes_same : (s t : Scanned) (next : Next) → t.key ≡ s.key → t.facts ≡ s.facts → CanFollow s next
     → CanFollow t next
 passes_same s t None k f r = tt
-passes_same s t (Some n) k f r = subst (λ x. IsRising (t.facts ++ next_fact x n ∷ [])) (sym k)
-    (subst (λ x. IsRising (x ++ next_fact s.key n ∷ [])) (sym f) r)
+passes_same s t (Some n) k f r = rw k (subst (λ x. IsRising (x ++ next_fact s.key n ∷ [])) (sym f) r)
 
 pub can_pass : {s : Scanned} {next : Next} {scan : ScanState} (h : Gave s next scan)
     → CanFollow s next → CanFollow h.t next
-can_pass {s = s} {next = next} h r = passes_same s h.t next h.same_key h.same_facts r
+can_pass {s} {next} h r = passes_same s h.t _ h.same_key h.same_facts r
 
 -- what is not whole is shown by its first symbol that is not held so
 first_shows : (o : Option (List ℕ)) {A P : Type 0} → (o ≡ None → P) → (A → P)
@@ -63,17 +62,17 @@ module _ {s : Scanned} {next : Next} {scan : ScanState} (h : Gave s next scan) w
   follows_on F f = record {
     before = f.before;
     rest = f.rest;
-    all = f.all ∙ ap (λ x. f.before ++ (x ++ f.rest)) (sym h.same_facts);
+    all = cc;
     rising = f.rising;
-    come = subst (λ k. ComeNext k next f.rest) (sym h.same_key) f.come;
+    come = rw h.same_key f.come;
   }
 
   -- the object has a gap, if that is shown now or was before
   pub shown : (first : SymbolId)
       → IfSome h.t.bytes (λ b. (F : List Fact) → Follows h.t next F → IsNotWhole F h.t.key first)
       → (F : List Fact) → Follows s next F → HasGap F s.key
-  shown first now F f = first_shows h.t.bytes (λ e. h.broken e F f)
-      (λ show. (first, subst (λ k. IsNotWhole F k first) h.same_key (show F (follows_on F f)))) now
+  shown first now F f = first_shows _ (λ e. h.broken e F f)
+      (λ show. (first, rw (← h.same_key) (show F (follows_on F f)))) now
 
   abbrev pub gave_more : {scan' : ScanState} {gap : Gap}
       → (u : Scanned) × GaveGap h.t next gap u × Scans scan' u → Gave s next scan'
@@ -102,16 +101,7 @@ module _ {s : Scanned} {n : SymbolId × Option (Bor (List ℕ))} {scan : ScanSta
   passes_next : {u : Scanned} (bytes : Option (List ℕ)) → PassedNext h.t n bytes u
       → (u.bytes ≡ None → (F : List Fact) → Follows s (Some n) F → HasGap F s.key)
       → PassesOn s (Some n) u
-  passes_next bytes p b = record {
-    passed = (
-      ap (λ (x : Scanned). x.key) p.now ∙ h.same_key,
-      ap (λ (x : Scanned). x.facts) p.now ∙ ap (λ x. x ++ next_fact h.t.key n ∷ []) h.same_facts
-          ∙ ap (λ x. s.facts ++ next_fact x n ∷ []) h.same_key,
-      ap (λ (x : Scanned). x.coming) p.now,
-    );
-    info = ap (λ (x : Scanned). x.info) p.now ∙ h.same_info;
-    broken = b;
-  }
+  passes_next _ p b = record { passed = (cc, cc, cc); info = cc; broken = b }
 
 -- what a turn tells, if it is no gap
 abbrev pub told_by : Turn → Next → Progress → Progress
@@ -123,41 +113,23 @@ told_by turn next p = p
 pub turned : {s : Scanned} (next : Next) {scan : ScanState} (turn : Turn) (h : Gave s next scan)
     {u : Scanned} → Turned h.t next turn u → ((gap : Gap) → turn ≡ Turn.Gap gap → ⊥)
     → PassesOn s next u × (progress_of u ≡ told_by turn next (progress_of h.t))
-turned next (Turn.Gap gap) h p none = absurd (none gap refl)
-turned (Some n) Turn.Fitting h {u = u} p none = (
-  passes_next h (option_map (λ bytes. bytes ++ value_of n) h.t.bytes) p (λ e. h.broken
-      (none_mapped (λ bytes. bytes ++ value_of n) h.t.bytes
-      (sym (ap (λ (x : Scanned). x.bytes) p.now) ∙ e))),
-  ap progress_of p.now,
-)
-turned (Some n) Turn.Passed h p none = (
-  passes_next h h.t.bytes p (λ e. h.broken (sym (ap (λ (x : Scanned). x.bytes) p.now) ∙ e)),
-  ap progress_of p.now,
-)
-turned (Some n) Turn.Wanted h p none =
-    (passes_next h None p.0 (λ e. shown h n.0 p.1), ap progress_of p.0.now)
-turned (Some n) Turn.End h p none = absurd p
-turned {s = s} None Turn.End h p none = (
-  record {
-    passed = (
-      ap (λ (x : Scanned). x.key) p.0 ∙ h.same_key,
-      ap (λ (x : Scanned). x.facts) p.0 ∙ h.same_facts,
-      p.1,
-    );
-    info = ap (λ (x : Scanned). x.info) p.0 ∙ h.same_info;
-    broken = λ e. h.broken (sym (ap (λ (x : Scanned). x.bytes) p.0) ∙ e);
-  },
-  ap progress_of p.0,
-)
-turned None Turn.Fitting h p none = absurd p
-turned None Turn.Passed h p none = absurd p
-turned None Turn.Wanted h p none = absurd p
+turned _ (Turn.Gap gap) h p none = absurd (none gap refl)
+turned (Some n) Turn.Fitting h p _ =
+    (passes_next h _ p (λ e. h.broken (none_mapped _ _ (sym (ap (λ x. x.bytes) p.now) ∙ e))), cc)
+turned (Some n) Turn.Passed h p _ = (passes_next h _ p (λ e. h.broken (cc)), cc)
+turned (Some n) Turn.Wanted h p _ = (passes_next h _ p.0 (λ e. shown h _ p.1), cc)
+turned (Some n) Turn.End h p _ = absurd p
+turned None Turn.End h p _ =
+    (record { passed = (cc, cc, p.1); info = cc; broken = λ e. h.broken (cc) }, cc)
+turned None Turn.Fitting h p _ = absurd p
+turned None Turn.Passed h p _ = absurd p
+turned None Turn.Wanted h p _ = absurd p
 
 -- nothing is told of a symbol that the partition does not have, nor of the end
 pub told_none : (turn : Turn) (next : Next) (p : Progress)
     → (turn ≡ Turn.Passed) ⊎ (turn ≡ Turn.End) → told_by turn next p ≡ p
-told_none turn next p (inl e) = ap (λ x. told_by x next p) e
-told_none turn next p (inr e) = ap (λ x. told_by x next p) e
+told_none _ next p (inl e) = ap (λ x. told_by x next p) e
+told_none _ next p (inr e) = ap (λ x. told_by x next p) e
 
 pub no_gap : (turn : Turn) → (turn ≡ Turn.Passed) ⊎ (turn ≡ Turn.End) → (gap : Gap)
     → turn ≡ Turn.Gap gap → ⊥
@@ -171,7 +143,7 @@ value_told id (Some bytes) = refl
 -- no value is no more
 pub with_nothing : (p : Progress) → with_value [] p ≡ p
 with_nothing p =
-    ap (λ (x : Option (List ℕ)). record p { bytes = x }) (nothing_more p.bytes)
+    ap (λ x. record p { bytes = x }) (nothing_more _)
   where
     nothing_more : (o : Option (List ℕ)) → option_map (λ (x : List ℕ). x ++ []) o ≡ o
     nothing_more None = refl
