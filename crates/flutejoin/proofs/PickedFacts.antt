@@ -21,7 +21,7 @@ module _ (picks : Fact → Bool) where
   rising_picked (f ∷ facts) r = search (rules, cases_Bool, after_picked, rising_picked facts r.1)
 
   pub few_picked : (F : List Fact) → length (filter picks F) ≤ length F
-  few_picked F = rw ((length-filter _ F)) (count_by-le-length _ F)
+  few_picked F = rw (length-filter _ F) (count_by-le-length _ F)
 
   module _ (f : Fact) where
     pub just_picked : picks f ≡ true → filter picks (f ∷ []) ≡ f ∷ []

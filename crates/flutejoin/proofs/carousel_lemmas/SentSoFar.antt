@@ -116,7 +116,7 @@ module _ {key : Key} {i : Information} {content : List ℕ} (valid : IsValid i) 
         sound = rw more (none_more (take place cs) one s.sound made.1);
         valid = all_more _ _ d s.valid is;
         counted = omega (arith, length-append s.datagrams (d ∷ []));
-        grown = rw ((file_more _ _ d s.counted)) (grows_on f g _ _ _ _ _ (s.grown, put));
+        grown = rw (file_more _ _ d s.counted) (grows_on f g _ _ _ _ _ (s.grown, put));
         rest = cc;
       }
 

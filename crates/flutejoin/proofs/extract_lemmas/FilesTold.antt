@@ -71,7 +71,7 @@ no_file (Some f) e same = absurd (let x = sym (ap is_some e) ∙ same in cc)
 pub no_files : {left : Option ℕ} (files : List NamedFile) (file : Option NamedFile)
     (p0 p : Option Places) → left ≡ None → is_some left ≡ is_some file → LeadsTo (Fills files file)
     p0 p → LeadsTo (Fills (files ++ one_file file) None) p0 p × (0 ≡ length (one_file file))
-no_files files None p0 p e _ filled = (rw ((append-nil files)) filled, refl)
+no_files files None p0 p e _ filled = (rw (append-nil files) filled, refl)
 no_files files (Some f) p0 p e same filled = absurd (let x = sym (ap is_some e) ∙ same in cc)
 
 -- one is open, and is kept

@@ -53,7 +53,7 @@ unheard key P h = λ part. fact_at-none P _ (λ f c e. others-none _ P h f (Memb
 -- two values of its information were read, whatever follows
 pub conflict-told : (key : Key) (P : List Fact)
     → Settled (P ++ InfoConflict key ∷ []) (λ F. HasConflict F key)
-conflict-told key P = λ F rest e r. rising_tells F _ r (rw ((e ∙ append_assoc P (InfoConflict key ∷ []) rest)) (here P _ _))
+conflict-told key P = λ F rest e r. rising_tells F _ r (rw (e ∙ append_assoc P (InfoConflict key ∷ []) rest) (here P _ _))
 
 symbol-last : (key : Key) (id : SymbolId)
     → address_cmp (record { key = key; part = SymbolPart id }) (info_address key) ≡ Less → ⊥

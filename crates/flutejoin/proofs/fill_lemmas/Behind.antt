@@ -48,7 +48,7 @@ most_then x y z h k = go _ refl h
   where
     go : (o : Ordering) → key_cmp x y ≡ o → is_le o ≡ true → is_le (key_cmp x z) ≡ true
     go Less e h = ap is_le (less_then x y z e k)
-    go Equal e h = rw ((key_same x y (ap is_eq e))) k
+    go Equal e h = rw (key_same x y (ap is_eq e)) k
     go Greater e h = absurd (false≢true h)
 
 before_then : (x y z : Address) → address_cmp x y ≡ Less → is_le (address_cmp y z) ≡ true
@@ -66,7 +66,7 @@ then_before x y z h l = go _ refl h
   where
     go : (o : Ordering) → address_cmp x y ≡ o → is_le o ≡ true → address_cmp x z ≡ Less
     go Less e h = address_total.trans x y z e l
-    go Equal e h = rw ((address_same x y (ap is_eq e))) l
+    go Equal e h = rw (address_same x y (ap is_eq e)) l
     go Greater e h = absurd (false≢true h)
 
 -- the objects of addresses are in their order

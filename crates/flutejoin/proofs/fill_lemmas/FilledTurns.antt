@@ -136,9 +136,9 @@ pub reached_line : (last : LastLine) (passed : List ListedLine) (held : Option F
     → (last ≡ Unread → passed ≡ []) → is_behind last (address_of held) ≡ true
     → HasReached (last_of None (passed ++ line_of last)) held
 reached_line _ _ None u h = tt
-reached_line Unread _ (Some f) u h = rw ((u refl)) tt
+reached_line Unread _ (Some f) u h = rw (u refl) tt
 reached_line Ended _ (Some f) u h = absurd (false≢true h)
-reached_line (Held l) passed (Some f) u h = rw ((last_more None passed l)) h
+reached_line (Held l) passed (Some f) u h = rw (last_more None passed l) h
 
 some_length : (held : Option Fact) → (held ≡ None → ⊥) → length (option_list held) ≡ 1
 some_length None n = absurd (n refl)
@@ -272,7 +272,7 @@ module _ {S R : Type 0} (a : Behaviour S) (unread : R → Option (List ℕ)) (fa
           let B = v.between start facts p in
           let held = a.held t.facts in
           let L = B.passed ++ line_of t.list.last in
-          let o : AreInOrder None (L ++ []) = rw ((append-nil L)) B.stands.in_order in
+          let o : AreInOrder None (L ++ []) = rw (append-nil L) B.stands.in_order in
           let e = with_held start F B stay o in
           record {
             passes = subst (λ z. Passed a unread failures z start t F) (sym B.begun) (B, stay);
@@ -321,7 +321,7 @@ module _ {S R : Type 0} (a : Behaviour S) (unread : R → Option (List ℕ)) (fa
             → t.list.last ≡ Ended → F ≡ asked start.asking B.passed B.all
         all_asked start F B z =
             let L = B.passed ++ line_of t.list.last in
-            let o : AreInOrder None (L ++ []) = rw ((append-nil L)) B.stands.in_order in
+            let o : AreInOrder None (L ++ []) = rw (append-nil L) B.stands.in_order in
             let none : L ≡ B.passed = cc (append-nil B.passed) in
             B.asked_for [] o (λ e. refl)
             ∙ ap (λ l. asked t.asking l B.all) (cc)

@@ -49,8 +49,8 @@ last_before (Held l) passed n u = last_more None passed l
 knows_last : (last : LastLine) (passed : List ListedLine) (object : Option ListedObject)
     → AreInOrder None (passed ++ line_of last) → Knows passed object
     → Knows (passed ++ line_of last) (after_last object last)
-knows_last Unread passed object o k = rw ((append-nil passed)) k
-knows_last Ended passed object o k = rw ((append-nil passed)) k
+knows_last Unread passed object o k = rw (append-nil passed) k
+knows_last Ended passed object o k = rw (append-nil passed) k
 knows_last (Held l) passed object o k = knows_more _ _ l k
     (first_may_come _ l (in_order_after _ _ _ o))
 
@@ -290,4 +290,4 @@ module _ {R : Type 0} (unread : R → Option (List ℕ)) (failures : R → ℕ) 
 -- what holds of the fault that is told
 pub told : {A E : Type 0} (P : E → Type 0) (r : Result A E) {y : E}
     → (x : E) × (r ≡ Err x) × (x ≡ y) → P y → IfErr r P
-told P r e p = rw ((e.1 ∙ ap Err e.2)) p
+told P r e p = rw (e.1 ∙ ap Err e.2) p

@@ -93,7 +93,7 @@ status_gap _ k _ = refl
 status_ahead : (m : ListedLine) (rest : List ListedLine) (a : Address) → is_behind_line m a ≡ false
     → status_in rest a.key ≡ None → status_in (m ∷ rest) a.key ≡ None
 unfolding status_in
-status_ahead (ObjectLine k status) rest a n e = rw ((ahead_object k a n)) e
+status_ahead (ObjectLine k status) rest a n e = rw (ahead_object k a n) e
 status_ahead (GapLine k gap) _ a n e = e
 
 -- lines after one that is not behind an address tell nothing of it
@@ -194,7 +194,7 @@ pub knows_more : (passed : List ListedLine) (object : Option ListedObject) (l : 
     → Knows passed object → MayCome (last_of None passed) l
     → Knows (passed ++ l ∷ []) (object_after object l)
 knows_more passed object l k m = record {
-  of_last = rw ((last_more None passed l)) (same_object _ _ l k.of_last m);
+  of_last = rw (last_more None passed l) (same_object _ _ l k.of_last m);
   status = λ a h. status_more _ _ l a k.of_last m (behind a h)
       (k.status a (before_it _ l a m (behind a h)));
   none_missing = λ a h. list_any-append (is_missing_by a) passed (l ∷ [])

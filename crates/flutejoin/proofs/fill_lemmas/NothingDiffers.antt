@@ -84,7 +84,7 @@ module _ (held facts : List Fact) (held_rise : IsRising held) (rise : IsRising f
   not_apart key (k ∷ keys) l h =
       let n = or_none _ _ h in
       elim (cases_Bool _) [
-        | inl t ↦ rw ((key_same key k t)) n.0
+        | inl t ↦ rw (key_same key k t) n.0
         | inr u ↦ not_apart _ keys (rw u at l) n.1
       ]
 

@@ -16,10 +16,9 @@ use Rattle.flute_parts.specs.declared.fact.Fact.TheVariants.{Info, InfoConflict,
 use Rattle.flute_parts.specs.declared.fact.Fact.TheVariants.{SymbolConflict}
 use Rattle.flute_parts.specs.declared.key.Key.{Key}
 use Rattle.flute_parts.proofs.Public.{rising_unique}
-use Rattle.flute_journal.specs.Journal.{IsFactIn, IsJournalWithin}
+use Rattle.flute_journal.specs.Journal.{IsJournalWithin}
 use Rattle.flute_journal.proofs.Public.{all_map}
 use Rattle.flute_streams.specs.Compared.{AreRows, differs}
-use Rattle.flute_streams.specs.Scopes.{chosen}
 use Rattle.flute_streams.specs.Selections.{selects}
 use Rattle.flutejoin.specs.Compare.{ComparesJournals}
 use Rattle.flutejoin.specs.CompareLines.{are_same}
@@ -48,34 +47,29 @@ use Rattle.flutejoin.proofs.join_lemmas.Receptions.{IsJournal-from_within, Same-
 
 same_entries : (bytes : List ℕ) (F G : List Fact) → IsJournalWithin MAX_ENTRIES bytes F
     → IsJournalWithin MAX_ENTRIES bytes G → F ≡ G
-same_entries bytes F G j k =
-    rising_unique F G j.are_items.in_order k.are_items.in_order
-    (Same-from_journals bytes F G (IsJournal-from_within bytes F j) (IsJournal-from_within bytes G k))
+same_entries bytes F G j k = rising_unique F G j.are_items.in_order k.are_items.in_order
+    (Same-from_journals _ F G (IsJournal-from_within _ F j) (IsJournal-from_within _ G k))
 
 valid_picked : (p : Fact → Bool) (F : List Fact) → AllByRecursion IsFact F
     → AllByRecursion IsFact (filter p F)
 valid_picked p [] h = tt
 valid_picked p (f ∷ F) h = elim (cases_Bool (p f)) [
-  | inl e ↦ subst (λ b. AllByRecursion IsFact (cond b (f ∷ filter p F) (filter p F))) (sym e)
-      (h.0, valid_picked p F h.1)
-  | inr e ↦ subst (λ b. AllByRecursion IsFact (cond b (f ∷ filter p F) (filter p F))) (sym e)
-      (valid_picked p F h.1)
+  | inl e ↦ rw e (h.0, valid_picked p F h.1)
+  | inr e ↦ rw e (valid_picked p F h.1)
 ]
 
 sound_picked : (p : Fact → Bool) (bytes : List ℕ) (F : List Fact)
     → IsJournalWithin MAX_ENTRIES bytes F → IsSound (filter p F)
-sound_picked p bytes F j = record {
+sound_picked p _ F j = record {
   rising = rising_picked p F j.are_items.in_order;
-  valid = valid_picked p F (all_map (IsFactIn j.are_items.told) IsFact F (λ f is. is.0)
-      j.are_items.valid);
+  valid = valid_picked p F (all_map _ _ F (λ f is. is.0) j.are_items.valid);
 }
 
 picked_same : (p q : Fact → Bool) → ((f : Fact) → p f ≡ q f) → (F : List Fact)
     → filter p F ≡ filter q F
 picked_same p q h [] = refl
-picked_same p q h (f ∷ F) =
-    ap (λ b. cond b (f ∷ filter p F) (filter p F)) (h f)
-    ∙ ap (λ l. cond (q f) (f ∷ l) l) (picked_same p q h F)
+picked_same p q h (f ∷ F) = ap (λ b. cond b (f ∷ filter p F) (filter p F)) (h f) ∙ ap
+    (λ l. cond (q f) (f ∷ l) l) (picked_same p q h F)
 
 -- ---- the lines
 
@@ -90,23 +84,17 @@ pub record IsOwn (asker lines : List ℕ) : Type 0 where
 pub own : (asker lines : List ℕ) → IsGaps asker lines → IsOwn asker lines
 own asker lines h =
     let t = h.lists.told in
-    let sound = sound_picked h.picks asker h.lists.entries h.lists.journal in
-    let text = append_cancel_left h.before lines _ h.lists.so
-    ∙ printed_text h.style h.lists.objects h.plain in
-    let is = told_listing (filter h.picks h.lists.entries) sound lines h.lists.objects t text in
+    let sound = sound_picked h.picks _ _ h.lists.journal in
+    let text = append_cancel_left h.before lines _ h.lists.so ∙ printed_text _ _ h.plain in
+    let is = told_listing _ sound _ _ t text in
     record {
       listed = lines_of h.lists.objects;
       listing = is;
-      only = λ others k. one_listing lines others (lines_of h.lists.objects) k is;
-      asks_all = λ held f j is.
-          let same = same_entries asker held h.lists.entries j h.lists.journal in
-          let picked : filter h.picks h.lists.entries
-          ≡ chosen h.takes_objects.takes_key h.lists.entries =
-          picked_same h.picks _ h.takes_objects.by_key h.lists.entries in
-          subst (λ l. asks AskAll (lines_of l) f ≡ true) (sym t.told)
-          (subst (λ F. asks AskAll (lines_of (map (told_of F) t.keys)) f ≡ true) (sym picked)
-          (asked_of h.takes_objects.takes_key h.lists.entries t.keys f
-          (subst (λ F. AsksFor F f) same is)));
+      only = λ others k. one_listing _ _ _ k is;
+      asks_all = λ held f j is. let same = same_entries _ _ _ j h.lists.journal in
+          let picked = picked_same _ _ h.takes_objects.by_key _ in
+          rw t.told (subst (λ F. asks AskAll (lines_of (map (told_of F) t.keys)) f ≡ true)
+          (sym picked) (asked_of h.takes_objects.takes_key _ _ f (subst (λ F. AsksFor F f) same is)));
     }
 
 -- ---- the answer
@@ -115,20 +103,16 @@ own asker lines h =
 lacked_by : (key : Key) (part : Part) (held : List Fact) (o : Option Fact)
     → fact_at held (info_address key) ≡ o → fact_at held (record { key = key; part = part }) ≡ None
     → IsWithin o part → IsAsked o (fact_at held (record { key = key; part = part })) part
-lacked_by key part held None e none within = tt
-lacked_by key InfoPart held (Some f) e none within = absurd (apart (sym none ∙ e))
-  where
-    apart : None ≡ Some f → ⊥
-    apart e = cc
-lacked_by key (SymbolPart id) held (Some (Info k info)) e none within = (none, within)
-lacked_by key (SymbolPart id) held (Some (InfoConflict k)) e none within = refl
-lacked_by key (SymbolPart id) held (Some (Symbol k i b)) e none within = refl
-lacked_by key (SymbolPart id) held (Some (SymbolConflict k i)) e none within = refl
+lacked_by _ _ _ None e _ _ = tt
+lacked_by key InfoPart held (Some f) e none within = absurd cc
+lacked_by _ (SymbolPart id) _ (Some (Info k info)) e none within = (none, within)
+lacked_by _ (SymbolPart id) _ (Some (InfoConflict k)) e _ _ = refl
+lacked_by _ (SymbolPart id) _ (Some (Symbol k i b)) e _ _ = refl
+lacked_by _ (SymbolPart id) _ (Some (SymbolConflict k i)) e _ _ = refl
 
 lacked : (held : List Fact) (f : Fact) → fact_at held (address f) ≡ None
     → IsWithin (information_for held f) (address f).part → AsksFor held f
-lacked held f none within =
-    lacked_by (address f).key (address f).part held (information_for held f) refl none within
+lacked held f none within = lacked_by _ _ _ _ refl none within
 
 module _ (one : OneReading) (choice : Choice) (asker journal answer bs cs : List ℕ)
     (others : List (List ℕ)) (h : IsAnswerTo asker journal answer) where

@@ -87,7 +87,7 @@ module _ {R : Type 0} (unread : R → Option (List ℕ)) (buffered : R → List 
       two (F ∷ G ∷ []) h = record {
         entries = F;
         tells = rw (← limit) h.0;
-        all = Same-append F F _ _ (Same-itself F) (rw ((append-nil G)) (same G h.1.0));
+        all = Same-append F F _ _ (Same-itself F) (rw (append-nil G) (same G h.1.0));
       }
       two (F ∷ G ∷ H ∷ told) h = absurd h.1.1
 

@@ -89,7 +89,7 @@ module _ (rest : AllBut) (of : IsOfObjects rest) where
       let b = told_journal choice w _ y (written_journal w _ (journal_left _ j w _ k)) u.0 in
       let one = one_left choice j w _ x y k a b in
       let others = all_left choice js ws xs ys h.1 t.1 u.1 in
-      rw ((filter-append (is_chosen stays) (content_facts choice x) (facts_told choice xs)))
+      rw (filter-append (is_chosen stays) (content_facts choice x) (facts_told choice xs))
       (Same-append _ _ _ _ one others)
 
   pub commutes : OneReading → (choice : Choice) (journals written : List (List ℕ))

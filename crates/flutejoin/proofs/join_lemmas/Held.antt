@@ -57,7 +57,7 @@ pub record IsUnchanged {R : Type 0} {s o y : ℕ} (old new : HeldFiles s o y R) 
 
 -- the last of three in the middle
 turn : (F G H : List Fact) → Same ((F ++ G) ++ H) ((F ++ H) ++ G)
-turn F G H = rw ((append_assoc F G H)) (subst (λ l. Same (F ++ (G ++ H)) l)
+turn F G H = rw (append_assoc F G H) (subst (λ l. Same (F ++ (G ++ H)) l)
     (sym (append_assoc F H G)) (Same-append F F _ _ (Same-itself F) (Same-swap G H)))
 
 -- the choice of all datagrams
@@ -79,7 +79,7 @@ module _ {R : Type 0} (unread : R → Option (List ℕ)) (buffered : R → List 
         aside = all.aside;
         runs = rw same all.runs;
         content =
-            rw ((flat_more _ d)) (Same-trans _ _
+            rw (flat_more _ d) (Same-trans _ _
             _
             (Same-append _ _ _ _ one.content
             (Same-itself _))
@@ -115,7 +115,7 @@ module _ {R : Type 0} (unread : R → Option (List ℕ)) (buffered : R → List 
       let same = Same-trans _ _ _ (turn store fresh all.aside)
       (Same-append _ _ _ _ all.content (Same-itself _)) in
       let all_over = Over-below _ _ _ _ _ (Below-left (store ++ fresh) all.aside) over in
-      rw ((flat_more _ d)) (Over-below _ _ _ _ _ (Below-from_Same _ _ same) all_over)
+      rw (flat_more _ d) (Over-below _ _ _ _ _ (Below-from_Same _ _ same) all_over)
 
   -- the same for an equal flag `fits`
   holding : {s o y : ℕ} (b c : Bool) (held : HeldFiles s o y R) (ds : List (List ℕ)) → b ≡ c
@@ -201,7 +201,7 @@ module _ {R : Type 0} {unread : R → Option (List ℕ)} {buffered : R → List 
       let all = all_held h fits in
       let files = flat_map (facts_by choice) ds in
       let more = runs all.aside all.runs in
-      rw ((append-nil ds)) (record {
+      rw (append-nil ds) (record {
         others = λ e. others ∙ h.others fits;
         holds = holding unread buffered choice new.fits true new ds still (record {
           aside = more.0;
@@ -244,7 +244,7 @@ module _ {R : Type 0} {unread : R → Option (List ℕ)} {buffered : R → List 
           → AreHeld unread buffered [] popped facts
       held_in None [] _ _ _ holds = holds
       held_in (Some run) [] _ _ _ holds =
-          rw ((holds.3 ∙ ap (λ l. holds.0 ++ l) holds.4 ∙ append-nil holds.0)) holds.2
+          rw (holds.3 ∙ ap (λ l. holds.0 ++ l) holds.4 ∙ append-nil holds.0) holds.2
       held_in None (first ∷ rest) facts few some holds =
           let e = some (omega arith) in absurd cc
       held_in (Some run) (first ∷ rest) facts few some holds =

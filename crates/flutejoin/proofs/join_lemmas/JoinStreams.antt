@@ -46,7 +46,7 @@ regroup O D F G R h =
     let turned = Same-trans _ _ _
     (rw (← (append_assoc F D G)) at (Same-append F F R _ (Same-itself F) h))
     (rw (← append_assoc D F G) (Same-append _ _ G G (Same-swap F D) (Same-itself G))) in rw
-    ((append_assoc O F R)) (subst (λ l. Same (O ++ (F ++ R)) l) (sym (append_assoc O D (F ++ G)))
+    (append_assoc O F R) (subst (λ l. Same (O ++ (F ++ R)) l) (sym (append_assoc O D (F ++ G)))
     (Same-append O O _ _ (Same-itself O) turned))
 
 -- no input is left out

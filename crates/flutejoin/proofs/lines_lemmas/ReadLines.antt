@@ -97,7 +97,7 @@ module _ {X : Type 0} (Tells : List ℕ → List X → Type 0) where
           items = items;
           words = words;
           rest = rest;
-          begins = rw ((append_assoc r.bytes (line words) rest)) (before _);
+          begins = rw (append_assoc r.bytes (line words) rest) (before _);
           one_line = one;
           here = here;
         })

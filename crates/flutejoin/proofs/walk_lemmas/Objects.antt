@@ -235,7 +235,7 @@ module _ {mine : List Fact} {key : Key} {progress : Option Progress} {scan : Sca
     (n : SymbolId × Option (Bor (List ℕ))) where
   -- the next symbol may be passed by the scan
   pub scan_rising : IsRising (mine ++ next_fact k n ∷ []) → CanFollow h.scanned (Some n)
-  scan_rising r = rw ((h.of_key ∙ same)) (subst (λ l. IsRising (l ++ next_fact k n ∷ [])) (sym h.facts_are) r)
+  scan_rising r = rw (h.of_key ∙ same) (subst (λ l. IsRising (l ++ next_fact k n ∷ [])) (sym h.facts_are) r)
 
   pub passes_scan : {scan' : ScanState} {t : Scanned} → PassesOn h.scanned (Some n) t → Scans scan'
       t → StateIs key (mine ++ next_fact k n ∷ []) (Some (progress_of t)) (OneInformation scan')
