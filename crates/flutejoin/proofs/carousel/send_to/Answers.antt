@@ -10,7 +10,7 @@ pub returns-clause-sent : goal.returns-clause-sent
 returns-clause-sent g c =
     let sent = c.send_symbols-sent in
     let new = c.new-sending.ensures in
-    told_sent c.at_end-2.result c.at_end-2.ensures.ends
+    told_sent _ c.at_end-2.ensures.ends
     (sent_of (new.key, new.info, new.left ∙ ap (λ i. i.transfer_length) c.in-Ok.ensures.0)
     c.in-Ok.ensures.0 c.in-Ok.ensures.1 sent.ensures.reads sent.ensures.sends)
 
@@ -18,7 +18,7 @@ pub returns-clause-failed : goal.returns-clause-failed
 returns-clause-failed g c =
     let sent = c.send_symbols-sent in
     let new = c.new-sending.ensures in
-    told_failed c.at_end-2.result c.at_end-2.ensures.ends
+    told_failed _ c.at_end-2.ensures.ends
     (sent_of (new.key, new.info, new.left ∙ ap (λ i. i.transfer_length) c.in-Ok.ensures.0)
     c.in-Ok.ensures.0 c.in-Ok.ensures.1 sent.ensures.reads sent.ensures.sends) sent.ensures.only
 
@@ -26,7 +26,7 @@ pub returns-clause-part : goal.returns-clause-part
 returns-clause-part g c =
     let sent = c.send_symbols-sent in
     let new = c.new-sending.ensures in
-    told_failed_write c.at_end-2.result c.at_end-2.ensures.ends
+    told_failed_write _ c.at_end-2.ensures.ends
     (sent_of (new.key, new.info, new.left ∙ ap (λ i. i.transfer_length) c.in-Ok.ensures.0)
     c.in-Ok.ensures.0 c.in-Ok.ensures.1 sent.ensures.reads sent.ensures.sends)
 
@@ -37,8 +37,8 @@ returns-clause-reads g c =
     let so_far =
     sent_of (new.key, new.info, new.left ∙ ap (λ i. i.transfer_length) c.in-Ok.ensures.0)
     c.in-Ok.ensures.0 c.in-Ok.ensures.1 sent.ensures.reads sent.ensures.sends in
-    told_reads (g.R.Source.failures c.args.source.now) (g.R.Source.failures sent.new.source)
-    (g.R.Source.failures c.at_end-2.new.source) c.at_end-2.result c.at_end-2.ensures.ends
+    told_reads _ _
+    _ _ c.at_end-2.ensures.ends
     (subst (λ n. ReadFailures (g.R.Source.failures c.args.source.now)
     (g.R.Source.failures sent.new.source) (g.R.Source.unread c.args.source.now) n sent.result)
     (new.left ∙ ap (λ i. i.transfer_length) c.in-Ok.ensures.0) sent.ensures.reading)

@@ -23,20 +23,19 @@ returns-in_ok-finish-in-Ok-clause-printed g c = λ none.
     so.rows = record {
       facts = so.facts;
       others = so.others;
-      first_are = of_source a.first.now.choice so.facts c.restart.ensures.left
+      first_are = of_source a.first.now.choice _ c.restart.ensures.left
           c.restart.ensures.limit so.first_tells;
-      second_are = of_source a.second.now.choice so.others c.restart-2.ensures.left
+      second_are = of_source a.second.now.choice _ c.restart-2.ensures.left
           c.restart-2.ensures.limit so.second_tells;
       are = so.are;
       first_few = subst (λ n. length so.facts ≤ n) c.restart.ensures.most so.first_few;
       second_few = subst (λ n. length so.others ≤ n) c.restart-2.ensures.most so.second_few;
     } in
-    let h = all_put_aside written g.A.Sink.failures facts so.told t.taken
-    (none_put written true _ refl refl (λ is. none)) in
+    let h = all_put_aside _ _ facts so.told t.taken
+    (none_put _ _ _ refl refl (λ is. none)) in
     let p = c.in_ok-finish-in-Ok.ensures.printed so.rows h in
-    compares (λ rows. Appends (W a.sink.now) (W c.finish.new.sink) (compared a.style rows)
-    × (c.in_ok-finish-in-Ok.field-0 ≡ are_same rows)) facts (
-      subst (λ (s : CompareStyle). Appends (W a.sink.now) (W c.finish.new.sink)
+    compares _ facts (
+      subst (λ s. Appends (W a.sink.now) (W c.finish.new.sink)
           (compared s so.rows)) t.taken.style p.0,
       p.1,
     )

@@ -41,14 +41,14 @@ returns-in-Ok-clause-as_others g c = λ others. let old = c.args.sink.now in
 pub returns-in-Ok-clause-short : goal.returns-in-Ok-clause-short
 returns-in-Ok-clause-short g c =
     let p = of_source g.R.Source.unread c.new-reader.ensures.unread c.in-Ok.ensures.passed in
-    if_err c.end.result _ (first_part g.W.Sink.written c.args.key.now c.args.sink.now
-    c.read_into.new.sink p (c.in-Ok.ensures.same_key ∙ c.new-writer.ensures.key)
+    if_err _ _ (first_part g.W.Sink.written _ _
+    _ p (c.in-Ok.ensures.same_key ∙ c.new-writer.ensures.key)
     c.in-Ok.ensures.untouched)
 
 pub returns-in-Err-clause-short : goal.returns-in-Err-clause-short
 returns-in-Err-clause-short g c =
     let p = of_source g.R.Source.unread c.new-reader.ensures.unread c.in-Err.ensures.passed in
-    first_part g.W.Sink.written c.args.key.now c.args.sink.now c.read_into.new.sink p
+    first_part g.W.Sink.written _ _ _ p
     (c.in-Err.ensures.same_key ∙ c.new-writer.ensures.key) c.in-Err.ensures.untouched
 
 pub returns-in-Ok-clause-read_failures : goal.returns-in-Ok-clause-read_failures
@@ -57,7 +57,7 @@ returns-in-Ok-clause-read_failures g c =
     let new = c.read_into.new.sink in
     let r = c.end.result in
     let p = of_source g.R.Source.unread c.new-reader.ensures.unread c.in-Ok.ensures.passed in
-    let a = answers g.W.Sink.written c.args.key.now old new r p
+    let a = answers g.W.Sink.written _ old new r p
     (c.in-Ok.ensures.same_key ∙ c.new-writer.ensures.key) c.in-Ok.ensures.untouched
     c.end.ensures.extracts c.end.ensures.untouched in
     let P : ℕ → Type 0 = λ n. FailsToRead {T = ℕ} (g.R.Source.failures c.args.source.now) n r in

@@ -25,7 +25,7 @@ loop-held-init g c =
     record {
       passing = record {
         entries = [];
-        sofar = rw (left_all u, c.requires.new) (sofar-none journal_sound Two MAX_ENTRIES u);
+        sofar = rw (left_all u, c.requires.new) (sofar-none journal_sound Two _ u);
         counts = c.new-tally.ensures;
         stands = c.requires.none (g.W.Sink.written c.args.sink.now);
       };
@@ -52,8 +52,8 @@ returns-in_err-next_into-clause-passed g c =
 
 pub returns-then-not-count-clause-passed : goal.returns-then-not-count-clause-passed
 returns-then-not-count-clause-passed g c =
-    let is = one_held c.next_into.new.held c.fact.ensures c.buffer.ensures c.in-Some.is in
-    passing-full c.loop-held.invariant.passing (fact_of c.in-Some.fact) _
+    let is = one_held _ c.fact.ensures c.buffer.ensures c.in-Some.is in
+    passing-full c.loop-held.invariant.passing _ _
     (given-entry _ _ _ _ c.loop-held.invariant.limit is c.in_ok-next_into.ensures.holds.gives)
     (λ F r k. c.count.ensures.over F (fact_of c.in-Some.fact) (sym c.address.ensures) r k
     c.if-not-count.true)
@@ -62,7 +62,7 @@ pub loop-held-preserved : goal.loop-held-preserved
 loop-held-preserved g c =
     let i = c.loop-held.invariant in
     let f = fact_of c.in-Some.fact in
-    let is = one_held c.next_into.new.held c.fact.ensures c.buffer.ensures c.in-Some.is in
+    let is = one_held _ c.fact.ensures c.buffer.ensures c.in-Some.is in
     let holds = c.in_ok-next_into.ensures.holds in
     record {
       passing =
@@ -72,7 +72,7 @@ loop-held-preserved g c =
       limit = c.next_into.ensures.limit ∙ i.limit;
       source = c.next_into.ensures.source ∙ i.source;
       key = c.pass.ensures.key ∙ i.key;
-      reads = loaded-read (is_open c.loop-held.reader.state) _ _ _ i.reads holds.failed;
+      reads = loaded-read _ _ _ _ i.reads holds.failed;
       untouched = λ u. let x = c.pass.ensures.untouched u in x.1 ∙ i.untouched x.0;
       writes = let e = c.pass.ensures.failures in let w = i.writes in omega (arith, e, w);
     }
@@ -81,8 +81,8 @@ pub returns-in_default-clause-passed : goal.returns-in_default-clause-passed
 returns-in_default-clause-passed g c =
     let i = c.loop-held.invariant in
     let to = c.next_into.new.self in
-    let is = none_held c.next_into.new.held c.fact.ensures c.buffer.ensures c.in_default.is in
-    let all = nothing_held (g.R.Source.buffered to.source.now) c.next_into.new.held
-    (g.R.Source.unread to.source.now) is in
+    let is = none_held _ c.fact.ensures c.buffer.ensures c.in_default.is in
+    let all = nothing_held _ _
+    _ is in
     at_left all
     (passing-end i.passing (given-end _ _ _ _ _ _ is c.in_ok-next_into.ensures.holds.gives))

@@ -13,8 +13,8 @@ pub returns-clause-failed : goal.returns-clause-failed
 returns-clause-failed g c =
     let told = Info c.args.key c.args.info ∷ [] in
     of_source g.R.Source.unread (at_most g.row.SESSIONS g.row.OBJECTS g.row.SYMBOLS)
-    c.args.source.now _ told c.add_facts.result
+    _ _ told c.add_facts.result
     c.new-journal.ensures.unread
     (c.add_facts.ensures.failed told
-    (λ F is. subst (λ (l : List Fact). Same l told) (sym (is ∙ c.new-fact.ensures.facts))
-    (Same-itself told)))
+    (λ F is. subst (λ l. Same l told) (sym (is ∙ c.new-fact.ensures.facts))
+    (Same-itself _)))

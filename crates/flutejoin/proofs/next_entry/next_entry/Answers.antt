@@ -31,7 +31,7 @@ returns-in_err-at_input-clause-failures g c = λ u F h.
 
 pub returns-then-not-count-clause-next : goal.returns-then-not-count-clause-next
 returns-then-not-count-clause-next g c = λ u F h.
-    let done = read_done c.next_into.result c.at_input.result 1 c.in_ok-at_input.field-0
+    let done = read_done _ _ 1 _
     c.at_input.ensures c.in_ok-at_input.was in
     let holds = rw done at c.next_into.ensures.holds in
     let to = holding c.next_into.new.self c.next_into.new.held in
@@ -43,7 +43,7 @@ returns-then-not-count-clause-next g c = λ u F h.
 
 pub returns-clause-next : goal.returns-clause-next
 returns-clause-next g c = λ u F h.
-    let done = read_done c.next_into.result c.at_input.result 1 c.in_ok-at_input.field-0
+    let done = read_done _ _ 1 _
     c.at_input.ensures c.in_ok-at_input.was in
     let holds = rw done at c.next_into.ensures.holds in
     let to = holding c.next_into.new.self c.next_into.new.held in
@@ -51,14 +51,14 @@ returns-clause-next g c = λ u F h.
     let lent = c.address.ensures (g.R.Source.buffered c.next_into.new.self.source.now) in
     elim c.match-address.branch [
       | in-Some+else-not-count w ↦
-          let a = address_held fact lent w.in-Some.is in
-          let read = entry_read h to w.count.new.self a.0 (rw a.1 at holds.gives)
+          let a = address_held _ lent w.in-Some.is in
+          let read = entry_read h _ _ _ (rw a.1 at holds.gives)
           c.next_into.ensures.limit
           (λ G r k. w.count.ensures.within G a.0 a.2 r k w.if-not-count.false) in
           subst (λ j. HoldsOn g.R.Source.unread g.R.Source.buffered u F to j fact) (sym w.tally-is)
           (rw a.1 read)
       | in_default w ↦
-          let none = none_addressed fact lent w.in_default.is in
+          let none = none_addressed _ lent w.in_default.is in
           subst (λ j. HoldsOn g.R.Source.unread g.R.Source.buffered u F to j fact) (sym w.tally-is)
           (rw none (end_read h to c.args.tally.now none (rw none at holds.gives)))
     ]

@@ -7,6 +7,6 @@ use Rattle.flutejoin.proofs.carousel.sending.datagram_of.Goals as goal
 pub returns-in-Ok-clause-makes : goal.returns-in-Ok-clause-makes
 returns-in-Ok-clause-makes c = (
   c.in-Ok.ensures.written,
-  no_fault c.write.result c.in-Ok.datagram
-      (write_fault (said c.args.outgoing.now)) c.in-Ok.is c.write.ensures.fault,
+  no_fault _ _
+      _ c.in-Ok.is c.write.ensures.fault,
 )

@@ -8,13 +8,13 @@ use Rattle.flutejoin.proofs.extract.object_files.drop_file.Goals as goal
 
 pub returns-in-Some-clause-dropped : goal.returns-in-Some-clause-dropped
 returns-in-Some-clause-dropped g c = λ files file p0 some filled.
-    on_ok c.leave.result (fills_leaves files file p0 _ _ filled) c.leave.ensures.left
+    on_ok _ (fills_leaves _ _ p0 _ _ filled) c.leave.ensures.left
 
 pub returns-in-Some-clause-stays : goal.returns-in-Some-clause-stays
-returns-in-Some-clause-stays g c = stays_called leaves leaves_stay c.leave.result _ _
+returns-in-Some-clause-stays g c = stays_called _ leaves_stay _ _ _
     c.leave.ensures.left c.leave.ensures.refused
 
 pub returns-in-None-clause-dropped : goal.returns-in-None-clause-dropped
 returns-in-None-clause-dropped g c = λ files file p0 some filled.
-    subst (λ (x : Option NamedFile). LeadsTo (Fills files x) p0 (g.D.NewFolder.places
-    c.args.folder.now)) (no_file file c.in-None.is some) filled
+    subst (λ x. LeadsTo (Fills files x) p0 (g.D.NewFolder.places
+    c.args.folder.now)) (no_file _ c.in-None.is some) filled

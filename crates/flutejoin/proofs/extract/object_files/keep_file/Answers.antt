@@ -6,11 +6,11 @@ use Rattle.flutejoin.proofs.extract.object_files.keep_file.Goals as goal
 
 pub returns-in_ok-keep-in-Some-clause-kept : goal.returns-in_ok-keep-in-Some-clause-kept
 returns-in_ok-keep-in-Some-clause-kept g c = λ files file p0 some filled.
-    kept_one files file p0 _ _ (c.in-Some.is, some) filled c.in_ok-keep-in-Some.ensures.kept
+    kept_one _ _ _ _ _ (c.in-Some.is, some) filled c.in_ok-keep-in-Some.ensures.kept
 
 pub returns-in_ok-keep-in-Some-clause-stays : goal.returns-in_ok-keep-in-Some-clause-stays
-returns-in_ok-keep-in-Some-clause-stays g c = did_stay keeps keeps_stay _ _ c.in_ok-keep-in-Some.ensures.kept
+returns-in_ok-keep-in-Some-clause-stays g c = did_stay _ keeps_stay _ _ c.in_ok-keep-in-Some.ensures.kept
 
 pub returns-in-None-clause-kept : goal.returns-in-None-clause-kept
 returns-in-None-clause-kept g c = λ files file p0 some filled.
-    no_files files file p0 _ c.in-None.is some filled
+    no_files _ _ _ _ c.in-None.is some filled

@@ -10,11 +10,11 @@ use Rattle.flutejoin.proofs.fill.reading_lines.listed_after.Goals as goal
 pub returns-in-Some-before-clause-finds : goal.returns-in-Some-before-clause-finds
 returns-in-Some-before-clause-finds c = λ l listed may is.
     subst (λ k. GapLine k c.in-Some.gap ≡ l) (sym c.key.ensures)
-    (gap_after c.args.words.now c.in-Some.gap c.in-Some-before.before.now c.in-Some.ensures.found
+    (gap_after _ _ c.in-Some-before.before.now c.in-Some.ensures.found
     c.in-Some.ensures.finds l listed
     (subst (λ b. MayCome b l) (ap option_copied c.in-Some-before.is) may) is)
 
 pub returns-in-None-before-clause-finds : goal.returns-in-None-before-clause-finds
 returns-in-None-before-clause-finds c = λ l listed may is.
-    gap_first c.args.words.now c.in-Some.gap c.in-Some.ensures.found l
+    gap_first _ _ c.in-Some.ensures.found l
     (subst (λ b. MayCome b l) (ap option_copied c.in-None-before.is) may) is

@@ -11,32 +11,32 @@ use Rattle.flutejoin.proofs.fill.reading_lines.read_status.Goals as goal
 pub returns-in_default-clause-finds : goal.returns-in_default-clause-finds
 returns-in_default-clause-finds c = λ key status named counts is.
     c.in_default.ensures.finds key.session (from_name key status) named.0 refl
-    (status_is c.args.words.now key status is)
+    (status_is _ _ _ is)
 
 pub returns-in_default-object_in-clause-finds : goal.returns-in_default-object_in-clause-finds
 returns-in_default-object_in-clause-finds c = λ key status named counts is.
     let a = c.in-Some.ensures.finds key.session (from_name key status) named.0 refl
-    (status_is c.args.words.now key status is) in
+    (status_is _ _ _ is) in
     c.in_default-object_in.ensures.finds key.object (from_status status) named.1 refl a.2
 
 pub returns-in_default-status_in-clause-finds : goal.returns-in_default-status_in-clause-finds
 returns-in_default-status_in-clause-finds c = λ key status named counts is.
     let a = c.in-Some.ensures.finds key.session (from_name key status) named.0 refl
-    (status_is c.args.words.now key status is) in
+    (status_is _ _ _ is) in
     let d = c.in-Some-object_in.ensures.finds key.object (from_status status) named.1 refl a.2 in
     c.in_default-status_in.ensures.finds status counts d.1
 
 pub returns-in_default-key_of-clause-finds : goal.returns-in_default-key_of-clause-finds
 returns-in_default-key_of-clause-finds c = λ key status named counts is.
     let a = c.in-Some.ensures.finds key.session (from_name key status) named.0 refl
-    (status_is c.args.words.now key status is) in
+    (status_is _ _ _ is) in
     let d = c.in-Some-object_in.ensures.finds key.object (from_status status) named.1 refl a.2 in
     c.in_default-key_of.ensures.finds key named.0 named.1 a.0 a.1 d.0
 
 pub returns-then-eq-clause-finds : goal.returns-then-eq-clause-finds
 returns-then-eq-clause-finds c = λ key status named counts is.
     let a = c.in-Some.ensures.finds key.session (from_name key status) named.0 refl
-    (status_is c.args.words.now key status is) in
+    (status_is _ _ _ is) in
     let d = c.in-Some-object_in.ensures.finds key.object (from_status status) named.1 refl a.2 in (
       c.in-Some-key_of.ensures.finds key named.0 named.1 a.0 a.1 d.0,
       c.in-Some-status_in.ensures.finds status counts d.1,
@@ -45,7 +45,7 @@ returns-then-eq-clause-finds c = λ key status named counts is.
 pub returns-else-eq-clause-finds : goal.returns-else-eq-clause-finds
 returns-else-eq-clause-finds c = λ key status named counts is.
     let a = c.in-Some.ensures.finds key.session (from_name key status) named.0 refl
-    (status_is c.args.words.now key status is) in
+    (status_is _ _ _ is) in
     let d = c.in-Some-object_in.ensures.finds key.object (from_status status) named.1 refl a.2 in
     let k = c.in-Some-key_of.ensures.finds key named.0 named.1 a.0 a.1 d.0 in
     let s = c.in-Some-status_in.ensures.finds status counts d.1 in

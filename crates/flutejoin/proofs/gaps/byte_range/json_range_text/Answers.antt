@@ -20,4 +20,4 @@ returns-clause-line c = rw (
   c.push.ensures.text,
   c.new-text.ensures,
   c.saturating_sub.ensures,
-) (members (decimal c.args.range.first) (decimal (c.args.range.end - 1)))
+) (members _ _)

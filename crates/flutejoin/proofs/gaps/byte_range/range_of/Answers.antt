@@ -17,15 +17,15 @@ within : (info : Information) (id : SymbolId) (k : ℕ) → IsValid info → pla
 within info id k v e =
     let l = info.transfer_length in
     let n = info.symbol_length in
-    let below : k < length (ids info) =
-    slice_get_within (ids info) k id ((places-inverse info id k).0 e) in
-    let count : length (ids info) ≡ div_ceil l n = ids_counted info v in
+    let below =
+    slice_get_within _ k _ ((places-inverse _ _ k).0 e) in
+    let count = ids_counted _ v in
     elim (eq-zero-or-pos l) [
-      | inl z ↦ let none : div_ceil l n ≡ 0 = subst (λ x. div_ceil x n ≡ 0) (sym z) (div_ceil-zero n)
+      | inl z ↦ let none = subst (λ x. div_ceil x n ≡ 0) (sym z) (div_ceil-zero n)
           in absurd (omega (arith, below, count, none))
       | inr p ↦ let t = div_ceil_times l n (v.parts p).symbol in
           let le : k + 1 ≤ div_ceil l n = omega (arith, below, count) in
-          let m : (k + 1) * n ≤ div_ceil l n * n = mul-le (k + 1) n (div_ceil l n) n le (omega arith)
+          let m = mul-le _ n _ n le (omega arith)
           in omega (arith, t.1, m)
     ]
 
@@ -35,10 +35,10 @@ places_below : (info : Information) (id : SymbolId) (k : ℕ) → IsValid info
 places_below info id k v e =
     let l = info.transfer_length in
     let n = info.symbol_length in
-    let below : k < length (ids info) =
-    slice_get_within (ids info) k id ((places-inverse info id k).0 e) in
-    let count : length (ids info) ≡ l / n + min 1 (l % n) = ids_counted info v in
-    let quotient : l / n ≤ l = div-le_self l n in
+    let below =
+    slice_get_within _ k _ ((places-inverse _ _ k).0 e) in
+    let count = ids_counted _ v in
+    let quotient = div-le_self l n in
     omega (arith, below, count, quotient)
 
 -- so those before it and up to its end are counted in 64 bits
@@ -54,13 +54,13 @@ overflow_mul-result c =
     let info = c.args.info.now in
     let id = symbol_id c.args.gap.now.sbn c.args.gap.now.first in
     let v = c.symbol.ensures.valid in
-    let n : c.from-symbol.result ≡ info.symbol_length =
+    let n =
     c.from-symbol.ensures ∙ c.symbol.ensures.value in
     let small : info.symbol_length < 65536 = omega (arith, c.symbol.ensures.value) in
-    let at : place info id ≡ Some c.in_ok-first.first =
+    let at =
     sym (c.in_ok-first.ensures ∙ ap (λ p. place p id) c.of-partition.ensures) in
-    let fits = before_it c.in_ok-first.first info.symbol_length info.transfer_length small v.length
-    (within info id c.in_ok-first.first v at) in
+    let fits = before_it _ _ _ small v.length
+    (within _ _ _ v at) in
     rw n (omega (arith, fits))
 
 pub overflow_add-last : goal.overflow_add-last
@@ -68,9 +68,9 @@ overflow_add-last c =
     let info = c.args.info.now in
     let id = symbol_id c.args.gap.now.sbn c.args.gap.now.last in
     let v = c.symbol.ensures.valid in
-    let at : place info id ≡ Some c.in_ok-last.last =
+    let at =
     sym (c.in_ok-last.ensures ∙ ap (λ p. place p id) c.of-partition.ensures) in
-    let below = places_below info id c.in_ok-last.last v at in
+    let below = places_below _ _ _ v at in
     omega (arith, below, v.length)
 
 pub overflow_mul-last : goal.overflow_mul-last
@@ -78,11 +78,11 @@ overflow_mul-last c =
     let info = c.args.info.now in
     let id = symbol_id c.args.gap.now.sbn c.args.gap.now.last in
     let v = c.symbol.ensures.valid in
-    let n : c.from-symbol.result ≡ info.symbol_length =
+    let n =
     c.from-symbol.ensures ∙ c.symbol.ensures.value in
     let small : info.symbol_length < 65536 = omega (arith, c.symbol.ensures.value) in
-    let at : place info id ≡ Some c.in_ok-last.last =
+    let at =
     sym (c.in_ok-last.ensures ∙ ap (λ p. place p id) c.of-partition.ensures) in
-    let fits = up_to_end c.in_ok-last.last info.symbol_length info.transfer_length small v.length
-    (within info id c.in_ok-last.last v at) in
+    let fits = up_to_end _ _ _ small v.length
+    (within _ _ _ v at) in
     rw n (omega (arith, fits))

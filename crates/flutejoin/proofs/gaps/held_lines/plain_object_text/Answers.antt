@@ -19,7 +19,7 @@ unplaced_told : (text : List ℕ) (key : Key) (status : Status) (n : ℕ)
     → line text ≡ status_line key status
     → line ((text ++ codes " unplaced conflicting ") ++ decimal n) ≡ unplaced_line key status n
 unfolding unplaced_line
-unplaced_told text key status n e = rw (words_of text key status e) (simp append_assoc refl)
+unplaced_told text key status n e = rw (words_of _ _ _ e) (simp append_assoc refl)
 
 told : (key : Key) (status : Status) (n : ℕ) → nat_lt 0 n ≡ true
     → unplaced_line key status n ≡ object_line_in Plain key status n
@@ -38,8 +38,8 @@ returns-then-unplaced-gt0-clause-line c =
     let n = c.args.unplaced in
     let some : nat_lt 0 n ≡ true = search rules in
     rw (c.push_number.ensures.text, c.push.ensures.text)
-    (unplaced_told c.status_text-text.result key status n c.status_text-text.ensures.line
-    ∙ told key status n some)
+    (unplaced_told _ _ _ n c.status_text-text.ensures.line
+    ∙ told _ _ n some)
 
 pub returns-else-unplaced-gt0-clause-line : goal.returns-else-unplaced-gt0-clause-line
 returns-else-unplaced-gt0-clause-line c = search (rules, not_told)

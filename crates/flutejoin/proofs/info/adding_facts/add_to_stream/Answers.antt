@@ -9,10 +9,10 @@ use Rattle.flutejoin.proofs.info_lemmas.AddedFacts.{load_failures}
 use Rattle.flutejoin.proofs.info.adding_facts.add_to_stream.Goals as goal
 
 not_true : (b : Bool) → not b ≡ true → b ≡ false
-not_true x0 x1 = search rules
+not_true = search rules
 
 not_false : (b : Bool) → not b ≡ false → b ≡ true
-not_false x0 x1 = search rules
+not_false = search rules
 
 pub returns-in-Err-clause-failed : goal.returns-in-Err-clause-failed
 returns-in-Err-clause-failed g c = λ told same. let left = nothing_held _ _
@@ -24,23 +24,23 @@ returns-in-Err-clause-failed g c = λ told same. let left = nothing_held _ _
 
 pub returns-in-Err-clause-loans : goal.returns-in-Err-clause-loans
 returns-in-Err-clause-loans g c =
-    (failed_as g.R.Source.unread g.R.Source.buffered g.R.Source.failures g.S.Stream.behaviour
-    c.args.journal.now c.args.facts.now c.requires.in_memory.goes_on c.join_two.new.first
-    c.join_two.new.second
+    (failed_as _ _ _ _
+    _ _ c.requires.in_memory.goes_on _
+    _
     c.in-Err.ensures.first).1
 
 pub returns-in-Err-clause-same_source : goal.returns-in-Err-clause-same_source
 returns-in-Err-clause-same_source g c =
-    (failed_as g.R.Source.unread g.R.Source.buffered g.R.Source.failures g.S.Stream.behaviour
-    c.args.journal.now c.args.facts.now c.requires.in_memory.goes_on c.join_two.new.first
-    c.join_two.new.second
+    (failed_as _ _ _ _
+    _ _ c.requires.in_memory.goes_on _
+    _
     c.in-Err.ensures.first).0.same_source
 
 pub returns-in-Err-clause-failures : goal.returns-in-Err-clause-failures
 returns-in-Err-clause-failures g c = rw c.load_fault.ensures (load_failures _ _ _
-    c.in-Err.fault.fault (failed_as g.R.Source.unread g.R.Source.buffered g.R.Source.failures
-    g.S.Stream.behaviour c.args.journal.now c.args.facts.now c.requires.in_memory.goes_on
-    c.join_two.new.first c.join_two.new.second c.in-Err.ensures.first).0.failed_as)
+    _ (failed_as _ _ _
+    _ _ _ c.requires.in_memory.goes_on
+    _ _ c.in-Err.ensures.first).0.failed_as)
 
 pub returns-in-Ok-clause-failed : goal.returns-in-Ok-clause-failed
 returns-in-Ok-clause-failed g c = λ told same. let left = nothing_held _ _

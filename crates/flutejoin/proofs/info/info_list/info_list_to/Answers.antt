@@ -21,7 +21,7 @@ fails_with_list : (most : Limits) (input list : Option (List ℕ)) (told : List 
     → IfSome list (λ text. (facts : List Fact) × ListTells LineTells text facts × Same told facts)
     → ((facts : List Fact) → Same told facts → IfErr r (InfoFails most input facts))
     → IfErr r (AddListFails most input list)
-fails_with_list x0 x1 x2 x3 x4 x5 x6 = search rules
+fails_with_list = search rules
 
 pub returns-clause-added : goal.returns-clause-added
 returns-clause-added g c =
@@ -30,9 +30,9 @@ returns-clause-added g c =
     let w' = g.W.Sink.written c.add_facts.new.sink in
     let adds : (facts : List Fact) → Same told facts → IfOk c.add_facts.result
     (AddsFacts (g.R.Source.unread c.args.source.now) facts w w') = λ facts same. subst
-    (λ (x : g.row.R.Denot). IfOk c.add_facts.result (AddsFacts (g.R.Source.unread x) facts w w'))
+    (λ x. IfOk c.add_facts.result (AddsFacts (g.R.Source.unread x) facts w w'))
     c.new-journal.ensures.unread (c.add_facts.ensures.added facts (λ F is. subst
-    (λ (l : List Fact). Same l facts) (sym (is ∙ c.new-facts.ensures.facts ∙ c.walk.ensures.value))
+    (λ l. Same l facts) (sym (is ∙ c.new-facts.ensures.facts ∙ c.walk.ensures.value))
     same)) in search (rules, adds)
 
 pub returns-clause-failed : goal.returns-clause-failed
@@ -41,19 +41,19 @@ returns-clause-failed g c =
     let most = at_most g.row.SESSIONS g.row.OBJECTS g.row.SYMBOLS in
     let fails : (facts : List Fact) → Same told facts → IfErr c.add_facts.result
     (InfoFails most (g.R.Source.unread c.args.source.now) facts) = λ facts same.
-    of_source g.R.Source.unread most c.args.source.now _ facts c.add_facts.result
+    of_source g.R.Source.unread most _ _ facts c.add_facts.result
     c.new-journal.ensures.unread
     (c.add_facts.ensures.failed facts
-    (λ F is. subst (λ (l : List Fact). Same l facts)
+    (λ F is. subst (λ l. Same l facts)
     (sym (is ∙ c.new-facts.ensures.facts ∙ c.walk.ensures.value)) same)) in
-    fails_with_list most _ _ told c.add_facts.result c.in_ok-told.ensures.told fails
+    fails_with_list _ _ _ _ _ c.in_ok-told.ensures.told fails
 
 pub returns-clause-list_failed : goal.returns-clause-list_failed
 returns-clause-list_failed g c =
     let told = c.in_ok-told.told in
     let most = at_most g.row.SESSIONS g.row.OBJECTS g.row.SYMBOLS in
-    let fails = of_source g.R.Source.unread most c.args.source.now _ told c.add_facts.result
+    let fails = of_source g.R.Source.unread most _ _ told c.add_facts.result
     c.new-journal.ensures.unread (c.add_facts.ensures.failed told (λ F is. subst
-    (λ (l : List Fact). Same l told) (sym (is ∙ c.new-facts.ensures.facts ∙ c.walk.ensures.value))
-    (Same-itself told))) in never_second most c.add_facts.result
+    (λ l. Same l told) (sym (is ∙ c.new-facts.ensures.facts ∙ c.walk.ensures.value))
+    (Same-itself _))) in never_second most _
     (g.R.Source.unread c.args.source.now) told _ fails

@@ -11,14 +11,14 @@ use Rattle.flutejoin.proofs.info.information_line.information_in.Goals.{else-len
 pub returns-in_default : goal.returns-in_default
 returns-in_default c = record {
   finds = λ info fields is. c.in_default.ensures.finds info.transfer_length (from_symbol info)
-      (omega (arith, fields.0)) refl (is ∙ ap (λ x. codes " " ++ x) (information_chain info));
+      (omega (arith, fields.0)) refl (is ∙ ap (λ x. codes " " ++ x) (information_chain _));
 }
 
 pub returns-in_default-number_after : goal.returns-in_default-number_after
 returns-in_default-number_after c = record {
   finds = λ info fields is.
       let a = c.in-Some.ensures.finds info.transfer_length (from_symbol info)
-      (omega (arith, fields.0)) refl (is ∙ ap (λ x. codes " " ++ x) (information_chain info)) in
+      (omega (arith, fields.0)) refl (is ∙ ap (λ x. codes " " ++ x) (information_chain _)) in
       c.in_default-number_after.ensures.finds info.symbol_length (from_block info)
       (omega (arith, fields.1.0)) refl a.1;
 }
@@ -27,7 +27,7 @@ pub returns-in_default-number_after-2 : goal.returns-in_default-number_after-2
 returns-in_default-number_after-2 c = record {
   finds = λ info fields is. let a = c.in-Some.ensures.finds info.transfer_length
       (from_symbol info) (omega (arith, fields.0)) refl
-      (is ∙ ap (λ x. codes " " ++ x) (information_chain info)) in
+      (is ∙ ap (λ x. codes " " ++ x) (information_chain _)) in
       let b = c.in-Some-number_after.ensures.finds info.symbol_length (from_block info)
       (omega (arith, fields.1.0)) refl a.1 in c.in_default-number_after-2.ensures.finds
       info.max_block_length [] (omega (arith, fields.1.1)) refl b.1;
@@ -37,18 +37,18 @@ pub returns-then-block : goal.returns-then-block
 returns-then-block c = record {
   finds = λ info fields is. let a = c.in-Some.ensures.finds info.transfer_length
       (from_symbol info) (omega (arith, fields.0)) refl
-      (is ∙ ap (λ x. codes " " ++ x) (information_chain info)) in
+      (is ∙ ap (λ x. codes " " ++ x) (information_chain _)) in
       let b = c.in-Some-number_after.ensures.finds info.symbol_length (from_block info)
       (omega (arith, fields.1.0)) refl a.1 in
       let d = c.in-Some-number_after-2.ensures.finds info.max_block_length []
-      (omega (arith, fields.1.1)) refl b.1 in same_numbers info _ a.0 b.0 d.0;
+      (omega (arith, fields.1.1)) refl b.1 in same_numbers _ _ a.0 b.0 d.0;
 }
 
 pub returns-else-length : goal.returns-else-length
 returns-else-length c = record {
   finds = λ info fields is. let a = c.in-Some.ensures.finds info.transfer_length
       (from_symbol info) (omega (arith, fields.0)) refl
-      (is ∙ ap (λ x. codes " " ++ x) (information_chain info)) in
+      (is ∙ ap (λ x. codes " " ++ x) (information_chain _)) in
       let b = c.in-Some-number_after.ensures.finds info.symbol_length (from_block info)
       (omega (arith, fields.1.0)) refl a.1 in
       let d = c.in-Some-number_after-2.ensures.finds info.max_block_length []

@@ -14,32 +14,32 @@ pub returns-in_default-information_in-clause-finds :
     goal.returns-in_default-information_in-clause-finds
 returns-in_default-information_in-clause-finds c = λ key info named fields is.
     let a = c.in-Some.ensures.finds key.session (from_space key info) named.0 refl
-    (is ∙ fact_chain key info) in
+    (is ∙ fact_chain _ _) in
     let d = c.in-Some-object_in.ensures.finds key.object (from_info info) named.1 refl a.2 in
     c.in_default-information_in.ensures.finds info fields d.1
 
 pub returns-in_default-key_of-clause-finds : goal.returns-in_default-key_of-clause-finds
 returns-in_default-key_of-clause-finds c = λ key info named fields is.
     let a = c.in-Some.ensures.finds key.session (from_space key info) named.0 refl
-    (is ∙ fact_chain key info) in
+    (is ∙ fact_chain _ _) in
     let d = c.in-Some-object_in.ensures.finds key.object (from_info info) named.1 refl a.2 in
     c.in_default-key_of.ensures.finds key named.0 named.1 a.0 a.1 d.0
 
 pub returns-then-eq-clause-finds : goal.returns-then-eq-clause-finds
 returns-then-eq-clause-finds c = λ key info named fields is. let a = c.in-Some.ensures.finds
-    key.session (from_space key info) named.0 refl (is ∙ fact_chain key info) in
+    key.session (from_space key info) named.0 refl (is ∙ fact_chain _ _) in
     let d = c.in-Some-object_in.ensures.finds key.object (from_info info) named.1 refl a.2 in
     let n = numbers_of c.in-Some-information_in.numbers in
-    let numbers : n ≡ info = c.in-Some-information_in.ensures.finds info fields d.1 in
+    let numbers = c.in-Some-information_in.ensures.finds info fields d.1 in
     let same = c.in-Some-key_of.ensures.finds key named.0 named.1 a.0 a.1 d.0 in
     (same, numbers)
 
 pub returns-else-eq-clause-finds : goal.returns-else-eq-clause-finds
 returns-else-eq-clause-finds c = λ key info named fields is. let a = c.in-Some.ensures.finds
-    key.session (from_space key info) named.0 refl (is ∙ fact_chain key info) in
+    key.session (from_space key info) named.0 refl (is ∙ fact_chain _ _) in
     let d = c.in-Some-object_in.ensures.finds key.object (from_info info) named.1 refl a.2 in
     let n = numbers_of c.in-Some-information_in.numbers in
-    let numbers : n ≡ info = c.in-Some-information_in.ensures.finds info fields d.1 in
+    let numbers = c.in-Some-information_in.ensures.finds info fields d.1 in
     let same = c.in-Some-key_of.ensures.finds key named.0 named.1 a.0 a.1 d.0 in
     let text : c.as_slice.result.now ≡ fact_words (Info c.in-Some-key_of.key n) = rw (
       c.as_slice.ensures,

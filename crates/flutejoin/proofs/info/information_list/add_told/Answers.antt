@@ -42,7 +42,7 @@ returns-in-Ok-add-clause-added g c =
       numbers = search rules;
       words_are = c.in-Some.ensures.found;
     } in
-    let tells = tells_shown c.args.words.now key c.in-Ok.info n shows c.in-Ok.ensures.0
+    let tells = tells_shown _ _ _ n shows c.in-Ok.ensures.0
     c.in-Ok.ensures.1 in
     (Info key c.in-Ok.info ∷ [], tells, c.in-Ok-add.ensures.ok)
 
@@ -55,7 +55,7 @@ returns-in-Err-Full-clause-failed g c =
       numbers = search rules;
       words_are = c.in-Some.ensures.found;
     } in
-    let tells = tells_shown c.args.words.now key c.in-Ok.info n shows c.in-Ok.ensures.0
+    let tells = tells_shown _ _ _ n shows c.in-Ok.ensures.0
     c.in-Ok.ensures.1 in
     no_room (Info key c.in-Ok.info ∷ []) refl tells
     (c.add.ensures.full.0 (c.in-Err-Full.is ∙ ap Err c.in-Err-Full.field-0-is))

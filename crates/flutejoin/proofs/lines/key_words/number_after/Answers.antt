@@ -19,7 +19,7 @@ returns-then-len-eq0 c = record {
         before = c.digits_len-len.ensures.before;
         stops = c.digits_len-len.ensures.stops;
       } in
-      omega (arith, digits_end c.in-Some.rest.now tail n len small ends is d, some_digits n small);
+      omega (arith, digits_end _ _ n _ small ends is d, some_digits n small);
 }
 
 pub returns-in_default-from_utf8 : goal.returns-in_default-from_utf8
@@ -33,8 +33,8 @@ returns-in_default-from_utf8 c = record {
         before = c.digits_len-len.ensures.before;
         stops = c.digits_len-len.ensures.stops;
       } in
-      let e = digits_end c.in-Some.rest.now tail n len small ends is d in
-      let front = c.split_at.ensures.front ∙ number_front c.in-Some.rest.now tail n len is e in
+      let e = digits_end _ _ n _ small ends is d in
+      let front = c.split_at.ensures.front ∙ number_front _ _ n _ is e in
       c.in_default-from_utf8.ensures.cases.0 (subst IsUtf8 (sym front) (utf8_decimal n small));
 }
 
@@ -49,11 +49,11 @@ returns-in-Ok-parse c = record {
         before = c.digits_len-len.ensures.before;
         stops = c.digits_len-len.ensures.stops;
       } in
-      let e = digits_end c.in-Some.rest.now tail n len small ends is d in
-      let front = c.split_at.ensures.front ∙ number_front c.in-Some.rest.now tail n len is e in
-      let read = parse-decimal_wide 128 n c.in-Ok.digits.now c.parse.result small (wide n small)
+      let e = digits_end _ _ n _ small ends is d in
+      let front = c.split_at.ensures.front ∙ number_front _ _ n _ is e in
+      let read = parse-decimal_wide 128 n _ _ small (wide n small)
       (c.in-Ok.ensures.cases.0 ∙ front) c.parse.ensures.value.0 in
-      (cc, c.split_at.ensures.back ∙ number_back c.in-Some.rest.now tail n len is e);
+      (cc, c.split_at.ensures.back ∙ number_back _ _ n _ is e);
 }
 
 pub returns-in-Err : goal.returns-in-Err
@@ -67,9 +67,9 @@ returns-in-Err c = record {
         before = c.digits_len-len.ensures.before;
         stops = c.digits_len-len.ensures.stops;
       } in
-      let e = digits_end c.in-Some.rest.now tail n len small ends is d in
-      let front = c.split_at.ensures.front ∙ number_front c.in-Some.rest.now tail n len is e in
-      let read = parse-decimal_wide 128 n c.in-Ok.digits.now c.parse.result small (wide n small)
+      let e = digits_end _ _ n _ small ends is d in
+      let front = c.split_at.ensures.front ∙ number_front _ _ n _ is e in
+      let read = parse-decimal_wide 128 n _ _ small (wide n small)
       (c.in-Ok.ensures.cases.0 ∙ front) c.parse.ensures.value.0 in
       let bad = c.in-Err.is in
       cc;

@@ -13,8 +13,8 @@ returns-in-Some c = record {
       codes " " ++ (object_words name ++ tail) → (Instance c.in-Some.id ≡ name) ×
       (c.in-Some.rest.now ≡ tail)) (λ i valid is. let a = c.in-Some.ensures.finds i tail
       (omega (arith, valid)) ends is in (ap Instance a.0, a.1)) (λ t valid is. absurd (no_file
-      c.args.text.now tail c.in-Some.ensures.found.0 t valid.1 is c.in-Some.ensures.found.1))
-      name valid is;
+      _ _ _ t valid.1 is c.in-Some.ensures.found.1))
+      _ valid is;
 }
 
 pub returns-in-Some-2 : goal.returns-in-Some-2
@@ -22,8 +22,8 @@ returns-in-Some-2 c = record {
   finds = λ name tail valid ends is. by_name (λ name. IsObjectName name → c.args.text.now ≡
       codes " " ++ (object_words name ++ tail) → ⊥) (λ i valid is. let a =
       c.in-Some.ensures.finds i tail (omega (arith, valid)) ends is in omega
-      (arith, a.0, valid, c.if-id.false)) (λ t valid is. absurd (no_file c.args.text.now tail
-      c.in-Some.ensures.found.0 t valid.1 is c.in-Some.ensures.found.1)) name valid is;
+      (arith, a.0, valid, c.if-id.false)) (λ t valid is. absurd (no_file _ _
+      _ t valid.1 is c.in-Some.ensures.found.1)) _ valid is;
 }
 
 pub returns-in-Some-number_after : goal.returns-in-Some-number_after
@@ -33,7 +33,7 @@ returns-in-Some-number_after c = record {
       (c.in-Some-number_after.rest.now ≡ tail))
       (λ i valid is. absurd (c.in-None.ensures.finds i tail (omega (arith, valid)) ends is)) (λ
       t valid is. let a = c.in-Some-number_after.ensures.finds t tail (omega (arith, valid.1))
-      ends is in (ap File a.0, a.1)) name valid is;
+      ends is in (ap File a.0, a.1)) _ valid is;
 }
 
 pub returns-in-None-number_after : goal.returns-in-None-number_after
@@ -41,6 +41,6 @@ returns-in-None-number_after c = record {
   finds = λ name tail valid ends is. by_name (λ name. IsObjectName name → c.args.text.now ≡
       codes " " ++ (object_words name ++ tail) → ⊥)
       (λ i valid is. c.in-None.ensures.finds i tail (omega (arith, valid)) ends is) (λ t valid
-      is. c.in-None-number_after.ensures.finds t tail (omega (arith, valid.1)) ends is) name
+      is. c.in-None-number_after.ensures.finds t tail (omega (arith, valid.1)) ends is) _
       valid is;
 }

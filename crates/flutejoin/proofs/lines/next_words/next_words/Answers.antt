@@ -15,10 +15,10 @@ returns-else-is_empty-clause-fails g c =
     let i = c.loop-text.invariant in
     let t = subst (TakesWords (u c.loop-text.source) (u c.take_lent.new.source) c.loop-text.text
     c.take_lent.new.text) c.if-take_lent.false c.take_lent.ensures.takes in
-    let m = taken_more (u c.args.source.now) (u c.loop-text.source) (u c.take_lent.new.source)
-    c.loop-text.text c.take_lent.new.text i.so_far i.one_line t in
-    at_its_end c.take_lent.new.text c.in-Ok.count c.read.new.buffer (u c.args.source.now)
-    (u c.take_lent.new.source) (u c.read.new.self) m.0 m.1 c.in-Ok.ensures.bytes.0 (
+    let m = taken_more _ _ _
+    _ _ i.so_far i.one_line t in
+    at_its_end _ _ _ _
+    _ _ m.0 m.1 c.in-Ok.ensures.bytes.0 (
       c.if-count-eq0.true,
       c.in-Ok.ensures.bytes.1 c.if-count-eq0.true
           (omega (arith, c.read.auto.buffer)),
@@ -32,15 +32,15 @@ returns-then-byte-eq10-clause-gives g c =
     let i = c.loop-text.invariant in
     let t = subst (TakesWords (u c.loop-text.source) (u c.take_lent.new.source) c.loop-text.text
     c.take_lent.new.text) c.if-take_lent.false c.take_lent.ensures.takes in
-    let m = taken_more (u c.args.source.now) (u c.loop-text.source) (u c.take_lent.new.source)
-    c.loop-text.text c.take_lent.new.text i.so_far i.one_line t in
+    let m = taken_more _ _ _
+    _ _ i.so_far i.one_line t in
     let buf = c.read.new.buffer in
-    let one : length buf ≡ 1 = c.read.auto.buffer in
-    let all = one_byte c.in-Ok.count buf one c.in-Ok.ensures.bound c.if-count-eq0.false in
-    ended_there (u c.args.source.now) (u c.take_lent.new.source) (u c.read.new.self)
-    c.take_lent.new.text m.0 m.1
+    let one = c.read.auto.buffer in
+    let all = one_byte _ _ one c.in-Ok.ensures.bound c.if-count-eq0.false in
+    ended_there _ _ _
+    _ m.0 m.1
     (subst (λ b. Consumes (u c.take_lent.new.source) (u c.read.new.self) b)
-    (all ∙ byte_is buf one c.if-byte-eq10.true) c.in-Ok.ensures.bytes.0)
+    (all ∙ byte_is _ one c.if-byte-eq10.true) c.in-Ok.ensures.bytes.0)
 
 pub returns-then-as_slice-eq-ROOM-clause-fails : goal.returns-then-as_slice-eq-ROOM-clause-fails
 returns-then-as_slice-eq-ROOM-clause-fails g c =
@@ -48,18 +48,18 @@ returns-then-as_slice-eq-ROOM-clause-fails g c =
     let i = c.loop-text.invariant in
     let t = subst (TakesWords (u c.loop-text.source) (u c.take_lent.new.source) c.loop-text.text
     c.take_lent.new.text) c.if-take_lent.false c.take_lent.ensures.takes in
-    let m = taken_more (u c.args.source.now) (u c.loop-text.source) (u c.take_lent.new.source)
-    c.loop-text.text c.take_lent.new.text i.so_far i.one_line t in
+    let m = taken_more _ _ _
+    _ _ i.so_far i.one_line t in
     let buf = c.read.new.buffer in
-    let one : length buf ≡ 1 = c.read.auto.buffer in
-    let all = one_byte c.in-Ok.count buf one c.in-Ok.ensures.bound c.if-count-eq0.false in
+    let one = c.read.auto.buffer in
+    let all = one_byte _ _ one c.in-Ok.ensures.bound c.if-count-eq0.false in
     let read = subst (λ b. Consumes (u c.take_lent.new.source) (u c.read.new.self) b) all
     c.in-Ok.ensures.bytes.0 in
-    longer (u c.args.source.now) (u c.read.new.self) c.take_lent.new.text buf
-    (Consumes-trans (u c.args.source.now) (u c.take_lent.new.source) (u c.read.new.self)
-    c.take_lent.new.text buf m.0 read) one
+    longer _ _ _ _
+    (Consumes-trans _ _ _
+    _ _ m.0 read) one
     (ap length (sym c.as_slice-in-loop-text.ensures) ∙ c.if-as_slice-eq-ROOM.true)
-    (one_line_more c.take_lent.new.text buf one c.if-byte-eq10.false m.1)
+    (one_line_more _ _ one c.if-byte-eq10.false m.1)
 
 pub loop-text-preserved : goal.loop-text-preserved
 loop-text-preserved g c =
@@ -67,20 +67,20 @@ loop-text-preserved g c =
     let i = c.loop-text.invariant in
     let t = subst (TakesWords (u c.loop-text.source) (u c.take_lent.new.source) c.loop-text.text
     c.take_lent.new.text) c.if-take_lent.false c.take_lent.ensures.takes in
-    let m = taken_more (u c.args.source.now) (u c.loop-text.source) (u c.take_lent.new.source)
-    c.loop-text.text c.take_lent.new.text i.so_far i.one_line t in
+    let m = taken_more _ _ _
+    _ _ i.so_far i.one_line t in
     let buf = c.read.new.buffer in
-    let one : length buf ≡ 1 = c.read.auto.buffer in
-    let all = one_byte c.in-Ok.count buf one c.in-Ok.ensures.bound c.if-count-eq0.false in
+    let one = c.read.auto.buffer in
+    let all = one_byte _ _ one c.in-Ok.ensures.bound c.if-count-eq0.false in
     let read = subst (λ b. Consumes (u c.take_lent.new.source) (u c.read.new.self) b) all
     c.in-Ok.ensures.bytes.0 in
     record {
       so_far = subst (λ b. Consumes (u c.args.source.now) (u c.read.new.self) b)
           (sym c.push_bytes.ensures.text)
-          (Consumes-trans (u c.args.source.now) (u c.take_lent.new.source) (u c.read.new.self)
-          c.take_lent.new.text buf m.0 read);
+          (Consumes-trans _ _ _
+          _ _ m.0 read);
       one_line = subst IsOneLine (sym c.push_bytes.ensures.text)
-          (one_line_more c.take_lent.new.text buf one c.if-byte-eq10.false m.1);
+          (one_line_more _ _ one c.if-byte-eq10.false m.1);
       few = omega (
         arith,
         c.push_bytes.ensures.len,

@@ -6,16 +6,16 @@ use Rattle.flutejoin.proofs.lines.next_words.take_lent.Goals as goal
 
 pub returns-then-count-lent-clause-takes : goal.returns-then-count-lent-clause-takes
 returns-then-count-lent-clause-takes g c =
-    takes_end _ (g.R.Source.unread c.consume.new.self) c.args.text.now _
-    (g.R.Source.buffered c.args.source.now) c.at_most-lent.result.now _ c.line_len-count.result
+    takes_end _ _ _ _
+    _ _ _ _
     (c.at_most-lent.ensures ∙ ap (take _) c.buffer.ensures.buffered) c.if-count-lent.true
     c.line_len-count.ensures.before (c.line_len-count.ensures.stops c.if-count-lent.true)
     c.push_bytes.ensures.text c.consume.ensures.bytes
 
 pub returns-clause-takes : goal.returns-clause-takes
 returns-clause-takes g c =
-    takes_more _ (g.R.Source.unread c.consume-2.new.self) c.args.text.now _
-    (g.R.Source.buffered c.args.source.now) c.at_most-lent.result.now _ c.line_len-count.result
+    takes_more _ _ _ _
+    _ _ _ _
     (c.at_most-lent.ensures ∙ ap (take _) c.buffer.ensures.buffered)
     c.line_len-count.ensures.within c.line_len-count.ensures.before c.push_bytes.ensures.text
     c.consume-2.ensures.bytes

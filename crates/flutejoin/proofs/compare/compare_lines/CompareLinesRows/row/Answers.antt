@@ -10,23 +10,13 @@ returns-then-not-self-clause-taken g c =
     let r = c.write_words.result in
     let s = g.A.Sink.written old.lines.now in
     let s' = g.A.Sink.written c.write_words.new.sink in
-    lined g.A.Sink.written g.A.Sink.failures old (record {
-      style = old.style;
-      same = old.same && not c.differs.result;
-      sums = old.sums;
-      lines = record old.lines { now = c.write_words.new.sink };
-    }) c.args.row refl refl (ap (λ b. old.same && not b) c.differs.ensures) r c.if-not-self.true
+    lined _ _ _ _ _ refl refl (ap (λ b. old.same && not b) c.differs.ensures) r c.if-not-self.true
     (subst (λ l. Writes s s' l r) c.row_text.ensures.line c.write_words.ensures.line)
     c.write_words.ensures.failures refl
 
 pub returns-clause-taken : goal.returns-clause-taken
 returns-clause-taken g c =
     let old = c.args.self.now in
-    summed g.A.Sink.written g.A.Sink.failures old (record {
-      style = old.style;
-      same = old.same && not c.differs.result;
-      sums = Some c.in_ok-add_row.field-0;
-      lines = record old.lines { now = c.add_row.new.lines };
-    }) c.args.row refl refl (ap (λ b. old.same && not b) c.differs.ensures) c.if-not-self.false
+    summed _ _ _ _ _ refl refl (ap (λ b. old.same && not b) c.differs.ensures) c.if-not-self.false
     c.in_ok-add_row.ensures.line (omega (arith, c.in_ok-add_row.ensures.failures))
     (ap Some c.in_ok-add_row.ensures.sums)

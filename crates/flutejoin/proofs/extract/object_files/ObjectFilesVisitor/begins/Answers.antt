@@ -17,21 +17,21 @@ returns-in_err-begin-clause-kept g c =
 pub returns-clause-kept : goal.returns-clause-kept
 returns-clause-kept g c =
     ap (λ x. ((c.args.self.now.folder.ghost_name, c.args.self.now.lines.ghost_name), x))
-    (lasts _ _ (did_stay (begins c.as_slice.result.now) (begins_stay c.as_slice.result.now) _ _
+    (lasts _ _ (did_stay _ (begins_stay _) _ _
     c.in_ok-begin.ensures.begun))
 
 pub returns-clause-told : goal.returns-clause-told
 returns-clause-told g c = λ at objects h.
     let key = c.args.key.now in
     let len = c.args.info.now.transfer_length in
-    let made = subst (λ (n : List ℕ). Makes (begins n)
+    let made = subst (λ n. Makes (begins n)
     (g.D.NewFolder.places c.args.self.now.folder.now) (g.D.NewFolder.places c.begin.new.self))
     (c.as_slice.ensures ∙ c.file_name.ensures.name) c.in_ok-begin.ensures.begun in
     record {
-      filled = subst (λ (x : List ℕ). LeadsTo (Fills (flat_map object_file objects)
+      filled = subst (λ x. LeadsTo (Fills (flat_map object_file objects)
           (Some (record { name = file_name key; bytes = x }))) at.0
           (g.D.NewFolder.places c.begin.new.self)) (sym (take-nil len))
-          (fills_begins (file_name key) (flat_map object_file objects) None at.0 _ _ h.filled made);
+          (fills_begins _ _ _ at.0 _ _ h.filled made);
       told = h.told;
       count = h.count;
       left_is = ap Some (c.length.ensures.value ∙ omega arith);

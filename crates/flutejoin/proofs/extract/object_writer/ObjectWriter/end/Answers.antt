@@ -34,8 +34,8 @@ returns-in_default c = record {
   extracts = λ P start now r h. let key = c.args.self.now.key in
       let n = subst (HasFound P key c.args.self.now.failed start now) c.in-Whole.is h in
       let t = c.next.ensures.turned n.scanned n.scans tt (none-can-come n) in
-      let e = ended-turn n.scanned t.0 c.next.result c.in_default.not-Gap t.1 in
-      let ended = ended-whole n t.0 r e.0 e.1 in
+      let e = ended-turn _ _ _ c.in_default.not-Gap t.1 in
+      let ended = ended-whole n _ r e.0 e.1 in
       record {
         info = ended.0;
         whole = ended.1;
@@ -50,9 +50,9 @@ returns-in_default-2-clause-extracts c = λ P start now r h. let key = c.args.se
     let failed = c.args.self.now.failed in
     let n = subst (HasFound P key failed start now) c.in-Whole.is h in
     let t = c.next.ensures.turned n.scanned n.scans tt (none-can-come n) in
-    let e = ended-turn n.scanned t.0 c.next.result c.in_default.not-Gap t.1 in
-    whole-written P key start now c.in-Whole.object failed c.if-self.false
-    (ended-whole n t.0 r e.0 e.1)
+    let e = ended-turn _ _ _ c.in_default.not-Gap t.1 in
+    whole-written P _ _ _ c.in-Whole.object _ c.if-self.false
+    (ended-whole n _ r e.0 e.1)
 
 pub returns-clause-extracts : goal.returns-clause-extracts
 returns-clause-extracts c = λ P start now r h. let key = c.args.self.now.key in

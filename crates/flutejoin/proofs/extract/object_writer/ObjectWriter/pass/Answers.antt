@@ -22,7 +22,7 @@ own fact is same = search rules
 pub returns-in-Info-clause-passed : goal.returns-in-Info-clause-passed
 returns-in-Info-clause-passed g c = λ P start. let w = g.W.Sink.written c.args.sink.now in
     let same = own (fact_of c.args.fact.now) c.address.ensures
-    (equal_keys c.address.result.key c.args.self.now.key c.if-eq.ensures) in
+    (equal_keys _ _ c.if-eq.ensures) in
     let is = ap fact_of c.in-Info.is ∙ ap (λ k. Info k c.in-Info.info)
     (ap (λ f. (address f).key) (sym (ap fact_of c.in-Info.is)) ∙ same) in
     let Q : Fact → Type 0 = λ f. IsRising (P ++ f ∷ []) → Stands P c.args.self.now start w → Stands
@@ -32,7 +32,7 @@ returns-in-Info-clause-passed g c = λ P start. let w = g.W.Sink.written c.args.
 pub returns-in-InfoConflict-clause-passed : goal.returns-in-InfoConflict-clause-passed
 returns-in-InfoConflict-clause-passed g c = λ P start. let w = g.W.Sink.written c.args.sink.now in
     let same = own (fact_of c.args.fact.now) c.address.ensures
-    (equal_keys c.address.result.key c.args.self.now.key c.if-eq.ensures) in
+    (equal_keys _ _ c.if-eq.ensures) in
     let is = ap fact_of c.in-InfoConflict.is ∙ ap InfoConflict
     (ap (λ f. (address f).key) (sym (ap fact_of c.in-InfoConflict.is)) ∙ same) in
     let Q : Fact → Type 0 = λ f. IsRising (P ++ f ∷ []) → Stands P c.args.self.now start w → Stands
@@ -42,7 +42,7 @@ returns-in-InfoConflict-clause-passed g c = λ P start. let w = g.W.Sink.written
 pub returns-in-Symbol-clause-passed : goal.returns-in-Symbol-clause-passed
 returns-in-Symbol-clause-passed g c = λ P start. let w = g.W.Sink.written c.args.sink.now in
     let same = own (fact_of c.args.fact.now) c.address.ensures
-    (equal_keys c.address.result.key c.args.self.now.key c.if-eq.ensures) in
+    (equal_keys _ _ c.if-eq.ensures) in
     let w' = g.W.Sink.written c.symbol.new.sink in
     let is = ap fact_of c.in-Symbol.is ∙ ap (λ k. Symbol k c.in-Symbol.id c.in-Symbol.bytes.now)
     (ap (λ f. (address f).key) (sym (ap fact_of c.in-Symbol.is)) ∙ same) in
@@ -53,7 +53,7 @@ returns-in-Symbol-clause-passed g c = λ P start. let w = g.W.Sink.written c.arg
 pub returns-in-SymbolConflict-clause-passed : goal.returns-in-SymbolConflict-clause-passed
 returns-in-SymbolConflict-clause-passed g c = λ P start. let w = g.W.Sink.written c.args.sink.now in
     let same = own (fact_of c.args.fact.now) c.address.ensures
-    (equal_keys c.address.result.key c.args.self.now.key c.if-eq.ensures) in
+    (equal_keys _ _ c.if-eq.ensures) in
     let w' = g.W.Sink.written c.symbol-in-SymbolConflict.new.sink in
     let is = ap fact_of c.in-SymbolConflict.is ∙ ap (λ k. SymbolConflict k c.in-SymbolConflict.id)
     (ap (λ f. (address f).key) (sym (ap fact_of c.in-SymbolConflict.is)) ∙ same) in
@@ -62,5 +62,5 @@ returns-in-SymbolConflict-clause-passed g c = λ P start. let w = g.W.Sink.writt
     (c.symbol-in-SymbolConflict.ensures.passed P start)
 
 pub returns-else-eq-clause-passed : goal.returns-else-eq-clause-passed
-returns-else-eq-clause-passed g c = λ P start r h. other-passes P (fact_of c.args.fact.now) _ start _ _
-    (λ e. not-same _ _ c.if-eq.ensures (ap (λ (a : Address). a.key) c.address.ensures ∙ e)) h
+returns-else-eq-clause-passed g c = λ P start r h. other-passes P _ _ _ _ _
+    (λ e. not-same _ _ c.if-eq.ensures (ap (λ a. a.key) c.address.ensures ∙ e)) h

@@ -11,11 +11,11 @@ returns-in-Nothing-clause-passed g c = λ P start r h. let key = c.args.self.now
     let found = subst
     (HasFound P key c.args.self.now.failed start (g.W.Sink.written c.args.sink.now)) c.in-Nothing.is
     h in (
-      symbol-told key P (next_fact key (c.args.id, c.args.value)) c.args.id found.0
-          (told-at key c.args.id c.args.value),
+      symbol-told _ P _ _ found.0
+          (told-at _ _ _),
       found.1,
     )
 
 pub returns-in_default-clause-passed : goal.returns-in_default-clause-passed
-returns-in_default-clause-passed g c = λ P start r h. symbol-passes P _ _ _ start _
+returns-in_default-clause-passed g c = λ P start r h. symbol-passes P _ _ _ _ _
     (record { some = c.in_default.not-Nothing; not_whole = c.in_default.not-Whole }) h

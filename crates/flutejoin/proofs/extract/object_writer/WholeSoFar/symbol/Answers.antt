@@ -18,20 +18,20 @@ use Rattle.flutejoin.proofs.extract.object_writer.WholeSoFar.symbol.Goals as goa
 writes_written : {T E : Type 0} (old new : Option (List ℕ)) (bytes : List ℕ) (result : Result T E)
     (failed : Bool) → failed ≡ is_err result → Writes old new bytes result → Written failed old new
     bytes
-writes_written x0 x1 x2 x3 x4 x5 x6 = search rules
+writes_written = search rules
 
 pub returns-then-not-failed-clause-passed : goal.returns-then-not-failed-clause-passed
 returns-then-not-failed-clause-passed g c = λ P key start r h. let n : SymbolId × Option
     (Bor (List ℕ)) = (c.args.id, c.args.value) in
     let t = c.in-Fitting.ensures.turned h.scanned h.scans (next-rises h n r) (can-come h n r) in
     let bytes = c.in-Some.bytes.now in
-    passed-next h n r bytes
-    (fits-next h n r t.0 bytes t.1 (ap (λ v. value_of (c.args.id, v)) c.in-Some.is)) t.2
+    passed-next h n r _
+    (fits-next h n r _ _ t.1 (ap (λ v. value_of (c.args.id, v)) c.in-Some.is)) t.2
     (c.next.ensures.part t.0 t.2) refl
     (omega (arith, c.min.ensures, length-take c.min.result bytes)) (rw (
       c.if-not-failed.true,
       sym
-          (ap (λ k. take k bytes) c.min.ensures ∙ take_min c.args.self.now.left bytes),
+          (ap (λ k. take k bytes) c.min.ensures ∙ take_min _ _),
     )
     (writes_written _ _ _ _ _ c.is_err.ensures.value c.write_all.ensures.bytes))
 
@@ -40,7 +40,7 @@ returns-else-not-failed-clause-passed g c = λ P key start r h.
     let n : SymbolId × Option (Bor (List ℕ)) = (c.args.id, c.args.value) in
     let t = c.in-Fitting.ensures.turned h.scanned h.scans (next-rises h n r) (can-come h n r) in
     let bytes = c.in-Some.bytes.now in
-    passed-next h n r bytes (fits-next h n r t.0 bytes t.1
+    passed-next h n r _ (fits-next h n r _ _ t.1
     (ap (λ v. value_of (c.args.id, v)) c.in-Some.is)) t.2
     (c.next.ensures.part t.0 t.2) refl
     (omega (arith, c.min.ensures, length-take c.min.result bytes))
@@ -69,6 +69,6 @@ pub returns-in-Wanted-clause-passed : goal.returns-in-Wanted-clause-passed
 returns-in-Wanted-clause-passed g c = λ P key start r h. let n : SymbolId × Option (Bor (List ℕ)) =
     (c.args.id, c.args.value) in
     let t = c.next.ensures.turned h.scanned h.scans (next-rises h n r) (can-come h n r) in (
-      settled-next h n r _ (wanted-turn h.scanned t.0 n c.next.result c.in-Wanted.is t.1),
+      settled-next h n r _ (wanted-turn _ _ n _ c.in-Wanted.is t.1),
       wrote-next h n r,
     )

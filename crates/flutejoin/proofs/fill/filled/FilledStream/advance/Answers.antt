@@ -4,5 +4,5 @@ use Rattle.flutejoin.proofs.fill.filled.FilledStream.advance.Goals as goal
 pub returns-clause-goes_on : goal.returns-clause-goes_on
 returns-clause-goes_on g c =
     let m = c.in_ok-step.ensures.moves in
-    settled g.S.Stream.behaviour g.R.Source.unread g.R.Source.failures
+    settled _ _ _
     (m.walks c.args.self.now c.loop.invariant) (m.stays c.if-branch.false)

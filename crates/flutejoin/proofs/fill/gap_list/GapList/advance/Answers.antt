@@ -16,8 +16,8 @@ returns-in_err-next-clause-stops g c =
 
 pub returns-clause-reads : goal.returns-clause-reads
 returns-clause-reads g c = λ start passed s.
-    stands_more g.R.Source.unread g.R.Source.failures start c.args.self.now c.read_next.new.self
-    passed c.requires s _ c.in_ok-next.next c.in_ok-next.ensures.reads c.in_ok-next.ensures.failures
+    stands_more _ _ _ _ c.read_next.new.self
+    _ c.requires s _ _ c.in_ok-next.ensures.reads c.in_ok-next.ensures.failures
     refl refl refl
     (c.object_after-self.ensures
     ∙ ap (λ o. after_last o c.read_next.new.self.last) c.in_ok-next.ensures.same.0
@@ -26,4 +26,4 @@ returns-clause-reads g c = λ start passed s.
 pub returns-clause-less : goal.returns-clause-less
 returns-clause-less g c =
     less_lines g.R.Source.unread g.R.Source.failures c.args.self.now c.read_next.new.self
-    c.in_ok-next.next c.requires c.in_ok-next.ensures.few c.in_ok-next.ensures.reads
+    _ c.requires c.in_ok-next.ensures.few c.in_ok-next.ensures.reads

@@ -10,7 +10,7 @@ returns-in-None-clause-none g c =
     let gave = subst (GivesWords (g.R.Source.unread c.args.self.now.source)
     (g.R.Source.unread c.next_words.new.source)) c.in-Ok-Some.field-0-is
     c.in-Ok-Some.ensures.gives in (
-      none_next _ (g.R.Source.unread c.next_words.new.source) c.in-Ok-Some.words _ _ gave.0 gave.1
+      none_next _ _ _ _ _ gave.0 gave.1
           (λ l listed may is. c.in-None.ensures.finds l listed
           (subst (λ b. MayCome b l) (sym c.line.ensures) may) (ap line c.as_slice.ensures ∙ is)),
       omega (arith, c.in-Ok-Some.ensures.failures),

@@ -7,14 +7,8 @@ use Rattle.flutejoin.proofs.gaps.gap_lines.GapLinesVisitor.ends.Goals as goal
 pub returns-clause-told : goal.returns-clause-told
 returns-clause-told g c = λ known objects progress t key status conflicts is end h.
     let old = c.args.self.now in
-    object_lined g.A.Sink.written objects t old (record {
-      style = old.style;
-      closed = c.add.new.self;
-      ranges = c.end.new.self;
-      lines = record old.lines { now = c.move_to.new.sink };
-      gap_lines = record old.gap_lines { now = c.move_to.new.self };
-    }) c.move_to.result refl c.in_ok-end.ensures.last
-    (gaps_ended t (g.A.Sink.written c.end.new.lines) h end c.in_ok-end.ensures.line) (
+    object_lined _ _ t old _ _ refl c.in_ok-end.ensures.last
+    (gaps_ended t _ h end c.in_ok-end.ensures.line) (
       c.in_ok-add.ensures.added known objects h.lines t key status conflicts (told_no_stray old.style t is)
           h.closed_are h.lines_known,
       c.in_ok-add.ensures.few _ h.few,

@@ -6,18 +6,12 @@ use Rattle.flutejoin.proofs.gaps.gap_lines.GapLinesVisitor.gap.Goals as goal
 
 pub returns-then-not-shows-clause-told : goal.returns-then-not-shows-clause-told
 returns-then-not-shows-clause-told g c = λ known objects p h.
-    gap_passed c.args.gap.now h (sym c.shows.ensures ∙ c.if-not-shows.true)
+    gap_passed _ h (sym c.shows.ensures ∙ c.if-not-shows.true)
 
 pub returns-then-self-clause-told : goal.returns-then-self-clause-told
 returns-then-self-clause-told g c = λ known objects p h.
     let old = c.args.self.now in
-    gap_ranged c.args.gap.now (record {
-      style = old.style;
-      closed = old.closed;
-      ranges = c.add.new.self;
-      lines = old.lines;
-      gap_lines = record old.gap_lines { now = c.add.new.lines };
-    }) c.add.result h (record { style = refl; closed = refl; lines = refl })
+    gap_ranged _ _ _ h (record { style = refl; closed = refl; lines = refl })
     (sym c.shows.ensures ∙ c.if-not-shows.false) c.if-self.true c.add.ensures.info
     c.add.ensures.last c.add.ensures.line
 
@@ -25,13 +19,7 @@ pub returns-else-self-clause-told : goal.returns-else-self-clause-told
 returns-else-self-clause-told g c = λ known objects p h.
     let old = c.args.self.now in
     let written = g.A.Sink.written in
-    gap_lined c.args.gap.now (record {
-      style = old.style;
-      closed = old.closed;
-      ranges = old.ranges;
-      lines = old.lines;
-      gap_lines = record old.gap_lines { now = c.write_words.new.sink };
-    }) c.write_words.result h (record { style = refl; closed = refl; lines = refl }) refl
+    gap_lined _ _ _ h (record { style = refl; closed = refl; lines = refl }) refl
     (sym c.shows.ensures ∙ c.if-not-shows.false) c.if-self.false
-    (subst (λ (l : List ℕ). Writes (written old.gap_lines.now) (written c.write_words.new.sink) l
+    (subst (λ l. Writes (written old.gap_lines.now) (written c.write_words.new.sink) l
     c.write_words.result) c.gap_text_in.ensures.line c.write_words.ensures.line)
