@@ -14,24 +14,23 @@ use Rattle.flutejoin.proofs.gaps.gaps_from.Goals as goal
 pub walk_objects-requires : goal.walk_objects-requires
 walk_objects-requires g c = (
   false,
-  none_lined g.A.Sink.written false _ refl refl c.new.ensures (knows_nothing _ []) (knows_nothing _ []),
+  none_lined _ _ _ refl refl c.new.ensures (knows_nothing _ []) (knows_nothing _ []),
 )
 
 pub returns-clause-printed : goal.returns-clause-printed
 returns-clause-printed g c = λ none no_gaps.
     let written = g.A.Sink.written in
     let x = c.walk_objects.new.visitor in
-    let told = c.in_ok-walk_objects.ensures.told true (none_lined written true _ refl refl
+    let told = c.in_ok-walk_objects.ensures.told true (none_lined _ _ _ refl refl
     c.new.ensures (λ is. none) (λ is. no_gaps)) in
-    let same : x.style ≡ c.args.style = ap (λ k. k.1) c.walk_objects.ensures.kept in
+    let same = ap (λ k. k.1) c.walk_objects.ensures.kept in
     let W = g.W.Sink.written in
     let before = W c.args.sink.now in
     let after = W c.finish.new.sink in
-    lists (g.P.Picks.picks c.args.picks.now) (g.R.Source.unread c.args.source.now)
-    (λ objects. HasLines written true objects None [] x)
-    (λ objects. Appends before after (printed c.args.style objects)
-    × (c.in_ok-finish.field-0 ≡ are_whole c.args.style objects))
-    (λ objects h. subst (λ (s : Style). Appends before after (printed s objects)
+    lists _ _
+    _
+    _
+    (λ objects h. subst (λ s. Appends before after (printed s objects)
     × (c.in_ok-finish.field-0 ≡ are_whole s objects)) same
     (c.in_ok-finish.ensures.printed objects h)) told
 

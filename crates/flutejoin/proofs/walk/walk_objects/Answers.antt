@@ -23,9 +23,9 @@ pub loop-held-init : goal.loop-held-init
 loop-held-init g c = record {
   read = record {
     entries = [];
-    read = none_read g.R.Source.unread g.R.Source.buffered c.new-reader.ensures.unread
+    read = none_read _ _ c.new-reader.ensures.unread
         c.new-reader.ensures.limit c.new-reader.ensures.state c.new-tally.ensures;
-    stands = λ at none. none_walked g.V.Visitor.Has at c.args.visitor.now
+    stands = λ at none. none_walked _ at c.args.visitor.now
         c.new-walk.ensures none;
   };
   source = refl;
@@ -74,7 +74,7 @@ add-requires g c =
     let h = c.loop-held.invariant.read in
     let is = one_held c.next_entry.new.held c.fact.ensures c.buffer.ensures c.in-Some.is in
     let gave = rw is at (c.in_ok-next_entry.ensures.next _ h.entries h.read) in
-    can_add h (fact_of c.in-Some.fact) gave (sym c.picks.ensures ∙ c.if-picks.true) c.requires.0
+    can_add h _ gave (sym c.picks.ensures ∙ c.if-picks.true) _
     c.requires.1
 
 pub returns-in_default-add-clause-failed : goal.returns-in_default-add-clause-failed
@@ -136,9 +136,9 @@ loop-held-preserved-in-Ok-1 g c =
     let gave = rw is at (c.in_ok-next_entry.ensures.next _ h.entries h.read) in
     let chosen = sym c.picks.ensures ∙ c.if-picks.true in
     record {
-      read = one_more h f gave (λ at l. rw (one_picked picks f h.entries chosen)
+      read = one_more h f gave (λ at l. rw (one_picked _ f _ chosen)
           (c.in-Ok.ensures.added at (filter picks h.entries)
-          (picked_rises picks f h.entries chosen gave.sofar.are_items.in_order) l));
+          (picked_rises _ f _ chosen gave.sofar.are_items.in_order) l));
       source = c.next_entry.ensures.source ∙ i.source;
       reads = c.in_ok-next_entry.ensures.failures _ h.entries h.read ∙ i.reads;
       kept = c.in-Ok.ensures.kept ∙ i.kept;
@@ -176,7 +176,7 @@ returns-clause-told g c = λ at none.
     let gave = rw is at (c.in_ok-next_entry.ensures.next _ h.entries h.read) in
     let all = c.in_ok-close.ensures.closed at (filter (g.P.Picks.picks c.args.picks.now) h.entries)
     (read_rises h) (h.stands at none) in
-    all_read h (holding c.next_entry.new.reader c.next_entry.new.held) c.next_entry.new.tally gave all.objects all.told all.has
+    all_read h (holding c.next_entry.new.reader c.next_entry.new.held) c.next_entry.new.tally gave _ all.told all.has
 
 pub returns-clause-within : goal.returns-clause-within
 returns-clause-within g c =

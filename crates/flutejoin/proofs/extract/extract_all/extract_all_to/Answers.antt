@@ -24,9 +24,9 @@ returns-clause-extracted g c =
     let E : Option Places → Option (List ℕ) → Type 0 =
     λ p w. ExtractsAll (at_most g.row.SESSIONS g.row.OBJECTS g.row.SYMBOLS)
     (g.R.Source.unread c.args.source.now) left (g.P.Picks.picks c.args.picks.now) p0 p w0 w x.written in
-    let here : E (D x.folder.now) (W x.lines.now) =
-    extracted (g.P.Picks.picks c.args.picks.now) (g.R.Source.unread c.args.source.now) left
-    (c.in_ok-walk_objects.ensures.told (p0, w0) (none_written p0 w0 c.requires refl refl))
+    let here =
+    extracted _ _ _
+    (c.in_ok-walk_objects.ensures.told (p0, w0) (none_written _ _ c.requires refl refl))
     c.in_ok-walk_objects.ensures.end in
     of_equals D W E here _ _ (search rules) (search rules)
 

@@ -28,7 +28,7 @@ loop-gap-preserved g c = record {
       let m = c.loop-gap.invariant.gave s h r e b in
       let turn = c.in-Gap.ensures.turned m.0.t m.0.scans (can_pass m.0 r) m.0.comes in (
         gave_more m.0 turn,
-        λ at objects k. subst (λ (x : Progress). g.V.Visitor.Has at objects (Some x) c.gap.new.self)
+        λ at objects k. subst (λ x. g.V.Visitor.Has at objects (Some x) c.gap.new.self)
             (sym (ap progress_of turn.1.now))
             (c.in_ok-gap-in-Gap.ensures.told at objects (progress_of m.0.t) (m.1 at objects k)),
       );
@@ -76,11 +76,11 @@ pub returns-in-Passed-clause-passed : goal.returns-in-Passed-clause-passed
 returns-in-Passed-clause-passed g c = λ at s objects h r e b k.
     let m = c.loop-gap.invariant.gave s h r e b in
     let turn = c.next.ensures.turned m.0.t m.0.scans (can_pass m.0 r) m.0.comes in
-    let p = turned c.args.next c.next.result m.0 turn.1 (no_gap c.next.result c.in-Passed.is) in (
+    let p = turned _ _ m.0 turn.1 (no_gap _ c.in-Passed.is) in (
       turn.0,
       p.0,
       turn.2,
-      subst (λ (x : Progress). g.V.Visitor.Has at objects (Some x) c.loop-gap.visitor)
-          (sym (p.1 ∙ told_none c.next.result c.args.next (progress_of m.0.t) c.in-Passed.is))
+      subst (λ x. g.V.Visitor.Has at objects (Some x) c.loop-gap.visitor)
+          (sym (p.1 ∙ told_none _ _ _ c.in-Passed.is))
           (m.1 at objects k),
     )

@@ -13,6 +13,6 @@ returns-in-InfoConflict-clause-added g c = λ at F r l.
     let key = c.in-InfoConflict.key in
     let fact = fact_of c.args.fact.now in
     let is = ap fact_of c.in-InfoConflict.is in
-    c.begin.ensures.begun at F fact r l (first_information F fact key r (ap address is)) (ap (λ f. (address f).key) is)
-    (subst (λ (f : Fact). StateIs key (f ∷ []) None ConflictingInformation) (sym is)
-    (begins_conflict key)) (sym (ap (conflict_in key) is))
+    c.begin.ensures.begun at F fact r l (first_information F _ _ r (ap address is)) (ap (λ f. (address f).key) is)
+    (subst (λ f. StateIs key (f ∷ []) None ConflictingInformation) (sym is)
+    (begins_conflict _)) (sym (ap (conflict_in key) is))

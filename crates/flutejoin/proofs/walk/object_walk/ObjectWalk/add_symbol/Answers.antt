@@ -23,14 +23,14 @@ pass-requires g c =
     let n : SymbolId × Option (Bor (List ℕ)) = (c.args.id, c.args.value) in
     let object = c.in-Some.object in
     let key = c.args.key.now in
-    let h = subst (λ (o : Option OpenObject). Walks w.facts w.objects w.progress o) c.in-Some.is
+    let h = subst (λ o. Walks w.facts w.objects w.progress o) c.in-Some.is
     w.walks in
-    let q = subst (λ (x : ObjectState). StateIs object.key h.mine w.progress x)
+    let q = subst (λ x. StateIs object.key h.mine w.progress x)
     c.in-OneInformation.is h.state_is in (
       q.scanned,
       q.scans,
-      scan_rising q key (equal_keys object.key key c.if-eq.ensures) n
-          (mine_rising (next_fact key n) h c.requires.onward),
+      scan_rising q _ (equal_keys object.key key c.if-eq.ensures) n
+          (mine_rising _ h c.requires.onward),
       q.free,
       q.broken,
     )
@@ -40,7 +40,7 @@ returns-in-OneInformation-clause-added g c = λ at F r l.
     let key = c.args.key.now in
     let n : SymbolId × Option (Bor (List ℕ)) = (c.args.id, c.args.value) in
     let object = c.in-Some.object in
-    let same = equal_keys object.key key c.if-eq.ensures in
+    let same = equal_keys _ _ c.if-eq.ensures in
     let h = subst (λ (o : Option OpenObject). Walks F l.objects l.progress o) c.in-Some.is l.walks in
     let q = subst (λ (x : ObjectState). StateIs object.key h.mine l.progress x)
     c.in-OneInformation.is h.state_is in
@@ -51,12 +51,12 @@ returns-in-OneInformation-clause-added g c = λ at F r l.
       walks = one_more_open (next_fact key n) (Some (progress_of p.0))
           (OneInformation c.pass.new.scan) h (told_key key n ∙ sym same)
           (passes_scan q key same n p.1 p.2)
-          (ap (λ x. object.conflicts + x) (c.conflicts_by.ensures ∙ conflict_by object.key key n same));
+          (ap (λ x. object.conflicts + x) (c.conflicts_by.ensures ∙ conflict_by _ _ n same));
       has = p.3;
     })
     (c.pass.ensures.passed at q.scanned l.objects q.scans
-    (scan_rising q key same n (mine_rising (next_fact key n) h r)) q.free q.broken
-    (subst (λ (x : Option Progress). g.V.Visitor.Has at l.objects x c.args.visitor.now) q.so_far
+    (scan_rising q _ same n (mine_rising _ h r)) q.free q.broken
+    (subst (λ x. g.V.Visitor.Has at l.objects x c.args.visitor.now) q.so_far
     l.has))
 
 pub returns-in-NoInformation-clause-added : goal.returns-in-NoInformation-clause-added
@@ -64,15 +64,15 @@ returns-in-NoInformation-clause-added g c = λ at F r l.
     let key = c.args.key.now in
     let n : SymbolId × Option (Bor (List ℕ)) = (c.args.id, c.args.value) in
     let object = c.in-Some.object in
-    let h = subst (λ (o : Option OpenObject). Walks F l.objects l.progress o) c.in-Some.is l.walks in
+    let h = subst (λ o. Walks F l.objects l.progress o) c.in-Some.is l.walks in
     record {
       objects = l.objects;
       progress = l.progress;
-      walks = one_more_open (next_fact key n) l.progress object.state h
-          (told_key key n ∙ sym (equal_keys object.key key c.if-eq.ensures))
-          (passes_over h key n c.in-NoInformation.is)
+      walks = one_more_open _ _ _ h
+          (told_key _ n ∙ sym (equal_keys _ _ c.if-eq.ensures))
+          (passes_over h _ n c.in-NoInformation.is)
           (ap (λ x. object.conflicts + x) (c.conflicts_by.ensures
-          ∙ conflict_by object.key key n (equal_keys object.key key c.if-eq.ensures)));
+          ∙ conflict_by _ _ n (equal_keys _ _ c.if-eq.ensures)));
       has = l.has;
     }
 
@@ -81,27 +81,27 @@ returns-in-NoInformation-2-clause-added g c = λ at F r l.
     let key = c.args.key.now in
     let n : SymbolId × Option (Bor (List ℕ)) = (c.args.id, c.args.value) in
     let object = c.in-Some.object in
-    let h = subst (λ (o : Option OpenObject). Walks F l.objects l.progress o) c.in-Some.is l.walks in
+    let h = subst (λ o. Walks F l.objects l.progress o) c.in-Some.is l.walks in
     record {
       objects = l.objects;
       progress = l.progress;
-      walks = one_more_open (next_fact key n) l.progress object.state h
-          (told_key key n ∙ sym (equal_keys object.key key c.if-eq.ensures))
-          (passes_over h key n c.in-NoInformation.is)
+      walks = one_more_open _ _ _ h
+          (told_key _ n ∙ sym (equal_keys _ _ c.if-eq.ensures))
+          (passes_over h _ n c.in-NoInformation.is)
           (ap (λ x. object.conflicts + x) (c.conflicts_by.ensures
-          ∙ conflict_by object.key key n (equal_keys object.key key c.if-eq.ensures)));
+          ∙ conflict_by _ _ n (equal_keys _ _ c.if-eq.ensures)));
       has = l.has;
     }
 
 pub begin-requires : goal.begin-requires
 begin-requires g c =
-    let was : IsAt g.V.Visitor.Has c.args.self.now.open c.args.visitor.now = c.requires.at in
+    let was = c.requires.at in
     elim c.in_default.branch [
-      | in_default-via-in-Some+else-eq w ↦ subst (λ (x : ObjectWalk).
+      | in_default-via-in-Some+else-eq w ↦ subst (λ x.
           IsAt g.V.Visitor.Has x.open c.args.visitor.now) (sym w.self-is)
-          (subst (λ (o : Option OpenObject). IsAt g.V.Visitor.Has o c.args.visitor.now)
+          (subst (λ o. IsAt g.V.Visitor.Has o c.args.visitor.now)
           w.in-Some.is was)
-      | in_default-via-in_default w ↦ subst (λ (x : ObjectWalk).
+      | in_default-via-in_default w ↦ subst (λ x.
           IsAt g.V.Visitor.Has x.open c.args.visitor.now) (sym w.self-is) was
     ]
 
@@ -113,23 +113,23 @@ returns-in_default-clause-added g c = λ at F r l.
     λ o. Stands g.V.Visitor.Has at F o c.args.visitor.now in
     let first : IsFirstOf F key × stands c.in_default.self.open = elim c.in_default.branch [
       | in_default-via-in-Some+else-eq w ↦
-          let q = subst (λ (o : Option OpenObject). Walks F l.objects l.progress o) w.in-Some.is
+          let q = subst (λ o. Walks F l.objects l.progress o) w.in-Some.is
           l.walks in (
-            first_of_others key (next_fact key n) q r (told_key key n)
-                (other_keys w.in-Some.object.key key w.if-eq.ensures),
-            subst (λ (x : ObjectWalk). stands x.open) (sym w.self-is) (subst stands w.in-Some.is l),
+            first_of_others _ _ q r (told_key _ n)
+                (other_keys _ _ w.if-eq.ensures),
+            subst (λ x. stands x.open) (sym w.self-is) (subst stands w.in-Some.is l),
           )
       | in_default-via-in_default w ↦
-          let q = subst (λ (o : Option OpenObject). Walks F l.objects l.progress o) w.in_default.is
+          let q = subst (λ o. Walks F l.objects l.progress o) w.in_default.is
           l.walks in
-          (none_first F key q.0, subst (λ (x : ObjectWalk). stands x.open) (sym w.self-is) l)
+          (none_first F _ q.0, subst (λ x. stands x.open) (sym w.self-is) l)
     ] in
-    c.begin.ensures.begun at F (next_fact key n) r first.1 first.0 (told_key key n)
-    (begins_symbol key n) (c.conflicts_by-in_default.ensures ∙ conflict_by key key n refl)
+    c.begin.ensures.begun at F (next_fact key n) r first.1 first.0 (told_key _ n)
+    (begins_symbol _ n) (c.conflicts_by-in_default.ensures ∙ conflict_by _ _ n refl)
 
 pub overflow_add-object : goal.overflow_add-object
 overflow_add-object g c =
     let w = c.requires.at in
-    let h = subst (λ (o : Option OpenObject). Walks w.facts w.objects w.progress o) c.in-Some.is
+    let h = subst (λ o. Walks w.facts w.objects w.progress o) c.in-Some.is
     w.walks in
     omega (arith, open_few h, w.few, c.conflicts_by.ensures, one_by c.args.value)

@@ -6,14 +6,10 @@ use Rattle.flutejoin.proofs.walk.object_walk.ObjectWalk.begin.Goals as goal
 
 pub returns-clause-begun : goal.returns-clause-begun
 returns-clause-begun g c = λ at F f r l first e s n.
-    let q = c.in_ok-close.ensures.closed at F (rising-front F (f ∷ []) r) l in
+    let q = c.in_ok-close.ensures.closed at F (rising-front F _ r) l in
     record {
       objects = q.objects;
       progress = None;
-      walks = begun f (record {
-        key = c.args.key;
-        state = c.args.state;
-        conflicts = c.args.conflicts;
-      }) q.told q.few first e s n;
+      walks = begun f _ q.told q.few first e s n;
       has = q.has;
     }

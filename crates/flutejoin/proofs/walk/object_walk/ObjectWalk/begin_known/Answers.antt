@@ -12,13 +12,13 @@ returns-clause-begun g c = λ at F r l.
     let key = c.args.key.now in
     let info = c.args.info.now in
     let f = Info key info in
-    let q = c.in_ok-close.ensures.closed at F (rising-front F (f ∷ []) r) l in
+    let q = c.in_ok-close.ensures.closed at F (rising-front F _ r) l in
     record {
       objects = q.objects;
       progress = Some (at_start key info);
       walks = begun f
-          (record { key = key; state = OneInformation c.new.result; conflicts = 0 }) q.told q.few
-          (first_information F f key r refl) refl
-          (begins_scan key info c.new.result c.new.ensures) refl;
+          _ q.told q.few
+          (first_information F f _ r refl) refl
+          (begins_scan _ _ _ c.new.ensures) refl;
       has = c.in_ok-begins.ensures.told at q.objects q.has;
     }
