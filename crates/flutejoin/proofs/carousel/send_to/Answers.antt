@@ -34,12 +34,10 @@ pub returns-clause-reads : goal.returns-clause-reads
 returns-clause-reads g c =
     let sent = c.send_symbols-sent in
     let new = c.new-sending.ensures in
-    let so_far =
-    sent_of (new.key, new.info, new.left ∙ ap (λ i. i.transfer_length) c.in-Ok.ensures.0)
-    c.in-Ok.ensures.0 c.in-Ok.ensures.1 sent.ensures.reads sent.ensures.sends in
-    told_reads _ _
-    _ _ c.at_end-2.ensures.ends
-    (subst (λ n. ReadFailures (g.R.Source.failures c.args.source.now)
+    let so_far = sent_of
+    (new.key, new.info, new.left ∙ ap (λ i. i.transfer_length) c.in-Ok.ensures.0) c.in-Ok.ensures.0
+    c.in-Ok.ensures.1 sent.ensures.reads sent.ensures.sends in told_reads _ _ _ _
+    c.at_end-2.ensures.ends (subst (λ n. ReadFailures (g.R.Source.failures c.args.source.now)
     (g.R.Source.failures sent.new.source) (g.R.Source.unread c.args.source.now) n sent.result)
-    (new.left ∙ ap (λ i. i.transfer_length) c.in-Ok.ensures.0) sent.ensures.reading)
-    so_far c.at_end-2.ensures.reads
+    (new.left ∙ ap (λ i. i.transfer_length) c.in-Ok.ensures.0) sent.ensures.reading) so_far
+    c.at_end-2.ensures.reads

@@ -4,7 +4,7 @@ use Rattle.std.proofs.lemmas.Result.{err_from_is_err_and}
 use Rattle.std.specs.Io.KnownBytes.{Appends}
 use Rattle.flute_parts.specs.Devices.{AppendsPart}
 use Rattle.flute_streams.specs.declared.merge.sides.Row.{Row}
-use Rattle.flutejoin.specs.CompareLines.{are_same, compared}
+use Rattle.flutejoin.specs.CompareLines.{compared}
 use Rattle.flutejoin.specs.declared.lines.compare_style.CompareStyle.{CompareStyle}
 use Rattle.flutejoin.proofs.compare_lemmas.RowsOfJournals.{Facts, all_put_aside, compares}
 use Rattle.flutejoin.proofs.compare_lemmas.RowsOfJournals.{of_source, unless}
@@ -41,8 +41,7 @@ returns-in_ok-finish-in-Ok-clause-printed g c = λ none.
     )
 
 pub returns-in_err-finish-in-Ok-clause-part : goal.returns-in_err-finish-in-Ok-clause-part
-returns-in_err-finish-in-Ok-clause-part g c = λ none.
-    let written = g.A.Sink.written in
+returns-in_err-finish-in-Ok-clause-part g c = λ none. let written = g.A.Sink.written in
     let W = g.W.Sink.written in
     let a = c.args in
     let t = c.in-Ok.ensures.compared in
@@ -66,6 +65,6 @@ returns-in_err-finish-in-Ok-clause-part g c = λ none.
     let part : List Row → Type 0 = λ rows. AppendsPart (W a.sink.now) (W c.finish.new.sink)
     (compared a.style rows) in
     let p = c.in_err-finish-in-Ok.ensures.part so.rows h in
-    rw (e.1 ∙ ap Err e.2) (λ is. unless part facts
-    (subst (λ (s : CompareStyle). c.finish.new.sink ≡ a.sink.now
-    ⊎ AppendsPart (W a.sink.now) (W c.finish.new.sink) (compared s so.rows)) t.taken.style p))
+    rw (e.1 ∙ ap Err e.2) (λ is. unless part facts (subst (λ (s : CompareStyle). c.finish.new.sink ≡
+    a.sink.now ⊎ AppendsPart (W a.sink.now) (W c.finish.new.sink) (compared s so.rows))
+    t.taken.style p))

@@ -41,9 +41,8 @@ returns-in-Ok-clause-as_others g c = λ others. let old = c.args.sink.now in
 pub returns-in-Ok-clause-short : goal.returns-in-Ok-clause-short
 returns-in-Ok-clause-short g c =
     let p = of_source g.R.Source.unread c.new-reader.ensures.unread c.in-Ok.ensures.passed in
-    if_err _ _ (first_part g.W.Sink.written _ _
-    _ p (c.in-Ok.ensures.same_key ∙ c.new-writer.ensures.key)
-    c.in-Ok.ensures.untouched)
+    if_err _ _ (first_part g.W.Sink.written _ _ _ p
+    (c.in-Ok.ensures.same_key ∙ c.new-writer.ensures.key) c.in-Ok.ensures.untouched)
 
 pub returns-in-Err-clause-short : goal.returns-in-Err-clause-short
 returns-in-Err-clause-short g c =

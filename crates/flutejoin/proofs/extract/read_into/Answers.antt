@@ -1,14 +1,8 @@
 -- read_into: its loop shows the entries to the writer, up to the end or a fault.
-use Rattle.std.proofs.Common.{rules}
-use Rattle.std.proofs.Common.{[], Err, refl, sym, ap, ◌∙◌, subst, arith}
+use Rattle.std.proofs.Common.{[], Err, refl, sym, ap, ◌∙◌, arith}
 use Rattle.std.proofs.lemmas.Result.{err_from_is_err_and}
-use Rattle.flute_journal.specs.Framing.{is_open, Sofar}
-use Rattle.flute_journal.specs.JournalFraming.{journal_framing}
-use Rattle.flute_journal.specs.declared.readers.reader_state.ReaderState.{ReaderState}
-use Rattle.flute_journal.specs.declared.readers.entry_fields.Before.{Before}
 use Rattle.flute_journal.specs.declared.format.version.Version.TheVariants.{Two}
 use Rattle.flute_journal.proofs.Public.{given-entry, loaded-read, sofar-none, journal_sound}
-use Rattle.flutejoin.specs.declared.limits.TheConstants.{MAX_ENTRIES}
 use Rattle.flutejoin.proofs.extract_lemmas.Extracted.{passing-next, passing-fault, passing-full}
 use Rattle.flutejoin.proofs.extract_lemmas.Extracted.{passing-end, given-fault, given-end}
 use Rattle.flute_parts.specs.Addresses.{fact_of}
@@ -45,10 +39,8 @@ returns-in_err-next_into-clause-passed g c =
     let holds = c.in_err-next_into.ensures.holds in
     let buffer = g.R.Source.buffered to.source.now in
     let all = nothing_held buffer c.next_into.new.held (g.R.Source.unread to.source.now)
-    (ap (fact_held buffer) holds.none) in
-    rw (e.1 ∙ ap Err e.2) (at_left all
-    (passing-fault c.loop-held.invariant.passing f
-    (given-fault c.loop-held.invariant.limit holds.gives)))
+    (ap (fact_held buffer) holds.none) in rw (e.1 ∙ ap Err e.2) (at_left all (passing-fault
+    c.loop-held.invariant.passing f (given-fault c.loop-held.invariant.limit holds.gives)))
 
 pub returns-then-not-count-clause-passed : goal.returns-then-not-count-clause-passed
 returns-then-not-count-clause-passed g c =
@@ -82,7 +74,6 @@ returns-in_default-clause-passed g c =
     let i = c.loop-held.invariant in
     let to = c.next_into.new.self in
     let is = none_held _ c.fact.ensures c.buffer.ensures c.in_default.is in
-    let all = nothing_held _ _
-    _ is in
+    let all = nothing_held _ _ _ is in
     at_left all
     (passing-end i.passing (given-end _ _ _ _ _ _ is c.in_ok-next_into.ensures.holds.gives))

@@ -23,10 +23,9 @@ pub loop-held-init : goal.loop-held-init
 loop-held-init g c = record {
   read = record {
     entries = [];
-    read = none_read _ _ c.new-reader.ensures.unread
-        c.new-reader.ensures.limit c.new-reader.ensures.state c.new-tally.ensures;
-    stands = λ at none. none_walked _ at c.args.visitor.now
-        c.new-walk.ensures none;
+    read = none_read _ _ c.new-reader.ensures.unread c.new-reader.ensures.limit
+        c.new-reader.ensures.state c.new-tally.ensures;
+    stands = λ at none. none_walked _ at c.args.visitor.now c.new-walk.ensures none;
   };
   source = refl;
   reads = ap g.R.Source.failures c.new-reader.ensures.unread;
@@ -51,10 +50,9 @@ returns-in_err-next_entry-clause-read_failures g c =
     let e = err_from_is_err_and c.from_residual.result c.from_residual.ensures.1 in
     let f = c.in_err-next_entry.field-0.0 in
     let P : ℕ → Type 0 = λ n. FailsToRead {T = Unit {0}} (g.R.Source.failures c.args.source.now) n
-    (Err f) in
-    rw (e.1 ∙ ap Err e.2) (of_equal g.R.Source.failures P
-    (fails_since f _ c.loop-held.invariant.reads (c.in_err-next_entry.ensures.failures _ h.entries h.read))
-    _ (search rules))
+    (Err f) in rw (e.1 ∙ ap Err e.2) (of_equal g.R.Source.failures P (fails_since f _
+    c.loop-held.invariant.reads (c.in_err-next_entry.ensures.failures _ h.entries h.read)) _
+    (search rules))
 
 pub returns-in_err-next_entry-clause-failures : goal.returns-in_err-next_entry-clause-failures
 returns-in_err-next_entry-clause-failures g c =
@@ -65,8 +63,8 @@ returns-in_err-next_entry-clause-failures g c =
     rw (e.1 ∙ ap Err e.2) (omega (
       arith,
       i.failures,
-      none_written most u _ c.in_err-next_entry.field-0.0
-          (c.in_err-next_entry.ensures.next u i.read.entries i.read.read),
+      none_written most u _
+          c.in_err-next_entry.field-0.0 (c.in_err-next_entry.ensures.next u i.read.entries i.read.read),
     ))
 
 pub add-requires : goal.add-requires
@@ -74,8 +72,7 @@ add-requires g c =
     let h = c.loop-held.invariant.read in
     let is = one_held c.next_entry.new.held c.fact.ensures c.buffer.ensures c.in-Some.is in
     let gave = rw is at (c.in_ok-next_entry.ensures.next _ h.entries h.read) in
-    can_add h _ gave (sym c.picks.ensures ∙ c.if-picks.true) _
-    c.requires.1
+    can_add h _ gave (sym c.picks.ensures ∙ c.if-picks.true) _ c.requires.1
 
 pub returns-in_default-add-clause-failed : goal.returns-in_default-add-clause-failed
 returns-in_default-add-clause-failed g c =
@@ -136,9 +133,8 @@ loop-held-preserved-in-Ok-1 g c =
     let gave = rw is at (c.in_ok-next_entry.ensures.next _ h.entries h.read) in
     let chosen = sym c.picks.ensures ∙ c.if-picks.true in
     record {
-      read = one_more h f gave (λ at l. rw (one_picked _ f _ chosen)
-          (c.in-Ok.ensures.added at (filter picks h.entries)
-          (picked_rises _ f _ chosen gave.sofar.are_items.in_order) l));
+      read = one_more h f gave (λ at l. rw (one_picked _ f _ chosen) (c.in-Ok.ensures.added at
+          (filter picks h.entries) (picked_rises _ f _ chosen gave.sofar.are_items.in_order) l));
       source = c.next_entry.ensures.source ∙ i.source;
       reads = c.in_ok-next_entry.ensures.failures _ h.entries h.read ∙ i.reads;
       kept = c.in-Ok.ensures.kept ∙ i.kept;

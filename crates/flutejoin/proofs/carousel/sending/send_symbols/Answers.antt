@@ -39,8 +39,8 @@ returns-in_err-datagram-clause-reads g c =
     (reads_on u v w _ _ _ c.loop-place.invariant.3) c.in_err-datagram.ensures.reads)
 
 pub returns-in_err-datagram-clause-sends : goal.returns-in_err-datagram-clause-sends
-returns-in_err-datagram-clause-sends g c = λ content known whole. let e = err_from_is_err_and
-    _ c.from_residual.ensures.1 in
+returns-in_err-datagram-clause-sends g c = λ content known whole. let e = err_from_is_err_and _
+    c.from_residual.ensures.1 in
     let f = c.in_err-datagram.field-0.0 in
     let is = e.1 ∙ ap (λ x. Err x) e.2 in
     let key = c.args.sending.now.key in
@@ -49,8 +49,7 @@ returns-in_err-datagram-clause-sends g c = λ content known whole. let e = err_f
     let inv = c.loop-place.invariant in
     let s = inv.4 content known whole in
     let left = left_are inv.3 known s.rest whole in
-    let count = c.symbols.ensures.value ∙ ap
-    (λ p. length (ids p)) c.args.sending.now.same in
+    let count = c.symbols.ensures.value ∙ ap (λ p. length (ids p)) c.args.sending.now.same in
     let within : place < max (length (ids i)) 1 = omega
     (arith, c.loop-place-test.true, c.max-count.ensures, count) in subst (λ r. SendsPackets
     (packets_of key i content) (g.W.Sink.written c.args.sink.now)
@@ -89,8 +88,7 @@ loop-place-preserved g c =
     let v = g.R.Source.unread c.loop-place.source in
     let w = g.R.Source.unread c.next.new.source in
     let d = c.in_ok-datagram.datagram in
-    let count = c.symbols.ensures.value ∙ ap
-    (λ p. length (ids p)) c.args.sending.now.same in
+    let count = c.symbols.ensures.value ∙ ap (λ p. length (ids p)) c.args.sending.now.same in
     let within : place < max (length (ids i)) 1 = omega
     (arith, c.loop-place-test.true, c.max-count.ensures, count) in (
       next.same_key ∙ inv.0,
@@ -102,8 +100,8 @@ loop-place-preserved g c =
           let left = left_are inv.3 known s.rest whole in
           sent_next c.symbol.ensures.valid within d s
           (makes_same place _ (Ok d) (inv.0, inv.1) (next.makes _ s.rest left)) put.valid put.grows (subst
-          (λ x. w ≡ Some (drop x.symbol_length (drop (place * i.symbol_length) content)))
-          inv.1 (next.rest _ s.rest left)),
+          (λ x. w ≡ Some (drop x.symbol_length (drop (place * i.symbol_length) content))) inv.1
+          (next.rest _ s.rest left)),
       omega (arith, put.failures, inv.5),
       next.reading ∙ inv.6,
     )
@@ -114,8 +112,7 @@ returns-then-failed-clause-sends g c = λ content known whole. let key = c.args.
     let u = g.R.Source.unread c.loop-place.source in
     let old = g.W.Sink.written c.args.sink.now in
     let now = g.W.Sink.written c.loop-place.sink in
-    let count = c.symbols.ensures.value ∙ ap
-    (λ p. length (ids p)) c.args.sending.now.same in
+    let count = c.symbols.ensures.value ∙ ap (λ p. length (ids p)) c.args.sending.now.same in
     let all : c.loop-place.place ≡ max (length (ids i)) 1 = omega
     (arith, c.loop-place-test.false, c.loop-place.auto.place-end, c.max-count.ensures, count) in
     sent_part _ i _ c.symbol.ensures.valid _ all (subst
@@ -128,13 +125,11 @@ returns-clause-sends g c = λ content known whole. let key = c.args.sending.now.
     let u = g.R.Source.unread c.loop-place.source in
     let old = g.W.Sink.written c.args.sink.now in
     let now = g.W.Sink.written c.loop-place.sink in
-    let count = c.symbols.ensures.value ∙ ap
-    (λ p. length (ids p)) c.args.sending.now.same in
+    let count = c.symbols.ensures.value ∙ ap (λ p. length (ids p)) c.args.sending.now.same in
     let all : c.max-count.result ≡ max (length (ids i)) 1 = omega
     (arith, c.max-count.ensures, count) in
     let end : c.loop-place.place ≡ c.max-count.result = omega
     (arith, c.loop-place-test.false, c.loop-place.auto.place-end) in sent_all _ i _
-    c.symbol.ensures.valid _ all (subst
-    (λ n. SentSoFar key i content n u false old now) end (subst
+    c.symbol.ensures.valid _ all (subst (λ n. SentSoFar key i content n u false old now) end (subst
     (λ f. SentSoFar key i content c.loop-place.place u f old now) c.if-failed.false
     (c.loop-place.invariant.4 content known whole)))

@@ -16,7 +16,5 @@ returns-in_err-write_all-clause-bytes g c =
 pub returns-clause-bytes : goal.returns-clause-bytes
 returns-clause-bytes g c =
     let first : c.args.place ≡ 0 = omega (arith, c.if-place-gt0.false) in
-    rw first (Writes-behind _
-    _ _
-    file_header (record_of c.args.bytes.now) c.write_record-2.result (search rules)
-    c.write_record-2.ensures.bytes)
+    rw first (Writes-behind _ _ _ file_header (record_of c.args.bytes.now) c.write_record-2.result
+    (search rules) c.write_record-2.ensures.bytes)

@@ -10,7 +10,8 @@ use Rattle.flutejoin.proofs.extract.extract_all.extract_all_to.Goals as goal
 pub walk_objects-requires : goal.walk_objects-requires
 walk_objects-requires g c = (
   (g.D.NewFolder.places c.args.folder.now, g.W.Sink.written c.args.lines.now),
-  none_written _ _ c.requires refl refl,
+  none_written _ _
+      c.requires refl refl,
 )
 
 pub returns-clause-extracted : goal.returns-clause-extracted
@@ -21,14 +22,12 @@ returns-clause-extracted g c =
     let left = g.R.Source.unread c.walk_objects.new.source in
     let p0 = D c.args.folder.now in
     let w0 = W c.args.lines.now in
-    let E : Option Places → Option (List ℕ) → Type 0 =
-    λ p w. ExtractsAll (at_most g.row.SESSIONS g.row.OBJECTS g.row.SYMBOLS)
-    (g.R.Source.unread c.args.source.now) left (g.P.Picks.picks c.args.picks.now) p0 p w0 w x.written in
-    let here =
-    extracted _ _ _
+    let E : Option Places → Option (List ℕ) → Type 0 = λ p w. ExtractsAll
+    (at_most g.row.SESSIONS g.row.OBJECTS g.row.SYMBOLS) (g.R.Source.unread c.args.source.now) left
+    (g.P.Picks.picks c.args.picks.now) p0 p w0 w x.written in
+    let here = extracted _ _ _
     (c.in_ok-walk_objects.ensures.told (p0, w0) (none_written _ _ c.requires refl refl))
-    c.in_ok-walk_objects.ensures.end in
-    of_equals D W E here _ _ (search rules) (search rules)
+    c.in_ok-walk_objects.ensures.end in of_equals D W E here _ _ (search rules) (search rules)
 
 pub returns-in_err-walk_objects-clause-stays : goal.returns-in_err-walk_objects-clause-stays
 returns-in_err-walk_objects-clause-stays g c =

@@ -1,6 +1,6 @@
 -- drop_file: the open file is removed, if there is one.
-use Rattle.std.proofs.Common.{Option, subst}
-use Rattle.flute_output.specs.NewFolders.{Fills, LeadsTo, NamedFile, leaves}
+use Rattle.std.proofs.Common.{subst}
+use Rattle.flute_output.specs.NewFolders.{Fills, LeadsTo}
 use Rattle.flutejoin.proofs.extract_lemmas.FilesTold.{no_file, stays_called}
 use Rattle.flutejoin.proofs.extract_lemmas.FolderSteps.{fills_leaves, leaves_stay}
 use Rattle.flutejoin.proofs.walk_lemmas.Objects.{on_ok}

@@ -1,5 +1,4 @@
 -- keep_file: the open file is kept, if there is one.
-use Rattle.flute_output.specs.NewFolders.{keeps}
 use Rattle.flutejoin.proofs.extract_lemmas.FilesTold.{kept_one, no_files}
 use Rattle.flutejoin.proofs.extract_lemmas.FolderSteps.{did_stay, keeps_stay}
 use Rattle.flutejoin.proofs.extract.object_files.keep_file.Goals as goal

@@ -1,5 +1,5 @@
-use Rattle.std.proofs.Common.{◌≡◌, ◌++◌, ◌-◌, ℕ, List, append_assoc, refl}
-use Rattle.std.specs.Prelude.{codes, decimal}
+use Rattle.std.proofs.Common.{◌≡◌, ◌++◌, ℕ, List, append_assoc, refl}
+use Rattle.std.specs.Prelude.{codes}
 use Rattle.flutejoin.specs.Json.{json_line}
 use Rattle.flutejoin.specs.Lines.{line}
 use Rattle.flutejoin.specs.Ranges.{range_line}

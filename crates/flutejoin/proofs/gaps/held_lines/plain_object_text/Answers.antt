@@ -38,8 +38,7 @@ returns-then-unplaced-gt0-clause-line c =
     let n = c.args.unplaced in
     let some : nat_lt 0 n ≡ true = search rules in
     rw (c.push_number.ensures.text, c.push.ensures.text)
-    (unplaced_told _ _ _ n c.status_text-text.ensures.line
-    ∙ told _ _ n some)
+    (unplaced_told _ _ _ n c.status_text-text.ensures.line ∙ told _ _ n some)
 
 pub returns-else-unplaced-gt0-clause-line : goal.returns-else-unplaced-gt0-clause-line
 returns-else-unplaced-gt0-clause-line c = search (rules, not_told)

@@ -1,6 +1,6 @@
 -- add_to_stream: it is the journal that stops, if a stream does.
 use Rattle.std.proofs.Common.{rules}
-use Rattle.std.proofs.Common.{◌≡◌, Bool, true, false, not, refl}
+use Rattle.std.proofs.Common.{◌≡◌, Bool, true, false, not}
 use Rattle.flute_streams.proofs.Public.{nothing_held}
 use Rattle.flutejoin.specs.Limits.{at_most}
 use Rattle.flutejoin.proofs.info_lemmas.AddedFacts.{adds_facts, over_with, within_with, first_fails}
@@ -24,23 +24,15 @@ returns-in-Err-clause-failed g c = λ told same. let left = nothing_held _ _
 
 pub returns-in-Err-clause-loans : goal.returns-in-Err-clause-loans
 returns-in-Err-clause-loans g c =
-    (failed_as _ _ _ _
-    _ _ c.requires.in_memory.goes_on _
-    _
-    c.in-Err.ensures.first).1
+    (failed_as _ _ _ _ _ _ c.requires.in_memory.goes_on _ _ c.in-Err.ensures.first).1
 
 pub returns-in-Err-clause-same_source : goal.returns-in-Err-clause-same_source
 returns-in-Err-clause-same_source g c =
-    (failed_as _ _ _ _
-    _ _ c.requires.in_memory.goes_on _
-    _
-    c.in-Err.ensures.first).0.same_source
+    (failed_as _ _ _ _ _ _ c.requires.in_memory.goes_on _ _ c.in-Err.ensures.first).0.same_source
 
 pub returns-in-Err-clause-failures : goal.returns-in-Err-clause-failures
-returns-in-Err-clause-failures g c = rw c.load_fault.ensures (load_failures _ _ _
-    _ (failed_as _ _ _
-    _ _ _ c.requires.in_memory.goes_on
-    _ _ c.in-Err.ensures.first).0.failed_as)
+returns-in-Err-clause-failures g c = rw c.load_fault.ensures (load_failures _ _ _ _
+    (failed_as _ _ _ _ _ _ c.requires.in_memory.goes_on _ _ c.in-Err.ensures.first).0.failed_as)
 
 pub returns-in-Ok-clause-failed : goal.returns-in-Ok-clause-failed
 returns-in-Ok-clause-failed g c = λ told same. let left = nothing_held _ _

@@ -1,14 +1,12 @@
 -- info_list_to: the walk over the store gives the facts of the list. A fault with the number 2 is
 -- of the list, never of the journal.
-use Rattle.std.proofs.Common.{arith}
-use Rattle.std.proofs.lemmas.Grind.{common_steps}
-use Rattle.std.proofs.Common.{ℕ, List, Option, Some, None, Result, Ok, Err, rules, sym, subst, ◌∙◌}
+use Rattle.std.proofs.Common.{ℕ, List, Option, Result, rules, sym, subst, ◌∙◌}
 use Rattle.std.specs.Prelude.{IfOk, IfErr, IfSome}
 use Rattle.flute_parts.proofs.Public.{Same-itself}
 use Rattle.flute_parts.specs.Facts.{Same}
 use Rattle.flute_parts.specs.declared.fact.Fact.{Fact}
 use Rattle.flutejoin.specs.Info.{AddsFacts, InfoFails}
-use Rattle.flutejoin.specs.InfoLists.{AddListFails, of_facts}
+use Rattle.flutejoin.specs.InfoLists.{AddListFails}
 use Rattle.flutejoin.specs.InformationLines.{LineTells}
 use Rattle.flutejoin.specs.ListedLines.{ListTells}
 use Rattle.flutejoin.specs.Limits.{Limits, at_most}
@@ -31,9 +29,8 @@ returns-clause-added g c =
     let adds : (facts : List Fact) → Same told facts → IfOk c.add_facts.result
     (AddsFacts (g.R.Source.unread c.args.source.now) facts w w') = λ facts same. subst
     (λ x. IfOk c.add_facts.result (AddsFacts (g.R.Source.unread x) facts w w'))
-    c.new-journal.ensures.unread (c.add_facts.ensures.added facts (λ F is. subst
-    (λ l. Same l facts) (sym (is ∙ c.new-facts.ensures.facts ∙ c.walk.ensures.value))
-    same)) in search (rules, adds)
+    c.new-journal.ensures.unread (c.add_facts.ensures.added facts (λ F is. subst (λ l. Same l facts)
+    (sym (is ∙ c.new-facts.ensures.facts ∙ c.walk.ensures.value)) same)) in search (rules, adds)
 
 pub returns-clause-failed : goal.returns-clause-failed
 returns-clause-failed g c =
@@ -53,7 +50,6 @@ returns-clause-list_failed g c =
     let told = c.in_ok-told.told in
     let most = at_most g.row.SESSIONS g.row.OBJECTS g.row.SYMBOLS in
     let fails = of_source g.R.Source.unread most _ _ told c.add_facts.result
-    c.new-journal.ensures.unread (c.add_facts.ensures.failed told (λ F is. subst
-    (λ l. Same l told) (sym (is ∙ c.new-facts.ensures.facts ∙ c.walk.ensures.value))
-    (Same-itself _))) in never_second most _
-    (g.R.Source.unread c.args.source.now) told _ fails
+    c.new-journal.ensures.unread (c.add_facts.ensures.failed told (λ F is. subst (λ l. Same l told)
+    (sym (is ∙ c.new-facts.ensures.facts ∙ c.walk.ensures.value)) (Same-itself _))) in never_second
+    most _ (g.R.Source.unread c.args.source.now) told _ fails

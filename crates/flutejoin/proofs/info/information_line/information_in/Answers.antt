@@ -1,5 +1,4 @@
 -- information_in: the three numbers of information, and when a text has none.
-use Rattle.std.proofs.Common.{rules}
 use Rattle.std.proofs.Common.{[], ◌++◌, codes, ap, refl, ◌∙◌, arith}
 use Rattle.flutejoin.proofs.info_lemmas.LinePieces.{from_block, from_symbol, information_chain}
 use Rattle.flutejoin.proofs.info_lemmas.LinePieces.{same_numbers}

@@ -1,5 +1,4 @@
 -- read_information: the object and the numbers of a line, and when it has none.
-use Rattle.std.proofs.Common.{rules}
 use Rattle.std.proofs.Common.{◌≡◌, ◌∙◌, refl, sym, ap}
 use Rattle.std.proofs.lemmas.Bool.{true≢false}
 use Rattle.std.proofs.lemmas.Bool.Decides.{Decides-eqb}
@@ -12,16 +11,14 @@ use Rattle.flutejoin.proofs.info.information_line.read_information.Goals as goal
 
 pub returns-in_default-information_in-clause-finds :
     goal.returns-in_default-information_in-clause-finds
-returns-in_default-information_in-clause-finds c = λ key info named fields is.
-    let a = c.in-Some.ensures.finds key.session (from_space key info) named.0 refl
-    (is ∙ fact_chain _ _) in
+returns-in_default-information_in-clause-finds c = λ key info named fields is. let a =
+    c.in-Some.ensures.finds key.session (from_space key info) named.0 refl (is ∙ fact_chain _ _) in
     let d = c.in-Some-object_in.ensures.finds key.object (from_info info) named.1 refl a.2 in
     c.in_default-information_in.ensures.finds info fields d.1
 
 pub returns-in_default-key_of-clause-finds : goal.returns-in_default-key_of-clause-finds
-returns-in_default-key_of-clause-finds c = λ key info named fields is.
-    let a = c.in-Some.ensures.finds key.session (from_space key info) named.0 refl
-    (is ∙ fact_chain _ _) in
+returns-in_default-key_of-clause-finds c = λ key info named fields is. let a =
+    c.in-Some.ensures.finds key.session (from_space key info) named.0 refl (is ∙ fact_chain _ _) in
     let d = c.in-Some-object_in.ensures.finds key.object (from_info info) named.1 refl a.2 in
     c.in_default-key_of.ensures.finds key named.0 named.1 a.0 a.1 d.0
 

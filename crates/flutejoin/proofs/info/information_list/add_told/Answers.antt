@@ -8,11 +8,8 @@ use Rattle.flutejoin.proofs.info_lemmas.ListLines.{tells_shown}
 use Rattle.flutejoin.proofs.info.information_list.add_told.Goals as goal
 
 pub returns-then-is_passed_over-clause-added : goal.returns-then-is_passed_over-clause-added
-returns-then-is_passed_over-clause-added g c = (
-  [],
-  passed_over (c.is_passed_over.ensures.0 c.if-is_passed_over.true) refl,
-  search rules,
-)
+returns-then-is_passed_over-clause-added g c =
+    ([], passed_over (c.is_passed_over.ensures.0 c.if-is_passed_over.true) refl, search rules)
 
 pub returns-in_default-clause-failed : goal.returns-in_default-clause-failed
 returns-in_default-clause-failed g c = no_line refl (record {
@@ -29,8 +26,7 @@ returns-in-Err-clause-failed g c =
       key_is = search rules;
       numbers = search rules;
       words_are = c.in-Some.ensures.found;
-    } in
-    not_valid c.in-Err.fault refl
+    } in not_valid c.in-Err.fault refl
     (record { key = key; info = n; shows = shows; invalid = c.in-Err.ensures })
 
 pub returns-in-Ok-add-clause-added : goal.returns-in-Ok-add-clause-added
@@ -42,8 +38,7 @@ returns-in-Ok-add-clause-added g c =
       numbers = search rules;
       words_are = c.in-Some.ensures.found;
     } in
-    let tells = tells_shown _ _ _ n shows c.in-Ok.ensures.0
-    c.in-Ok.ensures.1 in
+    let tells = tells_shown _ _ _ n shows c.in-Ok.ensures.0 c.in-Ok.ensures.1 in
     (Info key c.in-Ok.info ∷ [], tells, c.in-Ok-add.ensures.ok)
 
 pub returns-in-Err-Full-clause-failed : goal.returns-in-Err-Full-clause-failed
@@ -55,7 +50,6 @@ returns-in-Err-Full-clause-failed g c =
       numbers = search rules;
       words_are = c.in-Some.ensures.found;
     } in
-    let tells = tells_shown _ _ _ n shows c.in-Ok.ensures.0
-    c.in-Ok.ensures.1 in
+    let tells = tells_shown _ _ _ n shows c.in-Ok.ensures.0 c.in-Ok.ensures.1 in
     no_room (Info key c.in-Ok.info ∷ []) refl tells
     (c.add.ensures.full.0 (c.in-Err-Full.is ∙ ap Err c.in-Err-Full.field-0-is))

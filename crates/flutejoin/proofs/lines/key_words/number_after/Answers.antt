@@ -1,5 +1,4 @@
 -- number_after: the number after some words, and when there is none.
-use Rattle.std.proofs.Common.{rules}
 use Rattle.std.proofs.Common.{◌++◌, ◌∙◌, decimal, sym, subst, arith}
 use Rattle.std.specs.Str.{IsUtf8}
 use Rattle.std.proofs.lemmas.Fmt.{parse-decimal_wide}
@@ -11,15 +10,14 @@ use Rattle.flutejoin.proofs.lines.key_words.number_after.Goals as goal
 pub returns-then-len-eq0 : goal.returns-then-len-eq0
 returns-then-len-eq0 c = record {
   found = tt;
-  finds = λ n tail small ends whole.
-      let is = c.in-Some.ensures.finds (decimal n ++ tail) whole in
+  finds = λ n tail small ends whole. let is = c.in-Some.ensures.finds (decimal n ++ tail) whole
+      in
       let len = c.digits_len-len.result in
       let d : DigitsOf c.in-Some.rest.now len = record {
         within = c.digits_len-len.ensures.within;
         before = c.digits_len-len.ensures.before;
         stops = c.digits_len-len.ensures.stops;
-      } in
-      omega (arith, digits_end _ _ n _ small ends is d, some_digits n small);
+      } in omega (arith, digits_end _ _ n _ small ends is d, some_digits n small);
 }
 
 pub returns-in_default-from_utf8 : goal.returns-in_default-from_utf8

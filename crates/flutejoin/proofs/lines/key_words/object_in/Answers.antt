@@ -1,5 +1,4 @@
 -- object_in: an FDT Instance by its ID, or a file by its TOI.
-use Rattle.std.proofs.Common.{rules}
 use Rattle.std.proofs.Common.{◌≡◌, ◌++◌, ap, arith, codes}
 use Rattle.flute_parts.specs.ObjectName.{IsObjectName}
 use Rattle.flute_parts.specs.declared.object_key.ObjectName.TheVariants.{File, Instance}
@@ -12,9 +11,8 @@ returns-in-Some c = record {
   finds = λ name tail valid ends is. by_name (λ name. IsObjectName name → c.args.text.now ≡
       codes " " ++ (object_words name ++ tail) → (Instance c.in-Some.id ≡ name) ×
       (c.in-Some.rest.now ≡ tail)) (λ i valid is. let a = c.in-Some.ensures.finds i tail
-      (omega (arith, valid)) ends is in (ap Instance a.0, a.1)) (λ t valid is. absurd (no_file
-      _ _ _ t valid.1 is c.in-Some.ensures.found.1))
-      _ valid is;
+      (omega (arith, valid)) ends is in (ap Instance a.0, a.1))
+      (λ t valid is. absurd (no_file _ _ _ t valid.1 is c.in-Some.ensures.found.1)) _ valid is;
 }
 
 pub returns-in-Some-2 : goal.returns-in-Some-2

@@ -1,5 +1,4 @@
 -- source_in: the sender before a session, and what follows.
-use Rattle.std.proofs.Common.{rules}
 use Rattle.std.proofs.Common.{◌++◌, codes, arith, ap, ◌∙◌}
 use Rattle.byteorder.specs.Endian.{big_from}
 use Rattle.flutejoin.proofs.info_lemmas.LinePieces.{source_rest}
@@ -18,8 +17,7 @@ returns-then-rest-lt32 c = record {
 pub returns-in-Some-after : goal.returns-in-Some-after
 returns-in-Some-after c = record {
   finds = λ n tail small is. let later = codes " " ++ (codes "session " ++ tail) in
-      let r = source_rest _ _ _ n is c.in-Some.ensures.found
-      in
+      let r = source_rest _ _ _ n is c.in-Some.ensures.found in
       let front = c.split_at.ensures.front ∙ digits_front _ _ n r in
       let decoded = rw (front, digits_decoded n) at c.decode_to_slice.ensures.value in
       let back = c.split_at.ensures.back ∙ digits_back _ _ n r in (
@@ -30,8 +28,7 @@ returns-in-Some-after c = record {
 
 pub returns-in-None : goal.returns-in-None
 returns-in-None c = record {
-  finds = λ n tail small is.
-      let later = codes " " ++ (codes "session " ++ tail) in
+  finds = λ n tail small is. let later = codes " " ++ (codes "session " ++ tail) in
       let r = source_rest _ _ _ n is c.in-Some.ensures.found in
       let back = c.split_at.ensures.back ∙ digits_back _ _ n r in
       c.in-None.ensures.finds (codes "session " ++ tail) back;
@@ -39,8 +36,7 @@ returns-in-None c = record {
 
 pub returns-in-Err : goal.returns-in-Err
 returns-in-Err c = record {
-  finds = λ n tail small is.
-      let later = codes " " ++ (codes "session " ++ tail) in
+  finds = λ n tail small is. let later = codes " " ++ (codes "session " ++ tail) in
       let r = source_rest _ _ _ n is c.in-Some.ensures.found in
       let front = c.split_at.ensures.front ∙ digits_front _ _ n r in
       let decoded = rw (front, digits_decoded n) at c.decode_to_slice.ensures.value in

@@ -1,5 +1,5 @@
 -- next_words: bytes that lie in memory, and then one byte more of the line.
-use Rattle.std.proofs.Common.{◌∙◌, ◌≡◌, ◌≤◌, ◌++◌, ◌==◌, [], ◌∷◌, ap, sym, subst, arith, length}
+use Rattle.std.proofs.Common.{◌∙◌, ◌==◌, [], ap, sym, subst, arith, length}
 use Rattle.std.specs.Io.KnownBytes.{Consumes}
 use Rattle.std.proofs.KnownBytes.{Consumes-trans}
 use Rattle.std.proofs.lemmas.Bool.{false≢true}
@@ -15,16 +15,13 @@ returns-else-is_empty-clause-fails g c =
     let i = c.loop-text.invariant in
     let t = subst (TakesWords (u c.loop-text.source) (u c.take_lent.new.source) c.loop-text.text
     c.take_lent.new.text) c.if-take_lent.false c.take_lent.ensures.takes in
-    let m = taken_more _ _ _
-    _ _ i.so_far i.one_line t in
-    at_its_end _ _ _ _
-    _ _ m.0 m.1 c.in-Ok.ensures.bytes.0 (
+    let m = taken_more _ _ _ _ _ i.so_far i.one_line t in
+    at_its_end _ _ _ _ _ _ m.0 m.1 c.in-Ok.ensures.bytes.0 (
       c.if-count-eq0.true,
-      c.in-Ok.ensures.bytes.1 c.if-count-eq0.true
-          (omega (arith, c.read.auto.buffer)),
-    )
-    (λ e. false≢true (sym c.if-is_empty.false ∙ c.is_empty.ensures
-    ∙ ap (λ l. length l == 0) (c.as_slice.ensures ∙ e)))
+      c.in-Ok.ensures.bytes.1 c.if-count-eq0.true (omega (arith, c.read.auto.buffer)),
+    ) (λ e.
+    false≢true (sym c.if-is_empty.false ∙ c.is_empty.ensures ∙ ap (λ l. length l == 0)
+    (c.as_slice.ensures ∙ e)))
 
 pub returns-then-byte-eq10-clause-gives : goal.returns-then-byte-eq10-clause-gives
 returns-then-byte-eq10-clause-gives g c =
@@ -32,14 +29,12 @@ returns-then-byte-eq10-clause-gives g c =
     let i = c.loop-text.invariant in
     let t = subst (TakesWords (u c.loop-text.source) (u c.take_lent.new.source) c.loop-text.text
     c.take_lent.new.text) c.if-take_lent.false c.take_lent.ensures.takes in
-    let m = taken_more _ _ _
-    _ _ i.so_far i.one_line t in
+    let m = taken_more _ _ _ _ _ i.so_far i.one_line t in
     let buf = c.read.new.buffer in
     let one = c.read.auto.buffer in
     let all = one_byte _ _ one c.in-Ok.ensures.bound c.if-count-eq0.false in
-    ended_there _ _ _
-    _ m.0 m.1
-    (subst (λ b. Consumes (u c.take_lent.new.source) (u c.read.new.self) b)
+    ended_there _ _ _ _ m.0 m.1 (subst
+    (λ b. Consumes (u c.take_lent.new.source) (u c.read.new.self) b)
     (all ∙ byte_is _ one c.if-byte-eq10.true) c.in-Ok.ensures.bytes.0)
 
 pub returns-then-as_slice-eq-ROOM-clause-fails : goal.returns-then-as_slice-eq-ROOM-clause-fails
@@ -48,16 +43,12 @@ returns-then-as_slice-eq-ROOM-clause-fails g c =
     let i = c.loop-text.invariant in
     let t = subst (TakesWords (u c.loop-text.source) (u c.take_lent.new.source) c.loop-text.text
     c.take_lent.new.text) c.if-take_lent.false c.take_lent.ensures.takes in
-    let m = taken_more _ _ _
-    _ _ i.so_far i.one_line t in
+    let m = taken_more _ _ _ _ _ i.so_far i.one_line t in
     let buf = c.read.new.buffer in
     let one = c.read.auto.buffer in
     let all = one_byte _ _ one c.in-Ok.ensures.bound c.if-count-eq0.false in
     let read = subst (λ b. Consumes (u c.take_lent.new.source) (u c.read.new.self) b) all
-    c.in-Ok.ensures.bytes.0 in
-    longer _ _ _ _
-    (Consumes-trans _ _ _
-    _ _ m.0 read) one
+    c.in-Ok.ensures.bytes.0 in longer _ _ _ _ (Consumes-trans _ _ _ _ _ m.0 read) one
     (ap length (sym c.as_slice-in-loop-text.ensures) ∙ c.if-as_slice-eq-ROOM.true)
     (one_line_more _ _ one c.if-byte-eq10.false m.1)
 
@@ -67,18 +58,14 @@ loop-text-preserved g c =
     let i = c.loop-text.invariant in
     let t = subst (TakesWords (u c.loop-text.source) (u c.take_lent.new.source) c.loop-text.text
     c.take_lent.new.text) c.if-take_lent.false c.take_lent.ensures.takes in
-    let m = taken_more _ _ _
-    _ _ i.so_far i.one_line t in
+    let m = taken_more _ _ _ _ _ i.so_far i.one_line t in
     let buf = c.read.new.buffer in
     let one = c.read.auto.buffer in
     let all = one_byte _ _ one c.in-Ok.ensures.bound c.if-count-eq0.false in
     let read = subst (λ b. Consumes (u c.take_lent.new.source) (u c.read.new.self) b) all
-    c.in-Ok.ensures.bytes.0 in
-    record {
+    c.in-Ok.ensures.bytes.0 in record {
       so_far = subst (λ b. Consumes (u c.args.source.now) (u c.read.new.self) b)
-          (sym c.push_bytes.ensures.text)
-          (Consumes-trans _ _ _
-          _ _ m.0 read);
+          (sym c.push_bytes.ensures.text) (Consumes-trans _ _ _ _ _ m.0 read);
       one_line = subst IsOneLine (sym c.push_bytes.ensures.text)
           (one_line_more _ _ one c.if-byte-eq10.false m.1);
       few = omega (

@@ -24,11 +24,11 @@ loop-gap-smaller g c =
 
 pub loop-gap-preserved : goal.loop-gap-preserved
 loop-gap-preserved g c = record {
-  gave = λ s h r e b.
-      let m = c.loop-gap.invariant.gave s h r e b in
+  gave = λ s h r e b. let m = c.loop-gap.invariant.gave s h r e b in
       let turn = c.in-Gap.ensures.turned m.0.t m.0.scans (can_pass m.0 r) m.0.comes in (
         gave_more m.0 turn,
-        λ at objects k. subst (λ x. g.V.Visitor.Has at objects (Some x) c.gap.new.self)
+        λ at objects k. subst
+            (λ x. g.V.Visitor.Has at objects (Some x) c.gap.new.self)
             (sym (ap progress_of turn.1.now))
             (c.in_ok-gap-in-Gap.ensures.told at objects (progress_of m.0.t) (m.1 at objects k)),
       );
@@ -37,18 +37,19 @@ loop-gap-preserved g c = record {
 }
 
 pub returns-in-Some-clause-passed : goal.returns-in-Some-clause-passed
-returns-in-Some-clause-passed g c = λ at s objects h r e b k.
-    let m = c.loop-gap.invariant.gave s h r e b in
+returns-in-Some-clause-passed g c = λ at s objects h r e b k. let m = c.loop-gap.invariant.gave s h
+    r e b in
     let turn = c.in-Fitting.ensures.turned m.0.t m.0.scans (can_pass m.0 r) m.0.comes in
     let p = turned c.args.next Turn.Fitting m.0 turn.1 (λ gap e. absurd cc) in
     let v = c.in-Some in
-    let value = ap (λ x. told_by Turn.Fitting x (progress_of m.0.t)) v.is
-    ∙ ap (λ l. with_value l (progress_of m.0.t)) (value_told v.field-0-0 v.value) in
-    on_ok c.tell_value.result (λ k. (
+    let value = ap (λ x. told_by Turn.Fitting x (progress_of m.0.t)) v.is ∙ ap
+    (λ l. with_value l (progress_of m.0.t)) (value_told v.field-0-0 v.value) in on_ok
+    c.tell_value.result (λ k. (
       turn.0,
       p.0,
       turn.2,
-      subst (λ (x : Progress). g.V.Visitor.Has at objects (Some x) c.tell_value.new.visitor)
+      subst
+          (λ (x : Progress). g.V.Visitor.Has at objects (Some x) c.tell_value.new.visitor)
           (sym (p.1 ∙ value)) k,
     ))
     (c.tell_value.ensures.told at objects (progress_of m.0.t) (m.1 at objects k))
@@ -60,27 +61,27 @@ returns-in-None-clause-passed g c = λ at s objects h r e b k.
     absurd (subst (λ x. Turned m.0.t x Turn.Fitting turn.0) c.in-None.is turn.1)
 
 pub returns-in-Wanted-clause-passed : goal.returns-in-Wanted-clause-passed
-returns-in-Wanted-clause-passed g c = λ at s objects h r e b k.
-    let m = c.loop-gap.invariant.gave s h r e b in
+returns-in-Wanted-clause-passed g c = λ at s objects h r e b k. let m = c.loop-gap.invariant.gave s
+    h r e b in
     let turn = c.in-Wanted.ensures.turned m.0.t m.0.scans (can_pass m.0 r) m.0.comes in
     let p = turned c.args.next Turn.Wanted m.0 turn.1 (λ gap e. absurd cc) in
     on_ok c.lacks.result (λ k. (
       turn.0,
       p.0,
       turn.2,
-      subst (λ (x : Progress). g.V.Visitor.Has at objects (Some x) c.lacks.new.self) (sym p.1) k,
+      subst
+          (λ (x : Progress). g.V.Visitor.Has at objects (Some x) c.lacks.new.self) (sym p.1) k,
     ))
     (c.lacks.ensures.told at objects (progress_of m.0.t) (m.1 at objects k))
 
 pub returns-in-Passed-clause-passed : goal.returns-in-Passed-clause-passed
-returns-in-Passed-clause-passed g c = λ at s objects h r e b k.
-    let m = c.loop-gap.invariant.gave s h r e b in
+returns-in-Passed-clause-passed g c = λ at s objects h r e b k. let m = c.loop-gap.invariant.gave s
+    h r e b in
     let turn = c.next.ensures.turned m.0.t m.0.scans (can_pass m.0 r) m.0.comes in
     let p = turned _ _ m.0 turn.1 (no_gap _ c.in-Passed.is) in (
       turn.0,
       p.0,
       turn.2,
       subst (λ x. g.V.Visitor.Has at objects (Some x) c.loop-gap.visitor)
-          (sym (p.1 ∙ told_none _ _ _ c.in-Passed.is))
-          (m.1 at objects k),
+          (sym (p.1 ∙ told_none _ _ _ c.in-Passed.is)) (m.1 at objects k),
     )

@@ -12,7 +12,5 @@ returns-in_err-move_to-clause-part g c = λ rows h.
     (g.A.Sink.written c.end_session.new.lines) h c.in_ok-end_session.ensures.line)))
 
 pub returns-clause-printed : goal.returns-clause-printed
-returns-clause-printed g c = λ rows h.
-    let l = all_written _ _ h
-    c.in_ok-end_session.ensures.line in
+returns-clause-printed g c = λ rows h. let l = all_written _ _ h c.in_ok-end_session.ensures.line in
     ((c.in_ok-move_to.ensures.moved _ l).0, h.same)

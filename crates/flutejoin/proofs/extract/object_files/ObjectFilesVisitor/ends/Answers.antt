@@ -9,16 +9,15 @@ use Rattle.flutejoin.proofs.extract_lemmas.FilesTold.{few_files, if_written, las
 use Rattle.flutejoin.proofs.extract.object_files.ObjectFilesVisitor.ends.Goals as goal
 
 pub returns-clause-told : goal.returns-clause-told
-returns-clause-told g c = λ at objects progress t key status conflicts is end h.
-    let kept = c.in_ok-kept.ensures.kept (flat_map object_file objects) (file_so_far progress) at.0
+returns-clause-told g c = λ at objects progress t key status conflicts is end h. let kept =
+    c.in_ok-kept.ensures.kept (flat_map object_file objects) (file_so_far progress) at.0
     (ap is_some (c.take.ensures.value ∙ h.left_is) ∙ same_some _) h.filled in
     let old = g.W.Sink.written c.args.self.now.lines.now in
     let new = g.W.Sink.written c.write_words.new.sink in
-    let first : status_line c.args.key.now c.args.status ≡ first_line t =
-    λ i. status_line (sym key i) (sym status i) in
-    if_written _ _ _ _ c.write_words.ensures.line
-    (λ told. one_more h t end kept (subst (Appends old new) (c.status_text.ensures.line ∙ first) told)
-    refl c.take.ensures.after)
+    let first : status_line c.args.key.now c.args.status ≡ first_line t = λ i. status_line
+    (sym key i) (sym status i) in if_written _ _ _ _ c.write_words.ensures.line (λ told. one_more h
+    t end kept (subst (Appends old new) (c.status_text.ensures.line ∙ first) told) refl
+    c.take.ensures.after)
 
 pub returns-in_err-kept-clause-kept : goal.returns-in_err-kept-clause-kept
 returns-in_err-kept-clause-kept g c =

@@ -1,6 +1,4 @@
 -- ObjectWriter::end: the result, by what was found of the object (specs/ObjectWriters: Found).
-use Rattle.std.proofs.Common.{arith}
-use Rattle.std.proofs.lemmas.Grind.{common_steps}
 use Rattle.std.proofs.Common.{rules}
 use Rattle.std.proofs.Common.{[], sym, subst, append-nil}
 use Rattle.flute_parts.specs.Partition.{symbol_id}
@@ -51,8 +49,7 @@ returns-in_default-2-clause-extracts c = λ P start now r h. let key = c.args.se
     let n = subst (HasFound P key failed start now) c.in-Whole.is h in
     let t = c.next.ensures.turned n.scanned n.scans tt (none-can-come n) in
     let e = ended-turn _ _ _ c.in_default.not-Gap t.1 in
-    whole-written P _ _ _ c.in-Whole.object _ c.if-self.false
-    (ended-whole n _ r e.0 e.1)
+    whole-written P _ _ _ c.in-Whole.object _ c.if-self.false (ended-whole n _ r e.0 e.1)
 
 pub returns-clause-extracts : goal.returns-clause-extracts
 returns-clause-extracts c = λ P start now r h. let key = c.args.self.now.key in

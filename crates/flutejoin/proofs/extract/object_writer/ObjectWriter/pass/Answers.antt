@@ -21,8 +21,7 @@ own fact is same = search rules
 
 pub returns-in-Info-clause-passed : goal.returns-in-Info-clause-passed
 returns-in-Info-clause-passed g c = λ P start. let w = g.W.Sink.written c.args.sink.now in
-    let same = own (fact_of c.args.fact.now) c.address.ensures
-    (equal_keys _ _ c.if-eq.ensures) in
+    let same = own (fact_of c.args.fact.now) c.address.ensures (equal_keys _ _ c.if-eq.ensures) in
     let is = ap fact_of c.in-Info.is ∙ ap (λ k. Info k c.in-Info.info)
     (ap (λ f. (address f).key) (sym (ap fact_of c.in-Info.is)) ∙ same) in
     let Q : Fact → Type 0 = λ f. IsRising (P ++ f ∷ []) → Stands P c.args.self.now start w → Stands
@@ -31,8 +30,7 @@ returns-in-Info-clause-passed g c = λ P start. let w = g.W.Sink.written c.args.
 
 pub returns-in-InfoConflict-clause-passed : goal.returns-in-InfoConflict-clause-passed
 returns-in-InfoConflict-clause-passed g c = λ P start. let w = g.W.Sink.written c.args.sink.now in
-    let same = own (fact_of c.args.fact.now) c.address.ensures
-    (equal_keys _ _ c.if-eq.ensures) in
+    let same = own (fact_of c.args.fact.now) c.address.ensures (equal_keys _ _ c.if-eq.ensures) in
     let is = ap fact_of c.in-InfoConflict.is ∙ ap InfoConflict
     (ap (λ f. (address f).key) (sym (ap fact_of c.in-InfoConflict.is)) ∙ same) in
     let Q : Fact → Type 0 = λ f. IsRising (P ++ f ∷ []) → Stands P c.args.self.now start w → Stands
@@ -41,19 +39,16 @@ returns-in-InfoConflict-clause-passed g c = λ P start. let w = g.W.Sink.written
 
 pub returns-in-Symbol-clause-passed : goal.returns-in-Symbol-clause-passed
 returns-in-Symbol-clause-passed g c = λ P start. let w = g.W.Sink.written c.args.sink.now in
-    let same = own (fact_of c.args.fact.now) c.address.ensures
-    (equal_keys _ _ c.if-eq.ensures) in
+    let same = own (fact_of c.args.fact.now) c.address.ensures (equal_keys _ _ c.if-eq.ensures) in
     let w' = g.W.Sink.written c.symbol.new.sink in
     let is = ap fact_of c.in-Symbol.is ∙ ap (λ k. Symbol k c.in-Symbol.id c.in-Symbol.bytes.now)
     (ap (λ f. (address f).key) (sym (ap fact_of c.in-Symbol.is)) ∙ same) in
     let Q : Fact → Type 0 = λ f. IsRising (P ++ f ∷ []) → Stands P c.args.self.now start w → Stands
-    (P ++ f ∷ []) c.symbol.new.self start w' in subst Q (sym is)
-    (c.symbol.ensures.passed P start)
+    (P ++ f ∷ []) c.symbol.new.self start w' in subst Q (sym is) (c.symbol.ensures.passed P start)
 
 pub returns-in-SymbolConflict-clause-passed : goal.returns-in-SymbolConflict-clause-passed
 returns-in-SymbolConflict-clause-passed g c = λ P start. let w = g.W.Sink.written c.args.sink.now in
-    let same = own (fact_of c.args.fact.now) c.address.ensures
-    (equal_keys _ _ c.if-eq.ensures) in
+    let same = own (fact_of c.args.fact.now) c.address.ensures (equal_keys _ _ c.if-eq.ensures) in
     let w' = g.W.Sink.written c.symbol-in-SymbolConflict.new.sink in
     let is = ap fact_of c.in-SymbolConflict.is ∙ ap (λ k. SymbolConflict k c.in-SymbolConflict.id)
     (ap (λ f. (address f).key) (sym (ap fact_of c.in-SymbolConflict.is)) ∙ same) in

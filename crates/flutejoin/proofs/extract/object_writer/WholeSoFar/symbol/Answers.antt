@@ -1,6 +1,6 @@
 -- WholeSoFar::symbol: the object so far, after each kind of turn of its scan.
 use Rattle.std.proofs.Common.{rules}
-use Rattle.std.proofs.Common.{◌≡◌, ◌∙◌, ℕ, Bool, List, Option, Result, Ok, Err, take, refl, sym, ap, arith}
+use Rattle.std.proofs.Common.{◌≡◌, ◌∙◌, ℕ, Bool, List, Option, Result, take, refl, sym, ap, arith}
 use Rattle.std.proofs.lemmas.List.{length-take, take_min}
 use Rattle.std.proofs.KnownBytes.{Appends-nil}
 use Rattle.std.specs.Prelude.{is_err}
@@ -25,24 +25,19 @@ returns-then-not-failed-clause-passed g c = λ P key start r h. let n : SymbolId
     (Bor (List ℕ)) = (c.args.id, c.args.value) in
     let t = c.in-Fitting.ensures.turned h.scanned h.scans (next-rises h n r) (can-come h n r) in
     let bytes = c.in-Some.bytes.now in
-    passed-next h n r _
-    (fits-next h n r _ _ t.1 (ap (λ v. value_of (c.args.id, v)) c.in-Some.is)) t.2
-    (c.next.ensures.part t.0 t.2) refl
-    (omega (arith, c.min.ensures, length-take c.min.result bytes)) (rw (
-      c.if-not-failed.true,
-      sym
-          (ap (λ k. take k bytes) c.min.ensures ∙ take_min _ _),
-    )
+    passed-next h n r _ (fits-next h n r _ _ t.1 (ap (λ v. value_of (c.args.id, v)) c.in-Some.is))
+    t.2 (c.next.ensures.part t.0 t.2) refl
+    (omega (arith, c.min.ensures, length-take c.min.result bytes)) (rw
+    (c.if-not-failed.true, sym (ap (λ k. take k bytes) c.min.ensures ∙ take_min _ _))
     (writes_written _ _ _ _ _ c.is_err.ensures.value c.write_all.ensures.bytes))
 
 pub returns-else-not-failed-clause-passed : goal.returns-else-not-failed-clause-passed
-returns-else-not-failed-clause-passed g c = λ P key start r h.
-    let n : SymbolId × Option (Bor (List ℕ)) = (c.args.id, c.args.value) in
+returns-else-not-failed-clause-passed g c = λ P key start r h. let n : SymbolId × Option
+    (Bor (List ℕ)) = (c.args.id, c.args.value) in
     let t = c.in-Fitting.ensures.turned h.scanned h.scans (next-rises h n r) (can-come h n r) in
     let bytes = c.in-Some.bytes.now in
-    passed-next h n r _ (fits-next h n r _ _ t.1
-    (ap (λ v. value_of (c.args.id, v)) c.in-Some.is)) t.2
-    (c.next.ensures.part t.0 t.2) refl
+    passed-next h n r _ (fits-next h n r _ _ t.1 (ap (λ v. value_of (c.args.id, v)) c.in-Some.is))
+    t.2 (c.next.ensures.part t.0 t.2) refl
     (omega (arith, c.min.ensures, length-take c.min.result bytes))
     (rw c.if-not-failed.false (Appends-nil _))
 
@@ -68,7 +63,5 @@ returns-in-Gap-clause-passed g c = λ P key start r h.
 pub returns-in-Wanted-clause-passed : goal.returns-in-Wanted-clause-passed
 returns-in-Wanted-clause-passed g c = λ P key start r h. let n : SymbolId × Option (Bor (List ℕ)) =
     (c.args.id, c.args.value) in
-    let t = c.next.ensures.turned h.scanned h.scans (next-rises h n r) (can-come h n r) in (
-      settled-next h n r _ (wanted-turn _ _ n _ c.in-Wanted.is t.1),
-      wrote-next h n r,
-    )
+    let t = c.next.ensures.turned h.scanned h.scans (next-rises h n r) (can-come h n r) in
+    (settled-next h n r _ (wanted-turn _ _ n _ c.in-Wanted.is t.1), wrote-next h n r)

@@ -1,6 +1,5 @@
 -- GapList::advance: one line more was read, or why not.
-use Rattle.std.proofs.Common.{◌≡◌, ◌∙◌, refl, sym, ap, subst}
-use Rattle.std.specs.Prelude.{IfErr}
+use Rattle.std.proofs.Common.{◌∙◌, refl, ap}
 use Rattle.std.proofs.lemmas.Result.{err_from_is_err_and}
 use Rattle.flutejoin.specs.FillStreams.{after_last}
 use Rattle.flutejoin.proofs.fill_lemmas.ListSteps.{less_lines, stands_more, stops_after, told}
@@ -24,6 +23,5 @@ returns-clause-reads g c = λ start passed s.
     ∙ ap (after_last c.args.self.now.object) c.in_ok-next.ensures.same.1)
 
 pub returns-clause-less : goal.returns-clause-less
-returns-clause-less g c =
-    less_lines g.R.Source.unread g.R.Source.failures c.args.self.now c.read_next.new.self
-    _ c.requires c.in_ok-next.ensures.few c.in_ok-next.ensures.reads
+returns-clause-less g c = less_lines g.R.Source.unread g.R.Source.failures c.args.self.now
+    c.read_next.new.self _ c.requires c.in_ok-next.ensures.few c.in_ok-next.ensures.reads

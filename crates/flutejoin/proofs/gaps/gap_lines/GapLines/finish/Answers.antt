@@ -13,7 +13,5 @@ returns-in_err-move_to-clause-part g c = λ objects h.
     c.in_ok-end_session.ensures.line).written))
 
 pub returns-clause-printed : goal.returns-clause-printed
-returns-clause-printed g c = λ objects h.
-    let l = all_lined _ _
-    _ h refl c.in_ok-end_session.ensures.line in
-    ((c.in_ok-move_to.ensures.moved _ l.written).0, l.whole)
+returns-clause-printed g c = λ objects h. let l = all_lined _ _ _ h refl
+    c.in_ok-end_session.ensures.line in ((c.in_ok-move_to.ensures.moved _ l.written).0, l.whole)

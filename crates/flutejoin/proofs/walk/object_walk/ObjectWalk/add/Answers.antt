@@ -1,7 +1,6 @@
 -- ObjectWalk::add: the state after the next fact, of a conflict of information.
 use Rattle.std.proofs.Common.{None, [], ◌∷◌, ap, sym, subst}
 use Rattle.flute_parts.specs.Addresses.{address, fact_of}
-use Rattle.flute_parts.specs.declared.fact.Fact.{Fact}
 use Rattle.flutejoin.specs.Told.{conflict_in}
 use Rattle.flutejoin.specs.Walk.{StateIs}
 use Rattle.flutejoin.specs.declared.walk.object_walk.ObjectState.TheVariants.{ConflictingInformation}

@@ -1,26 +1,22 @@
 -- ObjectWalk::close: the progress object is ended.
-use Rattle.std.proofs.Common.{◌∙◌, ◌∷◌, [], List, None, Option, sym, subst, refl, arith}
+use Rattle.std.proofs.Common.{◌∙◌, ◌∷◌, [], None, sym, subst, refl, arith}
 use Rattle.std.proofs.Common.{length-append}
-use Rattle.flutejoin.specs.Progress.{Progress}
-use Rattle.flutejoin.specs.Told.{Told, told_of}
+use Rattle.flutejoin.specs.Told.{told_of}
 use Rattle.flutejoin.specs.Walk.{Walks}
-use Rattle.flutejoin.specs.declared.walk.object_walk.OpenObject.{OpenObject}
 use Rattle.flutejoin.proofs.walk_lemmas.Objects.{all_counted, all_has, before_short, heard_open, none_open}
 use Rattle.flutejoin.proofs.walk_lemmas.Objects.{one_more_closed}
 use Rattle.flutejoin.proofs.gaps_lemmas.StatusLines.{status_is}
 use Rattle.flutejoin.proofs.walk.object_walk.ObjectWalk.close.Goals as goal
 
 pub returns-in_default-clause-closed : goal.returns-in_default-clause-closed
-returns-in_default-clause-closed g c = λ at F r l.
-    let q = subst (λ o. Walks F l.objects l.progress o)
-    (sym c.take.ensures.value ∙ c.in_default.is) l.walks in
+returns-in_default-clause-closed g c = λ at F r l. let q = subst
+    (λ o. Walks F l.objects l.progress o) (sym c.take.ensures.value ∙ c.in_default.is) l.walks in
     record {
       objects = [];
       told = none_open F q.0;
       few = omega arith;
       has = subst (λ x. g.V.Visitor.Has at x None c.args.visitor.now) q.1
-          (subst (λ x. g.V.Visitor.Has at l.objects x c.args.visitor.now) q.2
-          l.has);
+          (subst (λ x. g.V.Visitor.Has at l.objects x c.args.visitor.now) q.2 l.has);
     }
 
 pub end_object-requires : goal.end_object-requires
