@@ -88,6 +88,32 @@ typedef struct flutejoin_object {
     } instance;
 } flutejoin_object;
 
+/* What an entry of a journal says. */
+enum flutejoin_entry_kind {
+    FLUTEJOIN_ENTRY_INFORMATION = 1,          /* an object's transmission information */
+    FLUTEJOIN_ENTRY_INFORMATION_CONFLICT = 2, /* that two values of that came */
+    FLUTEJOIN_ENTRY_SYMBOL = 3,               /* an encoding symbol of an object */
+    FLUTEJOIN_ENTRY_SYMBOL_CONFLICT = 4       /* that two values of that came */
+};
+
+typedef struct flutejoin_entry {
+    flutejoin_object object;
+    uint32_t kind; /* one of these */
+    struct {
+        uint32_t present; /* 1 of FLUTEJOIN_ENTRY_INFORMATION, or else 0 */
+        uint32_t block;   /* these as a packet has them */
+        uint64_t length;
+        uint16_t symbol;
+    } info;
+    struct {
+        uint32_t present; /* 1 of the last two kinds, or else 0 */
+        uint16_t sbn;
+        uint16_t esi;
+        size_t start;  /* where its bytes begin in the journal */
+        size_t length; /* how many they are; 0 of a conflict */
+    } symbol;
+} flutejoin_entry;
+
 /* How much of an object is held. */
 enum flutejoin_object_status {
     FLUTEJOIN_STATUS_NO_INFORMATION = 1,          /* symbols, and no transmission information */
@@ -138,6 +164,11 @@ uint32_t flutejoin_join(const uint8_t *first, size_t first_length, const uint8_t
                         size_t second_length, const flutejoin_options *options,
                         flutejoin_counts *counts, uint8_t *room, size_t capacity,
                         flutejoin_answer *answer);
+
+/* Gives what each entry of a journal says, in their order, which is that of `show`: the capacity is
+ * a number of entries, and so is `needed`. */
+uint32_t flutejoin_entries(const uint8_t *journal, size_t length, flutejoin_entry *room,
+                           size_t capacity, flutejoin_answer *answer);
 
 /* Gives the lines that `gaps` prints of a journal; if `json` is not 0, those in JSON. No zero
  * follows them. */

@@ -13,6 +13,8 @@ uint32_t flutejoin_c_minus(const uint8_t *, size_t, const uint8_t *, size_t, uin
 uint32_t flutejoin_c_join(const uint8_t *, size_t, const uint8_t *, size_t,
                           const flutejoin_options *, flutejoin_counts *, uint8_t *, size_t,
                           flutejoin_answer *);
+uint32_t flutejoin_c_entries(const uint8_t *, size_t, flutejoin_entry *, size_t,
+                             flutejoin_answer *);
 uint32_t flutejoin_c_gaps(const uint8_t *, size_t, uint32_t, uint32_t, uint8_t *, size_t,
                           flutejoin_answer *);
 uint32_t flutejoin_c_fill(const uint8_t *, size_t, const uint8_t *, size_t, uint32_t, uint8_t *,
@@ -24,8 +26,9 @@ uint32_t flutejoin_c_extract(const uint8_t *, size_t, const flutejoin_object *, 
 uint32_t flutejoin_c_status(const uint8_t *, size_t, const flutejoin_object *, uint32_t,
                             flutejoin_held *, flutejoin_answer *);
 
-/* What no bytes are taken from, or put into. */
+/* What no bytes are taken from, or put into, and what no entries are put into. */
 static uint8_t none[1];
+static flutejoin_entry no_entries[1];
 
 /* The bytes at a pointer, of which there are none if it is NULL. */
 #define AT(pointer) ((pointer) ? (pointer) : none)
@@ -40,7 +43,7 @@ static int overlap(const void *room, size_t capacity, const void *bytes, size_t 
 }
 
 /* Whether a room can be written to that is beside this input. */
-static int is_room(const uint8_t *room, size_t capacity, const uint8_t *bytes, size_t length) {
+static int is_room(const void *room, size_t capacity, const uint8_t *bytes, size_t length) {
     return is_right(room, capacity) && is_right(bytes, length)
            && !overlap(room, capacity, bytes, length);
 }
@@ -116,6 +119,16 @@ uint32_t flutejoin_join(const uint8_t *first, size_t first_length, const uint8_t
     if (code == FLUTEJOIN_OK && counts)
         *counts = told;
     return code;
+}
+
+uint32_t flutejoin_entries(const uint8_t *journal, size_t length, flutejoin_entry *room,
+                           size_t capacity, flutejoin_answer *answer) {
+    flutejoin_answer own;
+    answer = begun(answer, &own);
+    if (capacity > PTRDIFF_MAX / sizeof *room
+        || !is_room(room, capacity * sizeof *room, journal, length))
+        return bad_argument(answer);
+    return flutejoin_c_entries(AT(journal), length, room ? room : no_entries, capacity, answer);
 }
 
 uint32_t flutejoin_gaps(const uint8_t *journal, size_t length, uint32_t any_size, uint32_t json,

@@ -117,6 +117,44 @@ static void joins(void) {
     holds("join", counts.datagrams == 4 && counts.refused == 2 && counts.entries == 1);
 }
 
+/* The entries of the journal of that datagram, sent by 5. */
+static void entries(void) {
+    flutejoin_answer answer;
+    flutejoin_options options = {{0, 5}, 0};
+    flutejoin_entry room[2];
+    uint8_t file[30], journal[64];
+    const uint8_t *untouched = (const uint8_t *)&room[1];
+    memcpy(file, file_begins, 8);
+    memcpy(file + 8, datagram, 22);
+    memset(room, 0x55, sizeof room);
+    holds("entries", flutejoin_entries(NULL, 1, room, 2, &answer) == FLUTEJOIN_BAD_ARGUMENT);
+    holds("entries", flutejoin_entries(empty, 15, NULL, 1, &answer) == FLUTEJOIN_BAD_ARGUMENT);
+    holds("entries", flutejoin_entries(empty, 15, room, SIZE_MAX, NULL) == FLUTEJOIN_BAD_ARGUMENT);
+    holds("entries", flutejoin_entries(empty, 15, room, PTRDIFF_MAX / sizeof *room + 1, NULL)
+                         == FLUTEJOIN_BAD_ARGUMENT);
+    holds("entries", flutejoin_entries((uint8_t *)&room[2] - 1, 1, room, 2, NULL)
+                         == FLUTEJOIN_BAD_ARGUMENT);
+    holds("entries", flutejoin_entries(NULL, 0, room, 2, &answer) == FLUTEJOIN_INPUT);
+    holds("entries", answer.number == 1 && !strcmp(answer.text, "input 1: Cut") && !answer.needed);
+    holds("entries", flutejoin_entries(empty, 14, room, 2, NULL) == FLUTEJOIN_INPUT);
+    holds("entries", room[0].kind == 0x55555555u);
+    holds("entries", flutejoin_entries(empty, 15, room, 2, &answer) == FLUTEJOIN_OK);
+    holds("entries", answer.needed == 0 && room[0].kind == 0x55555555u);
+    holds("entries", flutejoin_join(NULL, 0, file, 30, &options, NULL, journal, 64, &answer)
+                         == FLUTEJOIN_OK);
+    size_t length = (size_t)answer.needed;
+    holds("entries", flutejoin_entries(journal, length, NULL, 0, &answer) == FLUTEJOIN_OK);
+    holds("entries", answer.needed == 1);
+    holds("entries", flutejoin_entries(journal, length, room, 2, &answer) == FLUTEJOIN_OK);
+    holds("entries", answer.needed == 1 && *untouched == 0x55);
+    holds("entries", room->kind == FLUTEJOIN_ENTRY_SYMBOL && !room->info.present);
+    holds("entries", !room->object.sender.high && room->object.sender.low == 5);
+    holds("entries", room->object.tsi == 7 && !room->object.toi.high && room->object.toi.low == 1);
+    holds("entries", !room->object.instance.present && room->symbol.present == 1);
+    holds("entries", !room->symbol.sbn && !room->symbol.esi && room->symbol.length == 2);
+    holds("entries", !memcmp(journal + room->symbol.start, "he", 2));
+}
+
 static const flutejoin_object object = {{0, 0}, 7, {0, 1}, {0, 0}};
 
 static void objects(void) {
@@ -173,6 +211,7 @@ int main(void) {
     pair("compare", compares, empty, 15);
     pair("fill", fills, NULL, 0);
     joins();
+    entries();
     journals();
     objects();
     packets();

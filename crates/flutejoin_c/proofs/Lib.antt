@@ -1,5 +1,6 @@
 mod AllSelected
 mod Extracted
+mod Listed
 mod Loads
 mod Opened
 mod Symbols

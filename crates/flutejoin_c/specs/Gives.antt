@@ -3,9 +3,9 @@ use Rattle.std.specs.Prelude.{◌≡◌, ℕ, List, [], ◌++◌, length, take, 
 use Rattle.flutejoin.specs.declared.command_fault.CommandFault.{CommandFault}
 use Rattle.flutejoin_c.specs.Codes.{code_of, number_of}
 
--- the room, once these bytes were put there: as many as fit, and after them what was there before
-abbrev pub filled : List ℕ → List ℕ → List ℕ
-filled bytes room = take (length room) bytes ++ drop (length bytes) room
+-- the room, once these were put there: as many as fit, and after them what was there before
+abbrev pub filled : {T : Type 0} → List T → List T → List T
+filled items room = take (length room) items ++ drop (length items) room
 
 -- bytes were written, as many of them are in the room as fit, and so many there are
 pub record Gives (writes : Option (List ℕ) → Option (List ℕ) → Type 0) (old new : List ℕ)

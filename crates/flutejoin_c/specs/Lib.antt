@@ -1,5 +1,6 @@
 pub mod Calls
 pub mod Codes
+pub mod Entries
 pub mod Gives
 pub mod Joins
 pub mod Lists

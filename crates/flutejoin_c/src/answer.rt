@@ -15,7 +15,8 @@ const ROOM: usize = 96;
 #[repr(C)]
 #[derive(Drop)]
 pub struct Answer {
-    /// How many bytes there are to give, whether or not there was room for them; 0 after a fault.
+    /// How many bytes or entries there are to give, whether or not there was room for them; 0 after
+    /// a fault.
     pub needed: u64,
     /// 0, or the number of the fault, as `flutejoin.h` has it.
     pub code: u32,
@@ -28,16 +29,16 @@ pub struct Answer {
 }
 
 impl Answer {
-    /// Gives as many of these bytes as there is room for. Returns 0.
-    pub fn give(&mut self, bytes: &[u8], out: &mut [u8]) -> u32
+    /// Gives as many of these as there is room for. Returns 0.
+    pub fn give<T: Copy>(&mut self, items: &[T], out: &mut [T]) -> u32
         ensures value { result ≡ 0 }
-        ensures given { out.new ≡ filled bytes.now out.old }
-        ensures needed { self.new.needed ≡ length bytes.now }
+        ensures given { out.new ≡ filled items.now out.old }
+        ensures needed { self.new.needed ≡ length items.now }
         ensures code { self.new.code ≡ 0 }
     {
-        let count = bytes.len().min(out.len());
-        out[..count].copy_from_slice(&bytes[..count]);
-        self.needed = bytes.len() as u64;
+        let count = items.len().min(out.len());
+        out[..count].copy_from_slice(&items[..count]);
+        self.needed = items.len() as u64;
         self.number = 0;
         self.text[0] = 0;
         self.code = 0;

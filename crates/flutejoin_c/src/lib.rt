@@ -18,6 +18,7 @@
 
 mod answer;
 mod compare;
+mod entries;
 mod extract;
 mod fill;
 mod gaps;
@@ -31,6 +32,7 @@ mod wide;
 
 pub use answer::Answer;
 pub use compare::flutejoin_c_compare;
+pub use entries::{EntryFields, flutejoin_c_entries};
 pub use extract::flutejoin_c_extract;
 pub use fill::flutejoin_c_fill;
 pub use gaps::flutejoin_c_gaps;

@@ -2,7 +2,7 @@
 ghost use Rattle.std.specs.Prelude.{MatchOption};
 ghost use Rattle.flutejoin_c.specs.Objects.{Names, NamesNone};
 
-use crate::packet::InstanceFields;
+use crate::packet::{InstanceFields, instance_fields};
 use crate::wide::Wide;
 use flute_parts::{Key, ObjectKey, Sender, SessionKey};
 
@@ -21,6 +21,18 @@ pub struct ObjectFields {
 }
 
 impl ObjectFields {
+    /// Those of this object.
+    pub fn of(key: &Key) -> ObjectFields
+        ensures { Names result key.now }
+    {
+        ObjectFields {
+            sender: Wide::of(key.session.sender().number()),
+            tsi: key.session.tsi(),
+            toi: Wide::of(key.object.toi()),
+            instance: instance_fields(key.object.instance()),
+        }
+    }
+
     /// The object that they name, if they name one.
     pub fn key(&self) -> Option<Key>
         ensures { MatchOption result (NamesNone self.now) (Names self.now) }

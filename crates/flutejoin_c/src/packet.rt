@@ -1,5 +1,5 @@
 //! A datagram, read.
-ghost use Rattle.std.specs.Prelude.{◌≡◌, ◌≢◌};
+ghost use Rattle.std.specs.Prelude.{◌≡◌, ◌≢◌, ℕ, List, None};
 ghost use Rattle.flute_wire.specs.Datagram.{Spells};
 ghost use Rattle.flutejoin_c.specs.Gives.{TellsFault};
 ghost use Rattle.flutejoin_c.specs.Packets.{Contains, IsRefusal, info_in, instance_in, symbol_in};
@@ -81,7 +81,7 @@ pub extern "C" fn flutejoin_c_read(
     match read(datagram) {
         Ok(content) => {
             *packet = fields_of(&content, datagram);
-            answer.give(&[], &mut [])
+            answer.give::<u8>(&[], &mut [])
         }
         Err(refusal) => answer.refuse(CommandFault::Refused(refusal)),
     }
@@ -101,7 +101,8 @@ fn fields_of(packet: &Packet<'_>, datagram: &[u8]) -> PacketFields
     }
 }
 
-fn instance_fields(instance: Option<u32>) -> InstanceFields
+/// The FDT Instance ID, if there is one.
+pub fn instance_fields(instance: Option<u32>) -> InstanceFields
     ensures { instance_in result ≡ instance }
 {
     match instance {
@@ -110,7 +111,8 @@ fn instance_fields(instance: Option<u32>) -> InstanceFields
     }
 }
 
-fn info_fields(info: Option<Info>) -> InfoFields
+/// The transmission information, if there is any.
+pub fn info_fields(info: Option<Info>) -> InfoFields
     ensures { info_in result ≡ info }
 {
     match info {
@@ -141,12 +143,19 @@ fn symbol_fields(packet: &Packet<'_>, datagram: &[u8]) -> SymbolFields
             start: datagram.len().saturating_sub(bytes.len()),
             length: bytes.len(),
         },
-        None => SymbolFields {
-            present: 0,
-            sbn: 0,
-            esi: 0,
-            start: 0,
-            length: 0,
-        },
+        None => no_symbol(),
+    }
+}
+
+/// No symbol.
+pub fn no_symbol() -> SymbolFields
+    ensures { (bytes : List ℕ) → symbol_in bytes result ≡ None }
+{
+    SymbolFields {
+        present: 0,
+        sbn: 0,
+        esi: 0,
+        start: 0,
+        length: 0,
     }
 }

@@ -61,7 +61,7 @@ pub extern "C" fn flutejoin_c_status(
     match status_of(alloc, journal, &key, any_size) {
         Ok(found) => {
             *status = fields_of(found);
-            answer.give(&[], &mut [])
+            answer.give::<u8>(&[], &mut [])
         }
         Err(fault) => answer.refuse(fault),
     }
