@@ -6,19 +6,19 @@
     for held in flutejoin.gaps(journal):
         print(held.object, held.status, held.gaps)
 
-Journals are bytes. A fault is raised as a `Fault`, whose text is the line that the program
-`flutejoin` prints.
+A journal is a `Journal`, and calls take its bytes too. A fault is raised as a `Fault`, whose text
+is the line that the program `flutejoin` prints.
 """
 from __future__ import annotations
 
-from flutejoin.calls import compare, compare_lines, extract, fill, gap_lines, gaps, join, merge
-from flutejoin.calls import minus, read, status
+from flutejoin.calls import compare, compare_lines, entries, extract, fill, gap_lines, gaps, join
+from flutejoin.calls import merge, minus, read, status
 from flutejoin.faults import BadArgument, BadKey, BadLine, ConflictingInformation, Fault, Full
 from flutejoin.faults import InputFault, NoInformation, NoObject, NotWhole, OutOfMemory, Refused
 from flutejoin.faults import UnknownKind
+from flutejoin.journal import Joined, Journal
 from flutejoin.library import NoLibrary
-from flutejoin.values import Compared, Gap, Held, Information, Joined, Object, Packet, Status
-from flutejoin.values import Symbol
+from flutejoin.values import Compared, Entry, Gap, Held, Information, Object, Packet, Status, Symbol
 
 __all__ = [
     "BadArgument",
@@ -26,6 +26,7 @@ __all__ = [
     "BadLine",
     "Compared",
     "ConflictingInformation",
+    "Entry",
     "Fault",
     "Full",
     "Gap",
@@ -33,6 +34,7 @@ __all__ = [
     "Information",
     "InputFault",
     "Joined",
+    "Journal",
     "NoInformation",
     "NoLibrary",
     "NoObject",
@@ -46,6 +48,7 @@ __all__ = [
     "UnknownKind",
     "compare",
     "compare_lines",
+    "entries",
     "extract",
     "fill",
     "gap_lines",

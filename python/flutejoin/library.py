@@ -93,7 +93,7 @@ class PacketFields(Structure):
     ]
 
 
-BYTES = c_void_p, c_size_t  # of an input, or a room
+BYTES = c_void_p, c_size_t  # of an input, or a room, that of entries too
 ANSWER = POINTER(Answer)
 OBJECT = POINTER(ObjectFields)
 CALLS: dict[str, tuple[object, ...]] = {
@@ -101,6 +101,7 @@ CALLS: dict[str, tuple[object, ...]] = {
     "merge": (*BYTES, *BYTES, *BYTES, ANSWER),
     "minus": (*BYTES, *BYTES, *BYTES, ANSWER),
     "join": (*BYTES, *BYTES, POINTER(OptionFields), POINTER(CountFields), *BYTES, ANSWER),
+    "entries": (*BYTES, *BYTES, ANSWER),
     "gaps": (*BYTES, c_uint32, c_uint32, *BYTES, ANSWER),
     "status": (*BYTES, OBJECT, c_uint32, POINTER(HeldFields), ANSWER),
     "compare": (*BYTES, *BYTES, c_uint32, *BYTES, ANSWER),

@@ -43,13 +43,18 @@ class Packet(NamedTuple):
         return Object(sender, self.tsi, self.toi, self.instance)
 
 
-class Joined(NamedTuple):
-    """What was joined."""
+class Entry(NamedTuple):
+    """What a journal says of the transmission information of an object, or of a symbol."""
 
-    journal: bytes  # of all that the inputs contain
-    datagrams: int  # how many the datagram files have
-    refused: int  # how many of these are no packets, and contain nothing
-    entries: int  # how many the journal has
+    object: Object
+    kind: str  # information, information conflict, symbol or symbol conflict
+    information: Optional[Information]  # of the first kind
+    symbol: Optional[Symbol]  # of the last two kinds; its data is empty in a conflict
+
+    @property
+    def is_conflict(self) -> bool:
+        """Whether two different values came."""
+        return self.kind.endswith("conflict")
 
 
 class Gap(NamedTuple):

@@ -22,7 +22,7 @@ from tests.support.run import ROOT
 
 import flutejoin
 import pathlib
-from flutejoin import Fault, Object, Status
+from flutejoin import Entry, Fault, Journal, Object, Status
 
 DRAWN = int(os.environ.get("DRAWN", "400"))
 Answer = Union[bytes, str]
@@ -34,10 +34,12 @@ OBJECTS = (
 )
 
 
-def bytes_or_fault(call: Callable[..., bytes], *arguments: object, **options: object) -> Answer:
+def bytes_or_fault(
+    call: Callable[..., Union[bytes, Journal]], *arguments: object, **options: object
+) -> Answer:
     """What a call of the library gives, or the line of its fault."""
     try:
-        return call(*arguments, **options)
+        return bytes(call(*arguments, **options))
     except Fault as fault:
         return f"{fault}\n"
 
@@ -150,6 +152,12 @@ class Drawn(Case):
             words = f"join -o out --source {SENDER} {names}"
             self.agree(f"{turn}", words, answer, is_told=True)
 
+    def test_entries(self) -> None:
+        for turn in range(DRAWN // 4):
+            journal = self.drawn_journal()
+            self.write("journal", journal)
+            self.agree(f"{turn}", "show journal", bytes_or_fault(shown, journal))
+
     def test_json(self) -> None:
         for turn in range(DRAWN // 4):
             first, second = self.drawn_journal(), self.drawn_journal()
@@ -190,7 +198,31 @@ def joined(*inputs: bytes) -> bytes:
     found = flutejoin.join(*inputs, sender=NUMBER)
     names = "datagrams", "refused", "entries"
     lines = "".join(f"{name} {getattr(found, name)}\n" for name in names)
-    return lines.encode() + found.journal
+    return lines.encode() + bytes(found.journal)
+
+
+def shown(journal: bytes) -> bytes:
+    """The lines that the program prints of the entries of a journal."""
+    lines = [line_of(entry) for entry in flutejoin.entries(journal)]
+    return "".join(f"{line}\n" for line in (*lines, f"entries {len(lines)}")).encode()
+
+
+def line_of(entry: Entry) -> str:
+    of, info, symbol = entry.object, entry.information, entry.symbol
+    words = [f"source {of.sender:032x}"] if of.sender else []
+    words.append(f"session {of.tsi} object")
+    words.append(f"{of.toi}" if of.instance is None else f"fdt {of.instance}")
+    if symbol is None:
+        words.append("info")
+    else:
+        words.append(f"symbol {symbol.sbn}/{symbol.esi}")
+    if entry.is_conflict:
+        words.append("conflict")
+    elif info:
+        words.append(f"length {info.length} symbol {info.symbol} block {info.block}")
+    elif symbol:
+        words.append(f"length {len(symbol.data)} {symbol.data.hex()}")
+    return " ".join(words)
 
 
 def status_in(lines: bytes) -> Answer:

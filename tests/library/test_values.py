@@ -8,7 +8,7 @@ import datagram_files
 from tests.library.case import EMPTY, NUMBER, SENDER, Case
 
 import flutejoin
-from flutejoin import Fault, Object, calls
+from flutejoin import Fault, Journal, Object, calling
 from flutejoin.library import library
 
 
@@ -40,8 +40,8 @@ class Values(Case):
         self.holds("a gap", held.gaps == ((0, 1, 1, "missing"),), held)
         self.holds("and how many", held.count("missing") == 1 and not held.is_whole, held)
         answer = flutejoin.fill(self.whole, flutejoin.gap_lines(part))
-        self.same("filled", flutejoin.merge(part, answer), self.whole)
-        self.same("what it lacked", flutejoin.minus(self.whole, part), answer)
+        self.same("filled", bytes(flutejoin.merge(part, answer)), self.whole)
+        self.same("what it lacked", bytes(flutejoin.minus(self.whole, part)), bytes(answer))
         (found,) = flutejoin.compare(part, self.whole)
         self.holds("compared", found == (self.object, 1, 0, 0, 1, "same"), found)
         fault = self.fault(flutejoin.merge, part, b"FLJN")
@@ -52,18 +52,18 @@ class Values(Case):
         self.holds("no line", is_first and str(fault) == "bad line 1", fault)
 
     def test_joins(self) -> None:
-        sent = self.read("sent")
+        sent, whole = self.read("sent"), Journal(self.whole)
         found = flutejoin.join(sent, sender=NUMBER)
-        self.holds("a datagram file", found == (self.whole, 2, 0, 3), found)
+        self.holds("a datagram file", found == (whole, 2, 0, 3), found)
         found = flutejoin.join(self.whole, sent, sender=NUMBER)
-        self.holds("and its journal", found == (self.whole, 2, 0, 3), found)
-        for inputs in (self.whole,), (b"", self.whole), (EMPTY, self.whole):
+        self.holds("and its journal", found == (whole, 2, 0, 3), found)
+        for inputs in (self.whole,), (whole,), (b"", self.whole), (Journal(), whole):
             found = flutejoin.join(*inputs)
-            self.holds(f"of {len(inputs)}", found == (self.whole, 0, 0, 3), found)
+            self.holds(f"of {len(inputs)}", found == (whole, 0, 0, 3), found)
         (held,) = flutejoin.gaps(flutejoin.join(sent).journal)
         self.holds("without a sender", held.object == self.object._replace(sender=0), held)
         refused = datagram_files.content([b"\x10"])
-        self.holds("refused", flutejoin.join(refused) == (EMPTY, 1, 1, 0), refused)
+        self.holds("refused", flutejoin.join(refused) == (Journal(), 1, 1, 0), refused)
         for number, inputs in enumerate([(b"",), (self.whole, b"")], 1):
             fault = self.fault(flutejoin.join, *inputs)
             is_it = isinstance(fault, flutejoin.UnknownKind) and fault.number == number
@@ -105,9 +105,9 @@ class Values(Case):
     def test_objects(self) -> None:
         """An object that is whole, in part, in conflict, or not there."""
         self.same("extracted", flutejoin.extract(self.whole, self.object), b"hello")
-        named = ctypes.byref(calls.fields_of(self.object))
-        arguments = *calls.words(self.whole), named, 0
-        held = calls.given(library().flutejoin_extract, arguments, 2)
+        named = ctypes.byref(calling.fields_of(self.object))
+        arguments = *calling.words(self.whole), named, 0
+        held = calling.given(library().flutejoin_extract, arguments, 2)
         self.same("first with too small a room", held, b"hello")
         found = flutejoin.status(self.whole, self.object)
         self.holds("whole", found == ("whole", 5, 0, 0, 0) and found.is_whole, found)
