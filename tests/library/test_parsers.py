@@ -11,7 +11,8 @@ import io
 import os
 import random
 import sys
-from typing import Iterator, Optional, Sequence, Union
+import unittest.mock
+from typing import Callable, Iterator, Optional, Sequence, Union
 
 from flutejoin_tools.common.joining import session_of
 from flutejoin_tools.fdt.instances import may_be_of_instance
@@ -24,6 +25,7 @@ from tests.support.run import ROOT
 
 import flutejoin
 
+Reads = Callable[[entries.Entries], Iterator[entries.Entry]]
 DRAWN = int(os.environ.get("DRAWN", "20000"))
 # Why datagrams are refused (docs/FORMATS.md): by their headers, by the lengths of extensions, and
 # by what these contain
@@ -42,6 +44,10 @@ OF_JOURNALS = {
     "Information BlockTooLong",
 }
 SENDERS = bytes(16), bytes(10) + b"\xff\xff\n\0\0\1", b"\xff" * 16
+KINDS = {
+    **{"information": b"\1", "information conflict": b"\2"},
+    **{"symbol": b"\3", "symbol conflict": b"\4"},
+}
 # Transmission information: two that are valid, and one for each fault of it
 NUMBERS = (90, 20, 64), (0, 0, 0), (9, 0, 1), (9, 1, 0), (1 << 40, 1, 1), (1 << 20, 1, 1 << 20)
 
@@ -89,11 +95,13 @@ class Packets(Compared):
 
     def test_reader(self) -> None:
         """The library is what reads, where it is there."""
-        script = "from flutejoin_tools.formats import reading; print(reading.reader().__name__)"
-        for library, name in (os.environ["FLUTEJOIN_LIBRARY"], "by_library"), ("/no", "parsed"):
+        script = "from flutejoin_tools.formats import reading as it; "
+        script += "print(it.reader().__name__, it.has_entries())"
+        told = "by_library True", "parsed False"
+        for library, names in zip((os.environ["FLUTEJOIN_LIBRARY"], "/no"), told):
             env = {"PYTHONPATH": f"{ROOT}/tools:{ROOT}/python", "FLUTEJOIN_LIBRARY": library}
             done = self.command([sys.executable, "-c", script], env=env)
-            self.check(f"by {library}", done, 0, name)
+            self.check(f"by {library}", done, 0, names)
 
 
 def refusal_of(datagram: bytes) -> Optional[str]:
@@ -111,23 +119,38 @@ class Journals(Compared):
         for _ in range(DRAWN // 20):
             journal = drawn_journal(self.draw)
             found = by_entries(journal)
+            listed = by_library(journal)
+            self.agree(journal, "by either", said_of(journal, reading.entries_of), said_of(journal))
             try:
                 wanted = flutejoin.merge(journal, EMPTY)
             except flutejoin.InputFault as fault:
                 told = str(fault).partition(": ")[2]
                 faults.add(told)
                 self.agree(journal, "fault", found, told)
+                self.agree(journal, "fault of entries", listed, told)
                 with contextlib.suppress(ReadFault, Cut):  # it is told no others
                     by_holdings(journal)
             else:
                 taken += 1
                 copied = io.BytesIO()
                 holdings.copy(io.BytesIO(journal), lambda _: True, copied, ())
-                self.agree(journal, "copy", copied.getvalue(), wanted)
-                self.agree(journal, "entries", found, by_holdings(wanted))
+                self.agree(journal, "copy", copied.getvalue(), bytes(wanted))
+                self.agree(journal, "entries", found, by_holdings(bytes(wanted), leaves_out=True))
+                self.agree(journal, "what they say", listed, by_holdings(journal))
         self.holds("they agree", not self.differences, self.differences)
         self.holds("each fault is drawn", faults == OF_JOURNALS, faults ^ OF_JOURNALS)
         self.holds("and journals", DRAWN // 80 < taken < DRAWN // 80 * 3, taken)
+
+
+    def test_long(self) -> None:
+        """Of a long journal the entries are counted by the tools' own parser, which reads it."""
+        journal = b"FLJN\0\1\2" + bytes(6) + b"\1" + bytes(13) + b"\1\xff" + bytes(7) + b"\1"
+        for most, count in (len(journal), 0), (len(journal) - 1, 1):
+            own = entries.Entries(io.BytesIO(journal))
+            with unittest.mock.patch.object(reading, "MOST_HELD", most):
+                found = [entry.kind for entry in reading.entries_of(own)]
+            is_so = found == [entries.INFORMATION_CONFLICT] and own.count == count
+            self.holds(f"at most {most}", is_so, (found, own.count))
 
 
 def by_entries(journal: bytes) -> Union[str, list[bytes]]:
@@ -143,16 +166,47 @@ def by_entries(journal: bytes) -> Union[str, list[bytes]]:
         return "Cut"
 
 
+def said_of(journal: bytes, read: Reads = iter) -> list[object]:
+    """What is read of a journal, and then the fault."""
+    found: list[object] = []
+    try:
+        if journal[:4] == entries.Entries.magic:
+            found.extend(read(entries.Entries(io.BytesIO(journal))))
+    except (ReadFault, Cut) as fault:
+        found.append(repr(fault))
+    return found
+
+
+def by_library(journal: bytes) -> Union[str, list[bytes]]:
+    """The same as the library reads it, with transmission information."""
+    try:
+        return [spelled(entry) for entry in flutejoin.entries(journal)]
+    except flutejoin.InputFault as fault:
+        return str(fault).partition(": ")[2]
+
+
+def spelled(entry: flutejoin.Entry) -> bytes:
+    of, info, symbol = entry.object, entry.information, entry.symbol
+    tag, number = (1, of.toi) if of.instance is None else (0, of.instance)
+    name = holdings.Key(of.sender.to_bytes(16, "big"), of.tsi, tag, number).raw()
+    more = packets.packed(*info) if info else b""
+    if symbol:
+        more = packets.PAYLOAD_ID.pack(symbol.sbn, symbol.esi)
+        more += b"" if entry.is_conflict else LENGTH.pack(len(symbol.data)) + symbol.data
+    return KINDS[entry.kind] + name + more
+
+
 def written(entry: entries.Entry) -> bytes:
     (source, tsi, tag, number, symbol), kind, value = entry
-    name = holdings.Key(source or bytes(16), tsi, tag, number).raw()
+    name = holdings.Key(source, tsi, tag, number).raw()
     size = LENGTH.pack(len(value)) if kind == entries.SYMBOL else b""
     return bytes([kind]) + name + symbol + size + value
 
 
-def by_holdings(journal: bytes) -> list[bytes]:
+def by_holdings(journal: bytes, *, leaves_out: bool = False) -> list[bytes]:
+    """Its entries, each in version 2; it leaves transmission information out of them."""
     return [
-        bytes([kind]) + name + (b"" if kind == entries.INFORMATION else more)
+        bytes([kind]) + name + (b"" if leaves_out and kind == entries.INFORMATION else more)
         for kind, name, more in holdings.entries(io.BytesIO(journal))
     ]
 

@@ -11,12 +11,13 @@ from flutejoin_tools.formats.records import MOST, Buffer, ReadFault, Reader, Rec
 INFORMATION, INFORMATION_CONFLICT, SYMBOL, SYMBOL_CONFLICT, END = 1, 2, 3, 4, 0xFF
 HEADER = b"FLJN\0\2"  # of version 2
 FDT_INSTANCE, FILE = 0, 1
+ZERO = bytes(16)  # the sender of each entry of version 1
 
 
 class Address(NamedTuple):
     """The address of an entry. Addresses rise in a journal."""
 
-    source: bytes  # 16 bytes; empty in version 1, where the sender is 0
+    source: bytes  # 16 bytes: zeros in version 1
     tsi: int
     tag: int
     number: int  # an FDT Instance ID, or a TOI
@@ -63,7 +64,7 @@ class Entries(Reader):
             raise ReadFault("Kind")
         if self.count == MOST:
             raise ReadFault("TooMany")
-        source = self.take(16 if self.version == 2 else 0)
+        source = self.take(len(ZERO)) if self.version == 2 else ZERO
         tsi, tag, number = self.number(6), self.number(1), self.number(14)
         if not (number < 1 << 20 if tag == FDT_INSTANCE else tag == FILE and 0 < number < 1 << 112):
             raise ReadFault("Key")

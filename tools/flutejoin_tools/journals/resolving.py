@@ -30,7 +30,7 @@ from flutejoin_tools.common.opening import opened
 from flutejoin_tools.common.texts import shown
 from flutejoin_tools.formats import entries, records
 from flutejoin_tools.formats.partition import Buffer, Partition, fault_of
-from flutejoin_tools.formats.reading import packet_of
+from flutejoin_tools.formats.reading import entries_of, packet_of
 from flutejoin_tools.journals.holdings import Key
 from flutejoin_tools.journals.merged import Found, Values, merged
 
@@ -318,7 +318,7 @@ class Resolving:
             with opened(path) as file:
                 reader = entries.reader_of(file)
                 if isinstance(reader, entries.Entries):
-                    self.look_in_journal(reader)
+                    self.look_in_journal(entries_of(reader))
                 else:
                     self.look_in_datagrams(reader, path)
         except records.ReadFault as fault:
@@ -328,7 +328,7 @@ class Resolving:
 
     def look_in_journal(self, reader: Iterable[entries.Entry]) -> None:
         for (source, tsi, tag, number, symbol), kind, value in reader:
-            wanted = self.wanted.get(Key(source or bytes(16), tsi, tag, number))
+            wanted = self.wanted.get(Key(source, tsi, tag, number))
             if wanted and symbol and value:
                 wanted.take(symbol, value, self.kept)
 

@@ -51,11 +51,10 @@ from flutejoin_tools.common.opening import is_same, opened
 from flutejoin_tools.common.options import CommandLine, number_below, sender_option
 from flutejoin_tools.common.signals import answer_stops, end_run, exit_status
 from flutejoin_tools.formats import entries, records
-from flutejoin_tools.formats.reading import packet_of
+from flutejoin_tools.formats.reading import entries_of, packet_of
 
 MOST_VALUES = 4096  # that are printed
 DIGITS = 8  # digits of a value's SHA-256 that are printed
-ZERO = bytes(16)  # the sender, if none is named
 CUT = "Cut: flutejoin-mend makes a right file of what is whole in it"
 
 
@@ -80,8 +79,7 @@ class Wanted(NamedTuple):
         return packet.symbol if number == self.number and is_file == (packet.toi > 0) else b""
 
     def is_at(self, address: entries.Address) -> bool:
-        source = address.source or ZERO
-        return address[1:] == self[1:] and self.source in (None, source)
+        return address[1:] == self[1:] and self.source in (None, address.source)
 
     def is_of_other(self, name: str) -> bool:
         """Whether the name of a datagram file names another sender than the wanted one."""
@@ -136,7 +134,7 @@ def look(name: str, wanted: Wanted, values: Values) -> None:
     with opened(name) as file:
         reader = entries.reader_of(file)
         if isinstance(reader, entries.Entries):
-            for entry in reader:
+            for entry in entries_of(reader):
                 if entry.address.symbol and wanted.is_at(entry.address):
                     values.add(entry.value, name)
             return
