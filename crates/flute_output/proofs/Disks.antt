@@ -258,61 +258,33 @@ module _ (told : Bool) (out named beside : List ℕ) (same_name : named ≡ out)
     stays_undone so same = stays
         (subst (λ d. OnlyTouches beside w.disk d) (sym (nothing_done so)) (only-refl beside w.disk)) same
 
-    pub sync_shown : {T E : Type 0} (r : Result T E) → next ≡ file → q ≡ p → (told ≡ true → Known)
-        → OnOk r (IsSome file) → (told ≡ true → OnOk r (IfSome file (λ k. Does (Syncs k) a b)))
-        → (told ≡ true → OnErr r (MatchOption file (b ≡ a)
-        (λ k. Passes (Touches k) (Touches k) a b)))
-        → x.taken ≡ w.taken → x.waiting ≡ w.waiting
-        → OnOk r (Shown (λ d e. e ≡ synced d)) × OnErr r (Shown OutStays)
-    sync_shown (Ok y) same placed known is_open syncs failed same_taken same_waiting = (
-      shown_both _ (λ t. ap (λ b. disk_entries out next b x) placed
-          ∙ ap (λ f. disk_entries out f p x) same ∙ settled file (known t).0 is_open (syncs t)),
-      tt,
-    )
-      where
-        settled : (o : Option ℕ) → IfSome o (λ k. HasOnly beside k w.disk) → IsSome o
-            → IfSome o (λ k. Does (Syncs k) a b)
-            → disk_entries out o p x ≡ synced (disk_entries out o p w)
-        settled None alone is_open does = absurd (false≢true is_open)
-        settled (Some k) alone is_open does =
-            synced_is out beside (λ e. is_apart (sym e)) p w x k alone
-            (at_disks (Syncs k) does.made) same_taken same_waiting
-    sync_shown (Err y) same placed known is_open syncs failed same_taken same_waiting =
-        (tt, shown_both _ (λ t. stays (spared file (known t).0 (failed t)) placed))
-      where
-        spared : (o : Option ℕ) → IfSome o (λ k. HasOnly beside k w.disk)
-            → MatchOption o (b ≡ a) (λ k. Passes (Touches k) (Touches k) a b)
-            → OnlyTouches beside w.disk x.disk
-        spared None alone so = subst (λ d. OnlyTouches beside w.disk d)
-            (sym at_a ∙ ap (λ r. r.now) (sym so) ∙ at_b) (only-refl beside w.disk)
-        spared (Some k) alone so =
-            only-touches beside k w.disk x.disk alone (at_disks (Touches k) so.made)
+    put_here : (o : Option ℕ) → IsSome o → IfSome o (λ k. HasTaken k w)
+        → (a.now.names beside).leads ≡ o → Does (Renames beside out) a b → w.is_broken ≡ false
+        → x.waiting ≡ w.waiting
+        → disk_entries out None true x ≡ put_in_place (disk_entries out o false w)
+    put_here None is_open taken leads does whole waiting = absurd (false≢true is_open)
+    put_here (Some k) is_open taken leads does whole waiting =
+        put_is out beside (λ e. is_apart (sym e)) p w x k
+        (at_disks (Renames beside out) does.made)
+        (ap (λ d. (d.names beside).leads) (sym at_a) ∙ leads) taken whole waiting
 
-    pub put_shown : {T E : Type 0} (r : Result T E)
-        → (told ≡ true → OnOk r (Does (Renames beside out) a b))
-        → (told ≡ true → OnOk r ((a.now.names beside).leads ≡ file)) → OnOk r (w.is_broken ≡ false)
-        → OnOk r (IsSome file) → (told ≡ true → Known) → OnOk r (p ≡ false) → OnOk r (next ≡ None)
-        → q ≡ (if is_ok r then true else p) → x.waiting ≡ w.waiting
-        → (told ≡ true → OnErr r (Passes IsSame IsSame a b))
-        → OnOk r (Shown (λ d e. e ≡ put_in_place d)) × OnErr r (Shown OutStays)
-    put_shown (Ok y) renames leads whole is_open known first closed placed waiting failed = (
-      shown_both _ (λ t. ap (λ c. disk_entries out next c x) placed
+    module _ (known : told ≡ true → Known) (waiting : x.waiting ≡ w.waiting) where
+      pub put_shown : {T E : Type 0} (r : Result T E)
+          → (told ≡ true → OnOk r (Does (Renames beside out) a b))
+          → (told ≡ true → OnOk r ((a.now.names beside).leads ≡ file)) → OnOk r (w.is_broken ≡ false)
+          → OnOk r (IsSome file) → OnOk r (p ≡ false) → OnOk r (next ≡ None)
+          → q ≡ (if is_ok r then true else p) → OnOk r (Shown (λ d e. e ≡ put_in_place d))
+      put_shown (Ok y) renames leads whole is_open first closed placed =
+          shown_both _ (λ t. ap (λ c. disk_entries out next c x) placed
           ∙ ap (λ f. disk_entries out f true x) closed
-          ∙ put file is_open (known t).1 (leads t) (renames t)
-          ∙ ap (λ c. put_in_place (disk_entries out file c w)) (sym first)),
-      tt,
-    )
-      where
-        put : (o : Option ℕ) → IsSome o → IfSome o (λ k. HasTaken k w)
-            → (a.now.names beside).leads ≡ o → Does (Renames beside out) a b
-            → disk_entries out None true x ≡ put_in_place (disk_entries out o false w)
-        put None is_open taken leads does = absurd (false≢true is_open)
-        put (Some k) is_open taken leads does =
-            put_is out beside (λ e. is_apart (sym e)) p w x k
-            (at_disks (Renames beside out) does.made)
-            (ap (λ d. (d.names beside).leads) (sym at_a) ∙ leads) taken whole waiting
-    put_shown (Err y) renames leads whole is_open known first closed placed waiting failed =
-        (tt, shown_both _ (λ t. stays_undone (failed t) placed))
+          ∙ put_here file is_open (known t).1 (leads t) (renames t) whole waiting
+          ∙ ap (λ c. put_in_place (disk_entries out file c w)) (sym first))
+      put_shown (Err y) renames leads whole is_open first closed placed = tt
+
+    pub put_failed : {T E : Type 0} (r : Result T E) → q ≡ (if is_ok r then true else p)
+        → (told ≡ true → OnErr r (Passes IsSame IsSame a b)) → OnErr r (Shown OutStays)
+    put_failed (Ok y) placed failed = tt
+    put_failed (Err y) placed failed = shown_both _ (λ t. stays_undone (failed t) placed)
 
     pub remove_shown : {T E : Type 0} (r : Result T E)
         → (told ≡ true → OnOk r (Does (Unlinks beside) a b)) → OnOk r (next ≡ None)
@@ -328,31 +300,62 @@ module _ (told : Bool) (out named beside : List ℕ) (same_name : named ≡ out)
     remove_shown (Err y) unlinks closed none_wait placed failed =
         (tt, shown_both _ (λ t. stays_undone (failed t) placed))
 
-    pub names_shown : {T E F : Type 0} (r : Result T E) (has_name : F → List ℕ → Bool)
-        (folder : Option F) → next ≡ file → q ≡ p → OnOk r (IsSome folder)
-        → (told ≡ true → IfSome folder (λ f. has_name f out ≡ true))
-        → (told ≡ true → OnOk r (IfSome folder (λ f. Does (Confirms (has_name f)) a b)))
-        → x.taken ≡ w.taken → x.waiting ≡ w.waiting
-        → (told ≡ true → OnErr r (Passes IsSame IsSame a b))
-        → OnOk r (Shown (λ d e. e ≡ names_synced d)) × OnErr r (Shown (λ d e. e ≡ d))
-    names_shown (Ok y) has_name folder same placed is_open parent does taken waiting failed = (
-      shown_both _ (λ t. ap (λ c. disk_entries out next c x) placed
-          ∙ ap (λ f. disk_entries out f p x) same ∙ confirmed folder is_open (parent t) (does t)),
-      tt,
-    )
-      where
-        confirmed : (o : Option _) → IsSome o → IfSome o (λ f. has_name f out ≡ true)
-            → IfSome o (λ f. Does (Confirms (has_name f)) a b)
-            → disk_entries out file p x ≡ names_synced (disk_entries out file p w)
-        confirmed None is_open at does = absurd (false≢true is_open)
-        confirmed (Some f) is_open at does =
-            names_synced_is out beside (λ e. is_apart (sym e)) p w x (has_name f) file at
-            (at_disks (Confirms (has_name f)) does.made) taken waiting
-    names_shown (Err y) has_name folder same placed is_open parent does taken waiting failed = (
-      tt,
-      shown_both _ (λ t. ap (λ c. disk_entries out next c x) placed
-          ∙ ap (λ f. disk_entries out f p x) same
-          ∙ ap (λ n. disk_entries out file p (record x { taken = n })) taken
-          ∙ ap (λ l. disk_entries out file p (record w { waiting = l; disk = x.disk })) waiting
-          ∙ ap (λ d. disk_entries out file p (record w { disk = d })) (nothing_done (failed t))),
-    )
+    -- the file, what it took and what waits for it stay as they were
+    module _ (same : next ≡ file) (placed : q ≡ p) (same_taken : x.taken ≡ w.taken)
+        (same_waiting : x.waiting ≡ w.waiting) where
+      pub sync_shown : {T E : Type 0} (r : Result T E) → (told ≡ true → Known)
+          → OnOk r (IsSome file) → (told ≡ true → OnOk r (IfSome file (λ k. Does (Syncs k) a b)))
+          → (told ≡ true → OnErr r (MatchOption file (b ≡ a)
+          (λ k. Passes (Touches k) (Touches k) a b)))
+          → OnOk r (Shown (λ d e. e ≡ synced d)) × OnErr r (Shown OutStays)
+      sync_shown (Ok y) known is_open syncs failed = (
+        shown_both _ (λ t. ap (λ b. disk_entries out next b x) placed
+            ∙ ap (λ f. disk_entries out f p x) same ∙ settled file (known t).0 is_open (syncs t)),
+        tt,
+      )
+        where
+          settled : (o : Option ℕ) → IfSome o (λ k. HasOnly beside k w.disk) → IsSome o
+              → IfSome o (λ k. Does (Syncs k) a b)
+              → disk_entries out o p x ≡ synced (disk_entries out o p w)
+          settled None alone is_open does = absurd (false≢true is_open)
+          settled (Some k) alone is_open does =
+              synced_is out beside (λ e. is_apart (sym e)) p w x k alone
+              (at_disks (Syncs k) does.made) same_taken same_waiting
+      sync_shown (Err y) known is_open syncs failed =
+          (tt, shown_both _ (λ t. stays (spared file (known t).0 (failed t)) placed))
+        where
+          spared : (o : Option ℕ) → IfSome o (λ k. HasOnly beside k w.disk)
+              → MatchOption o (b ≡ a) (λ k. Passes (Touches k) (Touches k) a b)
+              → OnlyTouches beside w.disk x.disk
+          spared None alone so = subst (λ d. OnlyTouches beside w.disk d)
+              (sym at_a ∙ ap (λ r. r.now) (sym so) ∙ at_b) (only-refl beside w.disk)
+          spared (Some k) alone so =
+              only-touches beside k w.disk x.disk alone (at_disks (Touches k) so.made)
+
+      pub names_shown : {T E F : Type 0} (r : Result T E) (has_name : F → List ℕ → Bool)
+          (folder : Option F) → OnOk r (IsSome folder)
+          → (told ≡ true → IfSome folder (λ f. has_name f out ≡ true))
+          → (told ≡ true → OnOk r (IfSome folder (λ f. Does (Confirms (has_name f)) a b)))
+          → (told ≡ true → OnErr r (Passes IsSame IsSame a b))
+          → OnOk r (Shown (λ d e. e ≡ names_synced d)) × OnErr r (Shown (λ d e. e ≡ d))
+      names_shown (Ok y) has_name folder is_open parent does failed = (
+        shown_both _ (λ t. ap (λ c. disk_entries out next c x) placed
+            ∙ ap (λ f. disk_entries out f p x) same ∙ confirmed folder is_open (parent t) (does t)),
+        tt,
+      )
+        where
+          confirmed : (o : Option _) → IsSome o → IfSome o (λ f. has_name f out ≡ true)
+              → IfSome o (λ f. Does (Confirms (has_name f)) a b)
+              → disk_entries out file p x ≡ names_synced (disk_entries out file p w)
+          confirmed None is_open at does = absurd (false≢true is_open)
+          confirmed (Some f) is_open at does =
+              names_synced_is out beside (λ e. is_apart (sym e)) p w x (has_name f) file at
+              (at_disks (Confirms (has_name f)) does.made) same_taken same_waiting
+      names_shown (Err y) has_name folder is_open parent does failed = (
+        tt,
+        shown_both _ (λ t. ap (λ c. disk_entries out next c x) placed
+            ∙ ap (λ f. disk_entries out f p x) same
+            ∙ ap (λ n. disk_entries out file p (record x { taken = n })) same_taken
+            ∙ ap (λ l. disk_entries out file p (record w { waiting = l; disk = x.disk })) same_waiting
+            ∙ ap (λ d. disk_entries out file p (record w { disk = d })) (nothing_done (failed t))),
+      )

@@ -246,31 +246,32 @@ module _ (told : Bool) (change : Moment → Moment) (out named : List ℕ) (a b 
   on_err_follows (Ok y) f = tt
   on_err_follows (Err y) f = follows_if told change out named a b same f
 
-pub sure_confirmed : {T E F : Type 0} (r : Result T E) (out : List ℕ)
-    (has_name : F → List ℕ → Bool) (folder : Option F) (a b : Run) → OnOk r (IsSome folder)
-    → IfSome folder (λ f. has_name f out ≡ true)
-    → OnOk r (IfSome folder (λ f. Does (Confirms (has_name f)) a b))
-    → OnOk r (Follows settled (disk_moments out a) (disk_moments out b))
-sure_confirmed (Ok y) out has_name None a b is_open is does = absurd (false≢true is_open)
-sure_confirmed (Ok y) out has_name (Some f) a b is_open is does =
-    sure_does out a b (has_name f) is does
-sure_confirmed (Err y) out has_name folder a b is_open is does = tt
+module _ (out : List ℕ) (a b : Run) where
+  pub sure_confirmed : {T E F : Type 0} (r : Result T E) (has_name : F → List ℕ → Bool)
+      (folder : Option F) → OnOk r (IsSome folder) → IfSome folder (λ f. has_name f out ≡ true)
+      → OnOk r (IfSome folder (λ f. Does (Confirms (has_name f)) a b))
+      → OnOk r (Follows settled (disk_moments out a) (disk_moments out b))
+  sure_confirmed (Ok y) has_name None is_open is does = absurd (false≢true is_open)
+  sure_confirmed (Ok y) has_name (Some f) is_open is does = sure_does out a b (has_name f) is does
+  sure_confirmed (Err y) has_name folder is_open is does = tt
 
 -- OUT was given the file beside it
-pub put_given : {T E : Type 0} (r : Result T E) (told : Bool) (out named beside : List ℕ)
-    (a b : Run) → named ≡ out → (file next : Option ℕ) (p q : Bool) (w x : Writing)
-    → x.disk ≡ b.now
-    → OnOk r (Leads (λ d e. e ≡ put_in_place d) (shown told out file p w) (shown told named next q x))
-    → (told ≡ true → OnOk r (Does (Renames beside out) a b))
-    → OnOk r (Leads (λ old _. Follows (replaced old.beside) (if told then disk_moments out a else [])
-    (if told then disk_moments named b else [])) (shown told out file p w) (shown told named next q x))
-put_given (Err y) told out named beside a b same file next p q w x at_b put renames = tt
-put_given (Ok y) false out named beside a b same file next p q w x at_b put renames = tt
-put_given (Ok y) true out named beside a b same file next p q w x at_b put renames =
-    subst (λ n. (disk_entries n next q x ≡ put_in_place (disk_entries out file p w))
-    → Follows (replaced (disk_entries out file p w).beside) (disk_moments out a) (disk_moments n b))
-    (sym same) (λ is. given_does out a b beside _ (renames refl)
-    (ap (λ d. stored_at d out) (sym at_b) ∙ ap (λ e. e.out) is)) put
+module _ (out named beside : List ℕ) (a b : Run) (same : named ≡ out) (file next : Option ℕ)
+    (p q : Bool) (w x : Writing) where
+  pub put_given : {T E : Type 0} (r : Result T E) (told : Bool) → x.disk ≡ b.now
+      → OnOk r (Leads (λ d e. e ≡ put_in_place d) (shown told out file p w)
+      (shown told named next q x))
+      → (told ≡ true → OnOk r (Does (Renames beside out) a b))
+      → OnOk r (Leads (λ old _. Follows (replaced old.beside)
+      (if told then disk_moments out a else []) (if told then disk_moments named b else []))
+      (shown told out file p w) (shown told named next q x))
+  put_given (Err y) told at_b put renames = tt
+  put_given (Ok y) false at_b put renames = tt
+  put_given (Ok y) true at_b put renames =
+      subst (λ n. (disk_entries n next q x ≡ put_in_place (disk_entries out file p w))
+      → Follows (replaced (disk_entries out file p w).beside) (disk_moments out a)
+      (disk_moments n b)) (sym same) (λ is. given_does out a b beside _ (renames refl)
+      (ap (λ d. stored_at d out) (sym at_b) ∙ ap (λ e. e.out) is)) put
 
 was_contained : (l : List (Option ℕ)) (t : Option ℕ) (f : ℕ → Stored) → WasOneOf l t
     → Contains (map (option_map f) l) (option_map f t)

@@ -2,7 +2,7 @@ use Rattle.std.proofs.Common.{ap, refl, sym, option_map}
 use Rattle.std.specs.Path.{path_buf_bytes}
 use Rattle.std.specs.String.{string_bytes}
 use Rattle.flute_output.specs.DiskWrites.{writing}
-use Rattle.flute_output.proofs.Disks.{on_ok_numbered, none_numbered, create_shown, write_shown, flush_shown, sync_shown, put_shown, names_shown, remove_shown}
+use Rattle.flute_output.proofs.Disks.{on_ok_numbered, none_numbered, create_shown, write_shown, flush_shown, sync_shown, put_shown, put_failed, names_shown, remove_shown}
 use Rattle.flute_output.specs.OutMoments.{settled}
 use Rattle.flute_output.proofs.Runs.{on_err_with}
 use Rattle.flute_output.proofs.Moments.{follows_if, on_ok_follows, on_err_follows, put_given, steady_beside, steady_written, steady_synced, steady_removed, steady_undone, sure_confirmed}
@@ -90,9 +90,9 @@ sync-tells g c =
     (writing s.writer.taken s.writer.is_broken s.writer.waiting.items (g.C.Calls.run s.calls).now)
     (writing z.writer.taken z.writer.is_broken z.writer.waiting.items (g.C.Calls.run z.calls).now)
     (g.C.Calls.run s.calls) (g.C.Calls.run z.calls) refl refl
-    c.result (ap (option_map number) c.ensures.same_file) c.ensures.placed
-    (λ t. (s.apart t, s.taken t)) (on_ok_numbered c.result number s.writer.file c.ensures.open) c.ensures.settled c.ensures.refused
-    c.ensures.same_taken (ap (λ v. v.items) c.ensures.same_waiting) in
+    (ap (option_map number) c.ensures.same_file) c.ensures.placed c.ensures.same_taken
+    (ap (λ v. v.items) c.ensures.same_waiting) c.result (λ t. (s.apart t, s.taken t))
+    (on_ok_numbered c.result number s.writer.file c.ensures.open) c.ensures.settled c.ensures.refused in
     record {
       synced = both.0;
       refused = both.1;
@@ -111,19 +111,29 @@ put_in_place-tells g c =
     let s = c.args.self.now in
     let z = c.new.self.now in
     let number = g.C.Calls.number in
-    let both = put_shown g.C.Calls.told (path_buf_bytes s.names.out) (path_buf_bytes z.names.out)
+    let put = put_shown g.C.Calls.told (path_buf_bytes s.names.out) (path_buf_bytes z.names.out)
     (string_bytes s.names.beside) (ap path_buf_bytes c.ensures.same_name) s.names.apart
     (option_map number s.writer.file) (option_map number z.writer.file) s.is_placed z.is_placed
     (writing s.writer.taken s.writer.is_broken s.writer.waiting.items (g.C.Calls.run s.calls).now)
     (writing z.writer.taken z.writer.is_broken z.writer.waiting.items (g.C.Calls.run z.calls).now)
-    (g.C.Calls.run s.calls) (g.C.Calls.run z.calls) refl refl
-    c.result c.ensures.renamed c.ensures.checked c.ensures.whole (on_ok_numbered c.result number s.writer.file c.ensures.open)
-    (λ t. (s.apart t, s.taken t)) c.ensures.first (none_numbered c.result number z.writer.file c.ensures.closed)
-    c.ensures.placed (ap (λ v. v.items) c.ensures.same_waiting) c.ensures.refused in
+    (g.C.Calls.run s.calls) (g.C.Calls.run z.calls) refl refl (λ t. (s.apart t, s.taken t))
+    (ap (λ v. v.items) c.ensures.same_waiting) c.result c.ensures.renamed c.ensures.checked
+    c.ensures.whole (on_ok_numbered c.result number s.writer.file c.ensures.open)
+    c.ensures.first (none_numbered c.result number z.writer.file c.ensures.closed)
+    c.ensures.placed in
     record {
-      put = both.0;
-      refused = both.1;
-      given = put_given c.result g.C.Calls.told (path_buf_bytes s.names.out) (path_buf_bytes z.names.out)
+      put = put;
+      refused = put_failed g.C.Calls.told (path_buf_bytes s.names.out) (path_buf_bytes z.names.out)
+          (string_bytes s.names.beside) (ap path_buf_bytes c.ensures.same_name) s.names.apart
+          (option_map number s.writer.file) (option_map number z.writer.file)
+          s.is_placed z.is_placed
+          (writing s.writer.taken s.writer.is_broken s.writer.waiting.items
+          (g.C.Calls.run s.calls).now)
+          (writing z.writer.taken z.writer.is_broken z.writer.waiting.items
+          (g.C.Calls.run z.calls).now)
+          (g.C.Calls.run s.calls) (g.C.Calls.run z.calls) refl refl c.result c.ensures.placed
+          c.ensures.refused;
+      given = put_given (path_buf_bytes s.names.out) (path_buf_bytes z.names.out)
           (string_bytes s.names.beside) (g.C.Calls.run s.calls) (g.C.Calls.run z.calls)
           (ap path_buf_bytes c.ensures.same_name)
           (option_map number s.writer.file) (option_map number z.writer.file)
@@ -132,7 +142,7 @@ put_in_place-tells g c =
           (g.C.Calls.run s.calls).now)
           (writing z.writer.taken z.writer.is_broken z.writer.waiting.items
           (g.C.Calls.run z.calls).now)
-          refl both.0 c.ensures.renamed;
+          c.result g.C.Calls.told refl put c.ensures.renamed;
       steady = on_err_follows g.C.Calls.told (λ m. m) (path_buf_bytes s.names.out) (path_buf_bytes z.names.out)
           (g.C.Calls.run s.calls) (g.C.Calls.run z.calls)
           (ap path_buf_bytes c.ensures.same_name) c.result (λ t. on_err_with c.result _ _ (c.ensures.refused t)
@@ -151,17 +161,17 @@ sync_names-tells g c =
     (writing s.writer.taken s.writer.is_broken s.writer.waiting.items (g.C.Calls.run s.calls).now)
     (writing z.writer.taken z.writer.is_broken z.writer.waiting.items (g.C.Calls.run z.calls).now)
     (g.C.Calls.run s.calls) (g.C.Calls.run z.calls) refl refl
-    c.result g.C.Calls.has_name s.folder (ap (option_map number) c.ensures.same_file)
-    c.ensures.placed c.ensures.found s.parent c.ensures.confirmed c.ensures.same_taken
-    (ap (λ v. v.items) c.ensures.same_waiting) c.ensures.refused in
+    (ap (option_map number) c.ensures.same_file) c.ensures.placed c.ensures.same_taken
+    (ap (λ v. v.items) c.ensures.same_waiting) c.result g.C.Calls.has_name s.folder c.ensures.found
+    s.parent c.ensures.confirmed c.ensures.refused in
     record {
       synced = both.0;
       refused = both.1;
       sure = on_ok_follows g.C.Calls.told settled (path_buf_bytes s.names.out) (path_buf_bytes z.names.out)
           (g.C.Calls.run s.calls) (g.C.Calls.run z.calls)
-          (ap path_buf_bytes c.ensures.same_name) c.result (λ t. sure_confirmed c.result (path_buf_bytes s.names.out)
-          g.C.Calls.has_name s.folder (g.C.Calls.run s.calls) (g.C.Calls.run z.calls) c.ensures.found
-          (s.parent t) (c.ensures.confirmed t));
+          (ap path_buf_bytes c.ensures.same_name) c.result (λ t. sure_confirmed (path_buf_bytes s.names.out)
+          (g.C.Calls.run s.calls) (g.C.Calls.run z.calls) c.result g.C.Calls.has_name s.folder
+          c.ensures.found (s.parent t) (c.ensures.confirmed t));
       steady = on_err_follows g.C.Calls.told (λ m. m) (path_buf_bytes s.names.out) (path_buf_bytes z.names.out)
           (g.C.Calls.run s.calls) (g.C.Calls.run z.calls)
           (ap path_buf_bytes c.ensures.same_name) c.result (λ t. on_err_with c.result _ _ (c.ensures.refused t)
