@@ -322,7 +322,7 @@ class Deciding(Case):
         self.assertEqual([*self.wants(held, new).by_raw], [])
 
     def test_an_answer_that_fails(self) -> None:
-        """It may be repeated."""
+        """Taking it may be repeated: nothing of it counts yet."""
         told = {key(1): ((100, 100, 1), {(0, 0): b"one"})}
         held = self.held({key(2): (None, {(0, 0): b"two"})})
         wants = self.wants(held, told)

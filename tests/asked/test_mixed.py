@@ -43,7 +43,7 @@ class Mixed(AskedCase):
         self.holds("of both", shares == {"east": 50.0, "north": 50.0}, shares)
 
     def test_what_is_here_is_not_asked_for(self) -> None:
-        """Also once more came by itself."""
+        """Nor is what came by itself after that."""
         self.push("east", announced([self.one]) + self.symbols[:50])
         self.work()
         self.stations["north"].hear(self.symbols[:80])

@@ -294,7 +294,7 @@ class Patience(AskedCase):
         early = [it.name for it in self.stations_asked() if it.next < began + 10]
         self.holds("they are asked again as they are told to be", not early, early)
 
-    def test_stations_of_before(self) -> None:
+    def test_older_stations(self) -> None:
         """They answer at once, and are asked as often as the settings say."""
         self.by(CallWithoutSsh)
         self.turn()

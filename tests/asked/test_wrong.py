@@ -57,7 +57,7 @@ class Wrong(AskedCase):
         return self.centre.arrivals[0].fault
 
     def again(self) -> None:
-        """It is asked again at once, instead of after a while."""
+        """Asks the stations again at once, instead of after a while."""
         assert self.asker
         assert self.asker
         for each in self.asker.stations:

@@ -32,7 +32,7 @@ class Journals(Case):
         return [*instance(7, number, fdt(sent, expires)), *parts]
 
     def test_a_poisoned_journal(self) -> None:
-        """It has another run of the sender too, and takes nothing from the two good ones."""
+        """It has another run of the sender too; the two good journals lose nothing by it."""
         of = self.packets_of(self.sent, 1, EXPIRES)
         self.journal("a", of)
         self.journal("b", of, self.packets_of(self.next, 1, EXPIRES + 60))

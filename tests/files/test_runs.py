@@ -203,7 +203,7 @@ class Runs(Case):
         return child.returncode
 
     def test_a_hangup_that_is_ignored(self) -> None:
-        """It reaches no child either, as under nohup."""
+        """A child is not ended by it either, as under nohup."""
         self.program.write_text(f'#!/bin/sh\nkill -HUP $$\nexec {PROGRAM} "$@"\n')
         before = signal.signal(signal.SIGHUP, signal.SIG_IGN)
         try:

@@ -42,7 +42,7 @@ def status_of(text: str) -> Dict[str, Any]:
 
 
 def compared(text: str) -> Dict[str, Any]:
-    """The same of a line of `compare`."""
+    """The numbers of a line of `compare`, and its information."""
     symbols, _, information = text.partition(" information ")
     counts = numbers(information)
     return {**numbers(symbols), "information": counts or information}

@@ -178,7 +178,7 @@ class Disk(Case):
         self.assertGreater(self.held(), 10000)
 
     def test_one_datagram_stays_whatever_most_is(self) -> None:
-        """It stays as long as no other comes, also of a file that an earlier run left."""
+        """The newest datagram stays until another one comes, also if an earlier run left it."""
         receiver = Receiver(self, "-o", "kept", "--most", "100")
         sent = self.symbols(20, 1000)
         receiver.send(sent[:10])

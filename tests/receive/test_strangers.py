@@ -195,7 +195,7 @@ class Restarts(Case):
         self.assertEqual(lines[1:], ["flutejoin-gather -o kept kept/127.0.0.1.fldg"])
 
     def test_a_later_run(self) -> None:
-        """It knows what an earlier one received."""
+        """A later run knows what an earlier one received."""
         runs = [self.run_of_sender(text) for text in (b"first", b"second")]
         for sent, told in (runs[0], 0), (runs[0], 0), (runs[1], 1):
             receiver = Receiver(self, "-o", "kept", "--count", "11")

@@ -145,7 +145,7 @@ class Faults(Case):
         self.holds("a folder that is removed", "Traceback" not in run.text(), run.text())
 
     def test_a_fault_that_lasts(self) -> None:
-        """It is told once, and not each ten seconds, until it is another one."""
+        """It is told once, and not each ten seconds, as long as it is the same."""
         work = self.folder
         status, port = work / "later/status.json", Port()
         run = self.begun(work / "news", port.number, "--status", status)

@@ -161,7 +161,7 @@ class Runs(Case):
         self.holds("nothing came", run.end() == 1, run.text())
 
     def test_lines_that_nobody_reads(self) -> None:
-        """They keep up no join, and not the end."""
+        """Neither a join nor the end of the run waits for them to be read."""
         work = self.folder
         sent, port, folder = sent_file(work, 30_000, 1000), Port(), work / "news"
         read, write = os.pipe()

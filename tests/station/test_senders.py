@@ -194,7 +194,7 @@ class Most(Case):
         self.assertEqual(self.left(), sorted(f"11.0.0.{number}" for number in range(30)))
 
     def test_a_file_that_a_receiver_has_open(self) -> None:
-        """It would write it anew if it were removed at once."""
+        """The receiver would write the file anew if it were removed at once."""
         self.sender(REAL, 100_000, 1)
         self.sender("11.0.0.1", 40, 1)
         with open(self.news / "in/11.0.0.1.fldg", "rb") as file:
