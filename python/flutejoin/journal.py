@@ -55,7 +55,7 @@ class Journal:
 
     def entries(self) -> Iterator[Entry]:
         """What it says, in the order of objects' names, and of an object first its transmission
-        information and then its symbols. While that is gone through, 104 bytes are held of each.
+        information and then its symbols. While one goes through them, 104 bytes are held of each.
         """
         room = LEAST_ROOM // FIELDS.size + len(self._data) // USUAL
         return self._each(given(library().flutejoin_entries, words(self._data), room, FIELDS.size))

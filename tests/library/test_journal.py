@@ -55,11 +55,12 @@ class Journals(Case):
 
     def test_bytes(self) -> None:
         data = self.read("first")
+        other: object = data
         self.same("its bytes", bytes(self.first), data)
         self.holds("of an array", Journal(bytearray(data)) == self.first)
         self.holds("of a view", Journal(memoryview(data)) == self.first)
         self.holds("of nothing", Journal() == Journal(EMPTY) and not [*Journal().entries()])
-        self.holds("not equal", self.first != self.second and self.first != data)
+        self.holds("not equal", self.first != self.second and self.first != other)
         self.holds("a key", {self.first: 1, self.second: 2}[Journal(data)] == 1)
         self.holds("pickled", pickle.loads(pickle.dumps(self.first)) == self.first)
         self.holds("shown", repr(self.first) == f"<Journal of {len(data)} bytes>", self.first)

@@ -2,7 +2,7 @@
 from __future__ import annotations
 
 import ctypes
-from typing import Callable, Optional
+from typing import Callable, Optional, Union
 
 import datagram_files
 from tests.library.case import EMPTY, NUMBER, SENDER, Case
@@ -57,9 +57,15 @@ class Values(Case):
         self.holds("a datagram file", found == (whole, 2, 0, 3), found)
         found = flutejoin.join(self.whole, sent, sender=NUMBER)
         self.holds("and its journal", found == (whole, 2, 0, 3), found)
-        for inputs in (self.whole,), (whole,), (b"", self.whole), (Journal(), whole):
-            found = flutejoin.join(*inputs)
-            self.holds(f"of {len(inputs)}", found == (whole, 0, 0, 3), found)
+        groups: list[tuple[Union[Journal, bytes], ...]] = [
+            (self.whole,),
+            (whole,),
+            (b"", self.whole),
+            (Journal(), whole),
+        ]
+        for group in groups:
+            found = flutejoin.join(*group)
+            self.holds(f"of {len(group)}", found == (whole, 0, 0, 3), found)
         (held,) = flutejoin.gaps(flutejoin.join(sent).journal)
         self.holds("without a sender", held.object == self.object._replace(sender=0), held)
         refused = datagram_files.content([b"\x10"])
