@@ -13,7 +13,7 @@ from unittest import mock
 from flutejoin_tools.capture import captures as capture_captures
 from flutejoin_tools.capture import runs as capture_runs
 from flutejoin_tools.capture import inputs
-from flutejoin_tools.capture.checksums import sum_of
+from flutejoin_tools.capture.checksums import are_zero, sum_of
 from flutejoin_tools.capture.datagrams import Datagrams
 from flutejoin_tools.capture.inputs import Stream
 from flutejoin_tools.capture.parts import Files
@@ -31,9 +31,26 @@ FORMS = "pcap", "pcapbig", "nano", "pcapng", "pcapngbig", "pcapngsimple", "secti
 PLACES = 12, 14, 17, 20, 23, 24, 26, 33, 35, 37, 39, 40, 42, 44, 50, 79, 80, 81, 99, -1
 
 
-def frame(sender: bytes, payload: bytes, number: int = 0) -> bytes:
+def frame(sender: bytes, payload: bytes, number: int = 0, front: bytes = ETHERNET) -> bytes:
     data = captures.udp(sender, GROUP, payload)
-    return ETHERNET + captures.ip4(sender, GROUP, 17, data, number)
+    return front + captures.ip4(sender, GROUP, 17, data, number)
+
+
+def frame6(sender: bytes, payload: bytes, front: bytes) -> bytes:
+    source, target = sender.rjust(16, b"\xfd"), GROUP.rjust(16, b"\xff")
+    return front + captures.ip6(source, target, 17, captures.udp(source, target, payload))
+
+
+def with_word_added(data: bytes, place: int, number: int) -> bytes:
+    word = (int.from_bytes(data[place : place + 2], "big") + number) & 0xFFFF
+    return data[:place] + word.to_bytes(2, "big") + data[place + 2 :]
+
+
+def without_checksum(data: bytes, place: int) -> bytes:
+    """A packet without a checksum of UDP, of another symbol, which would have the checksum 0."""
+    words = (int.from_bytes(data[at : at + 2], "big") for at in (place, len(data) - 2))
+    last = (sum(words) % 65535).to_bytes(2, "big")
+    return data[:place] + b"\0\0" + data[place + 2 : -2] + last
 
 
 def session(symbol: int = 60) -> list[bytes]:
@@ -47,8 +64,10 @@ def session(symbol: int = 60) -> list[bytes]:
 class AtOnce(run.Case):
     """Each row is read twice: in runs, and packet by packet."""
 
+    link = 1
+
     def capture(self, form: str, frames: list[bytes], snap: int = 65535) -> str:
-        rows = [(1, each[:snap], len(each)) for each in frames]
+        rows = [(self.link, each[:snap], len(each)) for each in frames]
         self.write("capture", captures.FORMS[form](rows, snap))
         return str(self.path("capture"))
 
@@ -147,6 +166,59 @@ class AtOnce(run.Case):
 
         return made
 
+    def test_links(self) -> None:
+        """Headers of each link, VLAN tags, and IPv6."""
+        dice = random.Random(4)
+        for name, (link, *fronts) in captures.LINKS.items():
+            self.link = link
+            sent = [payload for payload in session() if len(payload) == 96]
+            four = [frame(SENDERS[0], it, at, fronts[0]) for at, it in enumerate(sent)]
+            six = [frame6(SENDERS[0], it, fronts[1]) for it in sent]
+            for frames in four, six:
+                count = self.same_twice("pcap", frames)
+                self.holds(f"{name}: in runs", count > len(frames) // 2 or name == "wifi", count)
+                wrong = [*frames]
+                for at in 20, 33, 60:
+                    place = dice.randrange(len(frames[at]))
+                    wrong[at] = with_word_added(frames[at], place & ~1, 1 << dice.randrange(16))
+                self.same_twice("pcap", wrong)
+                place = len(frames[0]) - len(sent[0]) - 2  # of the checksum
+                none = [it[:place] + b"\0\0" + it[place + 2 :] for it in frames]
+                for without in none, [without_checksum(it, place) for it in frames]:
+                    self.same_twice("pcap", without)
+                    self.same_twice("pcap", frames[:30] + without[30:31] + frames[31:])
+
+    def test_flows(self) -> None:
+        """Packets of one length by turns of several senders, sessions and objects."""
+        sent = [packets(tsi, toi, bytes([toi]) * 6000, 60, 64) for tsi in (7, 8) for toi in (1, 2)]
+        rows = [payload for payloads in zip(*sent) for payload in payloads]
+        dice = random.Random(5)
+        for senders in SENDERS[:1], SENDERS, tuple(b"\n\0\1" + bytes([it]) for it in range(9)):
+            frames = [frame(dice.choice(senders), payload, 7) for payload in rows]
+            count = self.same_twice("pcap", frames)
+            self.holds(f"{len(senders)} senders: in runs", count > len(frames) // 2, count)
+            for split in 700, 3000:
+                self.same_twice("pcap", frames, split=split)
+            for at in 100, 150, 151:
+                frames[at] = with_word_added(frames[at], dice.randrange(34, 120) & ~1, 1)
+            self.same_twice("pcap", frames)
+
+    def test_faults_that_cancel(self) -> None:
+        """What one packet has too much another has too little: each is left out. Words that change
+        places within a packet are right."""
+        sent = [payload for payload in session() if len(payload) == 96]
+        right = [frame(SENDERS[0], payload, 7) for payload in sent]
+        dice = random.Random(6)
+        for number in 1, 0x0100, 0x7FFF, 0x8000:
+            for _ in range(8):
+                frames, place = [*right], dice.randrange(50, 120) & ~1
+                one, other = dice.sample(range(20, len(frames)), 2)
+                frames[one] = with_word_added(frames[one], place, number)
+                frames[other] = with_word_added(frames[other], place, -number)
+                self.same_twice("pcap", frames)
+        frames = [it[:80] + it[90:100] + it[80:90] + it[100:] for it in right]
+        self.holds("words that change places", self.same_twice("pcap", frames) > 40)
+
     def test_one_is_wrong(self) -> None:
         """One byte of a packet within a run is another: each place in turn, and by chance."""
         sent = [frame(SENDERS[0], payload, at) for at, payload in enumerate(session()[:60])]
@@ -207,6 +279,46 @@ class AtOnce(run.Case):
                     found += stream.view()[:size]
                     stream.skip(size)
                 self.holds(f"a buffer of {buffer}", found == sent)
+
+    def test_a_view(self) -> None:
+        """Of a regular file as much is in the buffer as is wanted."""
+        sent = random.Random(7).randbytes(5000)
+        with mock.patch.object(inputs, "BUFFER", 300):
+            for is_regular in False, True:
+                source: Any = io.BytesIO(sent)
+                stream, found, dice = Stream(source, is_regular=is_regular), b"", random.Random(8)
+                while piece := stream.read(dice.randrange(1, 9)):
+                    found += piece
+                    wanted = dice.randrange(300)
+                    size = min(wanted, len(stream.view(wanted)))
+                    if is_regular and size < min(wanted, len(sent) - len(found)):
+                        self.holds("a view is short", False, (size, wanted))
+                    found += stream.view()[:size]
+                    stream.skip(size)
+                self.holds(f"regular: {is_regular}", found == sent)
+
+    def test_sums_of_rows(self) -> None:
+        """Those of many rows, beside those of each, near 0 too."""
+        dice = random.Random(9)
+        for parts, size, last, count in (
+            (1, 2, 2, 4), (1, 4, 3, 5), (2, 6, 1, 9), (3, 6, 6, 64), (8, 180, 177, 87),
+            (2, 8, 8, 1),
+        ):
+            for fill in b"", b"\0", b"\xff":
+                rows = [fill * ((parts - 1) * size + last) for _ in range(count)]
+                rows = [it or dice.randbytes((parts - 1) * size + last) for it in rows]
+                more = [-sum_of(row) % 65535 for row in rows]
+                pieces = [row[at * size : (at + 1) * size] for row in rows for at in range(parts)]
+                self.holds("right", are_zero(pieces, parts, more))
+                for at in {0, count // 2, count - 1}:
+                    wrong = [*more]
+                    wrong[at] = (wrong[at] + 1) % 65535
+                    self.holds("one is wrong", not are_zero(pieces, parts, wrong))
+                    wrong[at - 1] = (wrong[at - 1] - 1) % 65535
+                    is_one = count == 1
+                    self.holds("two are", are_zero(pieces, parts, wrong) == is_one)
+                if fill:
+                    self.holds("all have one", are_zero(pieces, parts, more[:1]))
 
     def test_sums(self) -> None:
         dice = random.Random(3)

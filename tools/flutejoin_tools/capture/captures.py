@@ -98,7 +98,7 @@ def read(
     with opened(name) as file:
         try:
             source = Input(file, stop, tick)
-            stream = Stream(source)
+            stream = Stream(source, is_regular=source.is_regular)
             inflated: Optional[Inflated] = None
             if source.is_gzip:
                 compressed, before = io.BufferedReader(source, 1 << 18), work()

@@ -3,7 +3,7 @@
 from __future__ import annotations
 
 import functools
-from typing import Tuple
+from typing import Sequence, Tuple
 
 SHORT = 128  # bytes of a number that is divided as it is
 
@@ -34,3 +34,42 @@ def sum_of(data: bytes) -> int:
     if size > SHORT:
         number = folded(number, size)
     return (number << 8 if size & 1 else number) % 65535
+
+
+@functools.lru_cache(maxsize=32)
+def repeated(number: int, width: int, count: int) -> int:
+    return int.from_bytes(number.to_bytes(width, "big") * count, "big")
+
+
+def in_lanes(numbers: Sequence[int], width: int, count: int) -> int:
+    """So many numbers as one, each in so many bytes of its own: its lane. One number is in all."""
+    if len(numbers) == 1:
+        return repeated(numbers[0], width, count)
+    return int.from_bytes(b"".join([each.to_bytes(width, "big") for each in numbers]), "big")
+
+
+def are_multiples(lanes: int, width: int, count: int) -> bool:
+    """Whether 65,535 divides the number in each lane, which is less than its square.
+
+    If it does, it divides the whole, and no quotient reaches into the highest 16 bits of its lane.
+    And if so, each quotient times 65,535 fits into its lane, so it is the number there.
+    """
+    quotient, rest = divmod(lanes, 65535)
+    return not rest and not quotient & repeated(0xFFFF << 8 * width - 16, width, count)
+
+
+def are_zero(pieces: Sequence[bytes], parts: int, more: Sequence[int]) -> bool:
+    """Whether the sums of the words of many rows, each with a number below 65,535, are all 0 modulo
+    65,535. A row is so many pieces, one after another: all of one even length, but for the last,
+    which may be shorter. One number is that of all rows.
+
+    The pieces of a row are added, but those of all rows at once: each row has a lane, with two
+    bytes more for what is carried.
+    """
+    width, count = len(pieces[0]) + (len(pieces[0]) & 1) + 2, len(pieces) // parts
+    total = in_lanes(more, width, count)
+    for part in range(parts):
+        column = pieces[part::parts]
+        number = int.from_bytes(bytes(width - len(column[0])).join(column), "big")
+        total += number << 8 if len(column[0]) & 1 else number
+    return are_multiples(total, width, count)

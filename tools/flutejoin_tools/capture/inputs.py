@@ -82,7 +82,8 @@ class Input(io.RawIOBase):
     def __init__(self, file: BinaryIO, stop: Stop, tick: Callable[[], None]) -> None:
         self.file, self.stop, self.tick = file, stop, tick
         self.tick_at = time.monotonic() + TICK
-        self.grace = 0 if stat.S_ISREG(os.fstat(file.fileno()).st_mode) else GRACE
+        self.is_regular = stat.S_ISREG(os.fstat(file.fileno()).st_mode)  # nothing is waited for
+        self.grace = 0 if self.is_regular else GRACE
         self.begin = b""
         while len(self.begin) < 2 and self.is_ready():
             piece = os.read(file.fileno(), 2 - len(self.begin))
@@ -126,8 +127,9 @@ class Stream:
     """The bytes of an input, a buffer at a time. Those that are in the buffer may be looked at, and
     skipped, without a copy. `count` is that of the packets, and other blocks, that were read."""
 
-    def __init__(self, source: io.RawIOBase) -> None:
+    def __init__(self, source: io.RawIOBase, *, is_regular: bool = False) -> None:
         self.source, self.buffer = source, memoryview(bytearray(BUFFER))
+        self.is_regular = is_regular
         self.at = self.end = self.count = 0
 
     def read(self, size: int) -> bytes:
@@ -147,8 +149,14 @@ class Stream:
         self.at, self.end = 0, self.source.readinto(self.buffer) or 0
         return self.end
 
-    def view(self) -> memoryview:
-        """What is in the buffer, until the next call."""
+    def view(self, wanted: int = 0) -> memoryview:
+        """What is in the buffer, until the next call. Of a regular file as much as is wanted, if it
+        has that: of others that might have to be waited for."""
+        if self.end - self.at < wanted <= len(self.buffer) and self.is_regular:
+            rest = bytes(self.buffer[self.at : self.end])
+            self.buffer[: len(rest)] = rest
+            more = self.source.readinto(self.buffer[len(rest) :]) or 0
+            self.at, self.end = 0, len(rest) + more
         return self.buffer[self.at : self.end]
 
     def skip(self, size: int) -> None:

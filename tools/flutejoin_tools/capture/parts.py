@@ -6,8 +6,9 @@ from __future__ import annotations
 
 import collections
 import errno
+import itertools
 import os
-from typing import Iterator
+from typing import Iterator, Sequence
 
 from flutejoin_tools.common import file_names
 from flutejoin_tools.common.addresses import address_text
@@ -22,7 +23,7 @@ from flutejoin_tools.formats.records import HEADER, LENGTH, MOST, whole_records
 
 MOST_SENDERS = 200  # each has an open file
 MOST_ADAPTED = 4096  # senders of whose datagrams something is remembered
-MOST_JOINED = 32  # datagrams that are put together at once
+MOST_WAITING = 1 << 16  # bytes of a file that wait to be written
 MOST_COUNTED = 1 << 16  # senders beyond these of which bytes are counted
 # Work, beside that of a small packet: of one that is adapted, or whose sender is beyond these; of
 # so many datagrams that become of one; and of an FDT Instance
@@ -161,14 +162,16 @@ class Files:
             for line in adapting.lines(0):
                 self.report.warn(f"{address_text(sender)} {line}")
 
+    def has_room(self, part: Part, count: int, size: int) -> bool:
+        """Whether a file can have so many records more, each of this size."""
+        begun = part.size + len(part.waiting)
+        return part.count + count <= MOST and begun + count * size <= self.split
+
     def add(self, sender: bytes, payload: bytes) -> None:
         """Adds a datagram of a capture to the file of its sender, or begins the next one."""
         part = self.open.get(sender)
         size = len(payload) + 2
-        is_full = part and (
-            part.count >= MOST or part.size + len(part.waiting) + size > self.split
-        )
-        if is_full:
+        if part and not self.has_room(part, 1, size):
             self.close(sender)
             part = None
         part = part or self.begin(sender, size)
@@ -180,24 +183,31 @@ class Files:
                 self.work += INSTANCE_WORK
                 if self.hints[sender].look(payload):
                     self.report.warn(f"{address_text(sender)} {TOLD}")
-            if len(part.waiting) > 65536:
+            if len(part.waiting) > MOST_WAITING:
                 self.flush(part)
 
-    def add_run(self, sender: bytes, front: bytes, symbols: list[bytes]) -> None:
-        """Adds datagrams of a sender that has a file: each is `front` and a symbol. None of them is
-        of an FDT Instance. The length before a datagram is in front of it."""
-        part, size = self.open[sender], (len(front) + len(symbols[0])) * len(symbols)
-        if part.count + len(symbols) > MOST or part.size + len(part.waiting) + size > self.split:
-            for symbol in symbols:
-                self.add(sender, front[LENGTH.size :] + symbol)
-            return
-        for begin in range(0, len(symbols), MOST_JOINED):
-            some = symbols[begin : begin + MOST_JOINED]
-            part.waiting += front
-            part.waiting += front.join(some)
-            part.count += len(some)
-            if len(part.waiting) > 65536:
+    def add_records(self, senders: Sequence[bytes], records: bytearray, size: int) -> bool:
+        """Adds records of one size: each of its sender, or all of the only one. None is of an FDT
+        Instance. Returns False, and adds none, if a sender has no file."""
+        places, shares = range(0, len(records), size), {senders[0]: records}
+        if len({*senders}) > 1:
+            shares = {sender: bytearray() for sender in senders}
+            for sender, at in zip(senders, places):
+                shares[sender] += records[at : at + size]
+        if not shares.keys() <= self.open.keys():
+            return False
+        of = [(self.open[sender], share, len(share) // size) for sender, share in shares.items()]
+        if not all(self.has_room(part, count, size) for part, _, count in of):
+            # One by one, since files end
+            for sender, at in zip(itertools.cycle(senders), places):
+                self.add(sender, bytes(records[at + LENGTH.size : at + size]))
+            return True
+        for part, share, count in of:
+            part.waiting = part.waiting + share if part.waiting else share
+            part.count += count
+            if len(part.waiting) > MOST_WAITING:
                 self.flush(part)
+        return True
 
     def count_beyond(self, sender: bytes, size: int) -> None:
         """Counts a datagram of a sender that has no file. Those of fewest bytes are forgotten."""
