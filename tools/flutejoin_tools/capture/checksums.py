@@ -45,7 +45,8 @@ def in_lanes(numbers: Sequence[int], width: int, count: int) -> int:
     """So many numbers as one, each in so many bytes of its own: its lane. One number is in all."""
     if len(numbers) == 1:
         return repeated(numbers[0], width, count)
-    return int.from_bytes(b"".join([each.to_bytes(width, "big") for each in numbers]), "big")
+    lanes = {number: number.to_bytes(width, "big") for number in {*numbers}}
+    return int.from_bytes(b"".join([lanes[number] for number in numbers]), "big")
 
 
 def are_multiples(lanes: int, width: int, count: int) -> bool:

@@ -191,9 +191,11 @@ class Files:
         Instance. Returns False, and adds none, if a sender has no file."""
         places, shares = range(0, len(records), size), {senders[0]: records}
         if len({*senders}) > 1:
-            shares = {sender: bytearray() for sender in senders}
+            view = memoryview(records)
+            rows: dict[bytes, list[memoryview]] = {sender: [] for sender in senders}
             for sender, at in zip(senders, places):
-                shares[sender] += records[at : at + size]
+                rows[sender].append(view[at : at + size])
+            shares = {sender: bytearray().join(own) for sender, own in rows.items()}
         if not shares.keys() <= self.open.keys():
             return False
         of = [(self.open[sender], share, len(share) // size) for sender, share in shares.items()]
@@ -203,7 +205,10 @@ class Files:
                 self.add(sender, bytes(records[at + LENGTH.size : at + size]))
             return True
         for part, share, count in of:
-            part.waiting = part.waiting + share if part.waiting else share
+            if part.waiting:
+                part.waiting += share
+            else:
+                part.waiting = share
             part.count += count
             if len(part.waiting) > MOST_WAITING:
                 self.flush(part)
