@@ -13,7 +13,7 @@ from unittest import mock
 from flutejoin_tools.capture import captures as capture_captures
 from flutejoin_tools.capture import runs as capture_runs
 from flutejoin_tools.capture import inputs
-from flutejoin_tools.capture.checksums import are_zero, sum_of
+from flutejoin_tools.capture.checksums import sum_of, zeros
 from flutejoin_tools.capture.datagrams import Datagrams
 from flutejoin_tools.capture.inputs import Stream
 from flutejoin_tools.capture.parts import Files
@@ -309,16 +309,17 @@ class AtOnce(run.Case):
                 rows = [it or dice.randbytes((parts - 1) * size + last) for it in rows]
                 more = [-sum_of(row) % 65535 for row in rows]
                 pieces = [row[at * size : (at + 1) * size] for row in rows for at in range(parts)]
-                self.holds("right", are_zero(pieces, parts, more))
+                self.holds("right", zeros(pieces, parts, more) == count)
                 for at in {0, count // 2, count - 1}:
                     wrong = [*more]
                     wrong[at] = (wrong[at] + 1) % 65535
-                    self.holds("one is wrong", not are_zero(pieces, parts, wrong))
-                    wrong[at - 1] = (wrong[at - 1] - 1) % 65535
-                    is_one = count == 1
-                    self.holds("two are", are_zero(pieces, parts, wrong) == is_one)
+                    self.holds("one is wrong", zeros(pieces, parts, wrong) == at)
+                    other = (at + 1) % count
+                    wrong[other] = (wrong[other] - 1) % 65535
+                    first = min(at, other) if count > 1 else 1
+                    self.holds("two are", zeros(pieces, parts, wrong) == first)
                 if fill:
-                    self.holds("all have one", are_zero(pieces, parts, more[:1]))
+                    self.holds("all have one", zeros(pieces, parts, more[:1]) == count)
 
     def test_sums(self) -> None:
         dice = random.Random(3)

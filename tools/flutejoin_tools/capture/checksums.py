@@ -49,20 +49,27 @@ def in_lanes(numbers: Sequence[int], width: int, count: int) -> int:
     return int.from_bytes(b"".join([lanes[number] for number in numbers]), "big")
 
 
-def are_multiples(lanes: int, width: int, count: int) -> bool:
-    """Whether 65,535 divides the number in each lane, which is less than its square.
+def multiples(lanes: int, width: int, count: int) -> int:
+    """In how many lanes, from the first on, 65,535 divides the number, which is less than its
+    square there.
 
-    If it does, it divides the whole, and no quotient reaches into the highest 16 bits of its lane.
-    And if so, each quotient times 65,535 fits into its lane, so it is the number there.
+    If it does in all, it divides the whole, and no quotient reaches into the highest 16 bits of its
+    lane. And if so, each quotient times 65,535 fits into its lane, so it is the number there.
     """
     quotient, rest = divmod(lanes, 65535)
-    return not rest and not quotient & repeated(0xFFFF << 8 * width - 16, width, count)
+    if not rest and not quotient & repeated(0xFFFF << 8 * width - 16, width, count):
+        return count
+    data = lanes.to_bytes(width * count, "big")
+    for at in range(count):
+        if int.from_bytes(data[at * width : (at + 1) * width], "big") % 65535:
+            return at
+    return count
 
 
-def are_zero(pieces: Sequence[bytes], parts: int, more: Sequence[int]) -> bool:
-    """Whether the sums of the words of many rows, each with a number below 65,535, are all 0 modulo
-    65,535. A row is so many pieces, one after another: all of one even length, but for the last,
-    which may be shorter. One number is that of all rows.
+def zeros(pieces: Sequence[bytes], parts: int, more: Sequence[int]) -> int:
+    """Of how many rows, from the first on, the sum of the words and a number below 65,535 is 0
+    modulo 65,535. A row is so many pieces, one after another: all of one even length, but for the
+    last, which may be shorter. One number is that of all rows.
 
     The pieces of a row are added, but those of all rows at once: each row has a lane, with two
     bytes more for what is carried.
@@ -73,4 +80,4 @@ def are_zero(pieces: Sequence[bytes], parts: int, more: Sequence[int]) -> bool:
         column = pieces[part::parts]
         number = int.from_bytes(bytes(width - len(column[0])).join(column), "big")
         total += number << 8 if len(column[0]) & 1 else number
-    return are_multiples(total, width, count)
+    return multiples(total, width, count)

@@ -6,7 +6,7 @@ import struct
 from typing import NamedTuple, Optional, Sequence, Tuple
 
 from flutejoin_tools.capture.captures import Record
-from flutejoin_tools.capture.checksums import are_multiples, are_zero, in_lanes, sum_of
+from flutejoin_tools.capture.checksums import in_lanes, multiples, sum_of, zeros
 from flutejoin_tools.capture.datagrams import IP4_HEAD, IP6_HEAD, UDP, UDP_HEAD
 from flutejoin_tools.capture.frames import IP, carried
 from flutejoin_tools.formats.records import LENGTH
@@ -113,11 +113,11 @@ class Rows:
     def __init__(self, form: Form, data: memoryview, count: int) -> None:
         self.form, self.data, self.count = form, data, count
         heads = bytearray().join(fields_of(form.heads, count).unpack(data))
-        width, zeros = len(heads) // count, bytes(count)
+        width, none = len(heads) // count, bytes(count)
         # The words that vary, each as its high bytes and its low ones
         self.words = [(heads[at::width], heads[at + 1 :: width]) for at in form.words]
         for at in form.words:
-            heads[at::width] = heads[at + 1 :: width] = zeros
+            heads[at::width] = heads[at + 1 :: width] = none
         self.heads, self.width = bytes(heads), width
         self.pieces: Sequence[bytes] = ()
 
@@ -133,26 +133,30 @@ class Rows:
         size = self.form.size
         return self.form.frame_of(self.data[at * size : (at + 1) * size])
 
-    def are_right(self, sums: Sequence[Sums]) -> bool:
-        """Whether all checksums are right, with the sums of each row: one, if all have the same."""
+    def right(self, sums: Sequence[Sums], count: int) -> int:
+        """How many of the first so many rows are right, from the first on: their checksums, with
+        the sums of each; one, if all have the same."""
         checksum, *others = self.words
-        if not others and (0, 0) in zip(*checksum):  # IPv6 demands one
-            return False
         if others:
-            total = in_lanes([each.ip for each in sums], 4, self.count)
+            total = in_lanes([each.ip for each in sums], 4, count)
             for high, low in others:
-                lanes = bytearray(4 * self.count)
-                lanes[2::4], lanes[3::4] = high, low
+                lanes = bytearray(4 * count)
+                lanes[2::4], lanes[3::4] = high[:count], low[:count]
                 total += int.from_bytes(lanes, "big")
-            if not are_multiples(total, 4, self.count):
-                return False
-        self.pieces = fields_of(self.form.pieces, self.count).unpack(self.data)
-        return are_zero(self.pieces, self.form.parts, [each.udp for each in sums])
+            count = multiples(total, 4, count)
+        else:  # IPv6 demands a checksum of UDP
+            count = min(count, [*zip(*checksum), (0, 0)].index((0, 0)))
+        if count:
+            pieces = fields_of(self.form.pieces, self.count).unpack(self.data)
+            self.pieces = pieces[: count * self.form.parts]
+            count = zeros(self.pieces, self.form.parts, [each.udp for each in sums[:count]])
+        return count
 
-    def records(self) -> bytearray:
-        """The datagrams of rows that are right, each behind its length: as in a datagram file."""
-        records = bytearray().join(self.pieces)
-        size = len(records) // self.count
+    def records(self, count: int) -> bytearray:
+        """The datagrams of the first rows, so many as are right, each behind its length: as in a
+        datagram file."""
+        records = bytearray().join(self.pieces[: count * self.form.parts])
+        size = len(records) // count
         for at, byte in enumerate(LENGTH.pack(size - LENGTH.size)):
-            records[at::size] = bytes([byte]) * self.count
+            records[at::size] = bytes([byte]) * count
         return records
