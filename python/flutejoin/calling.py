@@ -21,7 +21,12 @@ def check(code: int, answer: Answer) -> None:
         raise fault_of(code, answer.number, answer.text.decode())
 
 
-def given(call: Call, arguments: Sequence[object], room: int, size: int = 1) -> bytes:
+def given(call: Call, arguments: Sequence[object], room: int) -> bytes:
+    """The bytes that a call gives, with room for so many first."""
+    return bytes(items_given(call, arguments, room, 1))
+
+
+def items_given(call: Call, arguments: Sequence[object], room: int, size: int) -> bytearray:
     """What a call gives: items of this size. It is made once more if there is room for too few."""
     answer = Answer()
     while True:
@@ -31,7 +36,7 @@ def given(call: Call, arguments: Sequence[object], room: int, size: int = 1) -> 
         del at
         if answer.needed <= room:
             del place[answer.needed * size :]
-            return bytes(place)
+            return place
         room = answer.needed
 
 

@@ -7,7 +7,8 @@ import struct
 from ctypes import byref
 from typing import Iterator, NamedTuple, Optional, Union
 
-from flutejoin.calling import LEAST_ROOM, Bytes, Call, check, fields_of, given, words
+from flutejoin.calling import LEAST_ROOM, Bytes, Call, check, fields_of, given, items_given
+from flutejoin.calling import words
 from flutejoin.library import Answer, HeldFields, library
 from flutejoin.lines import compared_in, held_in
 from flutejoin.values import Compared, Entry, Held, Information, Object, Status, Symbol
@@ -58,9 +59,10 @@ class Journal:
         information and then its symbols. While one goes through them, 104 bytes are held of each.
         """
         room = LEAST_ROOM // FIELDS.size + len(self._data) // USUAL
-        return self._each(given(library().flutejoin_entries, words(self._data), room, FIELDS.size))
+        call, size = library().flutejoin_entries, FIELDS.size
+        return self._each(items_given(call, words(self._data), room, size))
 
-    def _each(self, listed: bytes) -> Iterator[Entry]:
+    def _each(self, listed: bytearray) -> Iterator[Entry]:
         named: Optional[tuple[int, ...]] = None
         of = Object(0, 0, 0)
         for fields in FIELDS.iter_unpack(listed):

@@ -30,7 +30,7 @@ if TYPE_CHECKING:
 SMALLEST = bytes.fromhex("10100300 00000000 00000001")  # a packet of TSI 0 and TOI 1
 EMPTY = HEADER + bytes([END]) + bytes(8)  # the journal of nothing
 # Bytes of a journal that the library reads: they are in memory meanwhile, and 104 for each entry
-MOST_HELD = 1 << 26
+MOST_HELD = 1 << 24
 KINDS = {
     "information": INFORMATION,
     "information conflict": INFORMATION_CONFLICT,
