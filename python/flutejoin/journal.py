@@ -84,7 +84,9 @@ class Journal:
         return of_two(library().flutejoin_merge, self, other)
 
     def __or__(self, other: Journal) -> Journal:
-        return self.merge(other) if isinstance(other, Journal) else NotImplemented
+        if not isinstance(other, Journal):
+            return NotImplemented
+        return self.merge(other)
 
     def minus(self, other: AnyJournal) -> Journal:
         """The journal of what of this one a join would change the other by: that, merged with the
@@ -92,7 +94,9 @@ class Journal:
         return of_two(library().flutejoin_minus, self, other)
 
     def __sub__(self, other: Journal) -> Journal:
-        return self.minus(other) if isinstance(other, Journal) else NotImplemented
+        if not isinstance(other, Journal):
+            return NotImplemented
+        return self.minus(other)
 
     def fill(self, lines: Bytes, *, only: bool = False) -> Journal:
         """The journal of what the lines that `gap_lines` gives of another ask for of this one; with
