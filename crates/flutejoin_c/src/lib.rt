@@ -1,9 +1,9 @@
 //! The library for C: calls over bytes in memory, which keep nothing between them.
 //!
 //! Each call gives bytes into the room that its caller has, as many as fit, and says how many there
-//! are: [`flutejoin_c_merge`] those that the command `merge` writes, and so on. `flutejoin.h` has
-//! them under the names of C, where pointers that a reference of Rattle cannot be are refused
-//! first.
+//! are: [`flutejoin_c_merge`] those that the command `merge` writes, and so on;
+//! [`flutejoin_c_entries`] gives entries. `flutejoin.h` has them under the names of C, where
+//! pointers that a reference of Rattle cannot be are refused first.
 //!
 //! Two journals, merged (from `merge.rt`):
 //!
