@@ -6,7 +6,6 @@ is taken by itself.
 """
 from __future__ import annotations
 
-import itertools
 from typing import NamedTuple, Optional
 
 from flutejoin_tools.capture.captures import Record
@@ -89,7 +88,12 @@ class Runs:
             if key not in known:
                 frame = rows.frame(at)
                 known[key] = self.flow(rows.form, frame) if frame else None
-        flows = [*itertools.takewhile(bool, (known[key] for key in keys))]
+        flows: list[Flow] = []
+        for key in keys:
+            flow = known[key]
+            if flow is None:
+                break
+            flows.append(flow)
         count = rows.count if len(flows) == len(keys) else len(flows)
         count = rows.right([flow.sums for flow in flows], count) if flows else 0
         if not count:
