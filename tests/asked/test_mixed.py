@@ -1,5 +1,5 @@
-"""Tests of a centre that asks some stations, and to which others push: what is shown of both, and
-what is asked for."""
+"""Tests of a centre with stations of both kinds, those that it asks and those that push to it: what
+its page shows of them, and what it asks for."""
 from __future__ import annotations
 
 import json

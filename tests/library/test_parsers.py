@@ -1,5 +1,6 @@
-"""Compares the tools' own parsers with the library: both take the same datagrams and journals, give
-the same of what they take, and else name the same fault.
+"""Compares the tools' own parsers, of packets and of journals (tools' `formats` and `journals`),
+with the library: both take the same datagrams and journals, give the same of what they take, and
+else name the same fault.
 
 DRAWN (20,000) is how many packets are drawn, of which most have wrong bytes, are cut or too long;
 of journals it is a twentieth of that.

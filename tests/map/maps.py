@@ -160,6 +160,7 @@ def compare(one: object, other: object, what: str) -> None:
 
 
 def see_page(page: str, wanted: list[tuple[str, list[Panel]]]) -> None:
+    """Compares a drawn page with the panels that each object should have, by the lines of gaps."""
     root = ElementTree.parse(page).getroot()
     compare(root.tag, f"{SVG}svg", "the page")
     groups = root.findall(f"{SVG}g")
@@ -172,7 +173,9 @@ def see_page(page: str, wanted: list[tuple[str, list[Panel]]]) -> None:
         for panel, (words, listing, kinds) in zip(panels, told):
             texts = [text.text or "" for text in panel.findall(f"{SVG}text")]
             legend = ", ".join(text for text in texts if text.split()[0] in NAMES)
-            compare(legend, counts(kinds) if ": held " in words else "", f"{words}: its legend")
+            # The title ends in the counts, as "held 3, missing 2", only if there are cells to count.
+            wanted_legend = counts(kinds) if ": held " in words else ""
+            compare(legend, wanted_legend, f"{words}: its legend")
             see_cells(panel.findall(f"{SVG}g"), listing, kinds, words)
             see_edges(panel, words)
 

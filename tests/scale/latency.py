@@ -24,8 +24,10 @@ from tests.support.run import ROOT
 
 TOOLS = ROOT / "tools"
 TSI, NAME = 7, "127.0.0.1"
-IDLE, QUIET, LONGEST = 30, 4, 120  # seconds
-TICKS = os.sysconf("SC_CLK_TCK")
+IDLE = 30  # seconds without datagrams in which the processor's share is measured
+QUIET = 4  # seconds until all that a run has begun is done
+LONGEST = 120  # seconds that a file may take to its name
+TICKS = os.sysconf("SC_CLK_TCK")  # in a second, by which the system counts a processor's time
 DELIVERS, FILLS, ANSWERS = "a station that delivers", "an outbox and a centre", "a centre that asks"
 # In the place of ssh, whose sshd runs this and hands on what was asked for
 SSH = """#!/bin/sh

@@ -155,7 +155,7 @@ class Most(Case):
         room = self.room(2_500_000)
         left = self.left()
         self.assertLess(room.bytes, 2_500_000)
-        # The last of those with few bytes that sent; never one that has many.
+        # Of the senders with few bytes those stay that sent last; those with many bytes all stay.
         wanted = [f"11.0.0.{number}" for number in range(len(left) - 3)]
         self.assertEqual(left, sorted([REAL, "10.0.0.2", "10.0.0.3", *wanted]))
         self.assertGreater(len(wanted), 10)

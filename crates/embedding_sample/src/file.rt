@@ -1,4 +1,4 @@
-//! The datagrams of a file, kept.
+//! `datagrams_of`: reads a datagram file, and keeps its datagrams in a list.
 ghost use Rattle.std.specs.Prelude.{◌≡◌, IfOk, IfSome};
 ghost use Rattle.flute_journal.specs.Records.{IsFileWithin};
 
@@ -20,8 +20,11 @@ impl Datagrams for Kept {
 
     type Fault = DatagramFault;
 
+    // What the trait asks an implementor to say: taking these datagrams from state s to state t
+    // means that they are appended to the list.
     ghost takes = { λ s datagrams t. t.datagrams.items ≡ s.datagrams.items ++ datagrams };
 
+    // Nothing is promised of the state after a failure.
     ghost fails = { λ s t. ⊤ };
 
     fn datagram(&mut self, datagram: &[u8]) -> Result<(), DatagramFault> {
@@ -32,6 +35,8 @@ impl Datagrams for Kept {
         }
     }
 
+    // The laws that the trait asks for: taking none changes nothing, takings may follow one another,
+    // and a failure may come after any of them.
     ghost none = { λ s. sym (append-nil s.datagrams.items) };
 
     ghost more = { λ s t u first next a b. b

@@ -1,4 +1,5 @@
--- Framed files: a header, and then items, each in a frame that contains where it ends.
+-- Framed files: a header, and then items, each in a frame that contains where it ends. How they are
+-- read: `specs/Framing`.
 use Rattle.std.specs.Prelude.{◌≡◌, ℕ, ◌≤◌, List, ◌++◌, length}
 use Rattle.std.specs.List.{flat_map, AllByRecursion}
 

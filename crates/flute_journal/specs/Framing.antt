@@ -11,7 +11,9 @@ use Rattle.flute_journal.specs.declared.readers.reader_state.ReaderState.TheVari
 use Rattle.flute_journal.specs.Frame.{Frame, AreItems, up_to_end}
 use Rattle.flute_journal.specs.Input.{AsksMemory, IsFaultUpTo, IsSettled, IsWithin}
 
--- The reading of framed files, item by item. P is the place after whole items.
+-- The reading of framed files, item by item. As in `specs/Frame`, V is the type of an item, and T
+-- that of what the header contains (its values are named `told`). P is the type of a reader's place:
+-- what it keeps of the header and of the items that were read.
 pub record Framing (V P T : Type 0) : Type 1 where
   pub frame : Frame V T
   -- the place after these items
@@ -152,8 +154,9 @@ module _ {V P T : Type 0} (framing : Framing V P T) where
     pub bytes : ((old ≡ Ended) × Keeps left after)
         ⊎ (IsTrue (is_open old) × Consumes left after (end_bytes told old) × IsAtEnd after)
 
--- What a failed call has read: no more bytes than are before the next item, or all these and
--- nothing after a whole item.
+-- What a failed call has read, if the header contains `told`: at most the bytes before the next
+-- item, the `opening` (in_opening); or all of these, and of the bytes behind them at most one whole
+-- item (in_item).
 pub data IsPart {V P T : Type 0} (framing : Framing V P T) (told : T) (old : ReaderState P)
     (part : List ℕ) : Type 0 where
   in_opening : length part ≤ length (opening framing told old) → IsPart framing told old part
@@ -179,7 +182,7 @@ module _ {V P T : Type 0} (framing : Framing V P T) where
     pub read : Consumes left after part
     pub is_part : IsPart framing told old part
 
-  -- a fault was found, now or before
+  -- a fault was found, now or by a call before, and all later calls return it; `found` says which
   pub record GivesFault (limit : ℕ) (old new : ReaderState P) (left after : Option (List ℕ))
       (f : ReadFault) : Type 0 where
     pub told : T

@@ -41,7 +41,9 @@ LossesAreOfMoments = (d : Disk) (out : List ℕ) (left : Option (List ℕ)) → 
     → Survives (moment_at out d).out left
     ⊎ ((file : Option Stored) × Contains (moment_at out d).unsure file × Survives file left)
 
--- of a file that was made for OUT, if it is open, and whether it has been named OUT
+-- The entries that w shows, the writing into the file made for OUT: `file` is that file's number,
+-- None once it is closed, and `is_placed` says whether it has been named OUT. The file beside OUT
+-- is as far as this writing filled it; `on_disk` is copied: whether all of it is on the disk.
 abbrev pub disk_entries : List ℕ → Option ℕ → Bool → Writing → Entries
 disk_entries out file is_placed w = record {
   out = stored_at w.disk out;

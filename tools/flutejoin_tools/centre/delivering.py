@@ -31,7 +31,7 @@ from flutejoin_tools.centre.shipping import Shipping
 from flutejoin_tools.centre.symbols import Contents, Symbols
 from flutejoin_tools.common import gaps
 from flutejoin_tools.common.faults import Fault
-from flutejoin_tools.common.places import Work
+from flutejoin_tools.common.places import Scratch
 from flutejoin_tools.common.program import Failed, Program
 from flutejoin_tools.common.service_log import ServiceLog
 from flutejoin_tools.common.shelves import remove
@@ -312,9 +312,9 @@ class Deliverer:
         journals += self.past.copy(frozenset(filter(self.may_share, keys)), folder)
         journals = journals or [empty_in(folder)]
         documents = [*self.described.documents_of(set(keys))]
-        with self.work_folder() as work:
-            self.foreground.kept = (work.folder,)
-            outcome = make(self.foreground, journals, work, documents, self.once)
+        with self.scratch_folder() as scratch:
+            self.foreground.kept = (scratch.folder,)
+            outcome = make(self.foreground, journals, scratch, documents, self.once)
             self.note_wrong(keys, outcome)
             count = self.shipping.ship(outcome, partial(shares, self.arrivals), self.clock())
         self.let_go_of(keys, outcome, journals)
@@ -322,12 +322,12 @@ class Deliverer:
         return count
 
     @contextlib.contextmanager
-    def work_folder(self) -> Iterator[Work]:
-        work = Work(self.at("work"))
+    def scratch_folder(self) -> Iterator[Scratch]:
+        scratch = Scratch(self.at("work"))
         try:
-            yield work
+            yield scratch
         finally:
-            work.end()
+            scratch.end()
 
     def note_wrong(self, keys: Container[Key], outcome: Outcome) -> None:
         for key in [it for it in self.wrong if it in keys]:

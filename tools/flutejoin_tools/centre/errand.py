@@ -18,7 +18,7 @@ from flutejoin_tools.centre.rounds import Chosen
 from flutejoin_tools.common.faults import Fault
 from flutejoin_tools.common.log import INFORMATION, Log
 from flutejoin_tools.common.outputs import replace_text
-from flutejoin_tools.common.places import Work
+from flutejoin_tools.common.places import Scratch
 from flutejoin_tools.common.program import Failed, Program
 from flutejoin_tools.common.shelves import Shelf, begin_file, bring_to_disk
 from flutejoin_tools.common.signals import answer_stops, end_run, exit_status
@@ -74,8 +74,8 @@ class Gathered(NamedTuple):
     def source(self) -> Optional[bytes]:
         return bytes.fromhex(self.job.source)
 
-    def read(self, program: Program, work: Work, catalogue: Located) -> Delivery:
-        delivery = Chosen(program, [self.journal], work, catalogue, self.job.found())
+    def read(self, program: Program, scratch: Scratch, catalogue: Located) -> Delivery:
+        delivery = Chosen(program, [self.journal], scratch, catalogue, self.job.found())
         delivery.read((), [])
         catalogue.leave_out_others(frozenset(self.job.keys()))
         return delivery

@@ -8,7 +8,7 @@ from typing import NamedTuple, Optional, Sequence
 from flutejoin_tools.centre.symbols import Contents, contents_of
 from flutejoin_tools.common.faults import Fault
 from flutejoin_tools.common.log import INFORMATION, Log
-from flutejoin_tools.common.places import Work
+from flutejoin_tools.common.places import Scratch
 from flutejoin_tools.common.program import Program
 from flutejoin_tools.common.texts import shown
 from flutejoin_tools.fdt.content import DecodingBudget, Verdict, md5_of
@@ -50,11 +50,11 @@ class Chosen(Delivery):
         self,
         program: Program,
         journals: list[str],
-        work: Work,
+        scratch: Scratch,
         catalogue: Catalogue,
         documents: Sequence[Found],
     ) -> None:
-        super().__init__(program, journals, Wanted(None, ()), work, catalogue)
+        super().__init__(program, journals, Wanted(None, ()), scratch, catalogue)
         self.documents = documents
 
     def join(self) -> None:
@@ -86,13 +86,13 @@ class Checking(Writing):
     """The files of a round, with the sums of the objects that they are made of."""
 
     def __init__(
-        self, catalogue: Catalogue, work: Work, most: DecodingBudget, report: Log
+        self, catalogue: Catalogue, scratch: Scratch, most: DecodingBudget, report: Log
     ) -> None:
-        super().__init__(catalogue, work, most, report)
+        super().__init__(catalogue, scratch, most, report)
         self.contents: dict[tuple[bytes, int, int], Optional[Contents]] = {}
 
     def check_one(self, session: Session, toi: int) -> None:
-        source = self.work.at(os.path.join("objects", session.key(toi).file_name()))
+        source = self.scratch.at(os.path.join("objects", session.key(toi).file_name()))
         of = session.source, session.tsi, toi
         self.contents[of] = contents_of(source, session.information(toi))
         super().check_one(session, toi)
@@ -129,20 +129,20 @@ def is_full(fault: Exception) -> bool:
 def make(
     program: Program,
     journals: list[str],
-    work: Work,
+    scratch: Scratch,
     documents: Sequence[Found],
     report: Log,
 ) -> Outcome:
-    """Makes files of all objects of these journals that are whole. They are in `work`.
+    """Makes files of all objects of these journals that are whole. They are in `scratch`.
 
     Raises Fault and OSError; then nothing is delivered, and the journals are as they were.
     """
     catalogue = Catalogue(report, False)
-    delivery = Chosen(program, journals, work, catalogue, documents)
+    delivery = Chosen(program, journals, scratch, catalogue, documents)
     others = journals if len(journals) > 1 else []
     delivery.read((), others)
     most = max(LEAST_MOST, RATIO * sum(map(os.path.getsize, journals)))
-    writing = Checking(catalogue, work, DecodingBudget(most), report)
+    writing = Checking(catalogue, scratch, DecodingBudget(most), report)
     delivery.extract_all()
     writing.check()
     resolved = delivery.resolve(others)

@@ -131,9 +131,11 @@ class Service:
         return True
 
     def ask_all(self, is_stopped: Callable[[], bool]) -> bool:
-        """Asks each station that is asked, until nothing is wanted, and delivers what came.
+        """Asks the stations that have `ssh` in the settings, until nothing more is wanted of them,
+        and delivers what came.
 
-        Returns whether the system and the program refused nothing.
+        Returns whether all that was taken was delivered, without a fault of the system or the
+        program.
         """
         has_worked = True
         while has_worked and self.asker.is_busy() and not is_stopped():

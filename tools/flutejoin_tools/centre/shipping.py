@@ -116,7 +116,7 @@ class Shipping:
         chosen = {key_of(it): it for it in made}
         claims = [claim for session in outcome.catalogue for claim in session.claims()]
         claims = [claim for claim in claims if claim.key in chosen]
-        claims.sort(key=lambda claim: -claim.worth)
+        claims.sort(key=lambda claim: -claim.certainty)
         place = Place(self.out)
         try:
             owners = Owners(place, outcome.catalogue, None)

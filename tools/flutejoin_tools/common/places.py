@@ -1,4 +1,4 @@
-"""A folder whose files appear whole under their names, and the temporary folder beside it."""
+"""A folder whose files appear whole under their names, and the scratch folder beside it."""
 from __future__ import annotations
 
 import contextlib
@@ -43,8 +43,8 @@ def note_sender(file: str | int, sender: bytes) -> None:
         os.setxattr(file, SENDER, text)
 
 
-class Work:
-    """A temporary folder, used by one run at a time.
+class Scratch:
+    """A scratch folder: has the files that a run makes on the way, and is locked by one at a time.
 
     It is beside another folder, with `.partial` added to that one's name, so that files can be
     renamed from one to the other; or in that, if nothing can be made beside it. Files that a killed
@@ -98,21 +98,21 @@ class Work:
 
 
 @contextlib.contextmanager
-def work_folder(prefix: str = "flutejoin-repair-") -> Iterator[Work]:
+def scratch_folder(prefix: str = "flutejoin-repair-") -> Iterator[Scratch]:
     """A temporary folder of the system's, which is removed also if a signal ends the run."""
     with later():
-        work = Work(tempfile.mkdtemp(prefix=prefix))
-        ENDS.append(work.end)
+        scratch = Scratch(tempfile.mkdtemp(prefix=prefix))
+        ENDS.append(scratch.end)
     try:
-        yield work
+        yield scratch
     finally:
         with later():
-            if work.end in ENDS:
-                ENDS.remove(work.end)
-                work.end()
+            if scratch.end in ENDS:
+                ENDS.remove(scratch.end)
+                scratch.end()
 
 
-def work_beside(folder: str) -> str:
+def scratch_beside(folder: str) -> str:
     """The path of the temporary folder for a folder, on the same file system. Raises OSError."""
     path = os.path.realpath(folder)
     above = os.path.dirname(path)

@@ -36,7 +36,7 @@ from flutejoin_tools.journals.holdings import Key
 MOST_TOLD = 1 << 28  # bytes of changes after which no further journal is begun
 MOST_DOCUMENTS = 1 << 26  # bytes of FDT Instances in one answer; the next one has the others
 WAIT = 10  # seconds after which an answer that takes longer says so
-REQUEST_SECONDS, ANSWER_SECONDS = 60, 3600
+REQUEST_SECONDS, ANSWER_SECONDS = 60, 3600  # after which a request is refused, an answer ended
 PIECE = 1 << 20  # bytes that are read at once
 
 
@@ -61,8 +61,8 @@ class Answering:
         self.status = [status] if status else own
         self.marks = Marks(os.path.join(self.folder, "answer"))
         self.warn = warn
-        self.told = self.journals = 0  # bytes of changes, and journals that have any
-        self.line_at = time.monotonic()
+        self.bytes_told = self.journals_told = 0  # of changes, and how many journals have any
+        self.line_at = time.monotonic()  # when the last line was written
 
     def answer(self, request: bytes) -> None:
         """Writes the answer. Raises Refused, Fault and OSError."""
@@ -75,31 +75,34 @@ class Answering:
             self.tell(asked)
         else:
             self.give(asked)
-        self.line("end")
+        self.write_line("end")
 
-    def line(self, *words: object) -> None:
+    def write_line(self, *words: object) -> None:
+        """Writes a line of the answer at once, so that the centre sees that it goes on."""
         self.out.write((" ".join(map(str, words)) + "\n").encode())
         self.out.flush()
         self.line_at = time.monotonic()
 
-    def part(self, *words: object, data: bytes) -> None:
-        self.line(*words, len(data))
+    def write_part(self, *words: object, data: bytes) -> None:
+        """Writes a part of the answer: a line of these words and of how many bytes follow it."""
+        self.write_line(*words, len(data))
         self.out.write(data)
 
-    def spooled(self, file: IO[bytes], *words: object) -> None:
-        """Writes a part that is in a file."""
+    def copy_part(self, file: IO[bytes], *words: object) -> None:
+        """Writes a part of the answer whose bytes are those of a temporary file."""
         size = file.seek(0, os.SEEK_END)
         file.seek(0)
-        self.line(*words, size)
+        self.write_line(*words, size)
         while piece := file.read(PIECE):
             self.out.write(piece)
 
     def tend(self) -> None:
         """Says that the answer takes longer, if nothing was said for a while."""
         if time.monotonic() >= self.line_at + WAIT:
-            self.line("wait")
+            self.write_line("wait")
 
     def tending(self, items: Iterable[sums.Item]) -> Iterator[sums.Item]:
+        """Yields these items, and calls `tend` before each."""
         for item in items:
             self.tend()
             yield item
@@ -111,7 +114,7 @@ class Answering:
         old = self.marks.of(request.mark)
         if self.wait is not None:
             self.hold(old, 0 if request.again else self.wait)
-        self.line("since", old.name or NONE)
+        self.write_line("since", old.name or NONE)
         self.tell_status()
         with self.marks.begin() as made:
             self.tell_documents(old, made)
@@ -123,20 +126,20 @@ class Answering:
                 except (ReadFault, Cut) as fault:
                     self.warn(f"{journal.path}: {str(fault) or 'Cut'}")
             for number in old.journals.keys() - made.journals.keys():
-                self.line("gone", number)
+                self.write_line("gone", number)
             same = old.name if self.is_same(old, made) else self.marks.keep(made)
-            self.line("mark", same or NONE)
+            self.write_line("mark", same or NONE)
 
     def hold(self, old: Mark, seconds: float) -> None:
         """Waits until something is new since a mark, for so many seconds at most.
 
         A line tells that it does. Raises BrokenPipeError once nobody waits for the answer.
         """
-        self.line("wait")
+        self.write_line("wait")
         hold = Hold(self.folder, old, self.out.fileno(), seconds)
         while hold.goes_on():
             if time.monotonic() >= self.line_at + WAIT:
-                self.line("wait")
+                self.write_line("wait")
 
     @staticmethod
     def is_same(old: Mark, made: Mark) -> bool:
@@ -160,6 +163,7 @@ class Answering:
             self.warn(f"{fault.filename or self.folder}: {fault.strerror}")
 
     def tell_status(self) -> None:
+        """Tells the station's status, as the first of its files has it that can be read."""
         for path in self.status:
             try:
                 with open(path, "rb") as file:
@@ -167,7 +171,7 @@ class Answering:
             except OSError:
                 continue
             if len(data) <= exchange.MOST_STATUS:
-                self.part("status", data=data)
+                self.write_part("status", data=data)
                 return
 
     def tell_documents(self, old: Mark, made: Mark) -> None:
@@ -182,7 +186,7 @@ class Answering:
                 made.documents[name] = identity
 
     def tell_document(self, path: str, name: str, when: int) -> int:
-        """Tells of one, and returns how many bytes it has."""
+        """Tells of one FDT Instance, and returns how many bytes it has; 0 if it is none, or gone."""
         named = DOCUMENT.fullmatch(name)
         rest = name[: -len(REST)] if name.endswith(REST) else ""
         source = source_of(named[1] if named else rest)
@@ -196,14 +200,14 @@ class Answering:
         seconds = max(0, when // 10**9)
         sender = source.hex()
         words = ("document", sender, named[2], named[3], seconds) if named else ("rest", sender)
-        self.part(*words, data=data)
+        self.write_part(*words, data=data)
         return len(data)
 
     def tell_journal(
         self, journal: Journal, old: Mark, made: Mark, again: frozenset[Key]
     ) -> None:
         """Tells what changed in a journal since a mark."""
-        is_full = self.told > MOST_TOLD or self.journals >= exchange.MOST_JOURNALS
+        is_full = self.bytes_told > MOST_TOLD or self.journals_told >= exchange.MOST_JOURNALS
         if is_full and journal.id not in old.journals:
             return
         identity = journal.identity()
@@ -223,8 +227,9 @@ class Answering:
             for change in exchange.changes_between(old.items(journal.id), now, again):
                 change.write(changes)
             if changes.tell():
-                self.told, self.journals = self.told + changes.tell(), self.journals + 1
-                self.spooled(changes, "journal", journal.id, journal.source.hex(), journal.kind)
+                self.bytes_told += changes.tell()
+                self.journals_told += 1
+                self.copy_part(changes, "journal", journal.id, journal.source.hex(), journal.kind)
 
     def give(self, request: Want) -> None:
         """Gives what is wanted of journals; of one that is gone nothing."""
@@ -235,10 +240,10 @@ class Answering:
                     self.fill(known[journal_id].path, request.lines[journal_id], out)
                 except FileNotFoundError:
                     continue
-                self.spooled(out, "values", journal_id)
+                self.copy_part(out, "values", journal_id)
 
     def fill(self, path: str, lines: list[str], out: IO[bytes]) -> None:
-        """Writes what is asked for of a journal."""
+        """Writes the symbols of a journal that these lines of `flutejoin gaps` ask for."""
         os.stat(path)
         with tempfile.TemporaryFile() as given:
             given.write("".join(lines).encode())

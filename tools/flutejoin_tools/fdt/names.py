@@ -104,14 +104,18 @@ def descend(steps: list[str], step: str) -> None:
 
 
 class Claim(NamedTuple):
-    """A file that asks for a path."""
+    """A file that asks for the path that its description names.
+
+    Claims are sorted by `certainty`, so of several for a path the first has it. `rank` decides
+    between files of one name in a session: that of the newer FDT Instance has it.
+    """
 
     key: Key
     path: str
     session: tuple[bytes, int]
     instance: str  # its FDT Instance; a later claim from another of the session is an older file
-    rank: tuple[int, int]  # of that FDT Instance
-    worth: int  # of several files of one name in a session the one that is worth most has it
+    rank: tuple[int, int]  # of that FDT Instance: the newer has the greater one (`fdt.Instance`)
+    certainty: int  # that its file is right: 3 verified, 2 without MD5, 1 wrong, 0 not there
     mark: str  # added to the path if another claim has it
 
 
@@ -160,7 +164,7 @@ def assign(claims: Sequence[Claim], owner_of: OwnerOf) -> Paths:
             if claim.rank <= first.rank:
                 paths.replaced.add(claim.key)
                 continue
-            if not claim.worth:
+            if not claim.certainty:
                 continue
         if owner and is_of_other:
             paths.owners[claim.key] = owner

@@ -165,7 +165,7 @@ class Catalogue:
         newer ones. `owner_of` gives the sender whose file has a path already.
         """
         claims = [claim for session in self for claim in session.claims()]
-        claims.sort(key=lambda claim: -claim.worth)
+        claims.sort(key=lambda claim: -claim.certainty)
         paths, moved = names.assign(claims, owner_of), Told(self.report)
         for claim in claims:
             key = claim.key._replace(number=claim.key.number % APART)

@@ -10,7 +10,7 @@ from typing import Container, Iterable, Iterator, NamedTuple, Optional, Sequence
 from flutejoin_tools.common import gaps
 from flutejoin_tools.common.faults import Fault
 from flutejoin_tools.common.gaps import CHECK, GAPS
-from flutejoin_tools.common.places import Work
+from flutejoin_tools.common.places import Scratch
 from flutejoin_tools.common.program import ALL, Command, Failed, Program, argument
 from flutejoin_tools.common.shell import MOST_INPUTS
 from flutejoin_tools.common.texts import shown
@@ -60,13 +60,13 @@ class Delivery:
         program: Program,
         journals: list[str],
         wanted: Wanted,
-        work: Work,
+        scratch: Scratch,
         catalogue: Catalogue,
         folders: Sequence[str] = (),
     ) -> None:
         """`folders` have FDT Instances as documents."""
         self.program, self.journals, self.wanted = program, journals, wanted
-        self.work, self.catalogue, self.folders = work, catalogue, folders
+        self.scratch, self.catalogue, self.folders = scratch, catalogue, folders
 
     def read(self, handed_in: Iterable[str], others: Sequence[str]) -> None:
         """Reads what the journals hold, and the FDT Instances.
@@ -95,7 +95,7 @@ class Delivery:
             self.name = shown(self.journal)
             self.run([*CHECK, argument(self.journal)], [self.name])
             return
-        self.journal, self.name = self.work.at("journal"), ALL
+        self.journal, self.name = self.scratch.at("journal"), ALL
         words = ["join", "--any-size", *self.wanted.sessions(), "-o", self.journal]
         rest = self.journals
         before: list[str] = []
@@ -121,7 +121,7 @@ class Delivery:
 
     def read_instances(self, others: Sequence[str]) -> None:
         """Reads the FDT Instances that are whole, the newest first."""
-        documents = Documents(self.work.at("fdt"), self.journals, self.wanted.has)
+        documents = Documents(self.scratch.at("fdt"), self.journals, self.wanted.has)
         with contextlib.closing(documents):
             documents.read(self.journal)
             documents.resolve(others, shown)
@@ -135,7 +135,7 @@ class Delivery:
                 self.catalogue.read(session, file, key.number, document.name)
         for key, state in documents.unread.items():
             self.catalogue.of(key).unread[key.number] = state
-        self.work.remove("fdt")
+        self.scratch.remove("fdt")
 
     def read_handed_in(self, paths: Iterable[str]) -> None:
         """Reads the FDT Instances that the user gave as files."""
@@ -161,7 +161,7 @@ class Delivery:
 
     def describe(self, is_shown: holdings.Choice) -> str:
         """Copies described objects to a journal, with information that only the FDT has."""
-        path = self.work.at("described")
+        path = self.scratch.at("described")
         every = (each for session in self.catalogue for each in sorted(session.added()))
         added = (each for each in every if is_shown(each[0]))
         with self.named_faults(), open(path, "wb") as out:
@@ -220,12 +220,12 @@ class Delivery:
             self.take(key, State(gaps.WHOLE))
             self.move(key, "encoded", key)
         for name in "described", "encoded", "encoded.journal":
-            self.work.remove(name)
+            self.scratch.remove(name)
 
     def move(self, key: Key, folder: str, to: Key) -> None:
         """Moves an object to those that were extracted first, which may have another number."""
-        source = os.path.join(self.work.at(folder), key.file_name())
-        os.rename(source, os.path.join(self.work.at("objects"), to.file_name()))
+        source = os.path.join(self.scratch.at(folder), key.file_name())
+        os.rename(source, os.path.join(self.scratch.at("objects"), to.file_name()))
 
     def encoded(self) -> Iterator[Key]:
         """The objects of a fit size that are to be decoded, and may be whole."""
@@ -239,13 +239,13 @@ class Delivery:
     def extract_apart(self, wanted: Container[Key]) -> Iterator[Key]:
         """Extracts each of these objects by a run of its own, without syncing it, and yields those
         that are whole."""
-        journal = self.work.at("encoded.journal")
-        os.mkdir(self.work.at("encoded"))
+        journal = self.scratch.at("encoded.journal")
+        os.mkdir(self.scratch.at("encoded"))
         added = dict(each for session in self.catalogue for each in session.added())
         with self.named_faults(), open(journal, "wb") as out:
             with open(self.journal, "rb", buffering=0) as file:
                 for key in holdings.copies(file, wanted.__contains__, out, added):
-                    path = os.path.join(self.work.at("encoded"), key.file_name())
+                    path = os.path.join(self.scratch.at("encoded"), key.file_name())
                     words = ["extract", "--any-size", "-o", "-", *gaps.options(key.text())]
                     with open(path, "wb") as made:
                         answer = self.program.run([*words, argument(journal)], out=made)
@@ -256,7 +256,7 @@ class Delivery:
 
     def extract(self, journal: str, folder: str) -> Iterator[tuple[Key, State]]:
         """Extracts all whole objects, and yields the state that flutejoin prints of each object."""
-        words = ["extract", "--all", "--any-size", "-o", self.work.at(folder), argument(journal)]
+        words = ["extract", "--all", "--any-size", "-o", self.scratch.at(folder), argument(journal)]
         for line in self.program.lines(Command(words, [self.name])):
             if not line.startswith(b"written "):
                 yield self.told(line)
@@ -300,8 +300,8 @@ class Delivery:
         completed: set[Key] = set()
         for at, found in enumerate(rounds):
             if at:
-                self.work.remove("resolved")
-                self.work.remove("resolved.journal")
+                self.scratch.remove("resolved")
+                self.scratch.remove("resolved.journal")
             completed |= self.complete(found, ways)
         return completed
 
@@ -311,7 +311,7 @@ class Delivery:
         The numbers are those of the objects in the catalogue.
         """
         completed = set()
-        made = self.work.at("resolved.journal")
+        made = self.scratch.at("resolved.journal")
         with open(made, "wb") as out:
             copied = holdings.Copy(out)
             for key, raw, entries in merged(self.journals, found.__contains__):

@@ -69,7 +69,7 @@ from typing import Iterator
 from flutejoin_tools.common.faults import Fault
 from flutejoin_tools.common.log import Log
 from flutejoin_tools.common.options import CommandLine, number_below, number_of_bytes, sender_option
-from flutejoin_tools.common.places import Work, work_beside
+from flutejoin_tools.common.places import Scratch, scratch_beside
 from flutejoin_tools.common.program import Program, find
 from flutejoin_tools.common.shell import MOST_INPUTS
 from flutejoin_tools.common.signals import ENDS, answer_stops, end_run, exit_status, later
@@ -194,18 +194,18 @@ def see(journal: str) -> None:
 
 
 @contextlib.contextmanager
-def work_for(folder: str | None) -> Iterator[Work]:
+def scratch_for(folder: str | None) -> Iterator[Scratch]:
     with later():
-        path = work_beside(folder) if folder else tempfile.mkdtemp(prefix="flutejoin-files-")
-        work = Work(path)
-        ENDS.append(work.end)
+        path = scratch_beside(folder) if folder else tempfile.mkdtemp(prefix="flutejoin-files-")
+        scratch = Scratch(path)
+        ENDS.append(scratch.end)
     try:
-        yield work
+        yield scratch
     finally:
         with later():
-            if work.end in ENDS:  # and not ended by `exit_status`
-                ENDS.remove(work.end)
-                work.end()
+            if scratch.end in ENDS:  # and not ended by `exit_status`
+                ENDS.remove(scratch.end)
+                scratch.end()
 
 
 def deliver(args: argparse.Namespace, report: Log) -> None:
@@ -220,10 +220,10 @@ def deliver(args: argparse.Namespace, report: Log) -> None:
     # Where generations are kept apart, the MD5 decides which values belong together.
     is_resolved = args.resolve or bool(kept.journals)
     others = [*args.with_values, *(journals if len(journals) > 1 else [])] if is_resolved else []
-    with work_for(args.o) as work:
-        program.kept = (work.folder,)
+    with scratch_for(args.o) as scratch:
+        program.kept = (scratch.folder,)
         wanted = Wanted(args.source, args.tsi)
-        delivery = Delivery(program, journals, wanted, work, catalogue, kept.folders)
+        delivery = Delivery(program, journals, wanted, scratch, catalogue, kept.folders)
         delivery.read(args.fdt, others)
         if args.o is None:
             delivery.look()
@@ -231,7 +231,7 @@ def deliver(args: argparse.Namespace, report: Log) -> None:
             catalogue.settle()
             catalogue.paths(lambda path: None)
         else:
-            writing = Writing(catalogue, work, DecodingBudget(most(args)), report)
+            writing = Writing(catalogue, scratch, DecodingBudget(most(args)), report)
             writing.find(args.o, args.source)
             delivery.extract_all()
             writing.check()

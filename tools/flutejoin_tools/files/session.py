@@ -340,8 +340,9 @@ class Session:
             return outcome.checked.verdict is Verdict.VERIFIED
         return self.state(toi).is_whole()
 
-    def worth(self, toi: int) -> int:
-        """How much a file is worth its name: one that is verified most, and 0 if there is none."""
+    def certainty(self, toi: int) -> int:
+        """How certain it is that a file is right: 3 if verified, or whole and not checked yet, 2 if
+        it has no MD5, 1 if it is wrong, 0 if it is not there."""
         checked = self.checked.get(toi)
         if checked:
             return {Verdict.VERIFIED: 3, Verdict.NO_MD5: 2}.get(checked.verdict, 1)
@@ -358,7 +359,7 @@ class Session:
                 session,
                 it.instance,
                 it.rank,
-                self.worth(toi),
+                self.certainty(toi),
                 f"{self.tsi}-{it.file.toi}",
             )
             for toi, it in described

@@ -8,7 +8,7 @@ from typing import Container, Iterator, NamedTuple, Optional
 
 from flutejoin_tools.common.gaps import WHOLE
 from flutejoin_tools.common.log import Log
-from flutejoin_tools.common.places import Place, Work, bring_to_disk
+from flutejoin_tools.common.places import Place, Scratch, bring_to_disk
 from flutejoin_tools.common.texts import shown
 from flutejoin_tools.fdt import content, names
 from flutejoin_tools.fdt.content import Checked, DecodingBudget, Verdict
@@ -36,11 +36,11 @@ class Writing:
     """The files of one run: first all are checked, then synced, then given their names."""
 
     def __init__(
-        self, catalogue: Catalogue, work: Work, most: DecodingBudget, report: Log
+        self, catalogue: Catalogue, scratch: Scratch, most: DecodingBudget, report: Log
     ) -> None:
-        self.catalogue, self.work, self.most, self.report = catalogue, work, most, report
+        self.catalogue, self.scratch, self.most, self.report = catalogue, scratch, most, report
         self.ready: dict[Key, Ready] = {}
-        os.mkdir(work.at("decoded"))
+        os.mkdir(scratch.at("decoded"))
 
     def find(self, folder: str, named: bytes | None) -> None:
         """Finds the files that are there already, with the MD5 of their only description.
@@ -87,7 +87,7 @@ class Writing:
 
     def check_one(self, session: Session, toi: int) -> None:
         key, described = session.key(toi), session.usable(toi)
-        source, decoded = (self.work.at(os.path.join(at, key.file_name())) for at in FOLDERS)
+        source, decoded = (self.scratch.at(os.path.join(at, key.file_name())) for at in FOLDERS)
         try:
             of = content.Check(source, [each.file for each in described], self.most, decoded)
             at, checked = of.result()
@@ -104,7 +104,7 @@ class Writing:
     def write(self, folder: str, named: bytes | None) -> None:
         """Gives the files their names. The sender `named` gets the names that it asks for."""
         if any(each.session.is_encoded(each.toi) for each in self.ready.values()):
-            bring_to_disk(self.work.folder)
+            bring_to_disk(self.scratch.folder)
         place = Place(folder)
         try:
             paths = self.catalogue.paths(Owners(place, self.catalogue, named).of)
@@ -132,7 +132,7 @@ class Writing:
         ready.session.outcomes[ready.toi] = Outcome(ready.checked, path, new)
 
 
-FOLDERS = "objects", "decoded"  # in the work folder
+FOLDERS = "objects", "decoded"  # in the scratch folder
 
 
 def told_of(fault: OSError) -> str:

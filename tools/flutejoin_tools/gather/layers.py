@@ -1,4 +1,5 @@
-"""Takes datagrams apart by time, of objects of which one batch has several values."""
+"""Parts the datagrams of a batch that contradicts itself, by time, into layers: each is a datagram
+file without a contradiction, of which a journal is joined."""
 from __future__ import annotations
 
 import contextlib
@@ -19,16 +20,18 @@ MOST_LAYERS = 8  # of an object
 
 
 class Layer:
-    """What came of an object in a batch without a contradiction."""
+    """The values of an object in one layer: those of a batch that do not contradict each other."""
 
     def __init__(self) -> None:
         self.values: dict[bytes, int] = {}  # hashes of symbols, and of transmission information
 
-    def takes(self, told: dict[bytes, int]) -> bool:
-        return all(self.values.get(place, value) == value for place, value in told.items())
+    def agrees(self, came: dict[bytes, int]) -> bool:
+        """Whether none of the values that came in a datagram contradicts the layer."""
+        return all(self.values.get(place, value) == value for place, value in came.items())
 
-    def has(self, told: dict[bytes, int]) -> bool:
-        return all(self.values.get(place) == value for place, value in told.items())
+    def has(self, came: dict[bytes, int]) -> bool:
+        """Whether the layer has all values that came in a datagram."""
+        return all(self.values.get(place) == value for place, value in came.items())
 
 
 class Layers:
@@ -52,18 +55,18 @@ class Layers:
         layers = self.objects.get((packet.tsi, packet.toi)) if packet else None
         if packet is None or layers is None:
             return
-        told = {}
+        came = {}
         if packet.information is not None:
-            told[b""] = hash(packet.information)
+            came[b""] = hash(packet.information)
         if packet.symbol:
-            told[packet.payload_id] = hash(packet.symbol)
+            came[packet.payload_id] = hash(packet.symbol)
         of = packet.tsi, packet.toi
-        number = self.choose(layers, self.current[of], told)
+        number = self.choose(layers, self.current[of], came)
         if number is None:
             self.dropped += 1
             return
         self.current[of] = number
-        layers[number].values.update(told)
+        layers[number].values.update(came)
         while len(self.files) <= number:
             path = f"{self.front}.layer{len(self.files)}{PARTIAL}"
             self.files.append(begin_file(path))
@@ -71,24 +74,26 @@ class Layers:
         self.files[number].write(LENGTH.pack(len(datagram)) + datagram)
 
     @staticmethod
-    def choose(layers: list[Layer], current: int, told: dict[bytes, int]) -> Optional[int]:
-        """The layer that takes what a datagram tells; None if there is none."""
-        if layers[current].takes(told):
+    def choose(layers: list[Layer], current: int, came: dict[bytes, int]) -> Optional[int]:
+        """The number of the layer to which the values of a datagram go; None if there is none."""
+        if layers[current].agrees(came):
             return current
         for number, layer in enumerate(layers):
-            if layer.has(told):
+            if layer.has(came):
                 return number
         if len(layers) < MOST_LAYERS:
             layers.append(Layer())
             return len(layers) - 1
-        return next((at for at, layer in enumerate(layers) if layer.takes(told)), None)
+        return next((at for at, layer in enumerate(layers) if layer.agrees(came)), None)
 
     def finish(self) -> list[str]:
+        """Ends the datagram files of the layers, and returns their paths."""
         for file in self.files:
             file.close()
         return [file.name for file in self.files]
 
     def remove(self) -> None:
+        """Removes the datagram files of the layers."""
         for path in self.finish():
             with contextlib.suppress(FileNotFoundError):
                 os.unlink(path)

@@ -258,9 +258,9 @@ def once(before: Optional[int], name: str, value: int) -> int:
 
 
 def sessions_in(paths: Iterable[str]) -> list[int]:
-    """The sessions that these files describe, if each has a TSI; else none is chosen.
+    """The TSIs of the sessions that these files describe, to receive these alone.
 
-    Raises ValueError.
+    If one of them has no TSI the list is empty, and all sessions are received. Raises ValueError.
     """
     tsis = {it.tsi for path in paths for it in read(path)}
     return [] if None in tsis else sorted(tsi for tsi in tsis if tsi is not None)

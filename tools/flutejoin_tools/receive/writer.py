@@ -1,4 +1,5 @@
-"""The thread that writes received datagrams, and looks after their folders."""
+"""The thread that writes received datagrams to files, brings these and their folders to the disk,
+and looks how full that is."""
 from __future__ import annotations
 
 import collections

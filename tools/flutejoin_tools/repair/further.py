@@ -15,7 +15,7 @@ from flutejoin_tools.common import gaps
 from flutejoin_tools.common.file_names import STANDARD_OUTPUT
 from flutejoin_tools.common.gaps import Numbers
 from flutejoin_tools.common.log import Log
-from flutejoin_tools.common.places import Work, work_folder
+from flutejoin_tools.common.places import Scratch, scratch_folder
 from flutejoin_tools.common.program import Program
 from flutejoin_tools.fdt.fdt import File
 from flutejoin_tools.files.delivery import Delivery
@@ -51,9 +51,9 @@ def fits(file: File, numbers: Numbers) -> bool:
 class Again(Delivery):
     """The objects of a generation, by descriptions that were read already."""
 
-    def __init__(self, program: Program, journal: str, work: Work, further: Further) -> None:
+    def __init__(self, program: Program, journal: str, scratch: Scratch, further: Further) -> None:
         catalogue = Located(Log("", STANDARD_OUTPUT))
-        super().__init__(program, [journal], further.wanted, work, catalogue)
+        super().__init__(program, [journal], further.wanted, scratch, catalogue)
         self.further, self.located = further, catalogue
 
     def read_instances(self, others: Sequence[str]) -> None:
@@ -169,10 +169,10 @@ class Further:
     ) -> Lacking:
         """Asks for what one generation lacks."""
         kept = self.program.kept
-        with work_folder() as work:
-            self.program.kept = (*kept, work.folder)
+        with scratch_folder() as scratch:
+            self.program.kept = (*kept, scratch.folder)
             try:
-                delivery = Again(self.program, generation.path, work, self)
+                delivery = Again(self.program, generation.path, scratch, self)
                 delivery.read((), [])
                 delivery.located.leave_out_others(generation.numbers)
                 mine = Lacking(delivery, delivery.located, origins, by_symbols)

@@ -34,7 +34,7 @@ from flutejoin_tools.common.faults import Fault
 from flutejoin_tools.common.file_names import PARTIAL
 from flutejoin_tools.common.log import Log
 from flutejoin_tools.common.options import number_of_bytes
-from flutejoin_tools.common.places import Work, work_folder
+from flutejoin_tools.common.places import Scratch, scratch_folder
 from flutejoin_tools.common.program import Program
 from flutejoin_tools.common.texts import shown
 from flutejoin_tools.files.catalogue import Told
@@ -144,10 +144,10 @@ class Inputs(NamedTuple):
     tsis: Sequence[int] = ()
     instances: Sequence[str] = ()  # files
 
-    def read(self, program: Program, work: Work, catalogue: Located) -> Delivery:
+    def read(self, program: Program, scratch: Scratch, catalogue: Located) -> Delivery:
         """Reads the journal, and the FDT Instances that describe its files."""
         wanted, folders = Wanted(self.source, self.tsis), beside([self.journal]).folders
-        delivery = Delivery(program, [self.journal], wanted, work, catalogue, folders)
+        delivery = Delivery(program, [self.journal], wanted, scratch, catalogue, folders)
         delivery.read(self.instances, [])
         return delivery
 
@@ -161,7 +161,7 @@ class Reading(Protocol):
     @property
     def source(self) -> Optional[bytes]: ...
 
-    def read(self, program: Program, work: Work, catalogue: Located) -> Delivery: ...
+    def read(self, program: Program, scratch: Scratch, catalogue: Located) -> Delivery: ...
 
 
 class Result:
@@ -252,9 +252,9 @@ def repair(
     origins = Origins(settings.base, settings.allow)
     spending = Spending(settings.most, settings.seconds)
     catalogue = Located(report)
-    with work_folder() as work:
-        program.kept = (work.folder,)
-        delivery = inputs.read(program, work, catalogue)
+    with scratch_folder() as scratch:
+        program.kept = (scratch.folder,)
+        delivery = inputs.read(program, scratch, catalogue)
         result = Result(sender_of(catalogue, inputs.source))
         further = Further(delivery, catalogue, generations_beside(inputs.journal))
         lacking = Lacking(delivery, catalogue, origins, settings.symbols)

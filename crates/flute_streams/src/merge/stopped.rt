@@ -10,8 +10,9 @@ use crate::streams::Streams;
 use flute_journal::LoadFault;
 use std::alloc::Global;
 
-/// The fault of the first stream, in their order, that has one, once a merge of them has stopped at
-/// this fault. Those before the one that stopped are read to their ends, until one of them stops.
+/// Of several streams whose merge has stopped at the fault `stopped`, the fault of the first stream
+/// that has one, in the order of their numbers. To find it, each stream before the one of `stopped`
+/// is read to its end, until one of them has a fault.
 pub fn first_fault<G: Streams>(alloc: Global, streams: &mut G, stopped: InputFault) -> InputFault
     requires { stopped.number < length (G.streams streams.old) }
     ensures stopped { (start : List G.Stream)
