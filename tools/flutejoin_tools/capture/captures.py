@@ -66,6 +66,7 @@ class Interface(NamedTuple):
 
     @classmethod
     def of(cls, order: str, body: bytes) -> Interface:
+        """The interface that a block of a pcapng capture describes."""
         link, snap = struct.unpack_from(order + "HxxI", body)
         return cls(link, snap, units_of(order, body))
 
@@ -150,6 +151,7 @@ def packets(stream: Stream) -> Iterator[Packet]:
 
 
 def taken(stream: Stream, size: int, what: str = "a packet") -> bytes:
+    """Reads so many bytes. Raises Ends if the capture has fewer."""
     data = stream.read(size)
     if len(data) < size:
         raise Ends(what)

@@ -38,6 +38,7 @@ def sum_of(data: bytes) -> int:
 
 @functools.lru_cache(maxsize=32)
 def repeated(number: int, width: int, count: int) -> int:
+    """The number whose bytes are those of another, of this width, so many times."""
     return int.from_bytes(number.to_bytes(width, "big") * count, "big")
 
 

@@ -95,6 +95,7 @@ class Datagrams:
         return bool(is_to_others or self.senders and source not in self.senders)
 
     def leave_out(self, cause: str) -> None:
+        """Counts a datagram that is left out, with the cause."""
         self.left_out[cause] += 1
 
     def leave_tunnel(self, name: str) -> None:
@@ -148,6 +149,7 @@ class Datagrams:
                 self.leave_unknown("EtherType", f"0x{kind.hex()}")
 
     def take_ip(self, ip: bytes, is_cut: bool) -> None:
+        """Takes an IP packet of either version."""
         version = ip[0] >> 4 if ip else 0
         if version == 4 and len(ip) >= 20:
             self.take_ip4(ip)
@@ -157,6 +159,7 @@ class Datagrams:
             self.leave_out(CUT_BEFORE_PORT)
 
     def take_ip4(self, ip: bytes) -> None:
+        """Takes an IPv4 packet: its datagram, or a fragment of one."""
         first, length, number, place, protocol, source, target = IP4_HEAD.unpack_from(ip)
         head = (first & 15) * 4
         data, is_whole = ip[head:length], length <= len(ip)
@@ -180,6 +183,7 @@ class Datagrams:
             self.take_udp(source, target, data, is_whole)
 
     def take_ip6(self, ip: bytes) -> None:
+        """Takes an IPv6 packet: its datagram, or a fragment of one."""
         length, kind, source, target = IP6_HEAD.unpack_from(ip)
         is_whole, is_joined = length <= len(ip) - 40, False
         kind, data = self.behind_headers(kind, ip[40 : 40 + length])
@@ -258,10 +262,12 @@ class Datagrams:
                 self.hand_on_one(source, target, port, payload)
 
     def hand_on_one(self, source: bytes, target: bytes, port: int, payload: bytes) -> None:
+        """Hands on a datagram, and counts it."""
         self.count += 1
         self.hand_on(source, target, port, payload)
 
     def take_short_udp(self, data: bytes, is_whole: bool) -> None:
+        """Counts a datagram whose header is cut."""
         if len(data) < 4 and not is_whole:
             self.leave_out(CUT_BEFORE_PORT)
         elif self.may_want(data):
@@ -299,6 +305,7 @@ class Datagrams:
             self.leave_out(cause)
 
     def finish(self) -> None:
+        """At the end of the captures: counts datagrams of which fragments are missing."""
         self.fragments.finish()
 
 

@@ -105,5 +105,6 @@ class Fragments:
             self.lose(key, datagram.pieces.get(0, b""), datagram.cause or LOST)
 
     def finish(self) -> None:
+        """At the end: forgets all."""
         while self.last:
             self.forget(next(iter(self.last)))

@@ -40,11 +40,15 @@ class Ends(CaptureFault):
 
 
 class Empty(Ends):
+    """A capture has no byte."""
+
     def __init__(self) -> None:
         CaptureFault.__init__(self, "is empty")
 
 
 class Damage(CaptureFault):
+    """The bytes of a capture are not those of any."""
+
     def __init__(self, what: str) -> None:
         super().__init__(f"is damaged ({what}); the packets before that were read")
 
@@ -67,6 +71,7 @@ class Stop:
         answer_stops(self.ask)
 
     def ask(self, _number: int, _frame: object) -> None:
+        """Takes a signal that asks for the end."""
         self.asked += 1
         self.since = self.since or time.monotonic()
 
@@ -116,6 +121,7 @@ class Input(io.RawIOBase):
         return bool(select.select([self.file], [], [], left)[0])
 
     def readinto(self, buffer: Any) -> int:
+        """Reads what is there into a buffer, and returns how much; 0 at the end."""
         if self.begin:
             size = min(len(buffer), len(self.begin))
             buffer[:size], self.begin = self.begin[:size], self.begin[size:]
@@ -146,6 +152,7 @@ class Stream:
         return bytes(found)
 
     def fill(self) -> int:
+        """Reads the next buffer, and returns how many bytes it has; 0 at the end."""
         self.at, self.end = 0, self.source.readinto(self.buffer) or 0
         return self.end
 
@@ -184,6 +191,7 @@ class Inflated(io.RawIOBase):
         return True
 
     def readinto(self, buffer: Any) -> int:
+        """Decompresses into a buffer, and returns how much; 0 at the end."""
         while not self.fault:
             data = self.member.unused_data or self.member.unconsumed_tail
             data = data or self.more()
@@ -206,6 +214,7 @@ class Inflated(io.RawIOBase):
         raise self.fault
 
     def more(self) -> bytes:
+        """Reads further bytes of the gzip stream."""
         data = self.stream.read1(65536)
         self.came += len(data)
         return data

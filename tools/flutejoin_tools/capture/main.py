@@ -100,6 +100,7 @@ class Flows:
         self.work = 0  # that datagrams took more than a small one
 
     def add(self, source: bytes, target: bytes, port: int, payload: bytes) -> None:
+        """Counts a datagram of a flow: of one sender to one group and port."""
         flow = source, target, port
         count = self.counts.get(flow)
         if count is None:
@@ -125,6 +126,8 @@ class Flows:
 
 
 def number_up_to(most: int) -> Callable[[str], int]:
+    """Returns what reads an option's value as a number from 1 to `most`."""
+
     def number(text: str) -> int:
         if not text.isascii() or not text.isdigit() or not 1 <= int(text) <= most:
             raise argparse.ArgumentTypeError(f"{text!r} is not a number from 1 to {most}")
@@ -273,11 +276,13 @@ def is_readable_again(name: str) -> bool:
 def wanted_of(
     args: argparse.Namespace, add: datagrams.HandOn, senders: Container[bytes]
 ) -> datagrams.Datagrams:
+    """What finds the datagrams that the options ask for, of these senders."""
     ports, groups = set(args.port or ()), {group.packed for group in args.group or ()}
     return datagrams.Datagrams(ports, groups, args.any_checksum, add, senders)
 
 
 def capture(args: argparse.Namespace, report: Log) -> None:
+    """Reads all captures, and writes datagram files or lists the flows."""
     flows = Flows()
     out = parts.Files(args.o or ".", args.split, report) if args.port else None
 

@@ -259,6 +259,7 @@ class Files:
         return self.open.get(sender)
 
     def flush(self, part: Part) -> None:
+        """Writes what waits of a file. Raises Unwritable."""
         try:
             part.flush()
         except OSError as fault:
@@ -267,6 +268,7 @@ class Files:
             ) from None
 
     def flush_all(self) -> None:
+        """Writes what waits of all files, as once a second."""
         self.tell()
         for part in self.open.values():
             self.flush(part)
@@ -290,6 +292,7 @@ class Files:
             self.report.say(f"{part.path}: {part.count} datagrams from {address_text(sender)}")
 
     def finish(self) -> None:
+        """Closes all files; a folder that was made and got none is removed."""
         self.tell()
         for sender in list(self.open):
             self.close(sender)

@@ -104,6 +104,7 @@ def in_pieces(size: int) -> tuple[int, str]:
 
 @functools.lru_cache(maxsize=32)
 def fields_of(form: str, count: int) -> struct.Struct:
+    """The form of so many fields of one kind, one after another."""
     return struct.Struct(">" + form * count)
 
 

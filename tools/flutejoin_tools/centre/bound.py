@@ -29,6 +29,7 @@ class Bound:
         self.next, self.bytes, self.is_over = float("-inf"), 0, False
 
     def keep_at_times(self) -> None:
+        """Keeps to the bound, if there is one, once in so many seconds."""
         now, most = self.deliverer.clock(), self.deliverer.settings.most
         if most is not None and now >= self.next:
             self.next = now + EACH
@@ -75,6 +76,7 @@ class Bound:
         return [self.deliverer.at("kept", name) for name in names]
 
     def oldest(self) -> list[str]:
+        """What was set aside, the oldest first."""
         folder = self.deliverer.at("aside")
         paths = [path for path, _ in self.held(folder)]
         return sorted(paths, key=lambda it: os.lstat(it).st_mtime_ns)

@@ -49,10 +49,12 @@ class Job(NamedTuple):
     documents: Sequence[Sequence[Any]]  # their FDT Instances: path, TSI, number and digest
 
     def keys(self) -> List[Key]:
+        """The objects of the job."""
         source = bytes.fromhex(self.source)
         return [Key(source, tsi, FILE, toi) for tsi, toi in self.objects]
 
     def found(self) -> List[Found]:
+        """The FDT Instances of the job, as files of a folder."""
         source = bytes.fromhex(self.source)
         return [Found(path, source, *of) for path, *of in self.documents]
 
@@ -75,6 +77,7 @@ class Gathered(NamedTuple):
         return bytes.fromhex(self.job.source)
 
     def read(self, program: Program, scratch: Scratch, catalogue: Located) -> Delivery:
+        """Reads what the journal has, and describes the objects of the job alone."""
         delivery = Chosen(program, [self.journal], scratch, catalogue, self.job.found())
         delivery.read((), [])
         catalogue.leave_out_others(frozenset(self.job.keys()))

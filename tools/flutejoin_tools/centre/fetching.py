@@ -121,6 +121,7 @@ class Fetching:
         return self.deliverer.clock() >= since + self.settings.after and self.tries.may_ask(row.key)
 
     def tell_spent(self, is_missing: bool) -> None:
+        """Tells once a day that its bytes are spent, if anything is missing."""
         if is_missing and not self.is_spent:
             self.is_spent = True
             most = size(self.settings.most)
@@ -149,6 +150,7 @@ class Fetching:
         )
 
     def job(self, rows: list[Row]) -> Job:
+        """The job of a run for these files, which are of one sender."""
         keys = [row.key for row in rows]
         return Job(
             self.deliverer.program.path,
@@ -277,10 +279,12 @@ class Fetching:
 
 
 def order(row: Row) -> tuple[int, Key]:
+    """Files that lack least come first."""
     return row.missing_bytes, row.key
 
 
 def in_background() -> Callable[[], None]:
+    """Returns what a run calls first: it has a low priority, and ends with the centre."""
     ask = die_with_parent()
 
     def prepare() -> None:

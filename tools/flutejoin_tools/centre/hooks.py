@@ -48,6 +48,7 @@ class Hooks:
         return bool(waiting)
 
     def start(self, delivery: Delivery) -> None:
+        """Starts the command for a file."""
         assert delivery.path
         path = os.path.join(self.out, delivery.path)
         told = {
@@ -70,6 +71,7 @@ class Hooks:
             self.fail(delivery, str(fault))
 
     def end(self, status: int) -> None:
+        """Notes how the command ended: its file is done, or the command is run again later."""
         delivery, self.child, self.of = self.of, None, None
         assert delivery
         if status == 0:
@@ -81,6 +83,7 @@ class Hooks:
             self.fail(delivery, ended)
 
     def fail(self, delivery: Delivery, told: str) -> None:
+        """Puts off the next try of a file's command, or gives it up after TRIES of them."""
         self.tries += 1
         what = f"{delivery.path}: the command of on-file: {told}"
         if self.tries < TRIES:

@@ -29,6 +29,7 @@ class House:
         self.next = float("-inf")
 
     def keep_at_times(self) -> None:
+        """Lets go of what is over, once in so many seconds."""
         now = self.deliverer.clock()
         if now >= self.next:
             self.next = now + EACH
@@ -94,6 +95,7 @@ class House:
                     self.remove_document(path, known.keys)
 
     def remove_document(self, path: str, keys: frozenset[Key]) -> None:
+        """Removes an FDT Instance, and forgets what it described."""
         remove(path)
         self.deliverer.described.drop(path)
         of = NAME.fullmatch(os.path.basename(path))
@@ -103,6 +105,7 @@ class House:
         self.deliverer.dirty.update(gone)
 
     def remove_aside(self, since: float) -> None:
+        """Removes what was set aside before a time."""
         for name in names_in(self.deliverer.at("aside")):
             with contextlib.suppress(FileNotFoundError):
                 if os.stat(self.deliverer.at("aside", name)).st_mtime < since:
@@ -110,6 +113,7 @@ class House:
 
 
 def names_in(folder: str) -> list[str]:
+    """What is in a folder; nothing if there is none."""
     try:
         return sorted(os.listdir(folder))
     except FileNotFoundError:

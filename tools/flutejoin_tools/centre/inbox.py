@@ -35,6 +35,7 @@ class Station(NamedTuple):
     ask: tuple[str, ...] = ()  # the command that asks it; empty if it is not asked
 
     def path(self) -> str:
+        """The folder in which the station's journals come."""
         return os.path.join(self.folder, self.journals) if self.journals else self.folder
 
 
@@ -55,6 +56,7 @@ class Inbox:
         return has_changed
 
     def documents_path(self) -> str:
+        """The folder in which the station's FDT Instances come."""
         return os.path.join(self.station.folder, "fdt")
 
     def take(self) -> list[str]:
@@ -72,6 +74,7 @@ class Inbox:
         return [os.path.join(self.taken.path, name[0]) for name in self.taken.names()]
 
     def journals(self) -> list[str]:
+        """The journals that came, and are not taken yet."""
         folder = self.station.path()
         found = [name for name in os.listdir(folder) if name.endswith(ENDING)]
         paths = sorted(os.path.join(folder, name) for name in found)
@@ -155,6 +158,7 @@ class Inbox:
 
     @staticmethod
     def document(path: str, tsi: int, number: int) -> Document | None:
+        """The FDT Instance in a file; None if it is none."""
         if os.path.islink(path):
             return None
         with open(path, "rb") as file:
@@ -177,5 +181,6 @@ def put_aside(path: str, aside: str, name: str) -> str:
 
 
 def mark_of(path: str) -> tuple[int, int, int]:
+    """What tells whether a file is as it was: its inode, length and time."""
     found = os.lstat(path)
     return found.st_ino, found.st_size, found.st_mtime_ns

@@ -103,6 +103,8 @@ LOOK = 0.2  # seconds between two looks at what came; a child that ends ends a p
 
 
 class Centre:
+    """A run of the centre: delivers until a signal ends it, or once."""
+
     def __init__(self, settings: Settings, report: ServiceLog) -> None:
         self.settings, self.report = settings, report
         self.signals = 0
@@ -117,15 +119,18 @@ class Centre:
         answer_stops(self.stop)
 
     def stop(self, number: int, frame: object) -> None:
+        """Takes a signal: the first ends the run after what it is at, the second at once."""
         self.signals += 1
         if self.signals > 1:
             end_run(number, frame)
 
     def tend(self) -> None:
+        """Is called often: writes waiting lines, and tells systemd that the run lives."""
         self.report.flush()
         self.systemd.live()
 
     def run(self) -> None:
+        """Delivers until a signal comes."""
         self.systemd.ready()
         if self.serving:
             self.report.warn(f"the page is at http://{self.serving.start()}/")
@@ -152,6 +157,7 @@ class Centre:
         self.service.telling.write(seconds=float("inf"))
 
     def pause(self, length: float) -> None:
+        """Waits so many seconds, or until a signal comes."""
         select.select([self.wake], [], [], max(0, length))
         try:
             os.read(self.wake, 4096)
@@ -205,6 +211,7 @@ def command_line() -> tuple[argparse.Namespace, Optional[Settings]]:
 
 
 def ask(options: argparse.Namespace, folder: str, report: ServiceLog) -> None:
+    """Answers a question from what the running centre has written, and sets the status."""
     status, lines = answer(folder, options.question, options.file, options.json)
     for line in lines:
         report.say(line)

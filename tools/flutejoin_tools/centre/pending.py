@@ -78,6 +78,7 @@ class Sieve:
             self.came.objects[self.key] = self.symbols
 
     def end(self) -> None:
+        """Ends an object: notes how much of what was delivered of it came again."""
         for serial, _, partition in self.left:
             self.came.again[serial] = share_of(self.symbols, partition)
         self.left = []
@@ -161,6 +162,7 @@ class Pending:
                 os.unlink(os.path.join(folder, name))
 
     def journals(self) -> list[str]:
+        """The paths of the journals that wait."""
         return journals_in(self.folder)
 
     def read(self) -> None:

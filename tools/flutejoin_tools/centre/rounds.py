@@ -75,6 +75,7 @@ class Chosen(Delivery):
         return super().describe(is_shown)
 
     def read_instances(self, others: Sequence[str]) -> None:
+        """Reads the documents that were chosen, and none of the journals."""
         for each in self.documents:
             session = self.catalogue.session(each.source, each.tsi)
             with open(each.path, "rb") as file:
@@ -92,6 +93,7 @@ class Checking(Writing):
         self.contents: dict[tuple[bytes, int, int], Optional[Contents]] = {}
 
     def check_one(self, session: Session, toi: int) -> None:
+        """As `Writing`; the sums of the object are made before it is decoded."""
         source = self.scratch.at(os.path.join("objects", session.key(toi).file_name()))
         of = session.source, session.tsi, toi
         self.contents[of] = contents_of(source, session.information(toi))
@@ -108,6 +110,7 @@ class Made(NamedTuple):
     is_plain: bool  # whether no journal has another value of a symbol of it
 
     def described(self) -> Optional[bytes]:
+        """The MD5 in the file's description; None if it has none."""
         return self.ready.session.files[self.ready.toi].file.md5
 
 

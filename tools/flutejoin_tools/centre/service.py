@@ -55,6 +55,7 @@ class Service:
         return self.attempt(self.round) is not None
 
     def round(self) -> bool:
+        """Delivers what came, and lets go of what is over. Raises Fault and OSError."""
         try:
             self.deliverer.work()
         finally:  # which may make room
@@ -99,6 +100,7 @@ class Service:
         return None
 
     def fail(self, told: str) -> None:
+        """Tells why nothing can be delivered, and puts the next try off."""
         self.delay = min(max(2 * self.delay, FIRST_DELAY), LONGEST_DELAY)
         self.report.fails("delivering", told)
 

@@ -91,6 +91,7 @@ def settings_of(path: str) -> Settings:
 
 
 def settings_in(table: Any, tables: Any) -> Settings:
+    """The settings in the tables [centre] and [[station]]. Raises ValueError."""
     if not isinstance(table, dict):
         raise ValueError("centre is no [centre]")
     if not isinstance(tables, list) or not all(isinstance(each, dict) for each in tables):
@@ -123,6 +124,7 @@ def settings_in(table: Any, tables: Any) -> Settings:
 
 
 def text(what: str, value: Any) -> str:
+    """A setting that is text. Raises ValueError if it is none."""
     if not isinstance(value, str) or not value:
         raise ValueError(f"{what} is no text")
     return value

@@ -97,6 +97,7 @@ class Shipping:
         self.ledger.add((it.delivery, it.contents) for it in entered)
 
     def ready_path(self, delivery: Delivery) -> str:
+        """Where a file is from the step READY until it gets its name."""
         return os.path.join(self.ready, str(delivery.serial))
 
     def is_known(self, made: Made, now: float) -> bool:
@@ -140,6 +141,7 @@ class Shipping:
         return last.source if last else owners.of(path)
 
     def tell_owners(self, paths: names.Paths) -> None:
+        """Tells of files whose names other senders have."""
         for key, owner in paths.owners.items():
             if key in paths.by_object:
                 told = f"sender {address_of(owner)} has the name"
@@ -159,6 +161,7 @@ class Shipping:
         self.ledger.step((it.serial for it in placed), PLACED)
 
     def place_one(self, place: Place, delivery: Delivery) -> bool:
+        """Gives a file its name. Returns whether it has it; if not, that is told once."""
         assert delivery.path
         source = self.ready_path(delivery)
         if not os.path.lexists(source):  # a killed run moved it
@@ -210,10 +213,12 @@ LOG = "delivered.jsonl"
 
 
 def key_of(made: Made) -> Key:
+    """The object of a file; a further file of a TOI has a number above all TOIs (`APART`)."""
     return made.ready.session.key(made.ready.toi)
 
 
 def told_of_file(made: Made) -> Told:
+    """What the log and the page tell of a file."""
     described = made.ready.session.files[made.ready.toi]
     newest = [it.expires for it in made.ready.session.heads if it.name == described.instance]
     md5 = made.described()

@@ -61,6 +61,7 @@ class Symbols:
             self.blocks[block] = self.blocks.get(block, 0) | 1 << (more[2] << 8 | more[3])
 
     def unite(self, other: Symbols) -> None:
+        """Adds the symbols and the numbers of another."""
         if not self.numbers:
             self.numbers = other.numbers
         elif other.numbers != self.numbers:
@@ -87,6 +88,7 @@ class Symbols:
         return found
 
     def count(self) -> int:
+        """How many symbols are there."""
         return sum(ones_in(bits) for bits in self.blocks.values())
 
     def held(self, partition: Partition) -> int:

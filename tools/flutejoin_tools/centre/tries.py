@@ -38,6 +38,7 @@ class Tries:
         self.read()
 
     def read(self) -> None:
+        """Reads the file; what is damaged counts as lost."""
         told = read_file(self.path, MOST_BYTES)
         try:
             tried = {key_in(key): Tried(*each) for key, each in told["tries"].items()}

@@ -22,4 +22,5 @@ def sender_bytes(text: str) -> bytes:
 
 
 def address_text(sender: bytes) -> str:
+    """A sender's address, of 4 or 16 bytes, as people write it."""
     return socket.inet_ntop(socket.AF_INET if len(sender) == 4 else socket.AF_INET6, sender)

@@ -35,6 +35,8 @@ def die_with_parent(number: int = signal.SIGTERM) -> Callable[[], None]:
 
 
 def in_background() -> Callable[[], None]:
+    """Returns what a child calls first that is not waited for: it runs at a low priority, and is
+    killed if its parent ends."""
     # A join that is killed leaves its output unchanged.
     ask = die_with_parent(signal.SIGKILL)
 

@@ -51,6 +51,7 @@ class State(NamedTuple):
 
     @classmethod
     def of(cls, line: re.Match[bytes]) -> State:
+        """The state in a line about an object, as `STATE` matched it."""
         if line[5]:
             return cls(PARTIAL, int(line[7]) + int(line[8]), 0, int(line[6]))
         return cls((line[2] or line[3] or line[4]).decode())
@@ -86,6 +87,8 @@ class Gaps:
         self.program.kept += (file.fileno(),)
 
     def input(self, journal: str) -> str:
+        """The argument by which the program reads a journal, or the file that is read in its
+        place."""
         if journal in self.instead:
             return f"/dev/fd/{self.instead[journal].fileno()}"
         return argument(journal)
@@ -168,5 +171,6 @@ def options(key: str) -> list[str]:
 
 
 def unknown(line: bytes) -> Fault:
+    """The fault of a line of flutejoin that no pattern here matches."""
     told = shown(line[:80].decode(errors="replace").strip())
     return Fault(3, f"flutejoin tells a line that is not known here: {told}")

@@ -24,10 +24,12 @@ class Fed(NamedTuple):
     end: int
 
     def pieces(self) -> Iterator[bytes]:
+        """Yields these records as a datagram file of their own, piece by piece."""
         yield HEADER
         yield from self.data()
 
     def data(self) -> Iterator[bytes]:
+        """Yields the bytes of these records. Raises OSError if the file became shorter."""
         with open(self.path, "rb", buffering=0) as file:
             place = file.seek(self.begin)
             while place < self.end:

@@ -24,6 +24,7 @@ class Log:
         self.has_lines_aside = out == STANDARD_OUTPUT
 
     def say(self, text: str) -> None:
+        """Says a line of the tool's output."""
         self.tell(sys.stderr if self.has_lines_aside else sys.stdout, text)
 
     def warn(self, text: str, priority: int = INFORMATION) -> None:
@@ -32,6 +33,7 @@ class Log:
             self.tell(sys.stderr, f"{self.tool}: {text}")
 
     def fault(self, status: int, text: str) -> None:
+        """Says a fault, with which the tool is to end unless a later one has a greater status."""
         self.status = max(self.status, status)
         self.warn(text, WARNING if status < 2 else ERROR)
 

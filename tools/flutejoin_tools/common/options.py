@@ -38,6 +38,8 @@ class CommandLine(argparse.ArgumentParser):
 
 
 def number_below(end: int) -> Callable[[str], int]:
+    """Returns what reads an option's value as a number from 0 to `end` - 1."""
+
     def number(text: str) -> int:
         if not text.isascii() or not text.isdigit() or len(text) > 39 or not int(text) < end:
             raise argparse.ArgumentTypeError(f"{text!r} is not a number from 0 to {end - 1}")
@@ -47,6 +49,7 @@ def number_below(end: int) -> Callable[[str], int]:
 
 
 def number_of_bytes(text: str) -> int:
+    """An option's value as a number of bytes: 64M is 64 times 2^20."""
     found = re.fullmatch(r"(\d{1,15})([KMGT]?)", text, re.ASCII)
     if not found:
         raise argparse.ArgumentTypeError(f"{text!r} is not a number of bytes, as 64M or 2G")
@@ -54,6 +57,7 @@ def number_of_bytes(text: str) -> int:
 
 
 def sender_option(text: str) -> bytes:
+    """An option's value as a sender's address, in 16 bytes."""
     try:
         return sender_bytes(text)
     except ValueError:

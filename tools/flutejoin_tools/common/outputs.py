@@ -51,6 +51,7 @@ def bring_names(folder: str) -> None:
 
 
 def new_file(partial: str) -> BinaryIO:
+    """Makes the file that is filled before it gets its name. Raises FileExistsError."""
     try:
         return open(partial, "xb")
     except FileExistsError:

@@ -71,9 +71,11 @@ class Scratch:
         self.clear()
 
     def at(self, name: str) -> str:
+        """The path of what has this name in the folder."""
         return os.path.join(self.path, name)
 
     def remove(self, name: str) -> None:
+        """Removes a file or a folder of this name, also one that is only begun."""
         for each in name, name + PARTIAL:
             path = self.at(each)
             if os.path.isdir(path) and not os.path.islink(path):
@@ -83,6 +85,7 @@ class Scratch:
                     os.remove(path)
 
     def clear(self) -> None:
+        """Removes what runs make here. Raises FileExistsError if anything else is in the folder."""
         known = {each for name in self.NAMES for each in (name, name + PARTIAL)}
         others = set(os.listdir(self.folder)) - known
         if others:
@@ -92,6 +95,7 @@ class Scratch:
             self.remove(name)
 
     def end(self) -> None:
+        """Removes the folder with all that runs made in it."""
         self.clear()
         os.rmdir(self.path)
         os.close(self.folder)

@@ -201,6 +201,7 @@ class Program:
                 raise each
 
     def pieces_of(self, out: int) -> Iterator[bytes]:
+        """Yields what a run prints, as it comes, and calls `tend` meanwhile."""
         while True:
             if not self.is_behind or select.select([out], [], [], LOOK)[0]:
                 piece = os.read(out, PIECE)

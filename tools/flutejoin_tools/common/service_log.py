@@ -14,6 +14,7 @@ LastFault = Dict[str, Optional[str]]  # what is at fault, and when that began an
 
 
 def instant() -> str:
+    """The time of now, in UTC, as logs and status have it."""
     return time.strftime("%Y-%m-%dT%H:%M:%SZ", time.gmtime())
 
 
@@ -71,16 +72,20 @@ class ServiceLog(Log):
             self.begin_fault(what, told)
 
     def works(self, what: str) -> None:
+        """Says once that what failed works again."""
         if self.failing.pop(what, None) is not None:
             self.warn(f"{what}: works again")
             self.end_fault(what)
 
     def begin_fault(self, what: str, told: str) -> None:
+        """Notes a fault for the status: the last one is kept there."""
         self.last = {"what": what, "fault": shown(told), "time": instant(), "ended": None}
 
     def end_fault(self, what: str) -> None:
+        """Notes for the status when the last fault ended, if it was about this."""
         if self.last and self.last["what"] == what and self.last["ended"] is None:
             self.last["ended"] = instant()
 
     def last_fault(self) -> Optional[LastFault]:
+        """The last fault as the status has it: its text, when it began, when it ended."""
         return self.last and {key: self.last[key] for key in ("fault", "time", "ended")}

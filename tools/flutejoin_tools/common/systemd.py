@@ -20,6 +20,7 @@ class Systemd:
         self.status: Optional[str] = None
 
     def tell(self, text: str) -> None:
+        """Sends a message to systemd (sd_notify), if it started this run."""
         if not self.address:
             return
         path = "\0" + self.address[1:] if self.address[0] == "@" else self.address

@@ -33,6 +33,7 @@ class WaitingLines:
         self.is_in_journal = is_in_journal()
 
     def add(self, text: str, priority: int = INFORMATION) -> None:
+        """Queues a line, and writes as many as standard error takes now."""
         with self.lock:
             if len(self.waiting) < MOST_WAITING:
                 self.waiting.append(self.line(text, priority))
@@ -41,6 +42,8 @@ class WaitingLines:
         self.write()
 
     def line(self, text: str, priority: int) -> bytes:
+        """A line as it is printed: with its priority for the journal of systemd, or with the
+        time."""
         stamp = ""
         if self.is_in_journal:
             stamp = f"<{priority}>"

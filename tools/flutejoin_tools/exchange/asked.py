@@ -95,6 +95,7 @@ class Asker:
 
     @property
     def gathered(self) -> Gathered:
+        """What was taken of all stations that are asked."""
         assert self.deliverer.gathered
         return self.deliverer.gathered
 
@@ -125,6 +126,7 @@ class Asker:
         )
 
     def stop(self) -> None:
+        """Ends the calls that run."""
         for each in self.stations:
             each.end()
 
@@ -180,6 +182,7 @@ class Asker:
         self.deliverer.ledger.see_again(self.deliverer.clock(), shares)
 
     def attempt(self, each: Asking, step: Callable[[], None]) -> None:
+        """Takes a step; a fault of the system puts the station's next request off."""
         try:
             step()
         except OSError as fault:
@@ -221,6 +224,7 @@ class Asker:
         return False
 
     def answered(self, each: Asking) -> None:
+        """Notes that a station answers, and tells it if it did not before."""
         if each.arrival.fault:
             self.report.warn(f"station {each.name}: answers again")
             self.report.end_fault(each.name)

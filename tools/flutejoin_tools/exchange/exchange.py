@@ -110,6 +110,7 @@ class New(NamedTuple):
     delivered: tuple[tuple[Key, str], ...] = ()  # each with its MD5
 
     def text(self) -> Iterator[str]:
+        """Yields the lines of the request."""
         yield ASK.decode()
         yield f"new {self.mark or NONE}\n"
         for key in sorted(self.again):
@@ -125,6 +126,7 @@ class Want(NamedTuple):
     lines: dict[str, list[str]]
 
     def text(self) -> Iterator[str]:
+        """Yields the lines of the request."""
         yield ASK.decode()
         for of, lines in self.lines.items():
             yield f"want {of}\n"
@@ -149,6 +151,7 @@ def request_in(data: bytes) -> Union[New, Want]:
 
 
 def new_in(lines: list[str]) -> New:
+    """The request for what is new in these lines. Raises Refused."""
     found, again, delivered = NEW_LINE.fullmatch(lines[0]), [], []
     if not found:
         raise Refused("line 2 of the request")
@@ -166,6 +169,7 @@ def new_in(lines: list[str]) -> New:
 
 
 def valid(key: Key, number: int) -> Key:
+    """The object, if its numbers are those of FLUTE. Raises Refused, with the line's number."""
     if key.tsi >= 1 << 48 or key.number >= 1 << 112:
         raise Refused(f"line {number} of the request")
     return key
@@ -200,11 +204,13 @@ class Change(NamedTuple):
         return self.sums.symbol_count() == self.total
 
     def write(self, out: IO[bytes]) -> None:
+        """Writes the change in the form that `read_changes` reads."""
         of = self.sums
         counts = struct.pack(">II", self.total, of.symbol_count())
         out.write(bytes([self.is_whole]) + self.key.raw() + of.information + counts + of.symbols)
 
     def with_more(self, more: Change) -> Change:
+        """What is known of the object after a further change."""
         if more.is_whole:
             return more
         has_own = self.sums.information != NO_INFORMATION
@@ -294,10 +300,12 @@ def changes_between(
 
 
 def gone(key: Key) -> Change:
+    """The change by which an object is no longer there."""
     return Change(key, Sums(NO_INFORMATION, b""), 0, True)
 
 
 def change_of(key: Key, known: Optional[Sums], sums: Sums) -> Change:
+    """What is to be told of an object of which `known` was told, and which has these sums now."""
     if known is None:
         return Change(key, sums, sums.symbol_count(), True)
     old, new = known.by_symbol(), sums.by_symbol()

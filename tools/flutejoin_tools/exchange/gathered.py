@@ -62,6 +62,7 @@ class Gathered:
                 yield ASIDE, os.path.join(aside, name)
 
     def gathering(self) -> Gathering:
+        """What joins into the journals, as `flutejoin-gather` does."""
         return Gathering(self.pending.folder, self.program, self.report)
 
     def take(self, source: bytes, wants: Wants, answer: str) -> dict[Key, Symbols]:
@@ -86,6 +87,8 @@ class Gathered:
         return came
 
     def taken(self, gathering: Gathering, source: bytes, wants: Wants, answer: str) -> Taken:
+        """Joins what was wanted of an answer. Returns what came, and what is to be told of it."""
+
         def join(out: str, part: str) -> Answer:
             return self.program.join(source, out, [*filter(os.path.exists, [out]), part])
 

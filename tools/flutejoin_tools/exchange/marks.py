@@ -40,6 +40,7 @@ class Mark:
         self.made_at = self.took = 0.0  # when, and the seconds of a processor that it took
 
     def path(self, journal: str) -> str:
+        """The file of what was told of a journal."""
         return os.path.join(self.folder or "", f"{journal}.sums")
 
     def items(self, journal: str) -> Iterator[sums.Item]:
@@ -88,6 +89,7 @@ class Mark:
         self.journals[journal] = old.journals[journal]
 
     def write(self) -> None:
+        """Writes the index: which journals and documents were told of."""
         made = time.time(), time.process_time()
         told: dict[str, Any] = {"made": made, "journals": self.journals}
         told["documents"] = self.documents

@@ -38,6 +38,7 @@ class Journal(NamedTuple):
         return os.path.getsize(self.path) if os.path.exists(self.path) else 0
 
     def identity(self) -> list[int]:
+        """Numbers that change if the journal is replaced."""
         found = os.stat(self.path)
         return [found.st_ino, found.st_size, found.st_mtime_ns]
 
@@ -89,6 +90,7 @@ def mtime_of(path: str) -> int:
 
 
 def identity_of(path: str, when: int) -> list[int]:
+    """Numbers that change if a document is replaced or renewed."""
     try:
         found = os.lstat(path)
     except FileNotFoundError:

@@ -92,10 +92,12 @@ class Call:
 
 
 def ended(status: int) -> str:
+    """Why a call failed, by the status of its command."""
     return f"it ended by signal {-status}" if status < 0 else f"it ended with status {status}"
 
 
 def prepared(most: int) -> Callable[[], None]:
+    """Returns what the child calls first: its answer can't become longer than `most` bytes."""
     ask = die_with_parent(signal.SIGTERM)
 
     def prepare() -> None:

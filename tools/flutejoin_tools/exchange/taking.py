@@ -91,6 +91,7 @@ class Answer:
         return found[0]
 
     def data(self, of: Placed) -> bytes:
+        """The bytes of a part."""
         with open(self.path, "rb") as file:
             file.seek(of.place)
             return file.read(of.part.size)
@@ -99,6 +100,7 @@ class Answer:
         return [each for each in self.parts if each.part.kind == kind]
 
     def keep_status(self, folder: str) -> None:
+        """Writes the station's status, if the answer has it."""
         for each in self.of_kind("status"):
             replace_file(os.path.join(folder, "status.json"), self.data(each))
 
@@ -148,6 +150,7 @@ class Answer:
 
 
 def journal_of(part: Part) -> Journal:
+    """The journal that a part of an answer names."""
     return Journal(part.words[0], bytes.fromhex(part.words[1]), part.words[2])
 
 

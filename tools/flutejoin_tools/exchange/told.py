@@ -104,6 +104,7 @@ class Told:
                 self.put_mark(None)
 
     def unite(self, journal: Journal, change: Change) -> None:
+        """Adds the symbols of a change to those that the station has of its object."""
         if journal.kind == KEPT and change.total:
             symbols = symbols_of(change.sums)
             self.symbols.setdefault(change.key, Symbols()).unite(symbols)

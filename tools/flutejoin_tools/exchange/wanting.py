@@ -33,6 +33,7 @@ class Asked(NamedTuple):
     most: int  # bytes that the answer may have
 
     def request(self) -> Want:
+        """The request for it."""
         lines: dict[str, list[str]] = {}
         for journal, every in self.journals.items():
             of = [line for each in sorted(every) for line in each.lines()]
@@ -154,6 +155,7 @@ class Wanting:
             self.told.hide(gone)
 
     def known(self, journal: Journal) -> Iterator[Change]:
+        """Yields what was told of a journal; if its file is damaged, all is asked for anew."""
         try:
             yield from self.told.items(journal)
         except (ReadFault, Cut):  # it is told anew

@@ -22,6 +22,8 @@ DEFLATED = 8  # the compression method in the first byte of a zlib stream
 
 
 class Verdict(enum.Enum):
+    """What the check of a whole object found, in the words that are printed."""
+
     VERIFIED = "verified"
     NO_MD5 = "not verified"
     WRONG_MD5 = "wrong MD5"
@@ -56,6 +58,7 @@ class DecodingBudget:
         self.most = self.left = most
 
     def spent(self) -> Spent:
+        """The fault of an object for which the run has no bytes left."""
         return Spent(f"more than {self.most:,} bytes come out in all (--most)")
 
 
@@ -70,6 +73,7 @@ class Decoder:
         self.stream: Optional[zlib._Decompress] = None
 
     def pieces(self, data: bytes) -> Iterator[bytes]:
+        """Yields what these bytes, the next ones of the object, decode to."""
         while data:
             stream = self.stream
             if stream is None or stream.eof:
@@ -94,6 +98,7 @@ class Decoder:
             yield piece
 
     def copy(self) -> Decoder:
+        """A decoder in the same state, for bytes that go on in another way."""
         other = copy.copy(self)
         other.stream = self.stream.copy() if self.stream else None
         return other
@@ -110,6 +115,7 @@ class Decoder:
         return self.stream
 
     def finish(self) -> None:
+        """Raises Undecodable if the object ended within its encoded file."""
         if self.stream is None or not self.stream.eof:
             raise Undecodable("it ends too early")
 
@@ -173,11 +179,13 @@ class Check:
         return f"{self.out}.{encoding}"
 
     def has(self, md5: Optional[bytes]) -> bool:
+        """Whether the object itself, undecoded, has this MD5."""
         if md5 and self.md5 is None:
             self.md5 = md5_of(self.path)
         return md5 is not None and md5 == self.md5
 
     def of_plain(self, file: File) -> Checked:
+        """The result for a file that is not encoded: the object is the file."""
         if self.has(file.md5):
             return Checked(Verdict.VERIFIED, told_of_length(file, self.size), False)
         return Checked(Verdict.WRONG_MD5, "", False) if file.md5 else of_length(file, self.size)
@@ -238,6 +246,7 @@ def of_length(file: File, size: int, is_decoded: bool = False) -> Checked:
 
 
 def told_of_length(file: File, size: int, before: str = "") -> str:
+    """A note on a file that hasn't the length of its description; empty if it has."""
     if file.length in (None, size):
         return ""
     return f"{before}{size:,} bytes, and Content-Length {file.length:,}"

@@ -93,6 +93,7 @@ class Assembly:
             self.text.update(piece)
 
     def state(self) -> State:
+        """How much of the FDT Instance the journal has, as `flutejoin gaps` would print it."""
         if self.partition is None:
             return State(self.words, 0, 0, self.words == gaps.CONFLICTING_INFORMATION)
         if self.right == self.partition.symbols:
@@ -124,6 +125,7 @@ class Wanting(Protocol):
 
 
 def put_document(found: Kept, source: bytes, document: Whole) -> None:
+    """Adds a document to `found`, among those that differ from it in Expires alone."""
     key = Key(source, document.tsi, FDT_INSTANCE, document.number)
     found.setdefault((key, digest_of(document.xml)), []).append((document.xml, ""))
 
@@ -200,6 +202,7 @@ class Documents:
     def take_whole(
         found: Kept, source: bytes, assembler: InstanceAssembler, datagram: bytes
     ) -> None:
+        """Adds to `found` the documents that are whole with this datagram."""
         for document in assembler.take(datagram):
             put_document(found, source, document)
 

@@ -54,6 +54,7 @@ class XmlBudget:
         self.left = left
 
     def spend(self, count: int) -> None:
+        """Takes from the budget. Raises Spent if that is not left."""
         self.left -= count
         if self.left < 0:
             raise Spent
@@ -141,6 +142,7 @@ class Instance(NamedTuple):
         return (-ERA if self.expires is None else self.expires), last
 
     def expiry(self) -> str:
+        """When it expires, as text."""
         if self.expires is None:
             return "expires at no known time"
         time = datetime.datetime.fromtimestamp(self.expires, datetime.timezone.utc)
@@ -148,6 +150,7 @@ class Instance(NamedTuple):
 
 
 def number(text: str, end: int) -> int | None:
+    """An attribute's value as a number below `end`; None if it is none."""
     text = text.strip(" ")
     if not text.isdigit() or not text.isascii() or len(text) > DIGITS:
         return None
@@ -164,6 +167,7 @@ def expires(text: str) -> int | None:
 
 
 def digest(text: str) -> bytes | None:
+    """A Content-MD5 as 16 bytes; None if it is none."""
     try:
         data = base64.b64decode(text.strip(" "), validate=True)
     except ValueError:
@@ -222,6 +226,7 @@ class Reader:
         self.notes: collections.Counter[str] = collections.Counter()
 
     def read(self, file: BinaryIO) -> None:
+        """Reads the whole XML. Raises Refused and Spent."""
         fed = 0
         try:
             self.budget.spend(XmlBudget.INSTANCE)
@@ -243,9 +248,11 @@ class Reader:
             del self.parser  # which refers to this reader
 
     def doctype(self, *_: object) -> None:
+        """Refuses a DTD: called by the parser."""
         raise Refused("has a DTD (<!DOCTYPE), which no FDT Instance needs")
 
     def start(self, name: str, attributes: dict[str, str]) -> None:
+        """Takes the start of an element: called by the parser."""
         self.depth += 1
         self.elements += 1
         if self.depth == 2 and name.endswith("File") and name.rpartition(":")[2] == "File":
@@ -268,6 +275,7 @@ class Reader:
         self.depth -= 1
 
     def begin(self, attributes: dict[str, str]) -> None:
+        """Takes the attributes of the root element, FDT-Instance."""
         self.expires = expires(attributes.get("Expires", ""))
         if self.expires is None:
             self.notes["Expires is no time"] += 1
@@ -288,6 +296,9 @@ class Reader:
             self.files[file.toi] = file
 
     def file(self, attributes: dict[str, str]) -> File:
+        """The description that a File element's attributes give; what is wrong with them is
+        noted."""
+
         def numeral(name: str, end: int) -> int | None:
             text = attributes.get(name)
             if text is None:

@@ -58,6 +58,7 @@ class Document(NamedTuple):
     told: Tuple[Tuple[int, Numbers], ...]  # transmission information of objects, by TOI
 
     def name(self, stem: str) -> str:
+        """The file's name, for a sender whose names begin with this stem."""
         return f"{stem}-{self.tsi}-{self.number}-{digest_of(self.xml)}.xml"
 
 
@@ -147,6 +148,7 @@ class InstanceAssembler:
 
 
 def documents(tsi: int, number: int, data: bytes) -> Iterator[Document]:
+    """Yields the document in bytes, if they are the XML of an FDT Instance."""
     document = document_of(tsi, number, data)
     if document:
         yield document
@@ -200,6 +202,8 @@ class Folder:
         return self.keep(stem, found, when)
 
     def keep(self, stem: str, found: dict[str, Document], when: float) -> int:
+        """Writes documents of a sender that are new or newer, and removes its oldest beyond a
+        number. Returns how many are new."""
         os.makedirs(self.path, exist_ok=True)
         new, changed = 0, []
         for name, document in found.items():
@@ -316,6 +320,7 @@ def datagrams_in(path: str) -> Iterator[bytes]:
 
 
 def bring_to_disk(path: str) -> None:
+    """Has the system bring a file's bytes to the disk."""
     descriptor = os.open(path, os.O_RDONLY)
     try:
         os.fsync(descriptor)

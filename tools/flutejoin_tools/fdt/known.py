@@ -35,6 +35,7 @@ class Known:
             self.numbers.clear()
 
     def read(self) -> None:
+        """Reads the journal of transmission information that is there."""
         with open(self.path, "rb", buffering=0) as file:
             for kind, raw, more in holdings.entries(file):
                 if kind == INFORMATION:

@@ -38,6 +38,7 @@ def decoded(text: str) -> str:
 
 
 def encoded(text: str) -> str:
+    """Text with each of its bytes percent-encoded."""
     return "".join(f"%{byte:02X}" for byte in text.encode(errors="surrogateescape"))
 
 

@@ -48,6 +48,7 @@ class Assembly:
         self.is_looked = False
 
     def content(self) -> bytes:
+        """The FDT Instance, once all of its symbols are there."""
         self.fresh.clear()
         return b"".join(self.symbols[place] for place in range(self.partition.symbols))
 

@@ -22,11 +22,13 @@ class Told:
         self.report, self.count = report, 0
 
     def tell(self, text: str) -> None:
+        """Reports a line, unless too many of its kind were."""
         self.count += 1
         if self.count <= MOST_TOLD:
             self.report.warn(text)
 
     def finish(self, what: str) -> None:
+        """Reports how many lines were not."""
         if self.count > MOST_TOLD:
             self.report.warn(f"{self.count - MOST_TOLD} more {what}")
 
@@ -45,6 +47,7 @@ class Catalogue:
         self.without: set[tuple[bytes, int]] = set()  # sessions without a description, that count
 
     def session(self, source: bytes, tsi: int) -> Session:
+        """The session of a sender with this TSI, which is added if it is new."""
         key = source, tsi
         if key not in self.sessions:
             self.sessions[key] = Session(source, tsi)
@@ -55,6 +58,7 @@ class Catalogue:
         return self.session(key.source, key.tsi)
 
     def describes(self, key: Key) -> bool:
+        """Whether an FDT Instance describes this object."""
         session = self.sessions.get((key.source, key.tsi))
         return session is not None and key.tag == FILE and key.number in session.files
 
@@ -121,6 +125,7 @@ class Catalogue:
         return True
 
     def finish_reading(self) -> None:
+        """Reports what was wrong with FDT Instances, once all are read."""
         self.refused.finish("such FDT Instances")
         self.notes.finish("such notes")
         if self.left:

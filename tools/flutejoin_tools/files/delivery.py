@@ -45,9 +45,11 @@ class Wanted(NamedTuple):
         return is_tsi and self.source in (None, key.source)
 
     def sessions(self) -> list[str]:
+        """The options by which flutejoin takes these sessions alone."""
         return [word for tsi in self.tsis for word in ("--tsi", str(tsi))]
 
     def words(self) -> list[str]:
+        """The options by which flutejoin takes this sender and these sessions alone."""
         source = [] if self.source is None else ["--source", self.source.hex()]
         return source + self.sessions()
 
@@ -106,6 +108,7 @@ class Delivery:
             before = [self.journal]
 
     def run(self, words: list[str], names: list[str]) -> None:
+        """Runs flutejoin for its faults. `names` are those of its inputs, for the messages."""
         for _ in self.program.lines(Command(words, names)):
             pass
 
@@ -283,6 +286,7 @@ class Delivery:
         return completed
 
     def ways(self, others: Sequence[str]) -> Ways:
+        """Finds the ways to put objects together about which journals differ."""
         ways = Ways(self.catalogue, self.journals)
         with self.named_faults():
             ways.look(others)
@@ -333,10 +337,12 @@ class Delivery:
         return completed
 
     def take(self, key: Key, state: State) -> None:
+        """Notes the state of an object, if it is a file that is wanted."""
         if key.tag == FILE and self.wanted.has(key):
             self.catalogue.of(key).states[key.number] = state
 
     @staticmethod
     def told(line: bytes) -> tuple[Key, State]:
+        """The object and the state in a line of `flutejoin extract --all`."""
         told = gaps.state_of(line)
         return key_of(told[1].decode()), State.of(told)

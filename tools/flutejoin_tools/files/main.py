@@ -195,6 +195,7 @@ def see(journal: str) -> None:
 
 @contextlib.contextmanager
 def scratch_for(folder: str | None) -> Iterator[Scratch]:
+    """The scratch folder beside the folder of files, or a temporary one for a list."""
     with later():
         path = scratch_beside(folder) if folder else tempfile.mkdtemp(prefix="flutejoin-files-")
         scratch = Scratch(path)
@@ -209,6 +210,7 @@ def scratch_for(folder: str | None) -> Iterator[Scratch]:
 
 
 def deliver(args: argparse.Namespace, report: Log) -> None:
+    """Lists or writes the files, as the options say."""
     for journal in args.journal:
         see(journal)
     program = Program(find(args.flutejoin))
@@ -251,6 +253,7 @@ def most(args: argparse.Namespace) -> int:
 
 
 def tell(args: argparse.Namespace, catalogue: Catalogue, report: Log) -> None:
+    """Prints the files of all sessions, and sets the status."""
     sessions = list(catalogue)
     for session in sessions:
         lines = table.table if args.list else table.outcome_lines

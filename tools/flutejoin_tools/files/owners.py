@@ -59,6 +59,7 @@ class Owners:
         return next(iter(senders)) if len(senders) == 1 else None
 
     def by_digest(self) -> dict[bytes, set[bytes]]:
+        """The senders that described a file, by its MD5."""
         if self.senders is None:
             self.senders = {}
             for session in self.catalogue:

@@ -373,4 +373,5 @@ def address_of(source: bytes) -> str:
 
 
 def numbers(information: tuple[int, int, int]) -> str:
+    """Transmission information as flutejoin prints it."""
     return "length {} symbol {} block {}".format(*information)

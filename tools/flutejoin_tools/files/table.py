@@ -199,6 +199,7 @@ class Sum:
                 self.add(session, toi)
 
     def add(self, session: Session, toi: int) -> None:
+        """Counts a file of a session by what became of it."""
         outcome, state = session.outcomes.get(toi), session.state(toi)
         if outcome and outcome.checked.verdict is Verdict.LEFT:
             self.counts["not written"] += 1
@@ -219,6 +220,7 @@ class Sum:
             self.counts["missing"] += 1
 
     def line(self) -> str:
+        """The last line of a run: how many files were written, verified, partial and so on."""
         counts = self.counts
         told = [f"written {counts['written']}"]
         told += [f"unchanged {counts['unchanged']}"] * bool(counts["unchanged"])
@@ -232,6 +234,7 @@ class Sum:
         return "; ".join(parts)
 
     def partial(self) -> str:
+        """How many files are there in part, and what they lack."""
         count, symbols, size = (self.counts[name] for name in ("partial", "symbols", "bytes"))
         if not count:
             return "partial 0"

@@ -77,6 +77,7 @@ class Ways:
         self.by_length = dict(shares(self.resolving, without, self.aside))
 
     def take(self, key: Key, ends: Iterable[tuple[Way, Sink]]) -> None:
+        """Notes for each description of an object the first way whose bytes have its MD5."""
         for way, sums in ends:
             if sums.is_right():
                 self.right_ways[key].setdefault(sums.age(), way)
@@ -140,6 +141,7 @@ class Ways:
 
 
 def differing(session: Session, toi: int, budget: Budget) -> Wanted:
+    """What is wanted of an object about which journals differ: bytes with one of its MD5s."""
     md5s, described = session.md5s(toi), session.usable(toi)
     encodings = sorted({each.file.encoding for each in described if each.file.encoding})
     return Wanted(lambda: Sums(md5s, encodings, MOST_DECODED, budget), session.lengths(toi))

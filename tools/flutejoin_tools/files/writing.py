@@ -60,6 +60,7 @@ class Writing:
                     self.find_one(place, claim)
 
     def find_one(self, place: Place, claim: names.Claim) -> None:
+        """Notes that a file is verified if the folder has it already with the right MD5."""
         session, toi = self.catalogue.of(claim.key), claim.key.number
         described, file = session.described(toi), session.files[toi].file
         if len(described) > 1 or session.is_left_alone(toi) or not file.md5:
@@ -79,6 +80,7 @@ class Writing:
                 self.check_one(session, toi)
 
     def whole(self) -> Iterator[tuple[Session, int]]:
+        """Yields the whole objects, by session and TOI, of which no file is there yet."""
         for session in self.catalogue:
             for toi in session.files:
                 is_whole = session.state(toi).is_whole() and toi not in session.outcomes
@@ -86,6 +88,7 @@ class Writing:
                     yield session, toi
 
     def check_one(self, session: Session, toi: int) -> None:
+        """Checks a whole object by its descriptions, and decodes it; then it is ready."""
         key, described = session.key(toi), session.usable(toi)
         source, decoded = (self.scratch.at(os.path.join(at, key.file_name())) for at in FOLDERS)
         try:
@@ -116,6 +119,7 @@ class Writing:
             place.close()
 
     def write_one(self, place: Place, ready: Ready, named: str) -> None:
+        """Moves a file that is ready to the name `named`; a wrong one gets an ending."""
         is_wrong = ready.checked.verdict in WRONG
         path = named + (UNVERIFIED if is_wrong else "")
         if ready.checked.verdict is Verdict.LEFT:

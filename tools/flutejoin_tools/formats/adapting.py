@@ -90,6 +90,7 @@ class Form(NamedTuple):
     extensions: list[tuple[int, int, int]]  # type, begin, end
 
     def place_of(self, kind: int) -> Optional[int]:
+        """Where the first extension of this kind begins; None if there is none."""
         return next((begin for found, begin, _ in self.extensions if found == kind), None)
 
 
@@ -126,6 +127,7 @@ def whole_extensions(payload: Buffer, header: Header) -> Optional[list[tuple[int
 
 
 def form_of(head: Buffer) -> Optional[Form]:
+    """The form of a packet that begins with these bytes; None if its header is no LCT header."""
     header = header_of(head)
     found = whole_extensions(head, header) if header else None
     return None if header is None or found is None else Form(header, found)
@@ -260,6 +262,7 @@ class Adapting:
         return Taken((payload,) if plan.head is None else (plan.head + payload[end:],))
 
     def refuse(self, payload: Buffer, refusal: Optional[str]) -> Taken:
+        """Counts a datagram that flutejoin will refuse, and hands it on as it came."""
         self.refused[str(refusal)] += 1
         return Taken((payload,), None, refusal)
 
@@ -345,11 +348,13 @@ class Adapting:
 
 
 def drop_oldest(table: Dict[T, U]) -> None:
+    """Removes the entry that was added first, if there are too many."""
     if len(table) > MOST:
         del table[next(iter(table))]
 
 
 def tsi_of(payload: Buffer, form: Form) -> int:
+    """The TSI of a packet of this form."""
     return int.from_bytes(payload[form.header.tsi : form.header.toi], "big")
 
 

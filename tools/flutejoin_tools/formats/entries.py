@@ -25,6 +25,8 @@ class Address(NamedTuple):
 
 
 class Entry(NamedTuple):
+    """An entry of a journal."""
+
     address: Address
     kind: int
     value: bytes  # of a symbol without conflict
@@ -72,6 +74,8 @@ class Entries(Reader):
         return Entry(Address(source, tsi, tag, number, symbol), kind, b"")
 
     def value(self, kind: int) -> bytes:
+        """Reads the rest of an entry of this kind: the bytes of a symbol, or none. Raises
+        ReadFault."""
         if kind == INFORMATION:
             fault = fault_of(*information_of(self.take(12)))
             if fault:

@@ -138,6 +138,7 @@ def opened(payload: Buffer) -> Union[str, Tuple[Header, Places]]:
 
 
 def refusal_by_extensions(payload: Buffer, header: Header, read: Places) -> Optional[str]:
+    """Why flutejoin refuses a packet by what its extensions contain; None if it does not."""
     if EXT_FTI in read:
         begin, end = read[EXT_FTI]
         if end - begin != 16:

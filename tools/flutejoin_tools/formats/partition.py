@@ -31,6 +31,7 @@ class Partition:
         return block * self.small + min(block, self.larger)
 
     def size(self, block: int) -> int:
+        """How many symbols a block has."""
         return self.small + (block < self.larger)
 
     def place(self, symbol: bytes) -> int | None:

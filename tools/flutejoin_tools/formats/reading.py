@@ -55,6 +55,7 @@ def packet_of(payload: Buffer) -> Optional[Packet]:
 
 
 def by_library(payload: Buffer) -> Optional[Packet]:
+    """A packet as the library reads it; None if it refuses the datagram."""
     import flutejoin
 
     try:
@@ -101,6 +102,7 @@ def listed_in(file: BinaryIO) -> Optional[Iterator[Entry]]:
 
 
 def own_entries(listed: Iterable[flutejoin.Entry]) -> Iterator[Entry]:
+    """Yields the library's entries as those of `entries`."""
     last: Optional[flutejoin.Object] = None
     source, tag, number = b"", FILE, 0
     for of, kind, _, symbol in listed:

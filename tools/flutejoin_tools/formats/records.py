@@ -75,6 +75,7 @@ class Reader:
         self.file, self.place, self.count, self.end, self.version = file, 0, 0, 0, 0
 
     def take(self, size: int) -> bytes:
+        """Reads so many bytes. Raises Cut if the file ends before."""
         data = self.file.read(size)
         self.place += len(data)
         if len(data) < size:
@@ -82,6 +83,7 @@ class Reader:
         return data
 
     def number(self, size: int) -> int:
+        """Reads a number of so many bytes."""
         return int.from_bytes(self.take(size), "big")
 
     def begin(self) -> None:

@@ -70,6 +70,7 @@ class Key(NamedTuple):
 
 
 def key_of(raw: bytes) -> Key:
+    """The object that 37 bytes of a journal name."""
     of = int.from_bytes
     return Key(raw[:SENDER], of(raw[SENDER:TAG], "big"), raw[TAG], of(raw[TAG + 1 :], "big"))
 
@@ -85,6 +86,7 @@ class Held:
         self.symbols = 0  # also counts those in conflict
 
     def add(self, kind: int, more: memoryview) -> None:
+        """Counts an entry of the object."""
         if kind == INFORMATION:
             self.information = information_of(more)
         elif kind == INFORMATION_CONFLICT:
@@ -146,6 +148,7 @@ class Copy:
         out.write(HEADER)
 
     def add(self, kind: int, raw: bytes, more: Union[bytes, memoryview]) -> None:
+        """Writes an entry: its kind, its object and the bytes after that."""
         self.out.write(KINDS[kind] + raw + more)
         self.count += 1
 
@@ -154,6 +157,7 @@ class Copy:
         self.add(INFORMATION, key.raw(), packed(*numbers))
 
     def finish(self) -> None:
+        """Writes the end of the journal."""
         self.out.write(bytes([END]) + self.count.to_bytes(8, "big"))
 
 

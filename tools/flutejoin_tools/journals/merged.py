@@ -27,6 +27,7 @@ class Found(NamedTuple):
         return not all(value for _, value in self.values)
 
     def values_alone(self) -> list[bytes]:
+        """The values without the numbers of their journals."""
         return [value for _, value in self.values]
 
     def distinct(self) -> list[bytes]:
@@ -59,5 +60,6 @@ def merged(paths: Sequence[str], choice: Choice) -> Iterator[tuple[Key, bytes, I
 
 
 def founds(entries: Iterator[Entry]) -> Iterator[Found]:
+    """Groups entries in the order of a journal by their address."""
     for symbol, of in itertools.groupby(entries, lambda entry: entry[1]):
         yield Found(symbol, [(number, value) for _, _, number, value in of])

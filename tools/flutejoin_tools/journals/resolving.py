@@ -101,6 +101,7 @@ class State(NamedTuple):
 
 
 def fitting_of(partition: Partition, place: Optional[int], values: Values) -> Values:
+    """Those of the values that have the length of the symbol at a place."""
     if place is None:
         return []
     return [of for of in values if of[1] and partition.piece(place, of[1]) is not None]
@@ -137,6 +138,7 @@ class Wanted:
             self.partitions.append(Partition(*numbers))
 
     def fits(self, symbol: bytes, value: bytes) -> bool:
+        """Whether a value has the length that a symbol should have, by any partition."""
         places = ((partition, partition.place(symbol)) for partition in self.partitions)
         return any(place is not None and of.piece(place, value) is not None for of, place in places)
 

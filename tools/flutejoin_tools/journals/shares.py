@@ -42,6 +42,7 @@ class Counting:
             self.held += 1
 
     def share(self) -> Share:
+        """What was counted, as a share of the object."""
         wanted = self.partition.symbols - self.held
         state = State(PARTIAL, wanted, self.disputed, self.disputed > 0)
         return Share(self.journals, self.partition.numbers, state)
@@ -74,6 +75,7 @@ def shares(
 
 
 def chosen(resolving: Resolving, keys: Collection[Key]) -> Iterator[tuple[Key, Iterator[Found]]]:
+    """Yields these objects with what all journals have of them."""
     for key, _, found in merged(resolving.journals, keys.__contains__):
         yield key, found
 
@@ -105,6 +107,8 @@ def groups_of(
 
 
 def agree(wanted: Wanted, same: Same, one: int, other: int) -> bool:
+    """Whether two journals have more symbols of an object in common than differing ones, and not
+    different transmission information."""
     differing = wanted.differing[one, other]
     if differing and same[one, other] <= differing:
         return False

@@ -72,6 +72,7 @@ class Thinning:
 
     @staticmethod
     def copy(journal: str, left_out: bytearray) -> Thinned:
+        """Copies a journal without the objects that are left out, to a temporary file."""
         rest, last, is_left = iter(left_out), b"", 1
         out = tempfile.TemporaryFile()
         copied = holdings.Copy(out)

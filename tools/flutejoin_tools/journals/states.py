@@ -21,6 +21,7 @@ class State(NamedTuple):
 
     @classmethod
     def of(cls, line: re.Match[bytes]) -> State:
+        """The state in a line about an object, as `gaps.STATE` matched it."""
         if line[5]:
             missing, disputed, misfits = (int(line[at]) for at in (6, 7, 8))
             wanted = missing + disputed + misfits

@@ -42,6 +42,7 @@ class Sums(NamedTuple):
 
     @classmethod
     def of(cls, information: bytes, by_symbol: dict[bytes, bytes]) -> Sums:
+        """The sums of some symbols, put in order."""
         return cls(information, b"".join(map(b"".join, sorted(by_symbol.items()))))
 
     def by_symbol(self) -> dict[bytes, bytes]:
@@ -65,6 +66,7 @@ Item = Tuple[Key, Sums]
 
 
 def sum_of(value: Buffer) -> bytes:
+    """The sum of a symbol's value."""
     return hashlib.sha256(value).digest()[:SUM]
 
 
@@ -114,6 +116,8 @@ def entries_in(lines: Iterable[bytes]) -> Iterator[tuple[Key, bytes, bytes]]:
 
 
 def entry_in(found: re.Match[bytes]) -> tuple[Key, bytes, bytes]:
+    """An entry in a line of `show --sums`: its object, its symbol (empty for transmission
+    information), and the sum or the information."""
     source, tsi, is_fdt, number, length, size, block, is_disputed, sbn, esi, value = found.groups()
     tag = FDT_INSTANCE if is_fdt else FILE
     key = Key(bytes.fromhex((source or b"00" * 16).decode()), int(tsi), tag, int(number))

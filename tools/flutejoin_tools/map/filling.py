@@ -119,6 +119,7 @@ class Filling:
                     self.add(grid, line)
 
     def begin(self, key: str, state: State) -> Optional[Grid]:
+        """Begins the grid of an object; None if it is not to be drawn."""
         if key not in self.partitions:
             return None
         if not state.has_information():
@@ -146,9 +147,11 @@ class Filling:
             raise self.changed()
 
     def grid_of(self, key: str) -> Grid:
+        """The grid of an object that was begun."""
         if key not in self.made:
             raise self.changed()
         return self.made[key]
 
     def changed(self) -> Fault:
+        """The fault of a journal whose second reading differs from the first."""
         return Fault(3, f"{self.name}: changed while it was read")

@@ -24,10 +24,12 @@ Counts = Sequence[int]
 
 
 def counted(number: int, what: str) -> str:
+    """A number of things, in words: 1 block, 2 blocks."""
     return f"{number} {what}{'' if number == 1 else 's'}"
 
 
 def partition_words(partition: Partition) -> str:
+    """An object's lengths and blocks, in words."""
     length, symbol, _ = partition.numbers
     if not length:
         return "empty: 0 bytes, and no symbol"
@@ -153,6 +155,7 @@ class Grid:
         return row * self.group
 
     def scale_words(self) -> str:
+        """What a row and a cell stand for, in words."""
         row = "a row is a block" if self.group == 1 else f"a row is {self.group} blocks"
         return f"{row}, a cell is {'a symbol' if self.run == 1 else f'{self.run} symbols'}"
 
@@ -190,11 +193,13 @@ class Overview(Grid):
 
     @staticmethod
     def kind(state: State) -> int:
+        """The kind that is drawn for an object of this state."""
         if state.words in (WHOLE, NO_INFORMATION):
             return HELD if state.words == WHOLE else MISFIT
         return MISSING if state.words == PARTIAL and not state.disputed else CONFLICTING
 
     def range_words(self, row: int, begin: int, end: int) -> str:
+        """The objects that some cells of a row stand for, by their names."""
         cells = range(row * self.columns + begin, row * self.columns + end)
         known = [self.ends[cell] for cell in cells if cell in self.ends]
         first, last = (known[0][0], known[-1][1]) if known else ("", "")
@@ -204,6 +209,7 @@ class Overview(Grid):
         return self.begin(row)
 
     def scale_words(self) -> str:
+        """What a cell stands for, in words."""
         return "a cell is an object" if self.run == 1 else f"a cell is {self.run} objects"
 
 

@@ -133,6 +133,7 @@ def beside(path: str) -> int:
 
 
 def put(out: int, page: bytes) -> None:
+    """Writes a page to a descriptor."""
     page = memoryview(page)
     while page:
         page = page[os.write(out, page) :]
@@ -224,6 +225,7 @@ def see(journal: str) -> None:
 
 
 def draw(args: argparse.Namespace, report: Log) -> None:
+    """Draws what the options ask for, as a page of SVG or as text."""
     for journal in args.journal:
         see(journal)
     program = gaps.Gaps(Program(find(args.flutejoin)))

@@ -50,6 +50,7 @@ class Left(NamedTuple):
     whole: int
 
     def notes(self) -> Iterator[str]:
+        """Yields a line about the objects that are not drawn."""
         if self.objects:
             yield (
                 f"{self.objects} more objects are not drawn, {self.whole} of them whole; "
@@ -68,6 +69,7 @@ def kinds_words(names: tuple[str, ...]) -> str:
 
 
 def text_lines(title: str, drawings: list[Drawing], notes: list[str]) -> Iterator[str]:
+    """Yields the lines of the pictures with characters."""
     yield title
     yield f"{kinds_words(NAMES)}  1 to 9 of several symbols: tenths missing"
     for drawing in drawings:
@@ -85,6 +87,7 @@ def text_lines(title: str, drawings: list[Drawing], notes: list[str]) -> Iterato
 
 
 def panel_lines(panel: Panel, scale: str) -> Iterator[str]:
+    """Yields the lines of one panel with characters."""
     if not panel.grid:
         yield f"{panel.name}: {panel.words}"
         return
@@ -116,10 +119,12 @@ MOST_HEIGHT = 32000  # of a page; some programs show no more than 32,767
 
 
 def per_line(panels: int) -> int:
+    """How many panels stand side by side."""
     return min(panels, 4)
 
 
 def plot_width(panels: int) -> int:
+    """The width of a panel's grid."""
     return (WIDTH - MARGIN) // per_line(panels) - LABEL - MARGIN
 
 
@@ -184,10 +189,12 @@ def svg_lines(title: str, drawings: list[Drawing], notes: list[str], left: Left)
 
 
 def text(x: float, y: float, words: str, more: str = "") -> str:
+    """An element of text."""
     return f'<text x="{x:g}" y="{y:g}"{" " + more if more else ""}>{html.escape(words)}</text>'
 
 
 def swatch(x: float, y: float, kind: int, words: str) -> str:
+    """A square in the colour of a kind, and its words: for the legend."""
     square = (
         f'<rect x="{x:g}" y="{y:g}" width="11" height="11" fill="{COLOURS[kind]}" '
         'stroke="#555" stroke-width=".5"/>'
@@ -242,6 +249,7 @@ def panel_svg(body: list[str], panel: Panel, x: float, y: float, width: int, sca
 
 
 def grid_svg(body: list[str], grid: Grid, x: float, y: float, width: int) -> float:
+    """Adds the rows of a grid to a page, and returns where they end."""
     if not grid.rows:
         return y
     cell = min(MOST_CELL, width / grid.columns)

@@ -211,9 +211,11 @@ class Survey:
             self.panels[key][place] = pictures.Panel(name, words, grid, False)
 
     def grid(self, partition: Partition) -> Grid:
+        """An empty grid for an object of this partition."""
         return Grid(partition, *self.shape(self.count, len(self.keys)))
 
     def shape(self, panels: int, objects: int) -> tuple[int, Callable[[int], int]]:
+        """How many rows a panel has at most, and how many columns for so many rows."""
         if self.is_text:
             return pictures.TEXT_ROWS, lambda rows: pictures.TEXT_COLUMNS
         return pictures.shape(panels, objects)

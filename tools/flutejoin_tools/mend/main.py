@@ -92,6 +92,7 @@ def salvage(name: str, file: BinaryIO, out: str, fault: str, report: Log) -> Non
 
 
 def mend(name: str, out: str, report: Log) -> None:
+    """Writes what is whole of a file that is cut or damaged. A whole one is only told of."""
     with opened(name) as file:
         try:
             reader = entries.reader_of(file)

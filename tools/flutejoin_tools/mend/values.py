@@ -101,6 +101,7 @@ class Values:
         self.more = 0
 
     def add(self, value: bytes, name: str) -> None:
+        """Counts a value that an input has; empty if the input has it in conflict."""
         digits = hashlib.sha256(value).hexdigest() if value else ""
         if digits not in self.found and len(self.found) >= MOST_VALUES:
             self.more += 1
@@ -109,6 +110,7 @@ class Values:
         self.found.setdefault(digits, collections.Counter())[name] += 1
 
     def lines(self) -> Iterator[str]:
+        """Yields the lines about the values: those that most came with first."""
         times = {digits: sum(names.values()) for digits, names in self.found.items()}
         found = sorted(self.found.items(), key=lambda of: (not of[0], -times[of[0]], of[0]))
         size = self.digits()
@@ -131,6 +133,7 @@ class Values:
 
 
 def look(name: str, wanted: Wanted, values: Values) -> None:
+    """Adds the values that an input has of the symbol."""
     with opened(name) as file:
         reader = entries.reader_of(file)
         if isinstance(reader, entries.Entries):
@@ -145,6 +148,7 @@ def look(name: str, wanted: Wanted, values: Values) -> None:
 
 
 def tell_values(args: argparse.Namespace, wanted: Wanted, report: Log) -> None:
+    """Prints the values of the symbol, and which inputs have each."""
     values, passed_over = Values(), []
     for name in args.file:
         if wanted.is_of_other(name):
@@ -196,6 +200,7 @@ class Kept:
         self.count = self.left_out = 0
 
     def write(self, out: BinaryIO) -> None:
+        """Writes a datagram file without the datagrams that have the value."""
         out.write(records.HEADER)
         for payload in self.reader:
             value = self.wanted.is_in(payload)
@@ -207,6 +212,7 @@ class Kept:
 
 
 def symbol(text: str) -> bytes:
+    """An option's value as a symbol: its source block and its number, as in a journal."""
     place = re.fullmatch(r"(\d{1,5})/(\d{1,5})", text, re.ASCII)
     numbers = [int(number) for number in place.groups()] if place else [65536]
     if max(numbers) > 65535:
@@ -215,6 +221,7 @@ def symbol(text: str) -> bytes:
 
 
 def digits(text: str) -> str:
+    """An option's value as the first digits of a hash."""
     if not re.fullmatch(f"[0-9a-fA-F]{{{DIGITS},64}}", text):
         raise argparse.ArgumentTypeError(f"{text!r} is not {DIGITS} to 64 hexadecimal digits")
     return text.lower()

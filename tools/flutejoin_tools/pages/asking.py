@@ -93,16 +93,19 @@ def logged(path: str, name: str) -> Iterator[Told]:
 
 
 def from_stations(shares: dict[str, float]) -> str:
+    """Which stations have how much of a file, in words."""
     told = [f"{name} {share} %" for name, share in shares.items()]
     more = ", .." * (len(told) > FEW)
     return f" (of {', '.join(told[:FEW])}{more})" if told else ""
 
 
 def symbols(count: int) -> str:
+    """A number of symbols, in words."""
     return f"{count} symbol{'s' * (count != 1)}"
 
 
 def named(it: Told) -> str:
+    """The name of a file, or else of its object."""
     return it["name"] or f"sender {it['sender']} session {it['tsi']} object {it['toi']}"
 
 

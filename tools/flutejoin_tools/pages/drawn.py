@@ -30,6 +30,7 @@ NAME = re.compile(r"[0-9a-f]{32}-\d{1,15}-\d{1,34}\.svg", re.ASCII)
 
 
 def name_of(key: Key) -> str:
+    """The name of an object's picture."""
     return f"{key.source.hex()}-{key.tsi}-{key.number}.svg"
 
 
@@ -60,6 +61,7 @@ class Pictures:
                 self.draw_one(key, row)
 
     def chosen(self, rows: Iterable[Row]) -> Iterator[Row]:
+        """The files that get a picture: those that are there in part, up to a number."""
         left = MOST
         for row in rows:
             if row.percent and row.shares and left:
@@ -67,6 +69,7 @@ class Pictures:
                 yield row
 
     def draw_one(self, key: Key, row: Row) -> None:
+        """Draws an object; without a row for each station if that is too long."""
         text = self.text(key, row, MOST_STATIONS)
         if text is not None and len(text) > MOST_BYTES:
             text = self.text(key, row, 0)
@@ -107,6 +110,7 @@ Shape = Tuple[int, Callable[[int], int]]
 def panel(
     name: str, symbols: Symbols, partition: Partition, sizes: Shape, is_all: bool
 ) -> Panel:
+    """A panel of what a station, or all together, have of an object."""
     grid = Grid(partition, *sizes)
     for block in range(partition.blocks):
         for first, last in symbols.runs_missing(partition, block):

@@ -19,6 +19,8 @@ LEAST_FREE = 64 << 20  # bytes of the disk
 
 
 class Problem(NamedTuple):
+    """What is not well, and how much that matters: a warning or a failure."""
+
     level: int
     text: str
 
@@ -53,6 +55,7 @@ def problems(model: Model, stations: list[StationRow], report: ServiceLog) -> li
 
 
 def since(seen: Optional[float], now: float) -> str:
+    """How long ago something was heard, in words."""
     return "never" if seen is None else age(now - seen)
 
 
@@ -185,5 +188,6 @@ def metrics(status: dict[str, Any], stations: list[StationRow], now: float) -> I
 
 
 def head(name: str, kind: str, told: str) -> Iterator[str]:
+    """Yields the lines before the values of a metric."""
     yield f"# HELP flutejoin_centre_{name} {told}"
     yield f"# TYPE flutejoin_centre_{name} {kind}"

@@ -132,6 +132,7 @@ class Model:
         return max(0, len(self.deliverer.union.keys() - described - self.rows.keys()))
 
     def holdings(self) -> Holdings:
+        """The symbols that each station has, by the stations' names."""
         return [(each.station.name, each.symbols()) for each in self.deliverer.arrivals]
 
     def rows_of(self, keys: Collection[Key]) -> Iterator[Row]:
@@ -238,6 +239,7 @@ class Model:
         )
 
     def free(self) -> int:
+        """The bytes that are free on the disk of the centre."""
         return shutil.disk_usage(self.deliverer.folder).free
 
 
@@ -272,18 +274,22 @@ def count_block(
 
 
 def listed(value: object) -> list[Any]:
+    """A value of a station's status, if it is a list."""
     return value if isinstance(value, list) else []
 
 
 def number_of(value: object) -> Optional[int]:
+    """A value of a station's status, if it is a number."""
     return value if isinstance(value, int) and not isinstance(value, bool) else None
 
 
 def sum_of(values: Iterable[object]) -> int:
+    """The sum of those values that are numbers."""
     return sum(number_of(it) or 0 for it in values)
 
 
 def text_of(value: object) -> Optional[str]:
+    """A value of a station's status, if it is text, safe to print."""
     return shown(value)[:200] if isinstance(value, str) else None
 
 
@@ -295,6 +301,7 @@ def fault_in(value: object) -> Optional[str]:
 
 
 def seconds_of(text: str) -> Optional[float]:
+    """A time of a station's status, in seconds since 1970; None if it is none."""
     try:
         return float(calendar.timegm(time.strptime(text, "%Y-%m-%dT%H:%M:%SZ")))
     except ValueError:

@@ -65,12 +65,14 @@ def bars(shares: list[float]) -> Iterable[tuple[str, int, int, int]]:
 
 
 def bar(share: float) -> tuple[str, int]:
+    """The class and the height of a station's bar, by its share of a file."""
     if share >= 100:
         return "full", HEIGHT
     return ("part", max(2, round(HEIGHT * share / 100))) if share > 0 else ("none", 1)
 
 
 def name_of(name: Optional[str], key: Key) -> str:
+    """A file's name, or else its object's."""
     if not name:
         return f"session {key.tsi} object {key.number} of {text(address_of(key.source))}"
     return f"<bdi>{text(name)}</bdi>"
@@ -117,10 +119,12 @@ class Page:
         )
 
     def head(self, title: str) -> str:
+        """The head of the page. Its policy allows the page's own script alone."""
         digest = base64.b64encode(hashlib.sha256(self.script().encode()).digest()).decode()
         return HEAD.replace("@SCRIPT@", digest).replace("@TITLE@", text(title))
 
     def not_whole(self, rows: list[Row]) -> str:
+        """The table of files that are not whole."""
         made, length = [], 0
         for row in rows:
             made.append(self.row(row))
@@ -139,6 +143,7 @@ class Page:
         return front + table(heads, "".join(made)) + more
 
     def row(self, row: Row) -> str:
+        """A row of that table; kept, since most are the same the next time."""
         known, is_drawn = self.made.get(row.key), self.is_drawn(row.key)
         if known and known[:2] == (row, is_drawn):
             return known[2]
@@ -159,6 +164,8 @@ class Page:
         return made
 
     def stations(self, stations: list[StationRow], files: int, now: float) -> str:
+        """The table of stations."""
+
         def line(it: StationRow) -> str:
             silent = "silent " if it.is_silent else ""
             seen = "never" if it.seen is None else f"{silent}{since(it.seen, now)} ago"
@@ -183,6 +190,7 @@ class Page:
         return front + made
 
     def whole(self, files: list[Delivery], count: int) -> str:
+        """The table of files that were delivered, and what searches in their names."""
         rows = "".join(map(self.whole_row, files[:SHOWN]))
         front = f'<h2 id="whole">Delivered ({count:,})</h2>'
         if not files:
@@ -212,6 +220,7 @@ class Page:
         return SCRIPT.replace("@N@", str(len(self.names))).replace("@LINKED@", is_linked)
 
     def whole_at(self, delivery: Delivery) -> int:
+        """How many stations had the whole file."""
         return sum(share >= 100 for share in delivery.shares.values())
 
     def whole_row(self, it: Delivery) -> str:
@@ -246,6 +255,7 @@ def link(path: str) -> str:
 
 
 def verdict(found: list[Problem], summary: str) -> str:
+    """What is not well, or that all is."""
     if not found:
         return f'<section class="v ok" role="status">All is well: {text(summary)}.</section>'
     lines = "".join(f"<li>{text(it.text)}</li>" for it in found)

@@ -57,6 +57,7 @@ class Handler(http.server.SimpleHTTPRequestHandler):
         return wanted if is_plain else nothing
 
     def end_headers(self) -> None:
+        """Ends the fields of an answer; those of a sender's file make it safe to open."""
         # A file of a sender is never shown as a page of this server.
         self.send_header("X-Content-Type-Options", "nosniff")
         if urllib.parse.urlsplit(self.path).path.startswith(f"/{FILES}/"):
@@ -69,6 +70,8 @@ class Handler(http.server.SimpleHTTPRequestHandler):
 
 
 class Server(http.server.ThreadingHTTPServer):
+    """The HTTP server, with a thread for each connection."""
+
     daemon_threads = True
     allow_reuse_address = True
 

@@ -57,6 +57,7 @@ class Batch:
         return zip(senders, lengths, heads, self.places)
 
     def one_by_one(self, most: int) -> Iterable[Datagram]:
+        """Receives by a call for each datagram."""
         senders, lengths = [], []
         for place in self.places[:most]:
             try:
@@ -79,9 +80,13 @@ def many_at_once(batch: Batch) -> Optional[Callable[[int], Iterable[Datagram]]]:
     call = system.recvmmsg
 
     class Piece(ctypes.Structure):
+        """`struct iovec`: where a datagram goes, and how much room is there."""
+
         _fields_ = [("base", ctypes.c_void_p), ("length", ctypes.c_size_t)]
 
     class Message(ctypes.Structure):
+        """`struct msghdr`: where the sender's address goes, and the pieces."""
+
         _fields_ = [
             ("name", ctypes.c_void_p),
             ("name_length", ctypes.c_uint),
@@ -93,6 +98,8 @@ def many_at_once(batch: Batch) -> Optional[Callable[[int], Iterable[Datagram]]]:
         ]
 
     class Received(ctypes.Structure):
+        """`struct mmsghdr`: a message, and how long its datagram was."""
+
         _fields_ = [("message", Message), ("length", ctypes.c_uint)]
 
     name_room = 28  # struct sockaddr_in6
@@ -120,6 +127,7 @@ def many_at_once(batch: Batch) -> Optional[Callable[[int], Iterable[Datagram]]]:
     kept = data, name_data, pieces, received
 
     def receive(most: int, _kept: object = kept) -> Iterable[Datagram]:
+        """Receives by one call, and returns the datagrams."""
         count = call(batch.descriptor, at, most, DONT_WAIT, None)
         if count < 0:
             number = ctypes.get_errno()

@@ -112,6 +112,7 @@ class Flood:
             self.detach()
 
     def attach(self, steps: bytes) -> None:
+        """Gives the socket a filter; where the system has none, all is passed."""
         held = ctypes.create_string_buffer(steps)
         told = struct.pack("@HP", len(steps) // STEP.size, ctypes.addressof(held))
         try:
@@ -121,6 +122,7 @@ class Flood:
             self.share = self.of_long = 1.0
 
     def detach(self) -> None:
+        """Takes the filter from the socket, so that all is passed again."""
         try:
             self.udp.setsockopt(socket.SOL_SOCKET, SO_DETACH_FILTER, 0)
         except OSError:

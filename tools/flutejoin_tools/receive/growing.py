@@ -105,11 +105,13 @@ class Growing:
         return bool(self.orders or self.copies)
 
     def begin(self) -> None:
+        """Ends the file, and begins the next one of this sender."""
         self.close()
         self.end_file()
         self.part += 1
 
     def end_file(self) -> None:
+        """Notes what the file that ends got in this run."""
         if self.records > self.records_before:
             new_records = self.records - self.records_before
             self.done.append(Grown(self.path(), self.records, new_records))
@@ -132,6 +134,7 @@ class Growing:
         self.add(len(data), len(block.data), block.records)
 
     def add(self, size: int, of_block: int, records: int) -> None:
+        """Counts bytes and records that were written. `of_block` are those of the block alone."""
         self.opened.held += on_disk(self.size + size) - on_disk(self.size)
         self.size += size
         self.taken += of_block
@@ -289,6 +292,7 @@ class Copy:
                 self.part += 1
 
     def end(self, records: int) -> None:
+        """Ends the copy, of which so many records are whole."""
         self.is_done = True
         self.growing.lost += self.records - records
         if records > self.records_before:

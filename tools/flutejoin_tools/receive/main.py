@@ -168,11 +168,13 @@ class Station:
         signal.signal(signal.SIGUSR1, self.ask)
 
     def stop(self, *_: object) -> None:
+        """Takes a signal that ends the run."""
         # An exception here could come between any two steps, as could a change of what the run
         # changes itself.
         self.is_stopped = True
 
     def ask(self, *_: object) -> None:
+        """Takes the signal that asks for the status."""
         self.is_asked = True
 
     def open(self) -> None:
@@ -202,6 +204,7 @@ class Station:
         self.writer.start()
 
     def senders_of(self, session: SessionOptions) -> Senders:
+        """The senders of the folder into which a session is received."""
         return self.folders[os.path.realpath(session.folder)]
 
     def look(self, sessions: list[SessionOptions]) -> None:
@@ -247,6 +250,7 @@ class Station:
         return is_quiet
 
     def wait(self, now: float) -> None:
+        """Waits until datagrams come, the next second begins, or waiting ones are due."""
         until = min(self.second_at, self.end)
         if self.has_waiting:
             until = min(until, self.hand_over_at)
@@ -255,11 +259,13 @@ class Station:
                 os.read(self.wake, 4096)
 
     def hand_over(self, now: float) -> None:
+        """Hands what waits to the writer."""
         for senders in self.folders.values():
             senders.hand_over()
         self.hand_over_at, self.has_waiting = now + HAND_OVER, False
 
     def each_second(self, now: float) -> None:
+        """What is done once a second: looks at sockets, tells what is left out, status."""
         self.second_at = now + 1
         for session in self.sessions:
             session.look(now)
@@ -273,6 +279,7 @@ class Station:
         LOG.flush()
 
     def tell_left_out(self, now: float) -> None:
+        """Tells what was left out since it was told last, at most once a minute."""
         for session in self.sessions:
             session.each_second(now)
         for cause, count in self.status.drops.by_cause().items():
@@ -314,6 +321,7 @@ class Station:
             yield from senders.join_lines()
 
     def left_out(self) -> collections.Counter[str]:
+        """How many datagrams were left out in this run, by cause."""
         causes: collections.Counter[str] = collections.Counter()
         for session in self.sessions:
             causes.update(session.left_out())

@@ -46,12 +46,15 @@ class Newcomer:
         self.is_outdone = False  # less than it sent was kept of another
 
     def total(self) -> int:
+        """The bytes that it ever sent."""
         return self.earlier + self.bytes
 
     def sent(self) -> tuple[int, int]:
+        """What it sent since it is known: datagrams and bytes."""
         return self.count, self.bytes
 
     def lost(self) -> int:
+        """How many of its datagrams are not held."""
         return self.count - len(self.held)
 
     def is_late(self, now: float) -> bool:
@@ -85,6 +88,7 @@ class Newcomers:
         return True
 
     def measure(self) -> None:
+        """Takes once a second how much each sent."""
         for newcomer in self.by_key.values():
             newcomer.pace.measure(newcomer.bytes)
 
@@ -131,12 +135,14 @@ class RateLimit:
         self.left, self.at = float(most), float("-inf")
 
     def has(self, now: float) -> bool:
+        """Whether one more may get a file now."""
         if now > self.at:
             self.left = min(self.most, self.left + (now - self.at) * self.each_second)
             self.at = now
         return self.left >= 1
 
     def take(self, now: float) -> bool:
+        """Whether one more may get a file now; then it is counted."""
         if not self.has(now):
             return False
         self.left -= 1

@@ -58,6 +58,7 @@ class Section:
             self.take_attribute(name.lower(), rest.strip())
 
     def take_attribute(self, name: str, value: str) -> None:
+        """Takes a line a=. Raises ValueError."""
         if name == "source-filter":
             self.filters.append(source_filter(value))
         elif name == "flute-tsi":
@@ -219,6 +220,7 @@ def connection(value: str) -> list[IPAddress]:
 
 
 def source_filter(value: str) -> Filter:
+    """The filter in a line a=source-filter. Raises ValueError."""
     words = value.split()
     if len(words) < 5 or words[0].lower() not in ("incl", "excl") or words[1].lower() != "in":
         raise ValueError("is no source filter: incl IN IP4 GROUP SENDER..")
@@ -236,6 +238,7 @@ def source_filter(value: str) -> Filter:
 
 
 def address_of(text: str, version: Optional[int]) -> IPAddress:
+    """An address of this version of IP. Raises ValueError."""
     try:
         address = ipaddress.ip_address(text)
     except ValueError:
@@ -246,12 +249,14 @@ def address_of(text: str, version: Optional[int]) -> IPAddress:
 
 
 def number(text: str, least: int, most: int) -> int:
+    """A number within bounds. Raises ValueError."""
     if not re.fullmatch(r"\d{1,15}", text, re.ASCII) or not least <= int(text) <= most:
         raise ValueError(f"{text!r} is not a number from {least} to {most}")
     return int(text)
 
 
 def once(before: Optional[int], name: str, value: int) -> int:
+    """The value of what may come once. Raises ValueError if it came before."""
     if before is not None:
         raise ValueError(f"{name} comes a second time")
     return value

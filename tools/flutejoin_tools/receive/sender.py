@@ -40,6 +40,7 @@ class Sender:
         self.left_out: collections.Counter[str] = collections.Counter()
 
     def begin_file(self) -> None:
+        """Counts anew for the next file."""
         self.grown, self.records, self.handed = len(HEADER), 0, 0
         self.room = 0  # length up to which the file may grow before `make_room` is called again
 
@@ -68,6 +69,7 @@ class Sender:
         self.records += 1
 
     def begin(self) -> None:
+        """Begins another file."""
         self.hand_over()
         self.writer.give(self.growing, BEGIN)
         self.begin_file()
@@ -90,6 +92,7 @@ class Sender:
         return self.total + len(self.waiting)
 
     def leave_out(self, cause: str, count: int) -> None:
+        """Counts datagrams that are not kept, with the cause."""
         self.left_out[cause] += count
         self.senders.causes[cause] += count
 

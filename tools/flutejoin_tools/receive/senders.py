@@ -58,6 +58,7 @@ class Senders:
         self.told = EachMinute()
 
     def sender(self, address: IPAddress) -> Sender:
+        """A new sender, with its files in the folder."""
         return Sender(Growing(self.folder.path, address, self.writer.opened), self)
 
     def look(self, only: AbstractSet[IPAddress]) -> None:
@@ -137,6 +138,7 @@ class Senders:
         self.hold_more(newcomer, session, datagram)
 
     def hold_more(self, newcomer: Newcomer, session: Session, datagram: Buffer) -> None:
+        """Keeps a further datagram of a newcomer; of too much the least is left out."""
         if not self.newcomers.hold(newcomer, session, datagram):
             session.full += 1
             return
@@ -252,10 +254,12 @@ class Senders:
         return silent[-self.most :] + list(self.admitted.values())
 
     def hand_over(self) -> None:
+        """Hands what waits of all senders to the writer."""
         for sender in self.admitted.values():
             sender.hand_over()
 
     def each_second(self, now: float) -> None:
+        """What is done once a second: gives places, and tells what is left out."""
         self.give_places(now)
         for cause, count in self.causes.items():
             self.told.tell(cause, count, now)
@@ -279,6 +283,7 @@ class Senders:
         return self.causes
 
     def unwritten(self) -> int:
+        """How many datagrams could not be written."""
         return self.causes[UNWRITTEN] + self.causes[TOO_SLOW]
 
     def grew(self) -> Iterator[tuple[Sender, list[Grown]]]:
@@ -289,6 +294,7 @@ class Senders:
                 yield sender, files
 
     def lines(self) -> Iterator[str]:
+        """Yields the lines of a run's end about files that grew."""
         for sender, files in self.grew():
             for path, records, new in files:
                 more = f", {new} of them new" if new < records else ""

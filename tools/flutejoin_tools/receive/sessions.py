@@ -125,6 +125,7 @@ class Session:
             self.interface, self.is_lost = interface, False
 
     def lose(self, why: str) -> None:
+        """Tells that the socket receives nothing; it is opened again later."""
         if not self.is_lost:
             told = f"cannot listen at {self.where}: {why}"
             note(f"{told}; it is tried again each {LOOK_EACH} seconds")
@@ -226,6 +227,7 @@ class Session:
         return self.register(key, sender)
 
     def register(self, key: bytes, sender: Sender) -> Sender:
+        """Notes that a sender's datagrams at this socket have this address."""
         sender.keys.append((self.by_key, key))
         self.by_key[key] = sender
         return sender
@@ -240,6 +242,7 @@ class Session:
             self.seen_at = time.time()
 
     def begin_tests(self, now: float) -> None:
+        """Begins the next tenth of a second, in which unknown senders are looked at."""
         self.tests = self.repeats = int(MOST_TESTS * TESTS_EACH)
         self.tests_at = now + TESTS_EACH
         self.once.clear()
@@ -295,6 +298,7 @@ class Session:
         return collections.Counter({cause: count for cause, count in causes.items() if count})
 
     def each_second(self, now: float) -> None:
+        """What is done once a second: tells of silence, and of what is left out."""
         self.flood.tend(self.known)
         if now >= self.silent_at and not self.has_come:
             self.silent_at = float("inf")

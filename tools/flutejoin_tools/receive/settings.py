@@ -23,6 +23,8 @@ OF_STATION = (
 
 
 def number_within(least: int, most: int) -> Callable[[str], int]:
+    """Returns what reads an option's value as a number within bounds."""
+
     def number(text: str) -> int:
         if not text.isascii() or not text.isdigit() or not least <= int(text) <= most:
             raise argparse.ArgumentTypeError(f"{text!r} is not a number from {least} to {most}")
@@ -32,6 +34,7 @@ def number_within(least: int, most: int) -> Callable[[str], int]:
 
 
 def seconds(text: str) -> float:
+    """An option's value as a number of seconds."""
     value = float(text)
     if not 0 <= value <= 1e9:
         raise argparse.ArgumentTypeError(f"{text!r} is not a number of seconds")
@@ -39,6 +42,7 @@ def seconds(text: str) -> float:
 
 
 def plain_address(text: str) -> IPAddress:
+    """An option's value as an address that names no link."""
     if "%" in text:
         raise argparse.ArgumentTypeError(f"{text}: name the link by --interface")
     try:
@@ -48,6 +52,7 @@ def plain_address(text: str) -> IPAddress:
 
 
 def name(text: str) -> str:
+    """An option's value as a name, without a NUL."""
     if "\0" in text:
         raise argparse.ArgumentTypeError(f"{text!r} is no name")
     return text
@@ -270,6 +275,7 @@ def sessions_of(options: argparse.Namespace) -> list[SessionOptions]:
 
 
 def sessions_of_descriptions(options: argparse.Namespace) -> list[SessionOptions]:
+    """The sessions of the files of --sdp, each with its --interface. Raises ValueError."""
     for key in "port", "group", "from":
         if getattr(options, key):
             raise ValueError(f"argument --{key}: not allowed with argument --sdp")

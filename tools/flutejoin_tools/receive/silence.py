@@ -17,6 +17,7 @@ STRICT = 1  # of rp_filter: only senders that are reached by the interface
 
 
 def read(path: str) -> str:
+    """What is in a small file of the system; empty if it can't be read."""
     with contextlib.suppress(OSError, ValueError), open(path, encoding="ascii") as file:
         return file.read().strip()
     return ""
@@ -37,6 +38,7 @@ def joined_on(group: IPAddress) -> list[str]:
 
 
 def of_ip4(group: IPAddress) -> Iterator[str]:
+    """Yields the interfaces on which an IPv4 group is joined."""
     wanted, name = struct.unpack("=I", group.packed)[0], ""
     for line in read("/proc/net/igmp").splitlines()[1:]:
         words = line.split()
@@ -47,6 +49,7 @@ def of_ip4(group: IPAddress) -> Iterator[str]:
 
 
 def of_ip6(group: IPAddress) -> Iterator[str]:
+    """Yields the interfaces on which an IPv6 group is joined."""
     for line in read("/proc/net/igmp6").splitlines():
         words = line.split()
         if len(words) > 2 and words[2] == group.packed.hex():

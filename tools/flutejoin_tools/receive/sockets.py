@@ -176,6 +176,7 @@ def join_source(
 
 
 def system_address(address: IPAddress) -> bytes:
+    """An address as the system's calls for groups take it (struct sockaddr)."""
     if address.version == 4:
         return struct.pack("=HH4s", socket.AF_INET, 0, address.packed)
     return struct.pack("=HHI16sI", socket.AF_INET6, 0, 0, address.packed, 0)

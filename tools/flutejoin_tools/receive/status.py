@@ -24,6 +24,7 @@ LONG, TIMES = 0.2, 20
 
 
 def instant(seconds: Optional[float]) -> Optional[str]:
+    """A time in UTC, as text."""
     if seconds is None:
         return None
     return time.strftime("%Y-%m-%dT%H:%M:%SZ", time.gmtime(seconds))
@@ -65,6 +66,7 @@ class Status:
         self.writer.report(lambda entries: report(counted, entries))
 
     def counted(self) -> Counted:
+        """What is counted now."""
         return Counted(
             self.drops.by_cause(),
             [self.of_session(session) for session in self.sessions],
@@ -76,6 +78,7 @@ class Status:
         )
 
     def of_session(self, session: Session) -> dict[str, object]:
+        """What the status has of a session."""
         options = session.options
         return {
             "group": options.group and str(options.group),
@@ -92,6 +95,7 @@ class Status:
 
     @staticmethod
     def of_sender(folder: str, sender: Sender) -> dict[str, object]:
+        """What the status has of a sender."""
         return {
             "sender": str(sender.growing.address),
             "folder": folder,
@@ -104,6 +108,7 @@ class Status:
         }
 
     def of_files(self, folder: str, growing: Growing) -> dict[str, object]:
+        """What the status has of a sender's files, as the writer knows them."""
         return {
             "file": growing.path() if growing.identity else None,
             "bytes_on_disk": self.held[folder, growing.address],
@@ -125,6 +130,7 @@ class Status:
         self.look_at = time.monotonic() + (TIMES * took if took > LONG else 0)
 
     def text(self, counted: Counted, entries: Iterable[Entry]) -> str:
+        """The status as JSON."""
         self.look(counted, entries)
         told = {
             "time": instant(time.time()),
@@ -142,6 +148,7 @@ class Status:
         return json.dumps(told, indent=1)
 
     def tell(self, counted: Counted, entries: Iterable[Entry]) -> None:
+        """Says the status on standard error."""
         LOG.print(f"status\n{self.text(counted, entries)}")
 
     def write(self, counted: Counted, entries: Iterable[Entry]) -> None:

@@ -14,6 +14,7 @@ class EachMinute:
         self.told: dict[str, tuple[float, int]] = {}
 
     def tell(self, cause: str, count: int, now: float, text: str = "left out {}: {}") -> None:
+        """Reports how much this count has risen, unless its cause was reported a moment ago."""
         at, before = self.told.get(cause, (float("-inf"), 0))
         if count > before and now >= at + EACH:
             note(text.format(count - before, cause))

@@ -118,6 +118,7 @@ class Folder:
             return []
 
     def entries(self) -> Iterator[Entry]:
+        """Yields the senders' files in the folder."""
         try:
             with os.scandir(self.path) as found:
                 for file in found:
@@ -162,6 +163,7 @@ class Opened:
         self.held = 0  # of all datagram files
 
     def open(self, path: str, flags: int) -> int:
+        """Opens a file; where there are too few descriptors, another one is closed before."""
         while len(self.growing) >= self.most and self.close_silent():
             pass
         while True:
@@ -183,6 +185,7 @@ class Opened:
         return False
 
     def touch(self, growing: Growing) -> None:
+        """Notes that this sender sent last."""
         self.growing[growing] = None
         self.growing.move_to_end(growing)
 
@@ -234,6 +237,7 @@ class Writer(threading.Thread):
         self.event.set()
 
     def run(self) -> None:
+        """What the thread does: carries out orders as they come, and looks around once a second."""
         look_at = time.monotonic() + 1
         try:
             while not self.is_ending:
@@ -251,15 +255,18 @@ class Writer(threading.Thread):
             self.fault = fault
 
     def found(self) -> Iterator[Entry]:
+        """Yields the senders' files in all folders."""
         for folder in self.folders:
             yield from folder.entries()
 
     def entries(self) -> list[Entry]:
+        """The senders' files in all folders; their bytes on the disk are counted anew."""
         entries = list(self.found())
         self.opened.held = sum(entry.on_disk for entry in entries)
         return entries
 
     def work(self) -> None:
+        """Carries out the orders that wait, and goes on with copies."""
         again = self.copying()
         while self.todo or again:
             growing = self.todo.popleft() if self.todo else again.pop()
@@ -270,6 +277,7 @@ class Writer(threading.Thread):
         return [growing for growing in self.unfinished if growing.copies and not growing.fault]
 
     def work_at(self, growing: Growing) -> None:
+        """Carries out the orders for one sender's files."""
         before = growing.taken
         growing.work()
         self.taken += growing.taken - before

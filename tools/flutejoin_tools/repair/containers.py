@@ -32,6 +32,7 @@ class Run(NamedTuple):
     last: int
 
     def text(self) -> str:
+        """The run as a request has it."""
         return f"{self.first}" if self.first == self.last else f"{self.first}-{self.last}"
 
     def symbols(self) -> int:
@@ -83,6 +84,7 @@ def front_of(file: File) -> str:
 
 
 def query_of(front: str, batch: Sequence[Run]) -> str:
+    """The target of a request for these symbols."""
     items = []
     for block, of in itertools.groupby(batch, key=lambda each: each.block):
         items.append(f"SBN={block};ESI=" + ",".join(each.text() for each in of))
@@ -130,6 +132,7 @@ def last_size(partition: Partition, end: int, left: int) -> int:
 
 
 def container_of(answer: Answer, partition: Partition, batch: Sequence[Run]) -> bytes:
+    """The bytes of an answer to a request for these symbols. Raises AnswerFault."""
     count = sum(each.symbols() for each in batch)
     most = count * (partition.numbers[1] + GROUP.size)
     answer.may_have(most)

@@ -106,6 +106,7 @@ class Fetched:
             yield place, self.spool.read(min(self.size, self.length - place * self.size))
 
     def datagrams(self) -> Iterator[bytes]:
+        """Yields a datagram for each symbol that came."""
         partition = self.lack.partition()
         front = front_of(self.lack.key, partition.numbers)
         for place, symbol in self.symbols():
@@ -126,6 +127,7 @@ class Whole:
         self.place = 0
 
     def update(self, place: int, data: bytes) -> None:
+        """Adds a symbol, if it is the next one."""
         if place == self.place:
             self.place += 1
             self.sums.update(data)

@@ -57,6 +57,7 @@ class Again(Delivery):
         self.further, self.located = further, catalogue
 
     def read_instances(self, others: Sequence[str]) -> None:
+        """Takes the descriptions that the first reading has of these objects."""
         self.located.places = self.further.catalogue.places
         for session in self.further.catalogue:
             mine = self.located.session(session.source, session.tsi)
@@ -87,6 +88,7 @@ class Further:
             self.find_missing([self.generation(first.journal), *self.further])
 
     def generation(self, path: str) -> Generation:
+        """A generation: its journal, and the transmission information of its objects."""
         found: Dict[Key, Numbers] = {}
         with open(path, "rb", buffering=0) as file:
             for key, held in holdings.holdings(file, self.is_described):
@@ -196,6 +198,7 @@ class Further:
         fill(journal, [run.right[key] for key in mine if key in run.complete])
 
     def note_left(self, run: Repair) -> None:
+        """Notes which files of a TOI still lack something."""
         for key in sorted(self.several & run.complete):
             came = run.right[key].file
             one = next(each for each in self.missing[key] if each.file == came)

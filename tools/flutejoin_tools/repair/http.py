@@ -50,6 +50,7 @@ class Spending:
         self.received = self.requests = 0
 
     def left(self) -> int:
+        """How many bytes may still come. Raises Spent if none."""
         if self.received >= self.most:
             raise Spent(f"{self.most:,} bytes came in all (--most)")
         return self.most - self.received
@@ -126,6 +127,7 @@ class Connection(Stream):
         self.stream.settimeout(rest)
 
     def send(self, data: bytes) -> None:
+        """Sends bytes. Raises Broken."""
         try:
             self.wait()
             self.stream.sendall(data)
@@ -171,6 +173,7 @@ class Answer:
         self.is_over = False
 
     def field(self, name: str) -> str:
+        """A field of the head of the answer; empty if it has none."""
         return self.fields.get(name, "")
 
     def number(self, name: str) -> Optional[int]:
@@ -189,6 +192,7 @@ class Answer:
         self.connection.ends = time.monotonic() + IDLE + size / PACE
 
     def body(self) -> Iterator[bytes]:
+        """Yields the body as it comes. Raises Broken and AnswerFault."""
         if self.is_chunked:
             yield from self.chunks()
         else:
@@ -311,6 +315,7 @@ class Client:
             answer.connection.close()
 
     def connection(self, url: Url) -> Connection:
+        """A connection that was kept, or a new one."""
         kept = self.kept.pop(url.server(), None)
         return kept or Connection(self.connected(url), self.spending)
 

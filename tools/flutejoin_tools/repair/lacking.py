@@ -91,6 +91,7 @@ class Located(Catalogue):
     def instance_of(
         self, session: Session, file: BinaryIO, number: Optional[int], name: str
     ) -> fdt.Instance:
+        """Reads an FDT Instance, and where it says that its files lie."""
         instance, places = read_from(file, number, name, self.xml)
         self.texts += sum(sum(map(len, each)) for each in places.of_files.values())
         if self.texts <= fdt.MOST_KEPT:

@@ -40,6 +40,7 @@ class Reader(fdt.Reader):
         self.is_wanted, self.texts = False, 0
 
     def start(self, name: str, attributes: Dict[str, str]) -> None:
+        """Takes the start of an element: called by the parser."""
         super().start(name, attributes)
         local, named = name.rpartition(":")[2], fdt.local_names(attributes)
         if self.depth == 1:
@@ -56,11 +57,13 @@ class Reader(fdt.Reader):
         self.text, self.length = [], 0
 
     def take(self, text: str) -> None:
+        """Takes text of an element: called by the parser."""
         if self.is_wanted and self.length <= fdt.MOST_LOCATION:
             self.text.append(text)
             self.length += len(text)
 
     def end(self, name: str) -> None:
+        """Takes the end of an element: called by the parser."""
         if self.is_wanted:
             places = self.places.bases if self.depth == 2 else self.current
             self.keep(places, "".join(self.text))
@@ -68,6 +71,7 @@ class Reader(fdt.Reader):
         super().end(name)
 
     def keep(self, places: List[str], text: str) -> None:
+        """Adds a place, unless there are too many, or it is too long."""
         text = text.strip(" \t\r\n")
         if not text or len(text) > fdt.MOST_LOCATION or len(places) >= MOST_PLACES:
             return

@@ -174,6 +174,7 @@ def wait(args: argparse.Namespace, settings: repairs.Settings) -> None:
 
 
 def work(args: argparse.Namespace, report: Log) -> None:
+    """Asks for what the journals lack, and tells what came."""
     settings = repairs.Settings(
         tuple(args.base),
         tuple(args.allow),

@@ -189,6 +189,7 @@ def numeric(host: str) -> list[IPAddress]:
 
 
 def address_of(place: Place) -> IPAddress:
+    """The address in what a look-up of a name returns."""
     return ipaddress.ip_address(place[1][0].partition("%")[0])
 
 

@@ -23,6 +23,7 @@ UNSATISFIED = re.compile(r"bytes\s+\*/([0-9]{1,15})", re.IGNORECASE)
 
 
 def size_of(ranges: Iterable[Range]) -> int:
+    """How many bytes some ranges have."""
     return sum(last - first + 1 for first, last in ranges)
 
 
@@ -101,6 +102,7 @@ def parts(answer: Answer, length: int, asked: Sequence[Range]) -> Iterator[Tuple
 
 
 def placed(first: int, pieces: Iterable[bytes]) -> Iterator[Tuple[int, bytes]]:
+    """Yields pieces of a range that begins there, each with its place in the file."""
     for piece in pieces:
         yield first, piece
         first += len(piece)

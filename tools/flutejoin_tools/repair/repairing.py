@@ -134,6 +134,7 @@ class Repair:
     def ask_once(
         self, fetched: Fetched, url: Url, ranges: Sequence[Range], validator: Validator
     ) -> None:
+        """Sends one request for ranges of a file, and takes what comes."""
         fields = {"Accept-Encoding": "identity", "Range": field_of(ranges), **validator.fields()}
         answer = self.client.get(url, fields, size_of(ranges))
         try:

@@ -273,6 +273,7 @@ def repair(
 
 
 def take(result: Result, run: Repair, spending: Spending) -> None:
+    """Notes the numbers of a run in its result."""
     result.requests, result.received = spending.requests, spending.received
     result.spent = run.spent
     result.asked = sum(lack.symbols() for lack in run.asked.values())
@@ -294,6 +295,7 @@ def settle(result: Result, run: Repair, lacking: Lacking) -> None:
 
 
 def tell(result: Result, report: Log) -> None:
+    """Tells which files still lack something, and sets the status."""
     told = Told(report)
     for lack in result.left:
         told.tell(f"{lack.key.text()}: {shown(lack.name)}: {lack.why}")
