@@ -99,8 +99,8 @@ def tried(name: str, options: argparse.Namespace) -> Counts:
             crate.compile()
         else:
             crate.run()
-    crate.told.append(f"{name}: {len(crate.bodies)} wrong bodies in {crate.checks} checks")
-    print("\n".join(crate.told), flush=True)
+    crate.lines.append(f"{name}: {len(crate.bodies)} wrong bodies in {crate.checks} checks")
+    print("\n".join(crate.lines), flush=True)
     return crate.counts()
 
 

@@ -41,7 +41,7 @@ class Crate:
 
     def __init__(self, folder: str, name: str, edits: Iterable[str]) -> None:
         self.name, self.folder = name, folder
-        self.told: list[str] = []
+        self.lines: list[str] = []  # what is printed at the end
         self.refused = self.at_values = self.failed = self.checks = 0
         self.unfit: list[tuple[Body, str]] = []  # with why each is
         self.bodies = [Body(name, it) for it in edits]
@@ -104,7 +104,7 @@ class Crate:
 
     def fail(self, body: Body, why: str) -> None:
         self.failed += 1
-        self.told.append(f"{body.name}: FAILED: {why}")
+        self.lines.append(f"{body.name}: FAILED: {why}")
 
     def refuse(self, body: Body, goals: list[Goal], why: str) -> None:
         """Counts the body as refused, for the first of these goals; without a goal as unfit."""
@@ -113,7 +113,7 @@ class Crate:
             return
         self.refused += 1
         self.at_values += any(it.is_false for it in goals)
-        self.told.append(f"{body.name}: refused: {shown(goals)}: {why}")
+        self.lines.append(f"{body.name}: refused: {shown(goals)}: {why}")
 
     def open_without_answers(self, bodies: list[Body]) -> dict[str, list[Goal]]:
         """The goals that checks of these bodies without their functions' written answers leave
@@ -142,7 +142,7 @@ class Crate:
                 self.refuse(body, goals, f"without its written answers: {why}")
             else:
                 self.unfit.append((body, why))
-                self.told.append(f"{body.name}: UNFIT: only a written proof does not fit: {why}")
+                self.lines.append(f"{body.name}: UNFIT: only a written proof does not fit: {why}")
 
     def alone(self, body: Body) -> None:
         """Tries one body, with which the crate has to be unproved. A limit of the prover is no
@@ -169,7 +169,7 @@ class Crate:
         others = [it for it, said in answers.items() if is_refused(said) and it not in edited]
         if not is_unproved(status, told) or others:
             why = ", ".join(others) or told[-300:]
-            self.told.append(f"{self.name}: {len(bodies)} together told nothing: {why}")
+            self.lines.append(f"{self.name}: {len(bodies)} together told nothing: {why}")
             return None
         left = []
         for body in bodies:

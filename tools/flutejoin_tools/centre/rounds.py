@@ -30,13 +30,13 @@ class Once(Log):
     def __init__(self, report: Log) -> None:
         super().__init__(report.tool)
         self.report = report
-        self.told: set[str] = set()
+        self.said: set[str] = set()
 
     def warn(self, text: str, priority: int = INFORMATION) -> None:
-        if len(self.told) >= self.MOST:
-            self.told.clear()
-        if text not in self.told:
-            self.told.add(text)
+        if len(self.said) >= self.MOST:
+            self.said.clear()
+        if text not in self.said:
+            self.said.add(text)
             self.report.warn(text, priority)
 
     def fault(self, status: int, text: str) -> None:

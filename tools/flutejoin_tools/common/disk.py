@@ -13,6 +13,6 @@ def blocks_of(found: os.stat_result) -> int:
     return found.st_blocks * UNIT
 
 
-def on_disk(size: int) -> int:
+def disk_bytes(size: int) -> int:
     """The bytes of the disk that a file of so many bytes will likely take."""
     return -(-size // BLOCK) * BLOCK

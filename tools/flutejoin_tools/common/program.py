@@ -63,8 +63,8 @@ class Answer(NamedTuple):
     """How a run of flutejoin ended, its message if it failed, and what it printed."""
 
     status: int
-    told: str
-    out: bytes = b""
+    told: str  # its message: what it printed on standard error
+    out: bytes = b""  # what it printed on standard output
     signal: int = 0  # that ended it
 
     def count(self, what: str) -> int:

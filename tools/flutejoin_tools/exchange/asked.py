@@ -196,7 +196,7 @@ class Asker:
         waited = each.is_waiting
         each.call, each.asked, each.is_waiting = None, None, False
         try:
-            if call.told is None:
+            if call.failure is None:
                 if asked:
                     came = self.take_values(each, asked, call.path)
                     self.answered(each)
@@ -209,7 +209,7 @@ class Asker:
                 each.next = time.monotonic() + pause_after(each, answer, waited, every, call.size)
                 return came
             each.budget = max(1, each.budget // 8) if call.is_too_long() else each.budget
-            self.fail(each, call.told)
+            self.fail(each, call.failure)
         except (Refused, Failed, ReadFault, Cut) as fault:
             self.fail(each, str(fault) or "the answer is cut")
             if asked and not isinstance(fault, Refused):  # it may be what is here that is damaged

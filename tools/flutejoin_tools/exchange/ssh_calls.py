@@ -37,7 +37,7 @@ class Call:
         self.path, self.most = path + PARTIAL, most
         self.asked, self.errors = f"{path}.asked{PARTIAL}", f"{path}.errors{PARTIAL}"
         self.size, self.status = 0, -1
-        self.told: Optional[str] = None  # why it failed
+        self.failure: Optional[str] = None  # why it failed
         now = time.monotonic()
         self.moved_at, self.end_at = now, now + seconds
         with begin_file(self.asked) as file:
@@ -49,7 +49,7 @@ class Call:
                 )
 
     def is_over(self) -> bool:
-        """Whether it has ended; `told` is then why it failed, if it did."""
+        """Whether it has ended; `failure` is then why it failed, if it did."""
         if self.child is None:
             return True
         status, now = self.child.poll(), time.monotonic()
@@ -60,13 +60,13 @@ class Call:
             self.child.kill()
             self.child.wait()
             late = now < self.end_at
-            self.told = f"nothing came for {STALL:.0f} seconds" if late else "it takes too long"
+            self.failure = f"nothing came for {STALL:.0f} seconds" if late else "it takes too long"
         elif status is None:
             return False
         elif self.is_too_long():
-            self.told = "the answer is too long"
+            self.failure = "the answer is too long"
         elif status:
-            self.told = self.message() or ended(status)
+            self.failure = self.message() or ended(status)
         self.child = None
         return True
 

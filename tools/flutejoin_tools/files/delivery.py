@@ -184,7 +184,7 @@ class Delivery:
         journal = self.describe(lambda key: key not in sparse and shown_keys(key))
         for line in self.program.lines(Command([*GAPS, "--ranges", journal], [self.name])):
             if not line.startswith(b"bytes "):
-                self.take(*self.told(line))
+                self.take(*self.state_in(line))
 
     def sparse(self) -> Container[Key]:
         """Described objects of which next to nothing is held, and which are too many for flutejoin
@@ -262,7 +262,7 @@ class Delivery:
         words = ["extract", "--all", "--any-size", "-o", self.scratch.at(folder), argument(journal)]
         for line in self.program.lines(Command(words, [self.name])):
             if not line.startswith(b"written "):
-                yield self.told(line)
+                yield self.state_in(line)
 
     def look_apart(self, others: Sequence[str]) -> None:
         """For a list: as `resolve`, and writes no object."""
@@ -342,7 +342,7 @@ class Delivery:
             self.catalogue.of(key).states[key.number] = state
 
     @staticmethod
-    def told(line: bytes) -> tuple[Key, State]:
+    def state_in(line: bytes) -> tuple[Key, State]:
         """The object and the state in a line of `flutejoin extract --all`."""
         told = gaps.state_of(line)
         return key_of(told[1].decode()), State.of(told)

@@ -220,13 +220,13 @@ class Session:
         Of an object of which nothing is received only if it is empty.
         """
         for toi in self.files:
-            held, told = self.held.get(toi, NOTHING), self.told(toi)
+            held, told = self.held.get(toi, NOTHING), self.numbers_in_fdt(toi)
             if not told or held.information or held.is_disputed:
                 continue
             if held.symbols or not told[0][0]:
                 yield self.key(toi), told[0]
 
-    def told(self, toi: int) -> list[Numbers]:
+    def numbers_in_fdt(self, toi: int) -> list[Numbers]:
         """The valid transmission information of FDT Instances, that of the newest first."""
         every = [each.file.information() for each in self.usable(toi)]
         return [*dict.fromkeys(each for each in every if each and not fault_of(*each))]
@@ -234,7 +234,7 @@ class Session:
     def lengths(self, toi: int) -> list[Numbers]:
         """All transmission information that came: of packets, and of FDT Instances."""
         held = self.held.get(toi, NOTHING).information
-        return [*dict.fromkeys(([held] if held else []) + self.told(toi))]
+        return [*dict.fromkeys(([held] if held else []) + self.numbers_in_fdt(toi))]
 
     def is_in_doubt(self, toi: int) -> bool:
         """Whether something differs about an object that is not verified."""

@@ -221,7 +221,7 @@ class Adapting:
         self.accepted = 0
         self.forms: collections.Counter[str] = collections.Counter()
         self.refused: collections.Counter[str] = collections.Counter()
-        self.told: set[str] = set()
+        self.told_forms: set[str] = set()
         self.told_at = float("-inf")
 
     def forget(self) -> None:
@@ -338,8 +338,8 @@ class Adapting:
 
     def lines(self, now: float) -> Iterator[str]:
         """Yields what is to be told: each form once; and once a minute that all is refused."""
-        for form in [form for form in self.forms if form not in self.told]:
-            self.told.add(form)
+        for form in [form for form in self.forms if form not in self.told_forms]:
+            self.told_forms.add(form)
             yield f"sends {form}: {TOLD[form]}"
         if self.refused and not self.accepted and now >= self.told_at + EACH:
             self.told_at = now

@@ -13,7 +13,7 @@ import os
 from typing import TYPE_CHECKING, NamedTuple, Optional, Tuple, Union
 
 from flutejoin_tools.common.addresses import IPAddress
-from flutejoin_tools.common.disk import on_disk
+from flutejoin_tools.common.disk import disk_bytes
 from flutejoin_tools.common.file_names import file_name
 from flutejoin_tools.formats.records import HEADER, PIECE, Buffer, last_whole, whole_records
 from flutejoin_tools.receive.voice import note
@@ -119,7 +119,7 @@ class Growing:
 
     def write(self, block: Block) -> None:
         """Writes a block. After a fault, which is raised, the file is cut after a whole record."""
-        self.opened.make_room(on_disk(len(HEADER) + len(block.data)))  # which may end this file
+        self.opened.make_room(disk_bytes(len(HEADER) + len(block.data)))  # which may end this file
         self.opened.reserve.keep(self.folder, len(block.data))
         descriptor = self.open() if self.descriptor is None else self.descriptor
         self.opened.touch(self)
@@ -135,7 +135,7 @@ class Growing:
 
     def add(self, size: int, of_block: int, records: int) -> None:
         """Counts bytes and records that were written. `of_block` are those of the block alone."""
-        self.opened.held += on_disk(self.size + size) - on_disk(self.size)
+        self.opened.held += disk_bytes(self.size + size) - disk_bytes(self.size)
         self.size += size
         self.taken += of_block
         self.records += records
@@ -275,7 +275,7 @@ class Copy:
                 self.end(self.records)
                 return
             written = os.pwrite(target, piece, self.copied)
-            held = on_disk(self.copied + written) - on_disk(self.copied)
+            held = disk_bytes(self.copied + written) - disk_bytes(self.copied)
             self.copied += written
             self.growing.opened.held += held
 

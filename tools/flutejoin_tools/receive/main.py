@@ -158,7 +158,7 @@ class Station:
         self.count = options.count if options.count is not None else float("inf")
         self.seconds = options.seconds if options.seconds is not None else float("inf")
         self.is_stopped = self.is_asked = self.has_waiting = False
-        self.told = EachMinute()
+        self.minutely = EachMinute()
         self.selector = selectors.DefaultSelector()
         self.wake, wake = os.pipe()
         os.set_blocking(self.wake, False)
@@ -283,7 +283,7 @@ class Station:
         for session in self.sessions:
             session.each_second(now)
         for cause, count in self.status.drops.by_cause().items():
-            self.told.tell(cause, count, now, "the system dropped {} datagrams ({})")
+            self.minutely.tell(cause, count, now, "the system dropped {} datagrams ({})")
         for senders in self.folders.values():
             senders.each_second(now)
 

@@ -55,7 +55,7 @@ class Senders:
         self.files = RateLimit(most, FILES_A_MINUTE)
         self.forgotten = self.outdone = 0
         self.causes: collections.Counter[str] = collections.Counter()
-        self.told = EachMinute()
+        self.minutely = EachMinute()
 
     def sender(self, address: IPAddress) -> Sender:
         """A new sender, with its files in the folder."""
@@ -262,8 +262,8 @@ class Senders:
         """What is done once a second: gives places, and tells what is left out."""
         self.give_places(now)
         for cause, count in self.causes.items():
-            self.told.tell(cause, count, now)
-        self.told.tell(OUTDONE, self.outdone, now, f"left out {{}} {{}} {WAY_OUT}")
+            self.minutely.tell(cause, count, now)
+        self.minutely.tell(OUTDONE, self.outdone, now, f"left out {{}} {{}} {WAY_OUT}")
 
     def finish(self) -> None:
         """At the end of a run: counts what could not be written as left out."""

@@ -73,7 +73,7 @@ class Session:
         self.tests_at = float("-inf")
         self.once: set[bytes] = set()
         self.causes: collections.Counter[str] = collections.Counter()  # of unknown senders
-        self.told = EachMinute()
+        self.minutely = EachMinute()
 
     def listen(self, interface: Interface) -> socket.socket:
         """Opens the socket, and returns it. Raises Fault if the system refuses it."""
@@ -306,7 +306,7 @@ class Session:
             told = advice(options.interface, options.group, options.port)
             note(f"nothing came in {AFTER} seconds at {self.here()}: {told}")
         for cause, count in self.left_out().items():
-            self.told.tell(cause, count, now)
+            self.minutely.tell(cause, count, now)
         for sender in set(self.by_key.values()):
             for line in sender.adapting.lines(now):
                 note(f"{sender.growing.address} {line}")

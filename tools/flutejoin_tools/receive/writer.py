@@ -37,7 +37,7 @@ class Entry(NamedTuple):
     size: int
     name: Name
     folder: str
-    on_disk: int  # bytes of its blocks
+    disk_bytes: int  # bytes of its blocks
 
     def age(self) -> tuple[int, bytes, int, int, str]:
         """Orders files from the oldest on.
@@ -262,7 +262,7 @@ class Writer(threading.Thread):
     def entries(self) -> list[Entry]:
         """The senders' files in all folders; their bytes on the disk are counted anew."""
         entries = list(self.found())
-        self.opened.held = sum(entry.on_disk for entry in entries)
+        self.opened.held = sum(entry.disk_bytes for entry in entries)
         return entries
 
     def work(self) -> None:
@@ -333,9 +333,9 @@ class Writer(threading.Thread):
                     note(f"{entry.path}: cannot be removed: {fault.strerror}")
                     self.unremovable.add(entry.path)
                 continue
-            self.opened.held -= entry.on_disk
+            self.opened.held -= entry.disk_bytes
             self.removed += 1
-            told = f"{entry.path}: its {entry.on_disk} bytes are removed"
+            told = f"{entry.path}: its {entry.disk_bytes} bytes are removed"
             note(f"{told}, since the datagram files would have more than {self.most} in all")
 
     def end(self) -> None:

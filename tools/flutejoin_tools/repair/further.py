@@ -92,7 +92,7 @@ class Further:
         found: Dict[Key, Numbers] = {}
         with open(path, "rb", buffering=0) as file:
             for key, held in holdings.holdings(file, self.is_described):
-                told = self.catalogue.of(key).told(key.number)
+                told = self.catalogue.of(key).numbers_in_fdt(key.number)
                 numbers = held.information or next(iter(told), None)
                 if numbers and not held.is_disputed and not fault_of(*numbers):
                     found[key] = numbers

@@ -277,7 +277,7 @@ class Lacking:
 def numbers_of(session: Session, toi: int) -> Optional[Numbers]:
     """The transmission information by which flutejoin tells what is missing; None without any."""
     held = session.held.get(toi, NOTHING).information
-    return held or next(iter(session.told(toi)), None)
+    return held or next(iter(session.numbers_in_fdt(toi)), None)
 
 
 def ranges_of(places: Iterable[int], lack: Lack) -> Iterator[Range]:
