@@ -1,4 +1,4 @@
-//! Types whose values are joined.
+//! The trait `Join`: types whose values are joined, each with what its join may refuse.
 ghost use Rattle.std.specs.Prelude.{◌≡◌, IfOk, OnOk, IfErr};
 ghost use Rattle.flute_join.specs.Semilattice.{IsJoin, IsBelow};
 

@@ -1,4 +1,4 @@
-//! What is joined into values of a map.
+//! The trait `JoinInto`: what is joined into the values of a map, as one fact into a whole object.
 ghost use Rattle.std.specs.Prelude.{◌≡◌, IfOk, IfErr};
 
 use crate::join::Join;

@@ -1,4 +1,4 @@
-//! A map whose values are joined at shared keys.
+//! `JoinMap`: a map of at most so many keys, whose values are joined key by key.
 ghost use Rattle.std.specs.Prelude.{◌≡◌, ◌<◌, ◌≤◌, None};
 ghost use Rattle.std.specs.Prelude.{[], ◌∷◌, length, is_some, List, IsNone, IsSome, IfErr};
 ghost use Rattle.std.specs.Prelude.{OnOk, OnErr, IsOk, ◌↔◌};

@@ -1,4 +1,4 @@
-//! The keys of a map.
+//! The trait `MapKey`: what may be a key of a map.
 ghost use Rattle.std.specs.Prelude.{◌≡◌};
 ghost use Rattle.std.specs.declared.cmp.Ordering.TheVariants.{Equal};
 ghost use Rattle.std.proofs.lemmas.Map.Lookups.{exact_unsigned};

@@ -1,4 +1,4 @@
-//! Why a join is refused.
+//! Why a join is refused: the map is full, or there is no memory.
 use thiserror::Error;
 
 /// Why a join, a new entry or a copy is refused.

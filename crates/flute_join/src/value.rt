@@ -1,4 +1,4 @@
-//! What a cell holds.
+//! The trait `Value`: what a cell holds one of.
 ghost use Rattle.std.specs.Prelude.{◌≡◌, true, IfOk, IfErr};
 ghost use Rattle.std.proofs.lemmas.Map.Views.{exact_unsigned_eq};
 

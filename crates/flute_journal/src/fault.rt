@@ -1,4 +1,4 @@
-//! Why a journal could not be read or written.
+//! Why a journal or a datagram file could not be read or written.
 
 use flute_join::JoinRefusal;
 use flute_parts::{DeviceFault, InfoFault};

@@ -1,4 +1,4 @@
-//! What a file holds, by its first bytes.
+//! What a file holds, a journal or datagrams, by its first four bytes.
 ghost use Rattle.std.specs.Prelude.{MatchOption};
 ghost use Rattle.flute_journal.specs.Kinds.{HasKind, IsNeither};
 

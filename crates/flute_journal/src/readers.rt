@@ -1,4 +1,4 @@
-//! Journals and datagram files, read.
+//! The readers of journals and datagram files.
 
 pub(crate) mod datagram_reader;
 pub(crate) mod each_datagram;

@@ -1,4 +1,4 @@
-//! Journals and datagram files, written.
+//! What writes journals and datagram files.
 
 pub(crate) mod datagram_file;
 pub(crate) mod journal_of_store;

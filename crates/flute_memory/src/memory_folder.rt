@@ -1,4 +1,4 @@
-//! A folder in memory.
+//! A folder in memory, in which an output is made, filled, synced and renamed.
 ghost use Rattle.std.specs.Prelude.{◌≡◌, IfOk, ◌+◌, ◌-◌, ◌++◌, ◌∷◌, Some};
 ghost use Rattle.std.specs.Prelude.{true, OnOk, IfSome, MatchOption, option_map, [], None};
 ghost use Rattle.std.specs.Prelude.{if◌then◌else◌, is_ok};

@@ -1,4 +1,4 @@
-//! A new folder in memory.
+//! A new folder in memory, which gets files and then its name.
 ghost use Rattle.std.specs.Prelude.{◌≡◌, ◌+◌, ◌-◌, [], Some, None, true, OnOk};
 ghost use Rattle.std.specs.Prelude.{option_map, if◌then◌else◌, is_ok};
 ghost use Rattle.flute_memory.specs.NewMemory.{filled, memory_places};

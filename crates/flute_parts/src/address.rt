@@ -1,4 +1,4 @@
-//! The addresses of facts.
+//! The addresses of facts: an object, and its transmission information or one of its symbols.
 
 use crate::key::Key;
 use crate::symbol_id::SymbolId;

@@ -1,4 +1,4 @@
-//! A source over a buffered reader of the standard library.
+//! A source over a buffered reader of std: it lends bytes of its buffer.
 ghost use Rattle.std.specs.Prelude.{◌≡◌};
 ghost use Rattle.std.specs.Io.Buffered.{reader_buffer, reader_remaining};
 

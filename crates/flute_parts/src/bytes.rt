@@ -1,4 +1,4 @@
-//! The bytes of an encoding symbol.
+//! The bytes of an encoding symbol, which are owned.
 ghost use Rattle.std.specs.Prelude.{◌≡◌, ◌⊎◌, None, Some, MatchResult, bytes_eq};
 ghost use Rattle.flute_parts.specs.SymbolBytes.{HasSymbolSize, size_fault};
 

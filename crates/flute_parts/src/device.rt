@@ -1,4 +1,4 @@
-//! Devices that bytes go to.
+//! The trait `Sink`: devices that bytes are written to.
 ghost use Rattle.std.specs.Prelude.{◌≡◌, ℕ, ◌+◌, ◌<◌, ◌≤◌, List, length};
 ghost use Rattle.std.specs.Prelude.{IfOk, Option, if◌then◌else◌, is_ok};
 ghost use Rattle.std.specs.Io.KnownBytes.{WriteAppends};

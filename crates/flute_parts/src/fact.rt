@@ -1,4 +1,4 @@
-//! What is known of objects.
+//! Facts: the value that came for an address, or that two different ones came.
 ghost use Rattle.std.specs.Prelude.{◌≡◌};
 ghost use Rattle.flute_parts.specs.Addresses.{address, bytes_of, fact_of};
 

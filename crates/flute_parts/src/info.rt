@@ -1,4 +1,4 @@
-//! Transmission information.
+//! Transmission information of an object (FEC OTI): its three lengths, and when they are valid.
 ghost use Rattle.std.specs.Prelude.{◌≡◌, Some, None, Ok, IfOk, IfErr, MatchResult};
 ghost use Rattle.flute_parts.specs.Information.{information, info_fault};
 

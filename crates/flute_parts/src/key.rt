@@ -1,4 +1,4 @@
-//! The full name of an object.
+//! The full name of an object: its session, and its number there.
 
 use crate::object_key::ObjectKey;
 use crate::session_key::SessionKey;

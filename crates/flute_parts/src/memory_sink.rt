@@ -1,4 +1,4 @@
-//! A sink over memory.
+//! A sink that keeps what is written in memory.
 ghost use Rattle.std.specs.Prelude.{◌≡◌, Some, []};
 
 use crate::device::{DeviceFault, Sink};

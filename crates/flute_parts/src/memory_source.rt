@@ -1,4 +1,4 @@
-//! A source over memory.
+//! A source of bytes that are in memory.
 ghost use Rattle.std.specs.Prelude.{◌≡◌, Some};
 
 use crate::device::DeviceFault;

@@ -1,4 +1,4 @@
-//! The names of objects within a session.
+//! The names of objects within a session: a TOI, or an FDT Instance ID.
 
 use flute_join::MapKey;
 use std::cmp::Ordering;

@@ -1,4 +1,4 @@
-//! The names of senders.
+//! The names of senders: their addresses, of 128 bits.
 
 use std::marker::Model;
 

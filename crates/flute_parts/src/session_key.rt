@@ -1,4 +1,4 @@
-//! The names of sessions.
+//! The names of sessions: a sender and a TSI.
 
 use crate::sender::Sender;
 use flute_join::MapKey;

@@ -1,4 +1,4 @@
-//! Devices that bytes come from.
+//! The trait `Source`: devices that bytes are read from.
 ghost use Rattle.std.specs.Prelude.{◌≡◌, ℕ, ◌+◌, ◌≤◌, List, [], length, take};
 ghost use Rattle.std.specs.Prelude.{drop, IfOk, IfSome, Option, if◌then◌else◌, is_ok};
 ghost use Rattle.std.specs.Io.{StartsWith};

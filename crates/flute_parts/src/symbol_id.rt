@@ -1,4 +1,4 @@
-//! The numbers of encoding symbols.
+//! The names of encoding symbols: a source block number and an ESI.
 
 use flute_join::MapKey;
 

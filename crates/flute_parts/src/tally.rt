@@ -1,4 +1,4 @@
-//! Limits tested on addresses that rise.
+//! Counts sessions, objects and symbols of addresses that rise, against the limits.
 
 ghost use Rattle.std.specs.Prelude.{◌≡◌, ◌+◌, ◌<◌, ◌≤◌, true, false};
 

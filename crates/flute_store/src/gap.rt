@@ -1,4 +1,4 @@
-//! What is missing of an object.
+//! A gap: consecutive symbols of one block that lack a fitting value, and why.
 
 /// Why a symbol of an object's partition is not held as one fitting value.
 #[derive(Clone, Copy, Debug, PartialEq, Eq)]

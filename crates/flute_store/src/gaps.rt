@@ -1,4 +1,4 @@
-//! What is missing of an object, gap after gap.
+//! `Gaps`: yields the gaps of an object of a store, one after another.
 ghost use Rattle.std.specs.Prelude.{◌≡◌, ℕ, ◌+◌, ◌<◌, ◌≤◌, ◌^◌, false};
 ghost use Rattle.std.specs.Prelude.{length, IfSome, IfNone, MatchResult};
 ghost use Rattle.std.specs.Map.{keys_of};

@@ -1,4 +1,4 @@
-//! The objects of a store, one after another.
+//! Yields the objects of a store, one after another, each with its key.
 ghost use Rattle.std.specs.Prelude.{◌≡◌, List};
 ghost use Rattle.std.specs.Iterator.{YieldsFirstBy};
 ghost use Rattle.flute_parts.specs.declared.object_key.ObjectName.{ObjectName};

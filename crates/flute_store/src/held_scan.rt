@@ -1,4 +1,4 @@
-//! The walk over all that is held of an object.
+//! The scan of an object of a store: each symbol that is held, beside the object's partition.
 ghost use Rattle.std.specs.Prelude.{◌≡◌, ◌-◌, ◌<◌, ◌≤◌, ◌^◌, false, length, IfSome, IfNone};
 ghost use Rattle.std.specs.Iterator.{YieldsFirst};
 ghost use Rattle.flute_join.specs.Cell.{IsKnown};

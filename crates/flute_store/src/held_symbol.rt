@@ -1,4 +1,4 @@
-//! What is held of one symbol.
+//! What is held of one symbol: its bytes, or a conflict.
 ghost use Rattle.std.specs.Prelude.{◌≡◌, MatchOption, bytes_eq};
 ghost use Rattle.flute_join.specs.Cell.{cell_join, IsKnown, CellNeedsMemory};
 ghost use Rattle.flute_parts.specs.SymbolBytes.{HasSymbolSize};

@@ -1,4 +1,4 @@
-//! The keys of the objects of a store, one after another.
+//! Yields the keys of the objects of a store, one after another.
 ghost use Rattle.std.specs.Iterator.{YieldsFirst, item_count};
 
 use crate::held_objects::{HasObjects, HeldObjects};

@@ -1,4 +1,4 @@
-//! Looking up an object in the maps of a store.
+//! Looks up an object in the maps of a store, by its session and its name.
 ghost use Rattle.std.specs.Prelude.{◌≡◌, MatchOption, length};
 ghost use Rattle.flute_parts.specs.Limits.{symbols};
 ghost use Rattle.flute_store.specs.Found.{IsUnheard, IsTold};

@@ -1,4 +1,4 @@
-//! What is held of one object.
+//! An object in a store: its transmission information, and its symbols by their IDs.
 ghost use Rattle.std.specs.Prelude.{◌≡◌, ◌<◌, length, OnOk, OnErr, IsOk};
 ghost use Rattle.flute_store.specs.Update.{update_symbols, HasSizes, IsHeldSymbol};
 ghost use Rattle.flute_store.specs.WellFormed.{AreSymbols};

@@ -1,4 +1,4 @@
-//! The walk over the held symbols and the blocks of an object, side by side.
+//! The part of a scan that is the same for all sources of symbols: the next turn at each symbol.
 ghost use Rattle.std.specs.Prelude.{◌≡◌, ◌+◌, ◌<◌, ◌≤◌, ◌^◌, ℕ, List, Some, None, length, IfNone};
 ghost use Rattle.flute_join.specs.declared.cell.Cell.{Cell};
 ghost use Rattle.flute_parts.specs.declared.symbol_id.SymbolId.{SymbolId as Id};

@@ -1,4 +1,4 @@
-//! The held symbols of an object, one after another.
+//! The held symbols of an object one after another, of which the next may be looked at.
 ghost use Rattle.std.specs.Prelude.{◌≡◌, drop};
 ghost use Rattle.flute_store.specs.PeekableSymbols.{ShowsFirst};
 

@@ -1,4 +1,4 @@
-//! How much of an object is held.
+//! How much of an object is held: whole, so much is missing, or its information is not known.
 ghost use Rattle.std.specs.Prelude.{◌≡◌, ◌<◌, ◌≤◌, ◌^◌, MatchOption, [], length, flat_map};
 ghost use Rattle.flute_store.specs.Objects.{listed, AreRuns};
 ghost use Rattle.flute_store.specs.Status.{Adds, CanAdd, AddsTurn, IsCount, status_of, TellsStatus};

@@ -1,4 +1,4 @@
-//! A store of receptions.
+//! `Store`: receptions in memory, within limits, and the calls that add facts to it.
 ghost use Rattle.std.specs.Prelude.{
   ◌≡◌,
   ◌≤◌,

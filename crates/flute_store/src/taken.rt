@@ -1,4 +1,4 @@
-//! The result of a datagram that a store takes or refuses.
+//! What a datagram added to a store, or why it was not taken.
 
 use flute_parts::Key;
 use flute_wire::Refusal;

@@ -1,4 +1,4 @@
-//! Updates of objects, joined into the maps of a store.
+//! Joins an update of an object into the maps of a store; a refused one changes nothing.
 ghost use Rattle.std.specs.Prelude.{◌≡◌, OnOk, OnErr, IsOk};
 ghost use Rattle.flute_join.specs.JoinMap.{EachValue, IsSound};
 ghost use Rattle.flute_parts.specs.Order.{session_cmp};

@@ -1,4 +1,4 @@
-//! The facts of a store, one after another.
+//! Yields the facts of a store, one after another, in the order of their addresses.
 ghost use Rattle.std.specs.Iterator.{item_count};
 ghost use Rattle.std.specs.Prelude.{◌≡◌, ◌≢◌, [], List};
 ghost use Rattle.flute_parts.specs.declared.fact.Fact.{Fact};

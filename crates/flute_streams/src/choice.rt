@@ -1,4 +1,4 @@
-//! Choices of facts: which are taken.
+//! A choice of facts: those of a scope, of a selection, or all but that.
 ghost use Rattle.std.specs.Prelude.{◌≡◌, Bool};
 ghost use Rattle.flute_parts.specs.declared.fact.Fact.{Fact};
 ghost use Rattle.flute_streams.specs.ChosenStreams.{is_passed_over};

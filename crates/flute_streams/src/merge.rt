@@ -1,4 +1,4 @@
-//! Streams, merged into one journal.
+//! Merges of streams into one journal.
 
 pub(crate) mod advance;
 pub(crate) mod all_streams;

@@ -1,4 +1,4 @@
-//! Streams that are read together.
+//! Several streams that are read together, each by its number.
 ghost use Rattle.std.specs.Prelude.{◌≡◌, ◌<◌, List, Some, length, option_copied, slice_get};
 ghost use Rattle.std.specs.Borrow.{GName};
 ghost use Rattle.flute_streams.specs.Streams.{Advances, Behaviour, fact_in, address_of};

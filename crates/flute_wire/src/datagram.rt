@@ -1,4 +1,4 @@
-//! The bytes of a datagram.
+//! A datagram: at most 65,535 bytes that are owned.
 
 use std::alloc::Global;
 use std::marker::Model;

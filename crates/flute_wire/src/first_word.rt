@@ -1,4 +1,4 @@
-//! The first word of the LCT header.
+//! The first word of the LCT header: version, flags, and the lengths of the fields after it.
 
 ghost use Rattle.std.specs.Prelude.{◌≡◌};
 ghost use Rattle.flute_wire.specs.Header.{fields};

@@ -1,4 +1,4 @@
-//! Packets: what datagrams contain.
+//! A packet: what a datagram contains, with the symbol's bytes still in the datagram.
 
 use flute_parts::{Info, Key, ObjectKey, Sender, SessionKey, SymbolId};
 use std::marker::Model;

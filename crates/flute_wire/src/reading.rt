@@ -1,4 +1,4 @@
-//! Datagrams read as packets.
+//! `read`: reads a datagram as a packet, or finds the first reason to refuse it.
 
 ghost use Rattle.std.specs.Prelude.{◌≡◌, ◌<◌, ◌≤◌, ◌⊎◌, ◌^◌};
 ghost use Rattle.std.specs.Prelude.{◌==◌, [], length, Option, Some, None, IfOk, IfErr, OnOk};

@@ -1,4 +1,4 @@
-//! Why datagrams are refused.
+//! The reasons for which datagrams are refused, in the order in which they apply.
 
 use flute_parts::InfoFault;
 use std::error::Error;

@@ -1,4 +1,4 @@
-//! Packets written as datagrams.
+//! `write`: writes a packet as a datagram.
 
 ghost use Rattle.std.specs.Prelude.{◌≡◌, None, IfOk, IfErr, IfSome, Err};
 ghost use Rattle.flute_wire.specs.Outgoing.{said};

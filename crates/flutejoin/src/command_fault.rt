@@ -1,4 +1,4 @@
-//! The faults of commands.
+//! The faults of commands, with the line and the exit status of each.
 ghost use Rattle.std.specs.Prelude.{◌≡◌, Ok, Err, MatchResult};
 ghost use Rattle.flutejoin.specs.Status.{of_load};
 

@@ -1,4 +1,4 @@
-//! The command `info`: information that is entered by hand.
+//! The command `info`: adds transmission information that a user enters.
 ghost use Rattle.std.specs.Prelude.{◌≡◌, ◌+◌, [], ◌∷◌, OnOk, IfOk, IfErr};
 ghost use Rattle.flute_parts.specs.declared.fact.Fact.TheVariants.{Info as InfoFact};
 ghost use Rattle.flute_streams.specs.StreamMerges.{AppendsNoJournal};

@@ -1,4 +1,4 @@
-//! An input that is put aside, whole.
+//! Copies a whole input to where it can be read twice.
 
 ghost use Rattle.std.specs.Prelude.{◌≡◌, ◌+◌, ◌<◌, ◌≤◌, ◌↔◌, length, IsTrue, IsSomeAnd, IfOk};
 ghost use Rattle.std.specs.Prelude.{IfErr, IfSome};

@@ -1,4 +1,4 @@
-//! How much the commands take in.
+//! How many sessions, objects and symbols the commands take in, and how many more by `--any-size`.
 
 /// The greatest number of entries of a journal that is read, and of records of a datagram file.
 pub const MAX_ENTRIES: u64 = 16_777_216;

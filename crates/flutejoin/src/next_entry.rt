@@ -1,4 +1,4 @@
-//! The next entry of a journal that is held to limits.
+//! Reads the next entry of a journal, and tests the limits with it.
 ghost use Rattle.std.specs.Prelude.{◌≡◌, ℕ, List, Option};
 ghost use Rattle.flute_parts.specs.declared.fact.Fact.{Fact as Known};
 ghost use Rattle.flute_journal.specs.Readers.{source_of};

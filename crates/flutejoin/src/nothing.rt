@@ -1,4 +1,4 @@
-//! A sink that keeps nothing.
+//! A sink that keeps nothing of what is written to it.
 ghost use Rattle.std.specs.Prelude.{None};
 
 use flute_parts::{DeviceFault, Sink};

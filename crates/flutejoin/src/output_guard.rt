@@ -1,4 +1,4 @@
-//! Which files that are there a command overwrites.
+//! Whether a command may overwrite the file that is there.
 ghost use Rattle.std.specs.Prelude.{◌≡◌, ◌≢◌, Err, IfErr, OnOk, is_ok, true, false};
 ghost use Rattle.flute_journal.specs.Kinds.{HasKind, IsNeither};
 ghost use Rattle.flute_journal.specs.declared.kind.Kind.TheVariants.{Journal, Datagrams};

@@ -1,4 +1,4 @@
-//! What a command takes of a journal's entries.
+//! Which facts of a journal a command takes: what is selected, of all objects or of a list.
 ghost use Rattle.std.specs.Prelude.{◌≡◌, Bool};
 ghost use Rattle.flute_parts.specs.Addresses.{fact_of};
 ghost use Rattle.flute_parts.specs.declared.fact.Fact.{Fact as Known};

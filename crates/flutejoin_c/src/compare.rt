@@ -1,4 +1,4 @@
-//! How two journals in memory differ.
+//! `flutejoin_c_compare`: the lines of how two journals in memory differ.
 ghost use Rattle.std.specs.Prelude.{◌≡◌, ◌≢◌, IfOk, IfErr, Some, true};
 ghost use Rattle.flute_parts.specs.declared.fact.Fact.{Fact};
 ghost use Rattle.flute_streams.specs.Selections.{selects};

@@ -1,4 +1,4 @@
-//! The entries of a journal in memory.
+//! `flutejoin_c_entries`: what each entry of a journal in memory says.
 ghost use Rattle.std.specs.Prelude.{◌≡◌, ◌≢◌, ◌++◌, ℕ, List, IfOk, IfErr, Some};
 ghost use Rattle.flute_parts.specs.Addresses.{bytes_of};
 ghost use Rattle.flutejoin_c.specs.Entries.{AreEntries, EntriesFail, GivesEntries, Says};

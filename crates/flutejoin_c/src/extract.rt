@@ -1,4 +1,4 @@
-//! An object that a journal in memory makes whole.
+//! `flutejoin_c_extract`: the bytes of an object that a journal in memory makes whole.
 ghost use Rattle.std.specs.Prelude.{◌≡◌, ◌≢◌, IfOk, IfErr};
 ghost use Rattle.flutejoin.specs.Limits.{at_most};
 ghost use Rattle.flutejoin_c.specs.Calls.{most_for};

@@ -1,4 +1,4 @@
-//! What lines of `gaps` in memory ask for of a journal.
+//! `flutejoin_c_fill`: what lines of `gaps` in memory ask for of a journal in memory.
 ghost use Rattle.std.specs.Prelude.{◌≡◌, ◌≢◌, IfOk, IfErr, Some};
 ghost use Rattle.flutejoin.specs.Fill.{FillFails};
 ghost use Rattle.flutejoin_c.specs.Calls.{Fills, asking_for};

@@ -1,4 +1,4 @@
-//! What is missing of the objects of a journal in memory.
+//! `flutejoin_c_gaps`: the lines of what is missing in a journal in memory.
 ghost use Rattle.std.specs.Prelude.{◌≡◌, ◌≢◌, IfOk, IfErr};
 ghost use Rattle.flutejoin.specs.Limits.{at_most};
 ghost use Rattle.flutejoin_c.specs.Calls.{most_for};

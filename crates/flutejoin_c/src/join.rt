@@ -1,4 +1,4 @@
-//! One or two inputs in memory, joined.
+//! `flutejoin_c_join`: joins one or two inputs in memory.
 ghost use Rattle.std.specs.Prelude.{◌≡◌, ◌≢◌, ◌≤◌, List, ℕ, length, IfOk, IfErr, IfSome, Some};
 ghost use Rattle.flutejoin.specs.JoinFaults.{JoinToFails};
 ghost use Rattle.flutejoin.specs.JoinInputs.{AreInputs, IsInput};

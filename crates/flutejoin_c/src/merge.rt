@@ -1,4 +1,4 @@
-//! Two journals in memory, merged.
+//! `flutejoin_c_merge`: merges two journals in memory.
 ghost use Rattle.std.specs.Prelude.{◌≡◌, ◌≢◌, IfOk, IfErr};
 ghost use Rattle.flutejoin_c.specs.Calls.{Merges, MergeCallFails};
 ghost use Rattle.flutejoin_c.specs.Gives.{Gives, TellsFault};

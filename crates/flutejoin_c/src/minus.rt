@@ -1,4 +1,4 @@
-//! What of a journal in memory a join would change another by.
+//! `flutejoin_c_minus`: what of a journal in memory a join would change another by.
 ghost use Rattle.std.specs.Prelude.{◌≡◌, ◌≢◌, IfOk, IfErr, Some};
 ghost use Rattle.flutejoin.specs.Merge.{MergeFails};
 ghost use Rattle.flutejoin_c.specs.Calls.{Subtracts};

@@ -1,4 +1,4 @@
-//! A datagram, read.
+//! `flutejoin_c_read`: the fields of a packet in a datagram.
 ghost use Rattle.std.specs.Prelude.{◌≡◌, ◌≢◌, ℕ, List, None};
 ghost use Rattle.flute_wire.specs.Datagram.{Spells};
 ghost use Rattle.flutejoin_c.specs.Gives.{TellsFault};

@@ -1,4 +1,4 @@
-//! Numbers of 128 bits, as C has them.
+//! Numbers of 128 bits as C has them: two of 64.
 ghost use Rattle.std.specs.Prelude.{◌≡◌};
 ghost use Rattle.flutejoin_c.specs.Names.{wide};
 

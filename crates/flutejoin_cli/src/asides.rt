@@ -1,4 +1,4 @@
-//! Where a command puts bytes aside.
+//! Where the program puts bytes aside: beside OUT, or in the folder for temporary files.
 
 use crate::aside::FileAside;
 use crate::input::{Input, input_of};

@@ -1,4 +1,5 @@
-//! The program `flutejoin`.
+//! The program `flutejoin`: `main` calls `run` with the words and the system, and ends with its
+//! status.
 #![tactic(auto)]
 
 ghost use Rattle.std.specs.Prelude.{◌≡◌, ◌⊎◌, OnOk, IfErr};

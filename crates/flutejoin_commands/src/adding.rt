@@ -1,4 +1,4 @@
-//! The command `info`.
+//! `InfoWork`: the work of the command `info`, over an open journal.
 ghost use Rattle.flutejoin.specs.Lines.{entries_line};
 ghost use Rattle.flutejoin_commands.specs.Works.{AddsInformation, AddFails, most_of};
 

@@ -1,4 +1,4 @@
-//! The command `info --list`.
+//! `InfoListWork`: the work of `info --list`, over an open journal and list.
 ghost use Rattle.flutejoin.specs.Lines.{entries_line};
 ghost use Rattle.flutejoin_commands.specs.Works.{AddListReadFails, AddsListRead, most_of};
 

@@ -1,4 +1,4 @@
-//! How two journals differ is printed, and handed on.
+//! `compare_on`: prints how two journals differ to an outlet, and hands that on.
 ghost use Rattle.std.specs.Prelude.{◌≡◌, ◌≢◌, ◌⊎◌, ◌<◌, ◌+◌, ◌||◌, [], Some, IfErr, not};
 ghost use Rattle.std.specs.Io.KnownBytes.{Appends};
 ghost use Rattle.flute_parts.specs.Devices.{AppendsPart};

@@ -1,4 +1,4 @@
-//! The command `extract`.
+//! `ExtractWork`: the work of the command `extract`, over an open journal.
 ghost use Rattle.std.specs.Prelude.{◌≡◌, ◌+◌, OnOk, IfOk, IfErr};
 ghost use Rattle.flutejoin.specs.declared.command_fault.CommandFault.TheVariants.{CannotWrite};
 ghost use Rattle.flutejoin_commands.specs.Works.{WritesObject, ExtractFails, bytes_line, most_of};

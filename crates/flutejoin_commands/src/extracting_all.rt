@@ -1,4 +1,4 @@
-//! The command `extract --all`.
+//! `extract_all_into`: the command `extract --all`, over an open journal and a new folder.
 ghost use Rattle.std.specs.Prelude.{◌≡◌, ◌+◌, ◌≤◌, ◌⊎◌, ℕ, List, Option};
 ghost use Rattle.std.specs.Prelude.{IfOk, IfErr, IfSome, OnOk, Err, codes};
 ghost use Rattle.std.specs.Io.KnownBytes.{Appends};

@@ -1,4 +1,4 @@
-//! The command `fill`.
+//! `FillWork`: the work of the command `fill`; and that command over its line.
 ghost use Rattle.std.specs.Prelude.{◌≡◌, OnOk, IfErr};
 ghost use Rattle.flutejoin.specs.Fill.{FillFails, WritesFill};
 ghost use Rattle.flutejoin.specs.Lines.{entries_line};

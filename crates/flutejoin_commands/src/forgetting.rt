@@ -1,4 +1,4 @@
-//! The command `forget`, of all objects or of a list of them.
+//! The works of the command `forget`: of what is selected, and of the objects of a list.
 ghost use Rattle.std.specs.Prelude.{◌≡◌};
 ghost use Rattle.flutejoin.specs.Forget.{ForgetFails, ForgetListFails, ForgetsListed};
 ghost use Rattle.flutejoin_commands.specs.Works.{ForgetsIn, forget_lines};

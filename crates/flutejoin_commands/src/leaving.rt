@@ -1,4 +1,4 @@
-//! A work whose output is at a name.
+//! `leave`: does a work into what the output's name leads to, a file, a device or standard output.
 ghost use Rattle.std.specs.Prelude.{◌≡◌, OnOk, IfErr};
 ghost use Rattle.flutejoin_commands.specs.Closings.{ClosesWhole};
 ghost use Rattle.flutejoin_commands.specs.Deliveries.{FailsDelivered, delivered};

@@ -1,4 +1,4 @@
-//! The command `merge`.
+//! `MergeWork`: the work of the command `merge`, over two open journals.
 ghost use Rattle.flutejoin.specs.Lines.{entries_line};
 ghost use Rattle.flutejoin_commands.specs.Works.{MergeReadFails, MergesRead};
 

@@ -1,4 +1,4 @@
-//! A work whose output could not be made.
+//! Does a work whose output could not be made, so that a fault of its inputs comes first.
 ghost use Rattle.std.specs.Prelude.{◌≡◌, ◌⊎◌};
 ghost use Rattle.flutejoin.specs.declared.command_fault.CommandFault.TheVariants.{CannotWrite};
 ghost use Rattle.flutejoin_commands.specs.Commands.{CouldBeDone};

@@ -1,4 +1,4 @@
-//! Outputs that take their bytes themselves.
+//! The trait `Outlet`: outputs that take bytes directly, as a pipe or a device.
 ghost use Rattle.std.specs.Prelude.{◌≡◌, ◌+◌, List, ℕ, Option, OnOk, if◌then◌else◌, is_ok};
 
 use flute_parts::{DeviceFault, Sink};

@@ -1,4 +1,4 @@
-//! A command whose output takes its bytes itself.
+//! Does a work into an outlet, and reports.
 ghost use Rattle.std.specs.Prelude.{◌≡◌, ◌≢◌, OnOk, IfErr};
 ghost use Rattle.flutejoin.specs.declared.command_fault.CommandFault.TheVariants.{CannotWrite};
 ghost use Rattle.flutejoin_commands.specs.Commands.{CouldBeDone};

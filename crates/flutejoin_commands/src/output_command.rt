@@ -1,4 +1,4 @@
-//! A command that writes an output.
+//! `write_into`: does a work into a file that becomes OUT, and reports.
 ghost use Rattle.std.specs.Prelude.{◌≡◌, option_map, OnOk, IfErr};
 ghost use Rattle.flute_output.specs.Entries.{found_in, named_in};
 ghost use Rattle.flutejoin_commands.specs.Commands.{Succeeds, Fails, FailsWriting, IsWholeAlways};

@@ -1,4 +1,4 @@
-//! The command `carousel`.
+//! `SendWork`: the work of the command `carousel`, over an open content.
 ghost use Rattle.flutejoin_commands.specs.Works.{SendReadFails, SendsRead, datagrams_line};
 
 use crate::work::Work;

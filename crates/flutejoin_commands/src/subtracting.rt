@@ -1,4 +1,4 @@
-//! The command `minus`.
+//! `MinusWork`: the work of the command `minus`; and that command over its line.
 ghost use Rattle.std.specs.Prelude.{◌≡◌, OnOk, IfErr};
 ghost use Rattle.flutejoin.specs.Lines.{entries_line};
 ghost use Rattle.flutejoin.specs.Merge.{MergeFails};

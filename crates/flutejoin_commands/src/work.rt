@@ -1,4 +1,4 @@
-//! The work of a command that writes an output.
+//! The trait `Work`: what a command reads and writes, whatever its output is.
 ghost use Rattle.std.specs.Prelude.{◌≡◌, ◌+◌, List, ℕ, Option, OnOk, IfOk, IfErr};
 ghost use Rattle.flutejoin.specs.declared.command_fault.CommandFault.TheVariants.{CannotWrite};
 ghost use Rattle.flutejoin.specs.declared.command_fault.CommandFault.{CommandFault as Fault};

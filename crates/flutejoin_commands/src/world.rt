@@ -1,4 +1,4 @@
-//! What lies outside of a command.
+//! The trait `World`: the inputs, outputs and reports of a command, by their names.
 ghost use Rattle.std.specs.Prelude.{◌≡◌, IfOk, IfErr, IfSome, OnOk};
 ghost use Rattle.flutejoin_commands.specs.Closings.{IsNoted};
 ghost use Rattle.flutejoin_commands.specs.Worlds.{HasSize, IsPlaced, IsNotMade, TellsAsides};

@@ -1,4 +1,4 @@
-//! The arguments of the program's commands.
+//! Arguments that several commands have, and what the help says of them.
 ghost use Rattle.std.specs.Prelude.{codes};
 ghost use Rattle.flutejoin_line.specs.Parser.{IsArgument, force_flag, long_flag, option, out};
 ghost use Rattle.flutejoin_line.specs.Parser.{place, session_list};

@@ -1,4 +1,4 @@
-//! The line of `carousel`.
+//! The line of `carousel`: its arguments, its record, and how that is read.
 ghost use Rattle.std.specs.Prelude.{IfOk, MatchResult, codes};
 ghost use Rattle.flutejoin_line.specs.CommandLine.{IsLine, carousel_rules};
 ghost use Rattle.flutejoin_line.specs.LineFaults.{IsKeyFault};

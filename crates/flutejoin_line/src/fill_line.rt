@@ -1,4 +1,4 @@
-//! The line of `fill`.
+//! The line of `fill`: its arguments, its record, and how that is read.
 ghost use Rattle.std.specs.Prelude.{◌≡◌, IfOk, MatchResult, codes};
 ghost use Rattle.flutejoin_line.specs.CommandLine.{IsLine, asking_by, fill_rules};
 ghost use Rattle.flutejoin_line.specs.LineFaults.{IsFillFault};

@@ -1,4 +1,4 @@
-//! In which form a command prints.
+//! `--json`: the form in which a command prints.
 ghost use Rattle.flutejoin_line.specs.CommandLine.{IsForm};
 ghost use Rattle.flutejoin_line.specs.Options.{found_rows};
 

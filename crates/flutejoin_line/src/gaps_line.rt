@@ -1,4 +1,4 @@
-//! The line of `gaps`.
+//! The line of `gaps`: its arguments, its record, and how that is read.
 ghost use Rattle.std.specs.Prelude.{IfOk, MatchResult, codes};
 ghost use Rattle.flutejoin_line.specs.CommandLine.{IsLine, gaps_rules};
 ghost use Rattle.flutejoin_line.specs.LineFaults.{IsListedFault};

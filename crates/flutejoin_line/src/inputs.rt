@@ -1,4 +1,4 @@
-//! Standard input, among the inputs of a command.
+//! Tests that `-`, standard input, is at most one of a command's inputs.
 ghost use Rattle.std.specs.Prelude.{◌≡◌, ◌++◌, MatchResult, false, map, option_map};
 ghost use Rattle.flutejoin_line.specs.Inputs.{IsTwice, is_standard_twice, word_if};
 

@@ -1,4 +1,4 @@
-//! How much a command takes in.
+//! `--any-size`: how much a command takes in.
 ghost use Rattle.flutejoin_line.specs.CommandLine.{IsLimit};
 ghost use Rattle.flutejoin_line.specs.Options.{found_rows};
 

@@ -1,4 +1,4 @@
-//! The command line.
+//! `line_of`: reads the words after `flutejoin` as what the program is to do.
 ghost use Rattle.std.specs.Prelude.{◌≡◌, [], IsSomeAnd, MatchResult, codes, map};
 ghost use Rattle.std.specs.Prelude.{string_bytes, true};
 ghost use Rattle.clap.specs.Simple.{subcommand_rows_of};

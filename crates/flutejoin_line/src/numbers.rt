@@ -1,4 +1,4 @@
-//! Numbers and senders on the command line.
+//! Reads numbers and senders from the words of a command line.
 ghost use Rattle.std.specs.Prelude.{◌≡◌, ◌<◌, ◌^◌, ℕ, IfOk, IfSome, MatchResult, codes, false};
 ghost use Rattle.std.specs.Prelude.{is_some, map, true, unwrap_or};
 ghost use Rattle.clap.specs.Walk.{first_of};

@@ -1,4 +1,4 @@
-//! Objects on the command line.
+//! Makes the name of an object of the numbers on a command line.
 ghost use Rattle.std.specs.Prelude.{◌≡◌, ◌<◌, ◌^◌, IfSome, MatchResult, None, Some};
 ghost use Rattle.flute_parts.specs.Session.{IsTsi};
 ghost use Rattle.flutejoin_line.specs.Options.{object_by};

@@ -1,4 +1,4 @@
-//! The line of `packet`.
+//! The line of `packet`: its argument, its record, and how that is read.
 ghost use Rattle.std.specs.Prelude.{IfOk, codes};
 ghost use Rattle.flutejoin_line.specs.CommandLine.{IsLine, packet_rules};
 ghost use Rattle.flutejoin_line.specs.Options.{found_rows};

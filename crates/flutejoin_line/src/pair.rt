@@ -1,4 +1,4 @@
-//! The two journals of a command.
+//! The two journals that a command names.
 ghost use Rattle.std.specs.Prelude.{◌≡◌, MatchResult, false};
 ghost use Rattle.flutejoin_line.specs.CommandLine.{IsPair, is_out_among, is_out_an_input};
 ghost use Rattle.flutejoin_line.specs.LineFaults.{IsOutFault, IsPairFault};

@@ -1,4 +1,4 @@
-//! The line of `show`.
+//! The line of `show`: its arguments, its record, and how that is read.
 ghost use Rattle.std.specs.Prelude.{IfOk, MatchResult, codes};
 ghost use Rattle.flutejoin_line.specs.CommandLine.{IsLine, show_rules};
 ghost use Rattle.flutejoin_line.specs.LineFaults.{IsListedFault};

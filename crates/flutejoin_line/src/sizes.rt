@@ -1,4 +1,4 @@
-//! How many bytes, on the command line.
+//! `--memory`: reads a number of bytes.
 ghost use Rattle.std.specs.Prelude.{◌≡◌, ◌≤◌, ◌^◌, MatchResult, None, Some, codes};
 ghost use Rattle.flutejoin_line.specs.Options.{IsBadNumber, found_rows};
 ghost use Rattle.flutejoin_line.specs.Sizes.{memory_in, number_and_unit, size_of};

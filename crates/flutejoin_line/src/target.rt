@@ -1,4 +1,4 @@
-//! The output of a command that writes a file.
+//! The output that a command names, and whether it may overwrite a file.
 ghost use Rattle.flutejoin.specs.OutputGuard.{overwrites_journal, overwrites_other};
 ghost use Rattle.flutejoin_line.specs.CommandLine.{IsTarget};
 ghost use Rattle.flutejoin_line.specs.Options.{found_rows};

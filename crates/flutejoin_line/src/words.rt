@@ -1,4 +1,4 @@
-//! What the parser found for an argument.
+//! Takes what the parser found for an argument.
 ghost use Rattle.std.specs.Prelude.{◌≡◌, MatchResult, None, option_map};
 ghost use Rattle.clap.specs.Walk.{first_of};
 ghost use Rattle.flutejoin_line.specs.Options.{IsFlag, IsFormFault, first_unfit, form_of};

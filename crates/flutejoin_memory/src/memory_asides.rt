@@ -1,4 +1,4 @@
-//! Bytes that are put aside in memory.
+//! Where bytes are put aside in memory.
 ghost use Rattle.std.specs.Prelude.{◌≡◌, true};
 
 use crate::owned_source::OwnedSource;

@@ -1,4 +1,4 @@
-//! A report in memory.
+//! A report in memory: the lines that wait, and those that were flushed.
 ghost use Rattle.std.specs.Prelude.{◌≡◌, ◌++◌, Some, []};
 
 use flute_parts::{DeviceFault, Failures, Sink};

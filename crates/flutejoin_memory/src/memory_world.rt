@@ -1,4 +1,4 @@
-//! A world in memory.
+//! `MemoryWorld`: a world whose files are in memory.
 ghost use Rattle.std.specs.Prelude.{◌≡◌, map, Some, IfOk, IfErr, OnOk, option_map};
 ghost use Rattle.flutejoin_memory.specs.MemoryFiles.{files_of};
 ghost use Rattle.flutejoin_memory.specs.MemoryWorlds.{memory_files};

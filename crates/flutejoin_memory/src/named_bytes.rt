@@ -1,4 +1,4 @@
-//! Names and their bytes.
+//! The names of files in memory, each with its bytes.
 ghost use Rattle.std.specs.Prelude.{◌≡◌, map, option_map};
 ghost use Rattle.flutejoin_memory.specs.MemoryFiles.{files_of};
 ghost use Rattle.flutejoin_memory.specs.NamedFiles.{with_bytes};

@@ -1,4 +1,4 @@
-//! A source of bytes of its own.
+//! A source that owns the bytes which it gives.
 ghost use Rattle.std.specs.Prelude.{◌≡◌, ◌≤◌, length, take, drop, min, Some};
 
 use flute_parts::{DeviceFault, Source};

@@ -1,4 +1,4 @@
-//! Whole inputs in memory.
+//! A whole input in memory: a journal or a datagram file as bytes.
 
 use flute_parts::{DeviceFault, Source};
 use std::alloc::{AllocError, Global};

@@ -1,4 +1,4 @@
-//! No room for what is to be put aside.
+//! An `Asides` without room: nothing can be put aside.
 ghost use Rattle.std.specs.Prelude.{◌≡◌, true};
 
 use crate::memory_aside::MemoryAside;

@@ -1,4 +1,4 @@
-//! Replicas of a store.
+//! `Replicas`: stores that take steps: datagrams, journals, and merges with each other.
 ghost use Rattle.std.specs.Prelude.{◌≡◌, ◌++◌, ◌∷◌, [], ◌<◌, ◌≤◌, ◌+◌, ◌*◌, ◌^◌, ◌⊎◌, length};
 ghost use Rattle.std.specs.Prelude.{if◌then◌else◌, IfOk, IfErr, OnOk, OnErr, IsOk, MatchOption};
 ghost use Rattle.std.specs.Prelude.{slice_index};

@@ -1,4 +1,4 @@
-//! What replicas are to do.
+//! The steps that replicas take.
 
 use crate::blob::Blob;
 use flute_join::JoinRefusal;

@@ -1,4 +1,4 @@
-//! A packet is read.
+//! Reads a packet, and prints what it contains.
 
 use anyhow::{Context, Result};
 use flute_wire::{Datagrams, read};

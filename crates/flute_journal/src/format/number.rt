@@ -1,4 +1,4 @@
-//! Numbers in network byte order.
+//! Numbers in network byte order, as bytes and read from bytes.
 ghost use Rattle.std.specs.Prelude.{◌≡◌, ◌<◌, ◌≤◌, ◌^◌, length};
 ghost use Rattle.std.specs.List.{AllByRecursion};
 ghost use Rattle.flute_parts.specs.BigEndian.{big_endian};

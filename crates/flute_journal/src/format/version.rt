@@ -1,4 +1,4 @@
-//! The versions of journals.
+//! The two versions of journals: entries of version 2 have the sender too.
 ghost use Rattle.std.specs.Prelude.{◌≡◌, ◌≤◌, false, MatchOption, length};
 ghost use Rattle.flute_journal.specs.Format.{sender_size, version_bytes};
 ghost use Rattle.flute_journal.specs.Faults.{is_version};

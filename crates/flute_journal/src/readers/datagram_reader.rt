@@ -1,4 +1,4 @@
-//! Reading a datagram file, record by record.
+//! `DatagramReader`: reads a datagram file, record by record.
 ghost use Rattle.std.specs.Prelude.{◌≡◌, ◌≢◌, ◌+◌, ◌<◌, IfErr};
 ghost use Rattle.std.specs.Prelude.{length as length_of};
 ghost use Rattle.std.specs.List.{AllByRecursion};

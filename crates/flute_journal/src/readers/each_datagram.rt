@@ -1,4 +1,4 @@
-//! Each datagram of a file, handed on.
+//! `for_each_datagram`: hands each datagram of a file to what takes them.
 ghost use Rattle.std.specs.Prelude.{IfOk, IfErr};
 ghost use Rattle.flute_journal.specs.EachDatagram.{TakesFile, TakesBefore};
 

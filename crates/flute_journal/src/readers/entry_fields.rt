@@ -1,4 +1,4 @@
-//! The header, the entries and the end of a journal, out of a source.
+//! Reads the header, the entries and the end of a journal from a source, field by field.
 ghost use Rattle.std.specs.Prelude.{◌≡◌, ◌≢◌, ◌<◌, IfErr, length as length_of};
 ghost use Rattle.std.specs.Io.KnownBytes.{Consumes, IsAtEnd};
 ghost use Rattle.std.specs.List.{AllByRecursion};

@@ -1,4 +1,4 @@
-//! Reading a journal, entry by entry.
+//! `JournalReader`: reads a journal, entry by entry.
 ghost use Rattle.std.specs.Prelude.{◌≡◌, ℕ, ◌+◌, ◌<◌, ◌^◌, IfOk, IfSome, OnErr};
 ghost use Rattle.std.specs.Prelude.{Ok, Some};
 ghost use Rattle.std.specs.Prelude.{None};

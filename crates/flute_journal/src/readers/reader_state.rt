@@ -1,4 +1,4 @@
-//! The state of a reader of a framed file.
+//! The state of a reader: what it reads next, the header, an item, nothing more, or that it failed.
 
 use crate::fault::ReadFault;
 

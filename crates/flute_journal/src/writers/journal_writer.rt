@@ -1,4 +1,4 @@
-//! A journal that is written as far as its sink takes it.
+//! `JournalWriter`: writes a journal entry by entry, as far as its sink takes it.
 ghost use Rattle.std.specs.Prelude.{◌≡◌, ◌+◌, false, Some};
 ghost use Rattle.flute_parts.specs.Addresses.{fact_of};
 ghost use Rattle.flute_store.specs.Walk.{IsSized};

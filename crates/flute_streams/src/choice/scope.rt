@@ -1,4 +1,4 @@
-//! The objects that are taken.
+//! A scope: the sessions and objects whose facts a join takes.
 ghost use Rattle.std.specs.Prelude.{◌≡◌, true};
 ghost use Rattle.flute_parts.specs.declared.key.Key.{Key as Name};
 ghost use Rattle.flute_streams.specs.Scopes.{is_all, of_scope, takes_key};

@@ -1,4 +1,4 @@
-//! Facts that are selected by their addresses and kinds.
+//! A selection: the facts of an address or a kind, as commands name them.
 ghost use Rattle.std.specs.Prelude.{◌≡◌, true};
 ghost use Rattle.flute_parts.specs.Addresses.{fact_of};
 ghost use Rattle.flute_parts.specs.declared.fact.Fact.{Fact};

@@ -1,4 +1,4 @@
-//! The sessions that are taken.
+//! A set of sessions, of which facts are taken; the empty one stands for all.
 ghost use Rattle.std.specs.Prelude.{◌≡◌, ◌++◌, ◌∷◌, [], true, false, length, nat_eq};
 ghost use Rattle.flute_streams.specs.Sessions.{listed_tsis, takes};
 

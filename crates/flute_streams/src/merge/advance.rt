@@ -1,4 +1,4 @@
-//! Streams that are advanced together.
+//! Advances all streams together that are at the address that was written, and says which.
 ghost use Rattle.std.specs.Prelude.{◌≡◌, ◌≢◌, ◌<◌, true, false, length, IfOk, IfErr};
 ghost use Rattle.std.specs.Prelude.{option_copied};
 ghost use Rattle.flute_streams.specs.Advances.{GoOnAt, StopsIn};

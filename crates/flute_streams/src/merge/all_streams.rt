@@ -1,4 +1,4 @@
-//! Any number of streams, merged into one journal.
+//! Merges any number of streams into one journal.
 ghost use Rattle.std.specs.Prelude.{◌≡◌, ◌≢◌, true, false, ◌+◌, ◌<◌, ◌≤◌};
 ghost use Rattle.std.specs.Prelude.{◌^◌, IfOk, IfErr};
 ghost use Rattle.flute_streams.specs.declared.merge.streams_fault.StreamsFault.TheVariants.{Write};

@@ -1,4 +1,4 @@
-//! What streams hold at the lowest address.
+//! The lowest address that streams are at, and the value that their facts there have together.
 ghost use Rattle.std.specs.Prelude.{◌≡◌, ◌++◌, ◌<◌, List, IfSome, Some, length, option_copied};
 ghost use Rattle.std.specs.Prelude.{slice_get};
 ghost use Rattle.flute_parts.specs.Addresses.{address, fact_of};

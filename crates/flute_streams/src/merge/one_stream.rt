@@ -1,4 +1,4 @@
-//! One stream, written as a journal.
+//! Writes one stream as a journal.
 ghost use Rattle.std.specs.Prelude.{◌≡◌, ◌+◌, ◌<◌, ◌^◌, IfOk, IfErr};
 ghost use Rattle.flute_streams.specs.OneStream.{FailsAs, StopsAs, WritesAll, WritesPart};
 ghost use Rattle.flute_streams.specs.StreamMerges.{streams_sink_failed};

@@ -1,4 +1,4 @@
-//! Whether bytes are the same, compared in pieces.
+//! Whether two symbols have the same bytes, compared in pieces.
 ghost use Rattle.std.specs.Prelude.{◌≡◌, ◌≤◌, bytes_eq, length};
 
 // How many bytes are compared without a look whether they differ: the compiler compares 16 of them

@@ -1,4 +1,4 @@
-//! How two sides differ, object by object.
+//! How two sides differ, object by object: the rows of a comparison, and their counts.
 ghost use Rattle.std.specs.Prelude.{◌≡◌, ◌++◌, ◌∷◌, [], List, OnOk, OnErr};
 ghost use Rattle.flute_streams.specs.Compared.{differs};
 ghost use Rattle.flute_streams.specs.Counting.{counted, more, new_row, no_sides, plus};

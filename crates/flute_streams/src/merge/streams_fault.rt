@@ -1,4 +1,4 @@
-//! Why streams could not be merged.
+//! Why streams could not be merged: the fault of one of them, or of the sink.
 
 use flute_journal::LoadFault;
 use thiserror::Error;

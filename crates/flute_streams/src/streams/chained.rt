@@ -1,4 +1,4 @@
-//! A stream, and then others.
+//! One stream as number 0, and further ones after it.
 
 use crate::streams::Streams;
 use crate::streams::either::Either;

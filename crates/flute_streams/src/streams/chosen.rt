@@ -1,4 +1,4 @@
-//! A stream of which only some facts are taken.
+//! A stream without the facts that a choice does not take.
 ghost use Rattle.std.specs.Prelude.{◌≡◌};
 ghost use Rattle.flute_streams.specs.Streams.{IsNew};
 ghost use Rattle.flute_streams.specs.ChosenStreams.{chosen_behaviour};

@@ -1,4 +1,4 @@
-//! A stream of one kind or of another.
+//! A stream that is of one kind or of another.
 
 /// A stream of one kind or of another. No value of it is made: contracts list streams of two kinds
 /// by it.

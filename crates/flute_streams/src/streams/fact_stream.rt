@@ -1,4 +1,4 @@
-//! One fact as a stream.
+//! A stream of one fact alone.
 ghost use Rattle.std.specs.Prelude.{◌≡◌, ◌∷◌, []};
 ghost use Rattle.flute_store.specs.Walk.{IsSized};
 ghost use Rattle.flute_streams.specs.Streams.{option_list, IsNew};

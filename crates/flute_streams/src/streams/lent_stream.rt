@@ -1,4 +1,4 @@
-//! A journal as a stream, whose reader is lent.
+//! A stream of the entries of a journal, whose reader is lent.
 ghost use Rattle.flute_streams.specs.JournalStreams.{lent_behaviour};
 
 use crate::streams::stream::Stream;

@@ -1,4 +1,4 @@
-//! What of a stream a join would change another by.
+//! A stream of what another stream would change by a join with it.
 ghost use Rattle.std.specs.Prelude.{◌≡◌, IfOk, IfErr, Some, option_copied};
 ghost use Rattle.flute_parts.specs.declared.fact.Fact.{Fact};
 ghost use Rattle.flute_streams.specs.Minus.{has};

@@ -1,4 +1,4 @@
-//! A journal as a stream, with its source.
+//! A stream of the entries of a journal, with the source that it is read from.
 ghost use Rattle.std.specs.Prelude.{◌≡◌};
 ghost use Rattle.flute_streams.specs.Streams.{IsNew};
 ghost use Rattle.flute_streams.specs.OwnedStreams.{owned_limit, owned_state, held_of};

@@ -1,4 +1,4 @@
-//! Facts that come in strictly rising order of their addresses.
+//! The trait `Stream`: facts that come in strictly rising order of their addresses.
 ghost use Rattle.std.specs.Prelude.{◌≡◌, OnOk, IfErr, option_copied};
 ghost use Rattle.flute_streams.specs.Streams.{Behaviour, fact_in, address_of, GoesOn, StopsAt};
 

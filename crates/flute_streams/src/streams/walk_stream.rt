@@ -1,4 +1,4 @@
-//! The facts of a store as a stream.
+//! A stream of the facts of a store.
 ghost use Rattle.std.specs.Prelude.{◌≡◌, None, length};
 ghost use Rattle.flute_parts.specs.Facts.{IsRising};
 ghost use Rattle.flute_streams.specs.Streams.{IsNew, address_of};

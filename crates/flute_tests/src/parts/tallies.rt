@@ -1,4 +1,4 @@
-//! A limit of one symbol.
+//! A tally with a limit of one symbol.
 use super::key;
 use flute_parts::{Address, Part, SymbolId, Tally};
 use std::test::Fail;

@@ -1,4 +1,4 @@
-//! The name of an object as a file.
+//! The name that the file of an object gets in the folder of `extract --all`.
 ghost use Rattle.std.specs.Prelude.{◌≡◌, ◌≤◌, length};
 ghost use Rattle.flute_parts.specs.declared.key.Key.{Key as Name};
 ghost use Rattle.flutejoin.specs.FileNames.{file_name, IsKey};

@@ -1,4 +1,4 @@
-//! The objects that are extracted.
+//! Which objects `extract --all` takes: of one sender or all, and of some sessions.
 ghost use Rattle.std.specs.Prelude.{◌≡◌};
 ghost use Rattle.flutejoin.specs.ExtractAll.{is_picked, picks_fact};
 

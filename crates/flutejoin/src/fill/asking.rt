@@ -1,4 +1,4 @@
-//! How much is sent to one that told what it holds.
+//! How much `fill` gives: all that may be lacking, or only what was named as missing.
 ghost use Rattle.std.specs.Prelude.{◌≡◌};
 ghost use Rattle.flutejoin.specs.FillLists.{wants};
 

@@ -1,4 +1,4 @@
-//! What of a stream is asked for.
+//! A stream of those facts of another that gaps ask for.
 ghost use Rattle.std.specs.Prelude.{◌≡◌, [], IfOk, IfErr};
 ghost use Rattle.flute_streams.specs.Streams.{IsNew, StopsAt};
 ghost use Rattle.flutejoin.specs.FillStreams.{Moves, Stands, Walks, filled_behaviour, turn_in};

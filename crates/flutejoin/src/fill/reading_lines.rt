@@ -1,4 +1,4 @@
-//! Lines that `gaps` prints, read back.
+//! Reads lines of `gaps` back: an object with its status, or a gap.
 ghost use Rattle.std.specs.Prelude.{◌≡◌, ℕ, List, ◌++◌, IfSome, MatchOption, codes, option_copied};
 ghost use Rattle.flute_parts.specs.Ranges.{IsKey};
 ghost use Rattle.flute_parts.specs.declared.key.Key.{Key as KeyValue};

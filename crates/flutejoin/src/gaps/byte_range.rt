@@ -1,4 +1,4 @@
-//! The bytes of an object that the symbols of a gap have.
+//! The range of bytes of an object that the symbols of a gap stand for.
 ghost use Rattle.std.specs.Prelude.{◌≡◌, ◌≤◌, ◌<◌, ◌^◌, IfSome, length};
 ghost use Rattle.flutejoin.specs.Lines.{line};
 ghost use Rattle.flutejoin.specs.Ranges.{gap_range, range_line};

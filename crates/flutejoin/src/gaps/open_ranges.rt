@@ -1,4 +1,4 @@
-//! The byte ranges of the open object.
+//! The byte ranges of the object that a walk is at; the last may still grow.
 ghost use Rattle.std.specs.Prelude.{◌≡◌, ◌+◌, Some, None, OnOk, IfSome, if◌then◌else◌, is_ok};
 ghost use Rattle.std.specs.Io.KnownBytes.{Appends};
 ghost use Rattle.flutejoin.specs.Ranges.{ended_line, gap_range, last_range, range_after};

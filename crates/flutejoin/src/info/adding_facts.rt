@@ -1,4 +1,4 @@
-//! Facts in memory that are added to a journal.
+//! Adds facts in memory to a journal, as it is copied.
 ghost use Rattle.std.specs.Prelude.{◌≡◌, true, false, ◌+◌, ◌<◌, ◌^◌, List, []};
 ghost use Rattle.std.specs.Prelude.{◌∷◌, OnOk, IfOk, IfErr};
 ghost use Rattle.flute_parts.specs.declared.fact.Fact.{Fact as FactValue};

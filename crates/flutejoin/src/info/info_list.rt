@@ -1,4 +1,4 @@
-//! The command `info --list`: information of many objects.
+//! The command `info --list`: adds transmission information of many objects.
 ghost use Rattle.std.specs.Prelude.{◌≡◌, ◌+◌, OnOk, IfOk, IfErr};
 ghost use Rattle.flute_streams.specs.StreamMerges.{AppendsNoJournal};
 ghost use Rattle.flute_journal.specs.declared.fault.ReadFault.TheVariants.{Read};

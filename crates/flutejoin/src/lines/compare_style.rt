@@ -1,4 +1,4 @@
-//! What `compare` prints of two journals.
+//! What `compare` prints of two journals: objects or sessions, as words or JSON.
 
 use crate::lines::form::Form;
 

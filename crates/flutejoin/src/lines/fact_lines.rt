@@ -1,4 +1,4 @@
-//! The words of the lines that are printed.
+//! The words of the printed lines about facts: objects, symbols, values.
 ghost use Rattle.std.specs.Prelude.{◌≡◌, ◌+◌, ◌≤◌, ◌++◌, length};
 ghost use Rattle.flute_parts.specs.Information.{information};
 ghost use Rattle.flutejoin.specs.Lines.{key_words, object_words, information_words, id_words};

@@ -1,4 +1,4 @@
-//! In which form lines are printed.
+//! The form of printed lines: words, or JSON.
 
 /// In which form lines are printed.
 #[derive(Clone, Copy)]

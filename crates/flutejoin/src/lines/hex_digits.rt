@@ -1,4 +1,4 @@
-//! Lines that have bytes in hexadecimal.
+//! Bytes as hexadecimal digits, in a line that is written.
 ghost use Rattle.std.specs.Prelude.{◌≡◌, ◌+◌, ◌*◌, ◌<◌, ◌++◌, ℕ, length, map, slice_index};
 ghost use Rattle.std.specs.Prelude.{if◌then◌else◌, is_ok};
 ghost use Rattle.hex.specs.Hex.{encode_lower, lower_digits};

@@ -1,4 +1,4 @@
-//! What `show` prints of the entries of a journal.
+//! What `show` prints of the entries: their bytes or sums, as words or JSON.
 
 use crate::lines::form::Form;
 

@@ -1,4 +1,4 @@
-//! What `gaps` prints of the objects of a journal.
+//! What `gaps` prints of the objects: all gaps, conflicts, byte ranges or sums.
 ghost use Rattle.std.specs.Prelude.{◌≡◌};
 ghost use Rattle.flutejoin.specs.Styles.{is_right, is_shown, is_told, unplaced_in};
 

@@ -1,4 +1,4 @@
-//! What commands write.
+//! Tests that call the parts of commands once, and compare what they write.
 
 use super::*;
 use flute_parts::{Info, MemorySink, MemorySource, SymbolId};
