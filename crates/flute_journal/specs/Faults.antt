@@ -35,8 +35,8 @@ first_fault (check ∷ checks) = if check.0 then Some check.1 else first_fault c
 abbrev pub cut : ℕ → List ℕ → Check
 cut n bytes = (nat_lt (length bytes) n, faults.Cut)
 
--- of a file that begins with a magic number of four bytes, and a version of two bytes
--- that the test knows
+-- the fault of the header of a file that begins with a magic number of four bytes, and a version of
+-- two bytes that the test `is_known` accepts
 abbrev pub version_fault : List ℕ → (List ℕ → Bool) → List ℕ → Option ReadFault
 version_fault magic is_known bytes = first_fault (
     cut 4 bytes
@@ -45,7 +45,7 @@ version_fault magic is_known bytes = first_fault (
     ∷ (not (is_known (take 2 (drop 4 bytes))), faults.Version)
     ∷ [])
 
--- of a file that begins with these six bytes
+-- the fault of the header of a file that has to begin with these six bytes
 abbrev pub opening_fault : List ℕ → List ℕ → Option ReadFault
 opening_fault opening bytes =
     version_fault (take 4 opening) (λ version. bytes_eq version (take 2 (drop 4 opening))) bytes
@@ -54,6 +54,7 @@ opening_fault opening bytes =
 abbrev pub is_version : List ℕ → Bool
 is_version bytes = bytes_eq bytes (version_bytes One) || bytes_eq bytes (version_bytes Two)
 
+-- the first fault of the header of a journal
 abbrev pub header_fault : List ℕ → Option ReadFault
 header_fault bytes = version_fault magic is_version bytes
 
@@ -63,6 +64,7 @@ version_in bytes = if bytes_eq (take 2 (drop 4 bytes)) (version_bytes One) then 
 
 -- The fields of a key, of a symbol's id and of information.
 
+-- the object's name, by the tag and the number that an entry has
 abbrev pub object_in : ℕ → ℕ → ObjectName
 object_in tag n = if tag == 0 then Instance n else File n
 
@@ -73,6 +75,7 @@ named_in sender bytes = record {
   object = object_in (number_at 6 1 bytes) (number_at 7 14 bytes);
 }
 
+-- the object that an entry of this version names, by the bytes behind its kind
 abbrev pub key_in : Version → List ℕ → Key
 key_in version bytes =
     named_in (number_at 0 (sender_size version) bytes) (drop (sender_size version) bytes)
@@ -82,10 +85,11 @@ key_in version bytes =
 abbrev pub is_object : ℕ → ℕ → Bool
 is_object tag n = (tag == 0) && nat_lt n (2 ^ 20) || ((tag == 1) && nat_lt 0 n)
 
+-- whether bytes name an object of a sender, by numbers that are within their ranges
 abbrev pub is_name : List ℕ → Bool
 is_name bytes = is_object (number_at 6 1 bytes) (number_at 7 14 bytes)
 
--- any bytes are a sender
+-- whether bytes name a sender and its object: any bytes are a sender
 abbrev pub is_key : Version → List ℕ → Bool
 is_key version bytes = is_name (drop (sender_size version) bytes)
 
@@ -93,31 +97,36 @@ is_key version bytes = is_name (drop (sender_size version) bytes)
 abbrev pub key_size : Version → ℕ
 key_size version = sender_size version + 21
 
+-- the symbol's ID in the first four bytes
 abbrev pub id_in : List ℕ → SymbolId
 id_in bytes = record { sbn = number_at 0 2 bytes; esi = number_at 2 2 bytes }
 
+-- the transmission information in the first twelve bytes
 abbrev pub info_in : List ℕ → Information
 info_in bytes = information (number_at 0 6 bytes) (number_at 6 2 bytes) (number_at 8 4 bytes)
 
+-- whether an entry at this address may follow the last one: addresses rise
 abbrev pub is_after : Option Address → Address → Bool
 is_after None address = true
 is_after (Some last) address = is_lt (address_cmp last address)
 
+-- the check that an address follows the last one
 abbrev pub in_order : Option Address → Address → Check
 in_order last address = (not (is_after last address), faults.Order)
 
+-- the check that transmission information has no fault of its own
 abbrev pub info_checks : Option InfoFault → List Check
 info_checks None = []
 info_checks (Some f) = (true, faults.Information f) ∷ []
 
--- after the key of an entry of kind 1
+-- the checks of the bytes behind the key in an entry of kind 1, information
 abbrev pub information_checks : Option Address → Key → List ℕ → List Check
 information_checks last key rest =
     in_order last (info_address key)
     ∷ cut 12 rest
     ∷ info_checks (info_fault (info_in (take 12 rest)))
 
--- the number of the bytes of a symbol, and these
+-- the checks of a symbol's bytes: their number, and then as many
 abbrev pub bytes_checks : List ℕ → List Check
 bytes_checks rest =
     cut 2 rest
@@ -125,14 +134,14 @@ bytes_checks rest =
     ∷ cut (big_endian (take 2 rest)) (drop 2 rest)
     ∷ []
 
--- after the key of an entry of kind 3 or 4
+-- the checks of the bytes behind the key in an entry of kind 3 or 4, about a symbol
 abbrev pub id_checks : Option Address → Key → List ℕ → List Check → List Check
 id_checks last key rest more =
     cut 4 rest
     ∷ in_order last (symbol_address key (id_in (take 4 rest)))
     ∷ more
 
--- after the key
+-- the checks of the bytes behind the key in an entry of any kind
 abbrev pub rest_checks : Option Address → ℕ → Key → List ℕ → List Check
 rest_checks last kind key rest =
     if kind == 1 then information_checks last key rest
@@ -140,20 +149,20 @@ rest_checks last kind key rest =
     else (if kind == 3 then id_checks last key rest (bytes_checks (drop 4 rest))
     else id_checks last key rest []))
 
--- after the kind of an entry within the bound
+-- the checks of the bytes behind the kind of an entry
 abbrev pub body_checks : Version → Option Address → ℕ → List ℕ → List Check
 body_checks version last kind rest =
     cut (key_size version) rest ∷ (not (is_key version (take (key_size version) rest)), faults.Key)
     ∷ rest_checks last kind (key_in version (take (key_size version) rest))
     (drop (key_size version) rest)
 
--- after a kind of 1 to 4
+-- the checks of an entry of kind 1 to 4: first that there may be so many entries
 abbrev pub entry_checks : Before → ℕ → ℕ → List ℕ → List Check
 entry_checks before limit kind rest =
     (nat_le limit before.count, faults.TooMany)
     ∷ body_checks before.version before.last kind rest
 
--- after the byte 255
+-- the checks of the bytes behind 255, with which the end of a journal begins
 abbrev pub end_checks : ℕ → List ℕ → List Check
 end_checks count rest =
     cut 8 rest
@@ -161,6 +170,7 @@ end_checks count rest =
     ∷ (nat_lt 8 (length rest), faults.Trailing)
     ∷ []
 
+-- whether a byte begins an entry
 abbrev pub is_kind : ℕ → Bool
 is_kind kind = nat_le 1 kind && nat_le kind 4
 

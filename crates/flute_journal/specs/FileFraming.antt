@@ -8,6 +8,7 @@ use Rattle.flute_journal.specs.Faults.{Check, first_fault, cut, opening_fault}
 use Rattle.flute_journal.specs.Framing.{Framing}
 use Rattle.flute_journal.specs.Records.{file_header, file_frame}
 
+-- the checks of a record of a datagram file: first that there may be so many records
 abbrev pub record_checks : ℕ → ℕ → List ℕ → List Check
 record_checks limit count bytes =
     (nat_le limit count, faults.TooMany)

@@ -11,9 +11,9 @@ use Rattle.flute_journal.specs.declared.readers.reader_state.ReaderState.TheVari
 use Rattle.flute_journal.specs.Frame.{Frame, AreItems, up_to_end}
 use Rattle.flute_journal.specs.Input.{AsksMemory, IsFaultUpTo, IsSettled, IsWithin}
 
--- The reading of framed files, item by item. As in `specs/Frame`, V is the type of an item, and T
--- that of what the header contains (its values are named `told`). P is the type of a reader's place:
--- what it keeps of the header and of the items that were read.
+-- The reading of framed files, item by item. As in `specs/Frame`, V is the type of an item, T that
+-- of what the header contains (its values are named `told`). P is the type of a reader's place: what
+-- it keeps of the header and of the items that were read.
 pub record Framing (V P T : Type 0) : Type 1 where
   pub frame : Frame V T
   -- the place after these items
@@ -35,6 +35,7 @@ pub record Framing (V P T : Type 0) : Type 1 where
   -- a fault that reading may have
   pub IsFault : ReadFault → Type 0
 
+-- the first of two faults, if there is one, else the second
 abbrev pub or_else : Option ReadFault → Option ReadFault → Option ReadFault
 or_else None second = second
 or_else (Some f) second = Some f
@@ -190,6 +191,7 @@ module _ {V P T : Type 0} (framing : Framing V P T) where
     pub found : ((old ≡ Failed f) × Keeps left after)
         ⊎ (IsTrue (is_open old) × IsAtFault told limit old left after f)
 
+  -- what a call of the reader did, by its result: gave an item, the end, or a fault
   abbrev pub Gives : ℕ → ReaderState P → ReaderState P → Option (List ℕ) → Option (List ℕ)
       → Result (Option V) ReadFault → Type 0
   Gives limit old new left after (Ok (Some x)) = GivesItem framing limit old new left after x

@@ -25,6 +25,7 @@ use Rattle.flute_journal.specs.declared.readers.held_entry.HeldEntry.TheVariants
 use Rattle.flute_journal.specs.declared.readers.held_entry.HeldValue.{HeldValue}
 use Rattle.flute_journal.specs.declared.readers.held_entry.HeldValue.TheVariants as value
 
+-- the fact of one that is borrowed
 abbrev pub fact_in : Option FactRef → Option Fact
 fact_in None = None
 fact_in (Some fact) = Some (fact_of fact)
@@ -34,12 +35,13 @@ abbrev pub address_of : Option Fact → Option Address
 address_of None = None
 address_of (Some f) = Some (address f)
 
--- how many bytes of the source it has
+-- how many bytes of the source's buffer an entry has that is looked at there; else 0
 abbrev pub size_of : HeldEntry → ℕ
 size_of (held.Entry address (value.InBuffer size)) = size
 size_of _ = 0
 
--- these, which are the entry as version 2 spells it: none if the fact has memory of its own
+-- the bytes that a held entry has in the source's buffer, as version 2 spells it: none if its fact
+-- has memory of its own
 abbrev pub spelled_in : List ℕ → HeldEntry → List ℕ
 spelled_in buffer e = take (size_of e) buffer
 
@@ -76,17 +78,21 @@ pub record Reading (R : Type 0) : Type 0 where
   pub state : ReaderState Before
   pub held : HeldEntry
 
+-- the state of a reader, put together
 abbrev pub reading : {R : Type 0} → R → ReaderState Before → HeldEntry → Reading R
 reading source state e = record { source = source; state = state; held = e }
 
 module _ {R : Type 0} (buffered : R → List ℕ) where
+  -- the bytes of the held entry in the buffer of the reader's source
   abbrev pub spelled_of : Reading R → List ℕ
   spelled_of r = spelled_in (buffered r.source) r.held
 
+  -- the fact of the held entry, if there is one
   abbrev pub fact_of_held : Reading R → Option Fact
   fact_of_held r = fact_held (buffered r.source) r.held
 
 module _ {R : Type 0} (unread : R → Option (List ℕ)) (buffered : R → List ℕ) where
+  -- what is left of the source behind the held entry
   abbrev pub left_of : Reading R → Option (List ℕ)
   left_of r = left_behind (spelled_of buffered r) (unread r.source)
 

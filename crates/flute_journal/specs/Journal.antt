@@ -16,6 +16,7 @@ use Rattle.flute_journal.specs.Frame.{Frame, IsWhole}
 abbrev pub HasRoom : Version → Session → Type 0
 HasRoom version session = session.sender < 256 ^ sender_size version
 
+-- a valid key, whose sender an entry of this version has room for
 abbrev pub IsKeyIn : Version → Key → Type 0
 IsKeyIn version key = IsKey key × HasRoom version key.session
 

@@ -9,6 +9,7 @@ use Rattle.flute_journal.specs.Faults.{is_after, header_fault, version_in, next_
 use Rattle.flute_journal.specs.Framing.{Framing}
 use Rattle.flute_journal.specs.Journal.{journal_frame}
 
+-- the address of the last of these facts, or else that of the one before them
 abbrev pub last_of : Option Address → List Fact → Option Address
 last_of last [] = last
 last_of last (f ∷ fs) = last_of (Some (address f)) fs

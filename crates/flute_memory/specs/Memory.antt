@@ -4,9 +4,11 @@ use Rattle.flute_memory.specs.declared.memory_folder.StoredFile.{StoredFile}
 use Rattle.flute_memory.specs.declared.memory_folder.MemoryFolder.{MemoryFolder}
 use Rattle.flute_output.specs.Entries.{Stored, Entries}
 
+-- a file in memory, as outputs speak of one
 abbrev pub stored : StoredFile → Stored
 stored file = record { bytes = file.bytes.items; on_disk = file.on_disk }
 
+-- the same of a file that may be missing
 abbrev pub stored_files : Option StoredFile → Option Stored
 stored_files file = option_map stored file
 

@@ -59,10 +59,12 @@ after Confirmed k d = record d { names = λ name. confirmed (d.names name) }
 abbrev pub next : Run → Change → Run
 next r change = record { now = after change (length r.past) r.now; past = r.now ∷ r.past }
 
+-- the run of a disk after further changes
 abbrev pub run_from : Run → List Change → Run
 run_from r [] = r
 run_from r (change ∷ changes) = run_from (next r change) changes
 
+-- the run of a disk on which these changes were made
 abbrev pub run_of : List Change → Run
 run_of changes = run_from no_run changes
 

@@ -7,6 +7,7 @@ use Rattle.flute_output.specs.Entries.{Stored, Entries, Survives}
 use Rattle.flute_output.specs.OutMoments.{Moment}
 use Rattle.flute_output.specs.DiskWrites.{Writing}
 
+-- a file of the disk, as outputs speak of one
 abbrev pub stored_as : Held → Stored
 stored_as file = record { bytes = file.bytes; on_disk = file.on_disk }
 
@@ -28,14 +29,16 @@ abbrev pub stored_unsure : Disk → List ℕ → List (Option Stored)
 stored_unsure d name = map (option_map (λ k. stored_as (d.files k)))
     (take (d.names name).unsure (d.names name).before)
 
+-- what a moment shows of OUT: the file, and those that the disk may still have there
 abbrev pub moment_at : List ℕ → Disk → Moment
 moment_at out d = record { out = stored_at d out; unsure = stored_unsure d out }
 
+-- all moments of a run of the disk, the last one first
 abbrev pub disk_moments : List ℕ → Run → List Moment
 disk_moments out run = map (moment_at out) (run.now ∷ run.past)
 
--- Whatever a lost power leaves at a name is what may survive of the file that it leads to, or of one
--- of those that the disk may still have at the name.
+-- Whatever a lost power leaves at a name is what may survive of the file that it leads to, or of
+-- one of those that the disk may still have at the name.
 abbrev pub LossesAreOfMoments : Type 0
 LossesAreOfMoments = (d : Disk) (out : List ℕ) (left : Option (List ℕ)) → MayLeave d out left
     → Survives (moment_at out d).out left

@@ -39,6 +39,7 @@ pub record Writing : Type 0 where
   pub waiting : List ℕ
   pub disk : Disk
 
+-- the state of a file that is written, put together
 abbrev pub writing : ℕ → Bool → List ℕ → Disk → Writing
 writing n is_broken bytes d =
     record { taken = n; is_broken = is_broken; waiting = bytes; disk = d }

@@ -10,9 +10,11 @@ pub record Stored : Type 0 where
   pub bytes : List ℕ
   pub on_disk : Bool
 
+-- the file once its bytes are on the disk
 abbrev pub safe : Stored → Stored
 safe file = record file { on_disk = true }
 
+-- what contracts see of an output's folder: OUT, and the file beside it
 pub record Entries : Type 0 where
   -- the file named OUT, if there is one
   pub out : Option Stored
@@ -64,6 +66,7 @@ names_synced e = record e { named = true }
 abbrev pub removed : Entries → Entries
 removed e = record e { beside = None; waiting = [] }
 
+-- the bytes of a file; none if there is no file
 abbrev pub file_bytes : Option Stored → List ℕ
 file_bytes None = []
 file_bytes (Some s) = s.bytes

@@ -14,6 +14,7 @@ pub record Filled : Type 0 where
   pub files : List NamedFile
   pub on_disk : Bool
 
+-- what contracts see of an output that is a folder: OUT, and the folder beside it
 pub record Places : Type 0 where
   -- the folder named OUT, if there is one
   pub out : Option Filled
@@ -54,6 +55,7 @@ pub record IsMade (old new : Places) : Type 0 where
 abbrev pub begins : List ℕ → Places → Places
 begins name p = record p { open_file = Some (record { name = name; bytes = [] }) }
 
+-- a file with further bytes at its end
 abbrev pub with_bytes : List ℕ → NamedFile → NamedFile
 with_bytes more file = record file { bytes = file.bytes ++ more }
 
@@ -61,6 +63,7 @@ with_bytes more file = record file { bytes = file.bytes ++ more }
 abbrev pub puts : List ℕ → Places → Places
 puts more p = record p { open_file = option_map (with_bytes more) p.open_file }
 
+-- a folder with further files, which are not on the disk yet
 abbrev pub with_files : List NamedFile → Filled → Filled
 with_files more f = record { files = f.files ++ more; on_disk = false }
 
@@ -70,6 +73,7 @@ keeps_open None p = record p { open_file = None }
 keeps_open (Some file) p =
     record p { beside = option_map (with_files (file ∷ [])) p.beside; open_file = None }
 
+-- the places after the open file is closed, and is one of the folder
 abbrev pub keeps : Places → Places
 keeps p = keeps_open p.open_file p
 
@@ -77,6 +81,7 @@ keeps p = keeps_open p.open_file p
 abbrev pub leaves : Places → Places
 leaves p = record p { open_file = None }
 
+-- the folder once it is on the disk, with its files
 abbrev pub safely : Filled → Filled
 safely f = record f { on_disk = true }
 
@@ -121,6 +126,7 @@ abbrev pub files_in : Option Filled → List NamedFile
 files_in None = []
 files_in (Some f) = f.files
 
+-- the files in the folder beside OUT
 abbrev pub files_beside : Places → List NamedFile
 files_beside p = files_in p.beside
 

@@ -18,6 +18,7 @@ use Rattle.flute_parts.specs.declared.fact.FactRef.TheVariants.{SymbolConflict a
 abbrev pub info_address : Key → Address
 info_address key = record { key = key; part = InfoPart }
 
+-- the address of a symbol of an object
 abbrev pub symbol_address : Key → SymbolId → Address
 symbol_address key id = record { key = key; part = SymbolPart id }
 

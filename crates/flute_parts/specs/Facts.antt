@@ -21,6 +21,7 @@ abbrev pub conflict_in : Key → Part → Fact
 conflict_in key InfoPart = InfoConflict key
 conflict_in key (SymbolPart id) = SymbolConflict key id
 
+-- the fact that two values came for an address
 abbrev pub conflict_at : Address → Fact
 conflict_at a = conflict_in a.key a.part
 

@@ -14,6 +14,7 @@ pub record Information : Type 0 where
   pub symbol_length : ℕ
   pub max_block_length : ℕ
 
+-- transmission information of these three lengths
 abbrev pub information : ℕ → ℕ → ℕ → Information
 information length symbol block =
     record { transfer_length = length; symbol_length = symbol; max_block_length = block }

@@ -17,9 +17,11 @@ use Rattle.flute_parts.specs.declared.fact.Fact.{Fact}
 abbrev pub MembersDecide : Type 0
 MembersDecide = (F G : List Fact) → SameMembers F G → Same F G
 
+-- lists of facts contain the same in any order
 abbrev pub OrderIsFree : Type 0
 OrderIsFree = (F G : List Fact) → Same (F ++ G) (G ++ F)
 
+-- a list twice contains the same as once
 abbrev pub RepeatsAreFree : Type 0
 RepeatsAreFree = (F : List Fact) → Same (F ++ F) F
 
@@ -27,15 +29,19 @@ RepeatsAreFree = (F : List Fact) → Same (F ++ F) F
 abbrev pub AppendKeepsSame : Type 0
 AppendKeepsSame = (F G H K : List Fact) → Same F G → Same H K → Same (F ++ H) (G ++ K)
 
+-- appending lists that are below two others gives one below both of these
 abbrev pub AppendKeepsBelow : Type 0
 AppendKeepsBelow = (F G H K : List Fact) → Below F G → Below H K → Below (F ++ H) (G ++ K)
 
+-- each list is below itself
 abbrev pub BelowIsReflexive : Type 0
 BelowIsReflexive = (F : List Fact) → Below F F
 
+-- what is below a list is below all above that
 abbrev pub BelowIsTransitive : Type 0
 BelowIsTransitive = (F G H : List Fact) → Below F G → Below G H → Below F H
 
+-- lists that are below each other contain the same
 abbrev pub BelowBothWays : Type 0
 BelowBothWays = (F G : List Fact) → Below F G → Below G F → Same F G
 
@@ -49,11 +55,13 @@ AbsentWhereNoneStands =
     (F : List Fact) (a : Address)
     → (fact_at F a ≡ None) ↔ ((f : Fact) → Contains F f → address f ≡ a → ⊥)
 
+-- an address has one value if all facts there agree
 abbrev pub ValueWhereAllAgree : Type 0
 ValueWhereAllAgree =
     (F : List Fact) (a : Address) (f : Fact) → Contains F f → address f ≡ a
     → ((g : Fact) → Contains F g → address g ≡ a → g ≡ f) → fact_at F a ≡ Some f
 
+-- an address has a conflict if two facts there differ
 abbrev pub ConflictWhereTwoDiffer : Type 0
 ConflictWhereTwoDiffer =
     (F : List Fact) (a : Address) (f g : Fact) → Contains F f → Contains F g → address f ≡ a
@@ -64,6 +72,7 @@ abbrev pub ConflictWhereOneIsTold : Type 0
 ConflictWhereOneIsTold =
     (F : List Fact) (a : Address) → Contains F (conflict_at a) → fact_at F a ≡ Some (conflict_at a)
 
+-- what a look-up finds at an address is of that address
 abbrev pub AnswersStandThere : Type 0
 AnswersStandThere = (F : List Fact) (a : Address) (f : Fact) → fact_at F a ≡ Some f → address f ≡ a
 
@@ -74,10 +83,12 @@ RisingHasOneFact =
     (F : List Fact) (f g : Fact) → IsRising F → Contains F f → Contains F g → address f ≡ address g
     → f ≡ g
 
+-- a list of rising addresses has its own fact at each
 abbrev pub RisingTellsItsFacts : Type 0
 RisingTellsItsFacts =
     (F : List Fact) (f : Fact) → IsRising F → Contains F f → fact_at F (address f) ≡ Some f
 
+-- of the lists that contain the same one alone has rising addresses
 abbrev pub RisingIsUnique : Type 0
 RisingIsUnique = (F G : List Fact) → IsRising F → IsRising G → Same F G → F ≡ G
 

@@ -49,14 +49,18 @@ address_cmp a b = ordering_then (key_cmp a.key b.key) (part_cmp a.part b.part)
 abbrev pub same_session : Session → Session → Bool
 same_session a b = is_eq (session_cmp a b)
 
+-- whether two names of objects are the same
 abbrev pub same_object : ObjectName → ObjectName → Bool
 same_object a b = is_eq (object_cmp a b)
 
+-- whether two keys are the same
 abbrev pub same_key : Key → Key → Bool
 same_key a b = is_eq (key_cmp a b)
 
+-- whether two IDs of symbols are the same
 abbrev pub same_symbol_id : SymbolId → SymbolId → Bool
 same_symbol_id a b = is_eq (symbol_id_cmp a b)
 
+-- whether two addresses are the same
 abbrev pub same_address : Address → Address → Bool
 same_address a b = is_eq (address_cmp a b)

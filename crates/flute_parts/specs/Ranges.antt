@@ -10,9 +10,11 @@ use Rattle.flute_parts.specs.declared.fact.Fact.{Fact}
 use Rattle.flute_parts.specs.declared.fact.Fact.TheVariants.{Info, InfoConflict, Symbol}
 use Rattle.flute_parts.specs.declared.fact.Fact.TheVariants.{SymbolConflict}
 
+-- a number that is a byte
 abbrev pub IsByte : ℕ → Type 0
 IsByte b = b < 256
 
+-- a key whose numbers are within their ranges
 abbrev pub IsKey : Key → Type 0
 IsKey key = IsSession key.session × IsObjectName key.object
 
@@ -20,9 +22,11 @@ IsKey key = IsSession key.session × IsObjectName key.object
 abbrev pub IsId : SymbolId → Type 0
 IsId id = (id.sbn < 2 ^ 16) × (id.esi < 2 ^ 16)
 
+-- transmission information whose fields are within their ranges, and that has no fault
 abbrev pub IsInfo : Information → Type 0
 IsInfo i = HasInfoFields i × (info_fault i ≡ None)
 
+-- the bytes of a symbol: 1 to 65,535
 pub record IsSymbol (bytes : List ℕ) : Type 0 where
   pub some : 0 < length bytes
   pub short : length bytes < 2 ^ 16

@@ -7,6 +7,7 @@ pub record Session : Type 0 where
   pub sender : ℕ
   pub tsi : ℕ
 
+-- the session of a sender with this TSI
 abbrev pub session : ℕ → ℕ → Session
 session sender tsi = record { sender = sender; tsi = tsi }
 
@@ -18,5 +19,6 @@ IsSender sender = sender < 2 ^ 128
 abbrev pub IsTsi : ℕ → Type 0
 IsTsi tsi = tsi < 2 ^ 48
 
+-- a session whose numbers are within their ranges
 abbrev pub IsSession : Session → Type 0
 IsSession session = IsSender session.sender × IsTsi session.tsi

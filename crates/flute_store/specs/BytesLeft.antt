@@ -15,6 +15,7 @@ abbrev pub cell_bytes : Cell (List ℕ) → List ℕ
 cell_bytes (One bytes) = bytes
 cell_bytes _ = []
 
+-- the bytes that a cell holds of a symbol; none if there is no cell, or a conflict
 abbrev pub found_bytes : Option (Cell (List ℕ)) → List ℕ
 found_bytes None = []
 found_bytes (Some cell) = cell_bytes cell
@@ -42,6 +43,7 @@ pub record GivesFirst (v : HeldScan) (bytes : List ℕ) (w : HeldScan) : Type 0 
   pub bound_is : bound w ≡ bound v
   pub ticked : v.ticks < w.ticks
 
+-- what a call gave of the bytes that were left: their first part, or nothing more
 abbrev pub GivesBytes : HeldScan → Option (Bor (List ℕ)) → HeldScan → Type 0
 GivesBytes v None w = bytes_left (walk_in v) ≡ []
 GivesBytes v (Some bytes) w = GivesFirst v bytes.now w

@@ -52,6 +52,7 @@ module _ {W : Type 0} (written : W → Option (List ℕ)) (F : List Fact) (key :
   TellsExtractFault (NotWhole first) = IsNotWhole F key first × (new ≡ old)
   TellsExtractFault Write = WritesPart
 
+  -- the result of `extract`: the length of a whole object that was written, or why not
   abbrev pub Extracts : Result ℕ ExtractFault → Type 0
   Extracts (Ok n) = WritesWhole n
   Extracts (Err fault) = TellsExtractFault fault

@@ -27,6 +27,7 @@ cell_fact told clash Absent = None
 cell_fact told clash (One value) = Some (told value)
 cell_fact told clash Conflict = Some clash
 
+-- the fact that a symbol's cell holds, if it is there
 abbrev pub symbol_fact : Key → SymbolId → Option (Cell (List ℕ)) → Option Fact
 symbol_fact key id None = None
 symbol_fact key id (Some cell) = cell_fact (Symbol key id) (SymbolConflict key id) cell

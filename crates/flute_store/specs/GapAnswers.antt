@@ -37,9 +37,11 @@ pub record GivesGaps (F : List Fact) (key : Key) (left : GapsLeft) : Type 0 wher
 abbrev pub LacksInformation : List Fact → Key → Type 0
 LacksInformation F key = HoldsObject F key × (fact_at F (info_address key) ≡ None)
 
+-- two values of the object's transmission information came
 abbrev pub HasConflict : List Fact → Key → Type 0
 HasConflict F key = fact_at F (info_address key) ≡ Some (InfoConflict key)
 
+-- why no gaps of an object are given is so of the facts
 abbrev pub TellsGapFault : List Fact → Key → GapFault → Type 0
 TellsGapFault F key NoObject = IsUnheard F key
 TellsGapFault F key NoInformation = LacksInformation F key

@@ -6,10 +6,12 @@ use Rattle.flute_parts.specs.declared.object_key.ObjectName.{ObjectName}
 use Rattle.flute_parts.specs.declared.key.Key.{Key}
 use Rattle.flute_store.specs.Content.{key_in}
 
+-- the objects of a session, each with its whole key
 abbrev pub keyed : {X : Type 0} → Session → List (ObjectName × X) → List (Key × X)
 keyed session objects = map (λ e. (key_in session e.0, e.1)) objects
 
 module _ {S X : Type 0} (objects_of : S → List (ObjectName × X)) where
+  -- the objects of all sessions, each with its whole key
   abbrev pub keyed_objects : List (Session × S) → List (Key × X)
   keyed_objects sessions = flat_map (λ e. keyed e.0 (objects_of e.1)) sessions
 

@@ -7,6 +7,7 @@ use Rattle.flute_store.specs.declared.held_scan.HeldScan.{HeldScan}
 use Rattle.flute_store.specs.PartitionScan.{Walk, walk_of, remaining, gaps_left, IsPlace, IsWalk}
 use Rattle.flute_store.specs.PartitionScan.{IsAhead, TurnsTo}
 
+-- the scan of a stored object as the walk that definitions are about
 abbrev pub walk_in : HeldScan → Walk
 walk_in w = walk_of w.walk w.held
 
@@ -19,11 +20,13 @@ last_tick false = 1
 abbrev pub bound : HeldScan → ℕ
 bound w = w.ticks + remaining (walk_in w) + last_tick w.ended
 
+-- what holds of a scan of a stored object between its turns
 pub record IsHeldScan (w : HeldScan) : Type 0 where
   pub walk : IsWalk (walk_in w)
   pub place : IsPlace w.walk
   pub few : bound w < 2 ^ 34
 
+-- the second scan is further than the first, of the same object
 abbrev pub IsAheadOf : HeldScan → HeldScan → Type 0
 IsAheadOf v w = IsAhead (walk_in v) (walk_in w)
 
@@ -33,6 +36,7 @@ TurnTicks v (Some (Turn.Gap gap)) w = w.ticks ≡ v.ticks
 TurnTicks v (Some Turn.End) w = w.ended ≡ true
 TurnTicks v turn w = w.ticks ≡ v.ticks + 1
 
+-- what a turn of the scan of a stored object did
 pub record Turns (v : HeldScan) (turn : Option Turn) (w : HeldScan) : Type 0 where
   pub turns : TurnsTo (walk_in v) turn (walk_in w)
   pub walk : IsHeldScan w

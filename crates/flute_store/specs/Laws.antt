@@ -15,11 +15,13 @@ SameWhole =
     (F G : List Fact) (key : Key) (info : Information) → Same F G → Whole F key info
     → Whole G key info
 
+-- the same facts make the same object
 abbrev pub SameObject : Type 0
 SameObject =
     (F G : List Fact) (key : Key) (info : Information) → Same F G
     → object F key info ≡ object G key info
 
+-- the same facts leave the same gaps
 abbrev pub SameGaps : Type 0
 SameGaps =
     (F G : List Fact) (key : Key) (info : Information) → Same F G
@@ -31,9 +33,11 @@ GapsListWants =
     (F : List Fact) (key : Key) (info : Information)
     → flat_map listed (gaps F key info) ≡ wants F key info
 
+-- each gap is a longest run of one block and one reason
 abbrev pub GapsAreRuns : Type 0
 GapsAreRuns = (F : List Fact) (key : Key) (info : Information) → AreRuns (gaps F key info)
 
+-- no other list of runs has the symbols that are wanted
 abbrev pub GapsAreUnique : Type 0
 GapsAreUnique =
     (F : List Fact) (key : Key) (info : Information) (others : List Gap)

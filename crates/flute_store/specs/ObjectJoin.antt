@@ -28,10 +28,12 @@ module _ {n : ℕ} where
     symbols = symbols_join x.symbols y.symbols;
   }
 
+  -- the join of the objects of a session, name by name
   abbrev pub session_join : List (ObjectName × Object n) → List (ObjectName × Object n)
       → List (ObjectName × Object n)
   session_join = map_join object_cmp object_join
 
+  -- the join of two stores, session by session
   abbrev pub store_join : List (Session × List (ObjectName × Object n))
       → List (Session × List (ObjectName × Object n))
       → List (Session × List (ObjectName × Object n))

@@ -52,6 +52,7 @@ wants F key info =
     (λ id. option_map (λ reason. (id, reason)) (want info id (fact_at F (symbol_address key id))))
     (ids info)
 
+-- whether two reasons are the same
 abbrev pub same_reason : Reason → Reason → Bool
 same_reason Missing Missing = true
 same_reason Conflicting Conflicting = true

@@ -38,6 +38,7 @@ pub record Walk : Type 0 where
   pub begun : ℕ
   pub run : Option Gap
 
+-- the place of a scan, with the symbols that are still to come, as a walk
 abbrev pub walk_of : PartitionScan → List (SymbolId × Cell (List ℕ)) → Walk
 walk_of w held = record {
   partition = w.partition;
@@ -57,6 +58,7 @@ symbols_left w = block_from w.sbn w.esi w.size ++ blocks_from w.partition w.begu
 unfoldable pub left : Walk → List (SymbolId × Reason)
 left w = wanted w.partition w.held (symbols_left w)
 
+-- the symbols of the run that is open, which are to be given as one gap
 abbrev pub pending : Option Gap → List (SymbolId × Reason)
 pending None = []
 pending (Some gap) = listed gap
@@ -65,6 +67,7 @@ pending (Some gap) = listed gap
 abbrev pub all_left : Walk → List (SymbolId × Reason)
 all_left w = pending w.run ++ left w
 
+-- the gaps that a walk will still give
 abbrev pub gaps_left : Walk → List Gap
 gaps_left w = runs (all_left w)
 
@@ -91,6 +94,7 @@ pub record IsPlace (w : PartitionScan) : Type 0 where
   pub longest : w.size ≤ 65536
   pub running : EndsBefore w.sbn w.esi w.run
 
+-- what holds of a walk between its turns: what is held is in order, its place is in a block
 pub record IsWalk (w : Walk) : Type 0 where
   pub ordered : IsOrdered symbol_id_cmp w.held
   pub known : EachValue IsKnown w.held
@@ -101,13 +105,16 @@ pub record IsWalk (w : Walk) : Type 0 where
   pub behind : 0 < w.esi → IsBehind w.sbn (w.esi - 1) w.held
   pub running : EndsBefore w.sbn w.esi w.run
 
+-- the walk at the beginning of an object of which these symbols are held
 abbrev pub at_start : Information → List (SymbolId × Cell (List ℕ)) → Walk
 at_start info held =
     record { partition = info; held = held; sbn = 0; esi = 0; size = 0; begun = 0; run = None }
 
+-- the walk after a held symbol that is none of the object
 abbrev pub after_pass : Walk → Walk
 after_pass w = record w { held = drop 1 w.held }
 
+-- the walk after a held symbol that fits
 abbrev pub after_take : Walk → Walk
 after_take w = record w { held = drop 1 w.held; esi = w.esi + 1 }
 
@@ -116,6 +123,7 @@ abbrev pub run_with : ℕ → ℕ → Reason → Option Gap → Gap
 run_with sbn esi reason None = record { sbn = sbn; first = esi; last = esi; reason = reason }
 run_with sbn esi reason (Some gap) = record gap { last = esi }
 
+-- the walk after a held symbol that does not fit: it is added to the open run
 abbrev pub after_want : Reason → Walk → Walk
 after_want reason w = record w {
   held = drop 1 w.held;
@@ -123,6 +131,7 @@ after_want reason w = record w {
   run = Some (run_with w.sbn w.esi reason w.run);
 }
 
+-- the walk at the beginning of the next block
 abbrev pub after_begin : Walk → Walk
 after_begin w = record w {
   sbn = w.begun;
@@ -136,6 +145,7 @@ abbrev pub upcoming_wanted : Option Reason → Upcoming
 upcoming_wanted None = Fitting
 upcoming_wanted (Some reason) = Wanted reason
 
+-- what the next held symbol is for the place `here`: one before it, its own, or later
 abbrev pub upcoming_held : Information → SymbolId → List (SymbolId × Cell (List ℕ)) → Upcoming
 upcoming_held info here [] = NotHeld
 upcoming_held info here (e ∷ es) =
@@ -152,6 +162,7 @@ abbrev pub until_held : ℕ → ℕ → List (SymbolId × Cell (List ℕ)) → �
 until_held sbn size [] = size
 until_held sbn size (e ∷ es) = cond ((e.0.sbn == sbn) && nat_lt e.0.esi size) e.0.esi size
 
+-- up to which symbol of the block the walk finds nothing held
 abbrev pub until_of : Walk → ℕ
 until_of w = until_held w.sbn w.size w.held
 
@@ -174,6 +185,7 @@ abbrev pub want_length : Information → SymbolId → Option ℕ → Option Reas
 want_length info id (Some length) = if fits info id length then None else Some Misfit
 want_length info id None = Some Conflicting
 
+-- as `upcoming_held`, by the ID and the length of the next held symbol alone
 abbrev pub upcoming_next : Information → SymbolId → Option (SymbolId × Option ℕ) → Upcoming
 upcoming_next info here None = NotHeld
 upcoming_next info here (Some next) =
@@ -185,6 +197,7 @@ upcoming_at w next =
     cond (w.esi == w.size) (cond (w.begun == length (sizes w.partition)) End BlockEnd)
     (upcoming_next w.partition (symbol_id w.sbn w.esi) next)
 
+-- as `until_of`, of a block of so many symbols, by the next held symbol alone
 abbrev pub until_next : ℕ → ℕ → Option (SymbolId × Option ℕ) → ℕ
 until_next sbn size None = size
 until_next sbn size (Some next) =
@@ -197,19 +210,24 @@ ended_run (Some gap) Passed = None
 ended_run (Some gap) (Wanted reason) = if same_reason gap.reason reason then None else Some gap
 ended_run (Some gap) upcoming = Some gap
 
+-- up to which symbol of the block nothing is held, by the next held symbol
 abbrev pub until_at : PartitionScan → Option (SymbolId × Option ℕ) → ℕ
 until_at w next = until_next w.sbn w.size next
 
+-- the gap from the place of the scan up to the next held symbol
 abbrev pub missing_gap : PartitionScan → Option (SymbolId × Option ℕ) → Gap
 missing_gap w next =
     record { sbn = w.sbn; first = w.esi; last = until_at w next - 1; reason = Missing }
 
+-- the scan after that gap
 abbrev pub after_missing : PartitionScan → Option (SymbolId × Option ℕ) → PartitionScan
 after_missing w next = record w { esi = until_at w next }
 
+-- the scan after a symbol that is wanted for this reason
 abbrev pub after_wanted : PartitionScan → Reason → PartitionScan
 after_wanted w reason = record w { esi = w.esi + 1; run = Some (run_with w.sbn w.esi reason w.run) }
 
+-- the scan at the beginning of the next block
 abbrev pub after_block : PartitionScan → PartitionScan
 after_block w = record w {
   sbn = w.begun;
@@ -228,6 +246,7 @@ turn_on w next Fitting = (Some Turn.Fitting, record w { esi = w.esi + 1 })
 turn_on w next (Wanted reason) = (Some Turn.Wanted, after_wanted w reason)
 turn_on w next NotHeld = (Some (Turn.Gap (missing_gap w next)), after_missing w next)
 
+-- the turn of a scan, and where it is then: first an open run is given as a gap
 abbrev pub turn_after : PartitionScan → Option (SymbolId × Option ℕ) → Upcoming → Option Gap
     → Option Turn × PartitionScan
 turn_after w next upcoming (Some gap) = (Some (Turn.Gap gap), record w { run = None })

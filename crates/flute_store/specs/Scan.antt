@@ -38,6 +38,7 @@ abbrev pub next_fact : Key → SymbolId × Option (Bor (List ℕ)) → Fact
 next_fact key (id, Some bytes) = Symbol key id bytes.now
 next_fact key (id, None) = SymbolConflict key id
 
+-- the fact of the symbol that comes next, if one does
 abbrev pub coming_fact : Key → Option (SymbolId × Option (Bor (List ℕ))) → Option Fact
 coming_fact key None = None
 coming_fact key (Some next) = Some (next_fact key next)
@@ -110,6 +111,7 @@ pub record GaveAll (s : Scanned) (F : List Fact) : Type 0 where
       IfSome s.bytes
       (λ bytes. Whole F s.key s.info × (object F s.key s.info ≡ take s.info.transfer_length bytes))
 
+-- the bytes of a symbol; none if it is in conflict
 abbrev pub value_of : SymbolId × Option (Bor (List ℕ)) → List ℕ
 value_of (id, Some bytes) = bytes.now
 value_of (id, None) = []

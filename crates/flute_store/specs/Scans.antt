@@ -26,6 +26,7 @@ use Rattle.flute_store.specs.Shown.{shown_by, shown}
 use Rattle.flute_store.specs.Status.{IsCount}
 use Rattle.flute_store.specs.Scan.{Scanned, coming_fact, Turned}
 
+-- the symbol that comes next: its ID, and its bytes or a conflict
 abbrev pub Next : Type 0
 Next = Option (SymbolId × Option (Bor (List ℕ)))
 
@@ -51,6 +52,7 @@ run_length (Some gap) = gap.last + 1 - gap.first
 abbrev pub CountsWithin : PartitionScan → Wanted → Type 0
 CountsWithin w c = c.missing + c.conflicting + c.misfit + run_length w.run ≤ w.begun * 65536 + w.esi
 
+-- what holds of the scan of a journal's object between its turns
 pub record IsScan (o : ScanState) : Type 0 where
   pub place : IsPlace o.walk
   pub within : CountsWithin o.walk o.wanted
@@ -68,6 +70,7 @@ pub record BeginsBlocks (old new : ScanState) : Type 0 where
   pub onward : old.walk.begun ≤ new.walk.begun
   pub within : new.walk.begun ≤ length (sizes new.walk.partition)
 
+-- how many runs are open: 0 or 1
 abbrev pub one_run : Option Gap → ℕ
 one_run None = 0
 one_run (Some gap) = 1
@@ -91,6 +94,7 @@ pub record Walks (s : Scanned) (w : PartitionScan)
   pub gaps_are : runs (wanted s.info (shown s.key s.facts ++ more) (ids s.info))
       ≡ s.given ++ gaps_left (walk_of w more)
 
+-- the scan is of these facts: its object has this information, and the symbols that came
 pub record Scans (o : ScanState) (s : Scanned) : Type 0 where
   pub key_is : s.key ≡ o.key
   pub info_is : s.info ≡ o.info

@@ -8,6 +8,7 @@ use Rattle.flute_parts.specs.declared.symbol_id.SymbolId.{SymbolId}
 use Rattle.flute_parts.specs.declared.fact.Fact.{Fact}
 use Rattle.flute_parts.specs.declared.fact.Fact.TheVariants.{Symbol, SymbolConflict}
 
+-- what a fact adds to the symbols of an object
 abbrev pub shown_by : Key → Fact → List (SymbolId × Cell (List ℕ))
 shown_by key (Symbol k id bytes) = if same_key k key then (id, One bytes) ∷ [] else []
 shown_by key (SymbolConflict k id) = if same_key k key then (id, Conflict) ∷ [] else []

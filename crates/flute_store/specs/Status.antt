@@ -25,11 +25,13 @@ use Rattle.flute_store.specs.GapAnswers.{LacksInformation, HasConflict}
 unfoldable pub how_many : Reason → List (SymbolId × Reason) → ℕ
 how_many reason wanted = length (filter (λ w. same_reason reason w.1) wanted)
 
+-- the counts of these wanted symbols, by reason
 pub record IsCount (count : Wanted) (wanted : List (SymbolId × Reason)) : Type 0 where
   pub missing : count.missing ≡ how_many Missing wanted
   pub conflicting : count.conflicting ≡ how_many Conflicting wanted
   pub misfit : count.misfit ≡ how_many Misfit wanted
 
+-- the counts after a gap's symbols are added
 pub record Adds (gap : Gap) (old new : Wanted) : Type 0 where
   pub missing : new.missing ≡ old.missing + how_many Missing (listed gap)
   pub conflicting : new.conflicting ≡ old.conflicting + how_many Conflicting (listed gap)
@@ -41,6 +43,7 @@ CanAdd (Some (Turn.Gap gap)) old =
     (gap.first ≤ gap.last) × (old.missing + old.conflicting + old.misfit < 2 ^ 33)
 CanAdd turn old = Unit {0}
 
+-- the counts after a turn: a gap's symbols are added
 abbrev pub AddsTurn : Option Turn → Wanted → Wanted → Type 0
 AddsTurn (Some (Turn.Gap gap)) old new = Adds gap old new
 AddsTurn turn old new = new ≡ old
@@ -60,6 +63,7 @@ pub record IsPartial (F : List Fact) (key : Key) (missing conflicting misfit : �
   pub conflicting_are : conflicting ≡ how_many Conflicting (wants F key info)
   pub misfit_are : misfit ≡ how_many Misfit (wants F key info)
 
+-- the status of an object is so of the facts
 abbrev pub TellsStatus : List Fact → Key → Status → Type 0
 TellsStatus F key NoInformation = LacksInformation F key
 TellsStatus F key ConflictingInformation = HasConflict F key

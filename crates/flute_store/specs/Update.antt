@@ -18,10 +18,12 @@ use Rattle.flute_store.specs.declared.update.SymbolUpdate.TheVariants.{Conflict 
 use Rattle.flute_store.specs.declared.update.Update.{Update}
 use Rattle.flute_store.specs.declared.object.Object.{Object}
 
+-- what an update holds of a symbol, as a cell
 abbrev pub update_cell : SymbolUpdate → Cell (List ℕ)
 update_cell (BytesUpdate bytes) = One bytes.now
 update_cell ConflictUpdate = Conflict
 
+-- the symbol of an update, as a map of at most one
 abbrev pub update_symbols : Option (SymbolId × SymbolUpdate) → List (SymbolId × Cell (List ℕ))
 update_symbols None = []
 update_symbols (Some (id, update)) = (id, update_cell update) ∷ []
@@ -35,6 +37,7 @@ abbrev pub HasSize : SymbolUpdate → Type 0
 HasSize (BytesUpdate bytes) = HasSymbolSize bytes.now
 HasSize ConflictUpdate = Unit {0}
 
+-- the symbol of an update has a length that symbols may have
 abbrev pub HasSizes : Option (SymbolId × SymbolUpdate) → Type 0
 HasSizes None = Unit {0}
 HasSizes (Some (id, update)) = HasSize update
@@ -55,10 +58,12 @@ abbrev pub IsHeldSymbol : List (SymbolId × Cell (List ℕ)) → Option (SymbolI
 IsHeldSymbol symbols None = Unit {0}
 IsHeldSymbol symbols (Some (id, update)) = IsSome (value_at symbol_id_cmp symbols id)
 
+-- the object of this name already holds the symbol that the update would add
 abbrev pub IsHeldObject : {n : ℕ} → List (ObjectName × Object n) → ObjectName → Update → Type 0
 IsHeldObject {n} os object update =
     (x : Object n) × (value_at object_cmp os object ≡ Some x) × IsHeldSymbol x.symbols update.symbol
 
+-- the object of this key already holds the symbol that the update would add
 abbrev pub IsHeldSession : {n : ℕ} → List (Session × List (ObjectName × Object n)) → Key → Update
     → Type 0
 IsHeldSession {n} m key update =
@@ -70,6 +75,7 @@ abbrev pub with_object : {n : ℕ} → List (ObjectName × Object n) → ObjectN
     → List (ObjectName × Object n)
 with_object os object update = session_join os ((object, update_object update) ∷ [])
 
+-- a store after an update of one object
 abbrev pub with_session : {n : ℕ} → List (Session × List (ObjectName × Object n)) → Key → Update
     → List (Session × List (ObjectName × Object n))
 with_session m key update =

@@ -18,6 +18,7 @@ want_cell info id (Some (One bytes)) = if fits info id (length bytes) then None 
 want_cell info id (Some Conflict) = Some Conflicting
 want_cell info id _ = Some Missing
 
+-- a symbol that is wanted, with the reason
 abbrev pub with_reason : SymbolId → Reason → SymbolId × Reason
 with_reason id reason = (id, reason)
 

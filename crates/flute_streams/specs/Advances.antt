@@ -12,6 +12,7 @@ module _ {S : Type 0} (b : Behaviour S) where
       ((address_of (b.held old) ≡ place) × GoesOn b old new)
       ⊎ ((address_of (b.held old) ≢ place) × (new ≡ old))
 
+  -- each stream that is at the address went on, and each other stayed
   abbrev pub GoOnAt : Option Address → List S → List S → Type 0
   GoOnAt place [] [] = Unit {0}
   GoOnAt place (s ∷ old) (t ∷ new) = GoesOnAt place s t × GoOnAt place old new
@@ -26,6 +27,7 @@ module _ {S : Type 0} (b : Behaviour S) where
       GoesOnAt place s t × StopAt place number fault old new
   StopAt place _ fault _ _ = ⊥
 
+  -- the stream with the fault's number failed as it went on
   abbrev pub StopsIn : Option Address → List S → List S → InputFault → Type 0
   StopsIn place old new fault = StopAt place fault.number fault.fault old new
 

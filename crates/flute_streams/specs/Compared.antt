@@ -27,10 +27,12 @@ abbrev pub is_alike : Option Fact → Fact → Bool
 is_alike None f = false
 is_alike (Some g) f = same_fact f g
 
+-- whether the other side has another value there
 abbrev pub is_other : Option Fact → Fact → Bool
 is_other None f = false
 is_other (Some g) f = not (same_fact f g)
 
+-- whether the other side has nothing there
 abbrev pub is_lone : Option Fact → Fact → Bool
 is_lone None f = true
 is_lone (Some g) f = false
@@ -39,6 +41,7 @@ is_lone (Some g) f = false
 abbrev pub tally : (Address → Bool) → (Option Fact → Fact → Bool) → List Fact → List Fact → ℕ
 tally q r facts others = count_by (λ f. q (address f) && r (fact_at others (address f)) f) facts
 
+-- in how many of these addresses the sides have the same, differ, or one alone has a value
 abbrev pub sides_of : (Address → Bool) → List Fact → List Fact → Sides
 sides_of q facts others = record {
   same = tally q is_alike facts others;
@@ -64,6 +67,7 @@ abbrev pub is_apart : Option Side → Bool
 is_apart (Some Differ) = true
 is_apart side = false
 
+-- whether a row says that a value differs
 abbrev pub differs : Row → Bool
 differs row = is_apart row.information || not (row.symbols.differ == 0)
 
@@ -71,6 +75,7 @@ differs row = is_apart row.information || not (row.symbols.differ == 0)
 abbrev pub is_listed : Key → List Key → Bool
 is_listed key keys = list_any (λ k. same_key key k) keys
 
+-- whether a fact is of this object
 abbrev pub is_named : Key → List Fact → Bool
 is_named key facts = list_any (λ f. same_key key (address f).key) facts
 
@@ -79,6 +84,7 @@ abbrev pub KeysAfter : Key → List Key → Type 0
 KeysAfter key [] = Unit {0}
 KeysAfter key (k ∷ keys) = (key_cmp key k ≡ Less) × KeysAfter key keys
 
+-- each key is after all before it
 abbrev pub KeysRise : List Key → Type 0
 KeysRise [] = Unit {0}
 KeysRise (key ∷ keys) = KeysAfter key keys × KeysRise keys

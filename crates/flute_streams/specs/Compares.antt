@@ -22,14 +22,17 @@ abbrev pub IsSideOf : Option Fact → Option Fact → Side → Type 0
 IsSideOf held other side =
     (f g : Fact) → held ≡ Some f → other ≡ Some g → side ≡ side_of (Some f) (Some g)
 
+-- whether the first stream goes on after a meeting of this side
 abbrev pub first_goes : Side → Bool
 first_goes Second = false
 first_goes side = true
 
+-- whether the second stream goes on after a meeting of this side
 abbrev pub second_goes : Side → Bool
 second_goes First = false
 second_goes side = true
 
+-- the stream went on, or if not, it is as it was
 abbrev pub GoesIf : {S : Type 0} → Behaviour S → Bool → S → S → Type 0
 GoesIf b true old new = GoesOn b old new
 GoesIf b false old new = new ≡ old
@@ -39,10 +42,12 @@ abbrev pub Past : Option Address → Option Fact → Type 0
 Past None held = Unit {0}
 Past (Some x) held = StandAfter x (option_list held)
 
+-- the object at an address, as a list of at most one
 abbrev pub keys_at : Option Address → List Key
 keys_at None = []
 keys_at (Some x) = x.key ∷ []
 
+-- the row of the object at an address
 abbrev pub row_at : List Fact → List Fact → Option Address → Option Row
 row_at all others None = None
 row_at all others (Some x) = Some (told_of all others x.key)
@@ -61,6 +66,7 @@ TellsBefore takes fails old new (Input fault) = (rows : List Row) × takes old r
 TellsBefore takes fails old new Write = fails old new
 
 module _ {S T : Type 0} (a : Behaviour S) (b : Behaviour T) where
+  -- both streams after a meeting of this side: those that had the address went on
   abbrev pub GoesOnBoth : Side → S → T → S → T → Type 0
   GoesOnBoth side s t s' t' = GoesIf a (first_goes side) s s' × GoesIf b (second_goes side) t t'
 
@@ -71,6 +77,7 @@ module _ {S T : Type 0} (a : Behaviour S) (b : Behaviour T) where
       GoesIf a (first_goes side) s s' × StopsAt b t t' fault
   StopAs side number fault s t s' t' = ⊥
 
+  -- one of the two streams stopped at this fault as they went on
   abbrev pub StopsOne : Side → S → T → S → T → StreamsFault → Type 0
   StopsOne side s t s' t' (Input fault) = StopAs side fault.number fault.fault s t s' t'
   StopsOne side s t s' t' Write = ⊥
@@ -100,6 +107,7 @@ module _ {S T : Type 0} (a : Behaviour S) (b : Behaviour T) where
       b.stops t fault × b.fails t t' (Some fault) × a.fails s s' None
   StopIn number fault s t s' t' = ⊥
 
+  -- why a comparison stopped: a stream failed, or else what takes the rows
   abbrev pub StopsComparing : S → T → S → T → StreamsFault → Type 0
   StopsComparing s t s' t' (Input fault) = StopIn fault.number fault.fault s t s' t'
   StopsComparing s t s' t' Write = a.fails s s' None × b.fails t t' None

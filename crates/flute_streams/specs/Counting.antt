@@ -22,6 +22,7 @@ use Rattle.flute_streams.specs.declared.merge.sides.Sides.{Sides}
 abbrev pub capped : ℕ → ℕ
 capped n = min n (2 ^ 64 - 1)
 
+-- the counts with one more of this side; they stay at the greatest number
 abbrev pub more : Sides → Side → Sides
 more s Same = record {
   same = capped (s.same + 1);
@@ -48,6 +49,7 @@ more s Second = record {
   second = capped (s.second + 1);
 }
 
+-- the counts of both together; they stay at the greatest number
 abbrev pub plus : Sides → Sides → Sides
 plus s t = record {
   same = capped (s.same + t.same);
@@ -56,18 +58,22 @@ plus s t = record {
   second = capped (s.second + t.second);
 }
 
+-- the counts of nothing
 abbrev pub no_sides : Sides
 no_sides = record { same = 0; differ = 0; first = 0; second = 0 }
 
+-- the row of an object before anything of it is counted
 abbrev pub new_row : Key → Row
 new_row key = record { key = key; information = None; symbols = no_sides }
 
+-- a row after its part of the object is counted on this side
 abbrev pub counted_at : Row → Part → Side → Row
 counted_at row InfoPart side =
     record { key = row.key; information = Some side; symbols = row.symbols }
 counted_at row (SymbolPart id) side =
     record { key = row.key; information = row.information; symbols = more row.symbols side }
 
+-- a row after a meeting of the two streams
 abbrev pub counted : Row → Meeting → Row
 counted row m = counted_at row m.at.part m.side
 
@@ -83,6 +89,7 @@ lowest_at Less f g = (Some f, None)
 lowest_at Equal f g = (Some f, Some g)
 lowest_at Greater f g = (None, Some g)
 
+-- those of two facts that are at the lowest address
 abbrev pub lowest_of : Option Fact → Option Fact → Option Fact × Option Fact
 lowest_of (Some f) (Some g) = lowest_at (address_cmp (address f) (address g)) f g
 lowest_of held other = (held, other)
@@ -93,9 +100,11 @@ meeting_at (Some f) other = Some record { at = address f; side = side_of (Some f
 meeting_at None (Some g) = Some record { at = address g; side = Second }
 meeting_at None None = None
 
+-- how two streams meet at their lowest address, if any has a fact
 abbrev pub meeting_of : Option Fact → Option Fact → Option Meeting
 meeting_of held other = let l = lowest_of held other in meeting_at l.0 l.1
 
+-- a row, as a list of at most one
 abbrev pub option_row : Option Row → List Row
 option_row None = []
 option_row (Some row) = row ∷ []
@@ -105,6 +114,7 @@ abbrev pub to_tell : Option Row → Key → List Row
 to_tell None key = []
 to_tell (Some row) key = if same_key row.key key then [] else row ∷ []
 
+-- the row that goes on if it is of this object, else a new one
 abbrev pub row_for : Option Row → Key → Row
 row_for None key = new_row key
 row_for (Some row) key = if same_key row.key key then row else new_row key
@@ -118,6 +128,7 @@ capped_sides s = record {
   second = capped s.second;
 }
 
+-- a row as it is told: its counts stay at the greatest number
 abbrev pub told_row : Row → Row
 told_row row = record {
   key = row.key;
@@ -125,5 +136,6 @@ told_row row = record {
   symbols = capped_sides row.symbols;
 }
 
+-- the row that is told of an object of two lists of facts
 abbrev pub told_of : List Fact → List Fact → Key → Row
 told_of facts others key = told_row (row_of facts others key)

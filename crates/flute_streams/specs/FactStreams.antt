@@ -7,6 +7,7 @@ use Rattle.flute_streams.specs.declared.streams.fact_stream.FactStream.{FactStre
 use Rattle.flute_streams.specs.Streams.{Behaviour, option_list}
 use Rattle.flute_streams.specs.Listed.{listed_behaviour}
 
+-- how a stream of one fact behaves
 abbrev pub fact_behaviour : Behaviour FactStream
 fact_behaviour =
     listed_behaviour (λ s. fact_held [] s.held) (λ s. option_list s.next)

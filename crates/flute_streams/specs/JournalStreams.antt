@@ -81,6 +81,7 @@ module _ {R : Type 0} (unread : R → Option (List ℕ)) (buffered : R → List 
   abbrev pub unread_of : JournalState R → Option (List ℕ)
   unread_of s = left_of unread buffered (reading_of s)
 
+  -- the fact at which a journal's stream is
   abbrev pub held_by : JournalState R → Option Fact
   held_by s = fact_of_held buffered (reading_of s)
 
@@ -125,6 +126,7 @@ pub record SameLoans {R : Type 0} (start now : LentStream R) : Type 0 where
   pub same_reader : now.reader.ghost_name ≡ start.reader.ghost_name
   pub same_held : now.held.ghost_name ≡ start.held.ghost_name
 
+-- how a stream behaves whose reader is lent: as the reader
 abbrev pub lent_behaviour : {R : Type 0} → (R → Option (List ℕ)) → (R → List ℕ) → (R → ℕ)
     → Behaviour (LentStream R)
 lent_behaviour unread buffered failures =

@@ -11,6 +11,7 @@ module _ {S : Type 0} (held : S → Option Fact) (rest : S → List Fact) (is_so
     pub rising : IsRising (rest start)
     pub sound : is_sound start
 
+  -- how a stream behaves that gives a list of facts
   abbrev pub listed_behaviour : Behaviour S
   listed_behaviour = record {
     held = held;

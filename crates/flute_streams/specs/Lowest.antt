@@ -21,6 +21,7 @@ pub record Lowest (facts : List Fact) (g : Fact) : Type 0 where
   pub comes : fact_at facts (address g) ≡ Some g
   pub first : AllByRecursion (IsNotBefore (address g)) facts
 
+-- the fact is one at the lowest address of these, or there are none
 abbrev pub IsLowest : List Fact → Option Fact → Type 0
 IsLowest facts None = facts ≡ []
 IsLowest facts (Some g) = Lowest facts g
@@ -39,6 +40,7 @@ conflict_of None = None
 conflict_of (Some f) = Some (conflict_at (address f))
 
 module _ {S : Type 0} (b : Behaviour S) where
+  -- the fact at which a stream is, if there is a stream
   abbrev pub held_in : Option S → Option Fact
   held_in None = None
   held_in (Some s) = b.held s
@@ -56,6 +58,7 @@ module _ {S : Type 0} (b : Behaviour S) where
   value_at streams l =
       let held = held_at streams l.number in if l.conflict then conflict_of held else held
 
+  -- the value that the streams have together at the lowest address
   abbrev pub value_of : List S → Option LowestValue → Option Fact
   value_of streams None = None
   value_of streams (Some l) = value_at streams l

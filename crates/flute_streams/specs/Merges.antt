@@ -61,10 +61,12 @@ abbrev pub FirstFails : ℕ → ℕ → Result ℕ MergeFault → Type 0
 FirstFails old new (Err (First f)) = Fails {T = Option Fact} old new (Err f)
 FirstFails old new _ = new ≡ old
 
+-- how often the second source failed, by the result of a merge
 abbrev pub SecondFails : ℕ → ℕ → Result ℕ MergeFault → Type 0
 SecondFails old new (Err (Second f)) = Fails {T = Option Fact} old new (Err f)
 SecondFails old new _ = new ≡ old
 
+-- how often the sink failed, by the result of a merge
 abbrev pub sink_failed : Result ℕ MergeFault → ℕ
 sink_failed (Err Write) = 1
 sink_failed _ = 0

@@ -56,6 +56,7 @@ module _ {S T : Type 0} (a : Behaviour S) (b : Behaviour T) where
     pub begun : now.begun ≡ true
     pub sound : now.in_second ≡ false
 
+  -- how far both streams are, after the facts that were given
   abbrev pub Passed : Bool → Minus S T → Minus S T → List Fact → Type 0
   Passed false start now facts =
       StillNew a start.first now.first × StillNew b start.second now.second
@@ -72,11 +73,13 @@ module _ {S T : Type 0} (a : Behaviour S) (b : Behaviour T) where
       b.stops start.second fault × b.fails start.second now.second (Some fault)
       × a.fails start.first now.first None
 
+  -- which of the two streams failed, if any did
   abbrev pub MinusFails : Minus S T → Minus S T → Option LoadFault → Type 0
   MinusFails start now None =
       a.fails start.first now.first None × b.fails start.second now.second None
   MinusFails start now (Some fault) = FailsIn now.in_second start now fault
 
+  -- how the stream of what one would add to the other behaves
   abbrev pub minus_behaviour : Behaviour (Minus S T)
   minus_behaviour = record {
     held = λ m. a.held m.first;

@@ -23,9 +23,11 @@ takes_without without scope key = not (is_left_out without key) && takes_key sco
 abbrev pub listed : Objects → Option (BTreeSet Key)
 listed objects = option_map (λ keys. rc_value keys) objects.without
 
+-- whether an object is of the scope, and not in the list
 abbrev pub is_taken : Objects → Key → Bool
 is_taken objects key = takes_without (listed objects) objects.scope key
 
+-- whether a fact is of such an object
 abbrev pub of_objects : Objects → Fact → Bool
 of_objects objects = is_chosen (is_taken objects)
 

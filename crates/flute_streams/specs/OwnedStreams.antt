@@ -26,6 +26,7 @@ owned_state s = s.state
 abbrev pub held_of : {R : Type 0} → OwnedJournalStream R → HeldEntry
 held_of s = s.held
 
+-- the state of the stream's reader
 abbrev pub reading_in : {R : Type 0} → OwnedJournalStream R → Reading R
 reading_in s = reading s.source s.state s.held
 
@@ -34,6 +35,7 @@ module _ {R : Type 0} (unread : R → Option (List ℕ)) (buffered : R → List 
   abbrev pub left_in : OwnedJournalStream R → Option (List ℕ)
   left_in s = left_of unread buffered (reading_in s)
 
+  -- the fact at which the stream is
   abbrev pub held_in : OwnedJournalStream R → Option Fact
   held_in s = fact_of_held buffered (reading_in s)
 

@@ -36,6 +36,7 @@ is_all scope =
 abbrev pub is_chosen : (Key → Bool) → Fact → Bool
 is_chosen takes fact = takes (address fact).key
 
+-- whether a fact is of an object of the scope
 abbrev pub of_scope : Scope → Fact → Bool
 of_scope scope = is_chosen (takes_key scope)
 

@@ -20,6 +20,7 @@ abbrev pub selects_sender : Option ℕ → ℕ → Bool
 selects_sender None sender = true
 selects_sender (Some one) sender = sender == one
 
+-- whether a part of an object is the symbol that is asked for, or none is asked for
 abbrev pub selects_symbol : Option SymbolId → Part → Bool
 selects_symbol None part = true
 selects_symbol (Some one) InfoPart = false
@@ -30,6 +31,7 @@ abbrev pub is_info : Part → Bool
 is_info InfoPart = true
 is_info (Symbol id) = false
 
+-- whether a part of an object is information, or not only that is asked for
 abbrev pub selects_info : Bool → Part → Bool
 selects_info info part = not info || is_info part
 

@@ -75,6 +75,7 @@ module _ {S : Type 0} (b : Behaviour S) where
   OneFails (suc number) fault (s ∷ old) (t ∷ new) = b.fails s t None × OneFails number fault old new
   OneFails _ fault _ _ = ⊥
 
+  -- which stream failed, by the result of a merge; else none did
   abbrev pub FailAs : {T : Type 0} → Result T StreamsFault → List S → List S → Type 0
   FailAs (Err (Input fault)) old new = OneFails fault.number fault.fault old new
   FailAs _ old new = NoneFails old new

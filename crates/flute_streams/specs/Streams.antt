@@ -32,6 +32,7 @@ pub record Behaviour (S : Type 0) : Type 1 where
   -- since then it gave these facts and ended
   pub ends : S → S → List Fact → Type 0
 
+-- a fact, as a list of at most one
 abbrev pub option_list : Option Fact → List Fact
 option_list None = []
 option_list (Some f) = f ∷ []

@@ -5,6 +5,7 @@ use Rattle.flute_parts.specs.Ranges.{IsId}
 use Rattle.flute_parts.specs.declared.symbol_id.SymbolId.{SymbolId}
 use Rattle.flute_wire.specs.Content.{Content, HasKey}
 
+-- the ID of the symbol, if there is one, is within its range
 abbrev pub HasFittingId : Option (SymbolId × List ℕ) → Type 0
 HasFittingId None = Unit {0}
 HasFittingId (Some s) = IsId s.0

@@ -20,6 +20,7 @@ words e = if nat_lt e.het 128 then slice_index e.body 0 else 1
 abbrev pub IsExtension : HeaderExtension → Type 0
 IsExtension e = 1 + length e.body ≡ 4 * words e
 
+-- the bytes of an extension: its type (HET), and what it contains
 abbrev pub extension_bytes : HeaderExtension → List ℕ
 extension_bytes e = e.het ∷ e.body
 
@@ -36,9 +37,11 @@ bodies het es = map (λ e. e.body) (filter (λ e. e.het == het) es)
 abbrev pub ext_fti : ℕ
 ext_fti = 64
 
+-- the type of the extension with the FDT Instance ID (RFC 6726, 3.4.1)
 abbrev pub ext_fdt : ℕ
 ext_fdt = 192
 
+-- the type of the extension with the content encoding of an FDT Instance (RFC 6726, 3.4.3)
 abbrev pub ext_cenc : ℕ
 ext_cenc = 193
 
@@ -54,6 +57,7 @@ fti_information body =
 abbrev pub fdt_version : List ℕ → ℕ
 fdt_version body = big_endian body / 2 ^ 20
 
+-- the FDT Instance ID in an extension: its last 20 bits
 abbrev pub fdt_instance : List ℕ → ℕ
 fdt_instance body = big_endian body % 2 ^ 20
 

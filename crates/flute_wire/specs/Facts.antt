@@ -19,10 +19,12 @@ object_named toi None = File toi
 abbrev pub key_of : ℕ → Content → Key
 key_of sender c = record { session = session sender c.tsi; object = object_named c.toi c.instance }
 
+-- the fact of a packet's transmission information, if it has any
 abbrev pub info_facts : Key → Option Information → List Fact
 info_facts key None = []
 info_facts key (Some info) = Info key info ∷ []
 
+-- the fact of a packet's symbol, if it has one
 abbrev pub symbol_facts : Key → Option (SymbolId × List ℕ) → List Fact
 symbol_facts key None = []
 symbol_facts key (Some symbol) = Symbol key symbol.0 symbol.1 ∷ []

@@ -20,12 +20,15 @@ fields n = record {
 abbrev pub cci_len : FirstWord → ℕ
 cci_len w = 4 * (w.congestion_words + 1)
 
+-- how many bytes the TSI has
 abbrev pub tsi_len : FirstWord → ℕ
 tsi_len w = 4 * w.tsi_words + 2 * w.half_word
 
+-- how many bytes the TOI has
 abbrev pub toi_len : FirstWord → ℕ
 toi_len w = 4 * w.toi_words + 2 * w.half_word
 
+-- how many bytes the whole LCT header has
 abbrev pub header_len : FirstWord → ℕ
 header_len w = 4 * w.header_words
 
@@ -41,9 +44,11 @@ first_word d = fields (big_endian (take 4 d))
 abbrev pub tsi_at : FirstWord → ℕ
 tsi_at w = 4 + cci_len w
 
+-- where the TOI begins in the datagram
 abbrev pub toi_at : FirstWord → ℕ
 toi_at w = tsi_at w + tsi_len w
 
+-- where the extensions begin in the datagram
 abbrev pub extensions_at : FirstWord → ℕ
 extensions_at w = toi_at w + toi_len w
 
@@ -51,11 +56,14 @@ extensions_at w = toi_at w + toi_len w
 abbrev pub tsi_in : List ℕ → ℕ
 tsi_in d = big_endian (slice_range d (tsi_at (first_word d)) (toi_at (first_word d)))
 
+-- the TOI of a datagram
 abbrev pub toi_in : List ℕ → ℕ
 toi_in d = big_endian (slice_range d (toi_at (first_word d)) (extensions_at (first_word d)))
 
+-- the bytes of all extensions of a datagram
 abbrev pub extension_area : List ℕ → List ℕ
 extension_area d = slice_range d (extensions_at (first_word d)) (header_len (first_word d))
 
+-- what follows the LCT header: a symbol's ID and bytes, or nothing
 abbrev pub after_header : List ℕ → List ℕ
 after_header d = drop (header_len (first_word d)) d

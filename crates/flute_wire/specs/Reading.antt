@@ -46,6 +46,7 @@ abbrev pub passes : (List ℕ → Bool) → Option (List ℕ) → Bool
 passes p None = true
 passes p (Some body) = p body
 
+-- whether there is an extension, and the test accepts what it contains
 abbrev pub has : (List ℕ → Bool) → Option (List ℕ) → Bool
 has p None = false
 has p (Some body) = p body
@@ -73,6 +74,7 @@ content_by d es = record {
   symbol = tail_symbol (after_header d);
 }
 
+-- what a datagram with these extensions contains, if it is not refused
 abbrev pub accepted : List ℕ → List HeaderExtension → Option Content
 accepted d es = if is_accepted d es then Some (content_by d es) else None
 
@@ -83,6 +85,7 @@ packet d =
     then option_and_then (accepted d) (extensions_in (length (extension_area d)) (extension_area d))
     else None
 
+-- the facts of a packet of this sender; none of a datagram that is refused
 abbrev pub packet_facts : ℕ → Option Content → List Fact
 packet_facts sender None = []
 packet_facts sender (Some c) = facts_of sender c

@@ -45,10 +45,12 @@ abbrev pub symbol_bytes : Option (SymbolId × List ℕ) → List ℕ
 symbol_bytes None = []
 symbol_bytes (Some s) = big_bytes 2 s.0.sbn ++ (big_bytes 2 s.0.esi ++ s.1)
 
+-- how many words of 32 bits the extension of an FDT Instance ID takes
 abbrev pub fdt_words : Option ℕ → ℕ
 fdt_words None = 0
 fdt_words (Some instance) = 1
 
+-- how many words of 32 bits the extension of transmission information takes
 abbrev pub fti_words : Option Information → ℕ
 fti_words None = 0
 fti_words (Some i) = 4
@@ -76,6 +78,7 @@ pub record IsWritten (d : List ℕ) (c : Content) : Type 0 where
   pub spelled : Spells d c
   pub form : d ≡ spelling c
 
+-- whether there is a symbol, of no byte
 abbrev pub has_no_byte : Option (SymbolId × List ℕ) → Bool
 has_no_byte None = false
 has_no_byte (Some s) = length s.1 == 0

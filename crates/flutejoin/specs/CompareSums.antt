@@ -18,22 +18,27 @@ use Rattle.flutejoin.specs.declared.lines.form.Form.TheVariants.{Plain, Json}
 
 -- ---- exactly
 
+-- whether both sides have the same there
 abbrev pub is_same_in : Option Side → Bool
 is_same_in (Some Same) = true
 is_same_in side = false
 
+-- whether both sides have something there, and not the same
 abbrev pub is_other_in : Option Side → Bool
 is_other_in (Some Differ) = true
 is_other_in side = false
 
+-- whether the first side alone has something there
 abbrev pub is_in_first : Option Side → Bool
 is_in_first (Some First) = true
 is_in_first side = false
 
+-- whether the second side alone has something there
 abbrev pub is_in_second : Option Side → Bool
 is_in_second (Some Second) = true
 is_in_second side = false
 
+-- whether neither side has anything there
 abbrev pub is_in_none : Option Side → Bool
 is_in_none None = true
 is_in_none side = false
@@ -68,6 +73,7 @@ sums_of session rows = record {
 
 -- ---- their lines
 
+-- the words of a line about such counts
 abbrev pub sides_words : Sides → List ℕ
 sides_words s =
     codes " same " ++ decimal s.same ++ (codes " differ " ++ decimal s.differ)
@@ -100,6 +106,7 @@ session_line form part = sums_line form (sums_of (row_session part.0) (part.0 �
 
 -- ---- as rows are added: each sum as far as 64 bits go
 
+-- the sums, none of which passes the greatest number
 abbrev pub capped_sums : CompareSums → CompareSums
 capped_sums s = record {
   session = s.session;
@@ -109,6 +116,7 @@ capped_sums s = record {
   unknown = capped s.unknown;
 }
 
+-- the sums of a session before any object
 abbrev pub no_sums : Session → CompareSums
 no_sums session = record {
   session = session;
@@ -118,10 +126,12 @@ no_sums session = record {
   unknown = 0;
 }
 
+-- the sums after the information of an object is counted
 abbrev pub with_information : CompareSums → Option Side → CompareSums
 with_information s None = record s { unknown = capped (s.unknown + 1) }
 with_information s (Some side) = record s { information = more s.information side }
 
+-- the sums after a row of the comparison
 abbrev pub with_row : CompareSums → Row → CompareSums
 with_row s row = with_information (record s {
   objects = capped (s.objects + 1);
@@ -138,6 +148,7 @@ abbrev pub sums_after : Option CompareSums → Session → CompareSums
 sums_after None session = no_sums session
 sums_after (Some s) session = if same_session s.session session then s else no_sums session
 
+-- the line of the session before, once another one begins
 abbrev pub sums_before : Form → Option CompareSums → Session → List ℕ
 sums_before form None session = []
 sums_before form (Some s) session =

@@ -44,6 +44,7 @@ abbrev pub begins : ListedLine → Address
 begins (ObjectLine key status) = info_address key
 begins (GapLine key gap) = symbol_address key (record { sbn = gap.sbn; esi = gap.first })
 
+-- the last address that a line is about
 abbrev pub ends : ListedLine → Address
 ends (ObjectLine key status) = info_address key
 ends (GapLine key gap) = symbol_address key (record { sbn = gap.sbn; esi = gap.last })
@@ -69,6 +70,7 @@ unfoldable pub AreInOrder : Option ListedLine → List ListedLine → Type 0
 AreInOrder before [] = ⊤
 AreInOrder before (l ∷ lines) = MayCome before l × AreInOrder (Some l) lines
 
+-- a status whose numbers have at most 64 bits
 abbrev pub HasCounts : Status → Type 0
 HasCounts NoInformation = ⊤
 HasCounts ConflictingInformation = ⊤
@@ -76,6 +78,7 @@ HasCounts (Partial missing conflicting misfit) =
     (missing < 2 ^ 64) × (conflicting < 2 ^ 64) × (misfit < 2 ^ 64)
 HasCounts (Whole length) = length < 2 ^ 64
 
+-- a gap whose three numbers have at most 16 bits
 abbrev pub HasIds : Gap → Type 0
 HasIds gap = (gap.sbn < 2 ^ 16) × (gap.first < 2 ^ 16) × (gap.last < 2 ^ 16)
 
@@ -111,6 +114,7 @@ is_missing_by at (ObjectLine key status) = false
 is_missing_by at (GapLine key gap) =
     same_key key at.key && (same_reason gap.reason Missing && is_part_of gap at.part)
 
+-- whether a part of an object is its transmission information
 abbrev pub is_info : Part → Bool
 is_info InfoPart = true
 is_info (SymbolPart id) = false
@@ -131,6 +135,7 @@ wants Only (Some ConflictingInformation) is_missing part = false
 abbrev pub is_missing_in : List ListedLine → Address → Bool
 is_missing_in lines at = list_any (is_missing_by at) lines
 
+-- whether these lines ask for a fact
 abbrev pub asks : Asking → List ListedLine → Fact → Bool
 asks asking lines fact =
     let at = address fact in

@@ -37,6 +37,7 @@ use Rattle.flutejoin.specs.declared.fill.listed_line.ListedLine.TheVariants.{Gap
 
 -- ---- what is known of the lines so far
 
+-- the line that is held, as a list of at most one
 abbrev pub line_of : LastLine → List ListedLine
 line_of (Held l) = l ∷ []
 line_of _ = []
@@ -61,6 +62,7 @@ abbrev pub is_behind_line : ListedLine → Address → Bool
 is_behind_line (ObjectLine key status) at = is_le (key_cmp key at.key)
 is_behind_line (GapLine key gap) at = is_lt (address_cmp (ends (GapLine key gap)) at)
 
+-- whether a further line is to be read before the address can be decided
 abbrev pub is_behind : LastLine → Option Address → Bool
 is_behind Unread at = true
 is_behind Ended at = false
@@ -77,14 +79,17 @@ abbrev pub object_after : Option ListedObject → ListedLine → Option ListedOb
 object_after object (ObjectLine key status) = Some (record { key = key; status = status })
 object_after object (GapLine key gap) = object
 
+-- the object of the line that was read last
 abbrev pub after_last : Option ListedObject → LastLine → Option ListedObject
 after_last object (Held l) = object_after object l
 after_last object last = object
 
+-- whether the line that is held names an address as missing
 abbrev pub missing_at : LastLine → Address → Bool
 missing_at (Held l) at = is_missing_by at l
 missing_at _ at = false
 
+-- whether what was read of the list asks for an address
 abbrev pub asks_at : Asking → Option ListedObject → LastLine → Address → Bool
 asks_at asking object last at =
     wants asking (status_at object at.key) (missing_at last at) at.part
@@ -99,6 +104,7 @@ abbrev pub HasReached : Option ListedLine → Option Fact → Type 0
 HasReached before None = ⊤
 HasReached before (Some f) = IsBehind before (address f)
 
+-- the line that is held is of this object
 abbrev pub IsOf : Option ListedObject → Option ListedLine → Type 0
 IsOf None None = ⊤
 IsOf None (Some l) = ⊥
@@ -166,6 +172,7 @@ abbrev pub turn_at : Asking → Option ListedObject → LastLine → Option Addr
 turn_at asking object last None = Stay
 turn_at asking object last (Some at) = if asks_at asking object last at then Stay else Facts
 
+-- what is to be done next: read a line, give the fact, or pass over it
 abbrev pub turn_of : Asking → Option ListedObject → LastLine → Option Address → Turn
 turn_of asking object last at =
     if is_behind last at then Lines else turn_at asking object last at
@@ -184,6 +191,7 @@ abbrev pub AreOf : Option (List ℕ) → List ListedLine → Type 0
 AreOf input lines = IfSome input (λ bytes. IsListing bytes lines)
 
 module _ {S R : Type 0} (a : Behaviour S) (unread : R → Option (List ℕ)) (failures : R → ℕ) where
+  -- the same, of the state of a stream
   abbrev pub turn_in : Filled S R → Turn
   turn_in m = turn_of m.asking m.list.object m.list.last (address_of (a.held m.facts))
 
@@ -214,6 +222,7 @@ module _ {S R : Type 0} (a : Behaviour S) (unread : R → Option (List ℕ)) (fa
     pub sound : now.list_fault ≡ None
     pub none : facts ≡ []
 
+  -- how far the stream and the list are, after the facts that were given
   abbrev pub Passed : Bool → Filled S R → Filled S R → List Fact → Type 0
   Passed false start now facts = IsUntouched start now facts
   Passed true start now facts = Between start now facts × (turn_in now ≡ Stay)
@@ -226,6 +235,7 @@ module _ {S R : Type 0} (a : Behaviour S) (unread : R → Option (List ℕ)) (fa
   FailsIn (Some why) start now fault =
       StopsAfter unread failures start.list now.list why × a.fails start.facts now.facts None
 
+  -- whether the stream or the list failed, if any did
   abbrev pub FilledFails : Filled S R → Filled S R → Option LoadFault → Type 0
   FilledFails start now None =
       a.fails start.facts now.facts None × (failures now.list.source ≡ failures start.list.source)

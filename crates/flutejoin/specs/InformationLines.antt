@@ -64,6 +64,7 @@ pub data ListFails (most : Limits) (bytes : List ℕ) (fault : CommandFault) : T
 
 -- What the parts of a list's reader return.
 
+-- the transmission information of the numbers in a line
 abbrev pub numbers_of : InfoNumbers → Information
 numbers_of numbers = information numbers.length numbers.symbol numbers.block
 

@@ -52,6 +52,7 @@ IsJournalAt fault bytes =
     HasKind Journal bytes × HasFault journal_framing MAX_ENTRIES (Some bytes) fault
     × (fault ≢ Read)
 
+-- the bytes are a datagram file with this fault, and no failed source
 abbrev pub IsFileAt : ReadFault → List ℕ → Type 0
 IsFileAt fault bytes =
     HasKind Datagrams bytes × HasFault file_framing MAX_ENTRIES (Some bytes) fault

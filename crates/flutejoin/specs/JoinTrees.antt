@@ -19,6 +19,7 @@ pub data Inputs : Type 0 where
   leaf : (bytes : List ℕ) → InputContent → Inputs → Inputs
   node : (bytes : List ℕ) → Choice → Inputs → Inputs → Inputs
 
+-- the bytes of inputs, each a file or the output of a join below
 abbrev pub bytes_of : Inputs → List (List ℕ)
 bytes_of none = []
 bytes_of (leaf bytes content others) = bytes ∷ bytes_of others

@@ -51,6 +51,7 @@ abbrev pub content_facts : Choice → InputContent → List Fact
 content_facts choice (of_journal entries) = chosen choice.takes entries
 content_facts choice (of_file datagrams) = flat_map (facts_by choice) datagrams
 
+-- the datagrams of an input; none of a journal
 abbrev pub content_datagrams : InputContent → List (List ℕ)
 content_datagrams (of_journal entries) = []
 content_datagrams (of_file datagrams) = datagrams

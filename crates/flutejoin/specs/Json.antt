@@ -20,6 +20,7 @@ use Rattle.flutejoin.specs.SymbolSums.{symbol_sum}
 abbrev pub braced : List ℕ → List ℕ
 braced members = codes "{" ++ members ++ codes "}"
 
+-- a line of JSON with these members
 abbrev pub json_line : List ℕ → List ℕ
 json_line members = line (braced members)
 
@@ -40,6 +41,7 @@ json_name key =
     json_source key.session.sender ++ codes "\"tsi\":" ++ decimal key.session.tsi ++ codes ","
     ++ json_object key.object
 
+-- the member of a line with transmission information
 abbrev pub json_information : Information → List ℕ
 json_information i =
     codes "\"info\":{\"length\":" ++ decimal i.transfer_length ++ codes ",\"symbol\":"
@@ -75,6 +77,7 @@ json_fact_line sums fact = json_line (fact_members sums fact)
 unfoldable pub json_count_line : List ℕ → ℕ → List ℕ
 json_count_line word n = json_line (codes "\"" ++ word ++ codes "\":" ++ decimal n)
 
+-- the same, or `null` if there is none
 abbrev pub json_info_or_null : Option Information → List ℕ
 json_info_or_null None = codes "\"info\":null"
 json_info_or_null (Some info) = json_information info

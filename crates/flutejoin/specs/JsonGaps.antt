@@ -31,6 +31,7 @@ json_unplaced n = if nat_lt 0 n then codes ",\"unplaced\":" ++ decimal n else []
 unfoldable pub json_object_line : Key → Status → ℕ → List ℕ
 json_object_line key status n = json_line (json_name key ++ json_status status ++ json_unplaced n)
 
+-- the reason of a gap, as JSON
 abbrev pub json_reason : Reason → List ℕ
 json_reason Missing = codes "\"missing\""
 json_reason Conflicting = codes "\"conflicting\""

@@ -25,6 +25,7 @@ pub record IsNamed (name words : List ℕ) : Type 0 where
 abbrev pub Names : List ℕ → Key → Type 0
 Names words key = IsNamed (key_words key) words
 
+-- the words begin with these
 abbrev pub BeginsWith : List ℕ → List ℕ → Type 0
 BeginsWith front words = (rest : List ℕ) × (words ≡ front ++ rest)
 

@@ -13,6 +13,7 @@ pub record Limits : Type 0 where
   pub objects : ℕ
   pub symbols : ℕ
 
+-- limits of so many sessions, objects of a session, and symbols of an object
 abbrev pub at_most : ℕ → ℕ → ℕ → Limits
 at_most sessions objects symbols =
     record { sessions = sessions; objects = objects; symbols = symbols }

@@ -30,6 +30,7 @@ abbrev pub object_words : ObjectName → List ℕ
 object_words (File toi) = codes "object " ++ decimal toi
 object_words (Instance instance) = codes "object fdt " ++ decimal instance
 
+-- the words of a line about transmission information
 abbrev pub information_words : Information → List ℕ
 information_words i =
     codes "info length " ++ decimal i.transfer_length ++ codes " symbol " ++ decimal i.symbol_length
@@ -43,10 +44,12 @@ id_words id = codes "symbol " ++ decimal id.sbn ++ codes "/" ++ decimal id.esi
 abbrev pub symbol_words : SymbolId → ℕ → List ℕ
 symbol_words id len = id_words id ++ codes " length " ++ decimal len ++ codes " "
 
+-- the same, or `info none`
 abbrev pub info_or_none : Option Information → List ℕ
 info_or_none None = codes "info none"
 info_or_none (Some info) = information_words info
 
+-- the words of a line about a packet's symbol, or `symbol none`
 abbrev pub symbol_or_none : Option (SymbolId × List ℕ) → List ℕ
 symbol_or_none None = codes "symbol none"
 symbol_or_none (Some symbol) = symbol_words symbol.0 (length symbol.1) ++ encode_lower symbol.1
@@ -85,6 +88,7 @@ fact_line fact = line (fact_words fact)
 unfoldable pub count_line : List ℕ → ℕ → List ℕ
 count_line word n = line (word ++ codes " " ++ decimal n)
 
+-- the line with the number of entries
 abbrev pub entries_line : ℕ → List ℕ
 entries_line n = count_line (codes "entries") n
 
@@ -106,6 +110,7 @@ unplaced_line key status n =
     line (key_words key ++ codes " " ++ status_words status ++ codes " unplaced conflicting "
     ++ decimal n)
 
+-- the word at the end of a gap's line, with its space
 abbrev pub reason_words : Reason → List ℕ
 reason_words Missing = codes " missing"
 reason_words Conflicting = codes " conflicting"

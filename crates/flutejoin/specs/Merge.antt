@@ -21,6 +21,7 @@ abbrev pub FirstInputFails : {T : Type 0} → ℕ → ℕ → Result T CommandFa
 FirstInputFails old new (Err (Input (suc zero) fault)) = Fails {T = Option Fact} old new (Err fault)
 FirstInputFails old new _ = new ≡ old
 
+-- how often the second source failed, by the result of a merge
 abbrev pub SecondInputFails : {T : Type 0} → ℕ → ℕ → Result T CommandFault → Type 0
 SecondInputFails old new (Err (Input (suc (suc zero)) fault)) =
     Fails {T = Option Fact} old new (Err fault)

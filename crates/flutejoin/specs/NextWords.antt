@@ -21,10 +21,12 @@ pub record TakesWords (old new : Option (List ℕ)) (before now : List ℕ)
   pub one_line : IsOneLine words
   pub taken : Consumes old new (words ++ (if ended then codes "\n" else []))
 
+-- why no further line was read
 abbrev pub WordsFail : Option (List ℕ) → WordsFault → Type 0
 WordsFail old Read = ⊤
 WordsFail old NoEnd = IfSome old HasNoEnd
 
+-- how often the source failed, by the result
 abbrev pub words_failures : {T : Type 0} → Result T WordsFault → ℕ
 words_failures (Err Read) = 1
 words_failures _ = 0

@@ -16,6 +16,7 @@ abbrev pub named_file : Key → Option (List ℕ) → List NamedFile
 named_file key None = []
 named_file key (Some bytes) = record { name = file_name key; bytes = bytes } ∷ []
 
+-- the file of an object that is whole, as a list of at most one
 abbrev pub object_file : Told → List NamedFile
 object_file t = named_file t.key t.bytes
 
@@ -54,6 +55,7 @@ abbrev pub left_so_far : Option Progress → Option ℕ
 left_so_far None = None
 left_so_far (Some p) = option_map (λ bytes. p.info.transfer_length - length bytes) p.bytes
 
+-- a file, as a list of at most one
 abbrev pub one_file : Option NamedFile → List NamedFile
 one_file None = []
 one_file (Some file) = file ∷ []
@@ -74,5 +76,6 @@ pub record Lasting : Type 0 where
   pub past : List (Option Filled)
   pub named : Bool
 
+-- what of the places is there after a run too
 abbrev pub lasting : Places → Lasting
 lasting p = record { out = p.out; past = p.past; named = p.named }

@@ -112,6 +112,7 @@ HasFound P key failed start now (found.NotWhole first) =
     Settled P (λ F. IsNotWhole F key first) × WroteFirst P key start now
 HasFound P key failed start now (found.Whole object) = Scanning P key failed start now object
 
+-- how far the object of a writer is written, after the facts P
 abbrev pub Stands : List Fact → ObjectWriter → Option (List ℕ) → Option (List ℕ)
     → Type 0
 Stands P writer start now = HasFound P writer.key writer.failed start now writer.found

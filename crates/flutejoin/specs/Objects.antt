@@ -54,6 +54,7 @@ abbrev pub bytes_wanting : List Fact → Key → Information → List (SymbolId 
 bytes_wanting F key info [] = Some (object F key info)
 bytes_wanting F key info (w ∷ ws) = None
 
+-- the bytes of an object with this fact as its information, if nothing of it is wanted
 abbrev pub bytes_at : List Fact → Key → Option Fact → Option (List ℕ)
 bytes_at F key (Some (Info k info)) = bytes_wanting F key info (wants F key info)
 bytes_at F key o = None

@@ -14,6 +14,7 @@ use Rattle.flutejoin.specs.declared.command_fault.CommandFault.TheVariants.{Outp
 abbrev pub overwrites_journal : Bool → Overwrites
 overwrites_journal force = if force then Any else Journals
 
+-- what `--force` lets a command overwrite
 abbrev pub overwrites_other : Bool → Overwrites
 overwrites_other force = if force then Any else OtherFiles
 

@@ -10,10 +10,12 @@ use Rattle.flutejoin.specs.Json.{json_info_or_null, json_object}
 use Rattle.flutejoin.specs.Lines.{object_words, info_or_none, key_words, information_words}
 use Rattle.flutejoin.specs.Lines.{id_words, symbol_words}
 
+-- the words before a symbol's bytes, or `symbol none`
 abbrev pub symbol_head : Option (SymbolId × List ℕ) → List ℕ
 symbol_head None = codes "symbol none"
 symbol_head (Some symbol) = symbol_words symbol.0 (length symbol.1)
 
+-- the bytes of a symbol; none if there is no symbol
 abbrev pub payload : Option (SymbolId × List ℕ) → List ℕ
 payload None = []
 payload (Some symbol) = symbol.1
@@ -38,6 +40,7 @@ fact_head (InfoConflict key) = key_words key ++ codes " info conflict"
 fact_head (Symbol key id bytes) = key_words key ++ codes " " ++ symbol_words id (length bytes)
 fact_head (SymbolConflict key id) = key_words key ++ codes " " ++ id_words id ++ codes " conflict"
 
+-- the bytes of a fact that is a symbol's value
 abbrev pub fact_bytes : Fact → List ℕ
 fact_bytes (Symbol key id bytes) = bytes
 fact_bytes fact = []

@@ -22,13 +22,16 @@ pub record Progress : Type 0 where
   -- the values of its symbols so far, if each of its partition is held as one fitting value
   pub bytes : Option (List ℕ)
 
+-- an object of which nothing was given or written yet
 abbrev pub at_start : Key → Information → Progress
 at_start key info = record { key = key; info = info; given = []; bytes = Some [] }
 
+-- the bytes of a symbol; none if it is in conflict
 abbrev pub value_in : Option (Bor (List ℕ)) → List ℕ
 value_in None = []
 value_in (Some bytes) = bytes.now
 
+-- after a symbol that fits: its bytes are added, as long as no gap came
 abbrev pub with_value : List ℕ → Progress → Progress
 with_value value p = record p { bytes = option_map (λ bytes. bytes ++ value) p.bytes }
 
@@ -36,6 +39,7 @@ with_value value p = record p { bytes = option_map (λ bytes. bytes ++ value) p.
 abbrev pub lacking : Progress → Progress
 lacking p = record p { bytes = None }
 
+-- after a gap: it is given, and the object is not whole
 abbrev pub with_gap : Gap → Progress → Progress
 with_gap gap p = record p { given = p.given ++ gap ∷ []; bytes = None }
 
@@ -45,10 +49,12 @@ progress_of s = record { key = s.key; info = s.info; given = s.given; bytes = s.
 
 -- ---- of an object that may have no information, or two values of it
 
+-- the information of the object that a walk is at
 abbrev pub info_so_far : Option Progress → Option Information
 info_so_far None = None
 info_so_far (Some p) = Some p.info
 
+-- the gaps that were given of that object
 abbrev pub gaps_so_far : Option Progress → List Gap
 gaps_so_far None = []
 gaps_so_far (Some p) = p.given

@@ -48,10 +48,12 @@ range_line Json r =
 
 -- ---- as gaps come, of which the last range may go on
 
+-- a range, as a list of at most one
 abbrev pub one_range : Option ByteRange → List ByteRange
 one_range None = []
 one_range (Some r) = r ∷ []
 
+-- the line of a range, if there is one
 abbrev pub range_lines : Form → Option ByteRange → List ℕ
 range_lines form last = flat_map (range_line form) (one_range last)
 
@@ -61,6 +63,7 @@ range_after None next = next
 range_after (Some last) next =
     if last.end == next.first then record next { first = last.first } else next
 
+-- the range that may still grow, after the next one
 abbrev pub last_range : Option ByteRange → Option ByteRange → Option ByteRange
 last_range last None = last
 last_range last (Some next) = Some (range_after last next)

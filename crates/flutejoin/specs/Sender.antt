@@ -17,6 +17,7 @@ address_in bytes =
     else if length bytes == 4 then Some (65535 * 2 ^ 32 + big_endian bytes)
     else None
 
+-- the address that digits stand for, if they are 4 or 16 bytes
 abbrev pub address_read : Result (List ℕ) FromHexError → Option ℕ
 address_read (Ok bytes) = address_in bytes
 address_read (Err fault) = None

@@ -27,6 +27,7 @@ line_of Plain false fact = fact_line fact
 line_of Plain true fact = summed_line fact
 line_of Json sums fact = json_fact_line sums fact
 
+-- the line that `show` prints of an entry
 abbrev pub entry_line : ShowStyle → Fact → List ℕ
 entry_line style fact = line_of style.form style.sums fact
 

@@ -21,6 +21,7 @@ use Rattle.flutejoin.specs.declared.lines.form.Form.{Form}
 use Rattle.flutejoin.specs.declared.lines.form.Form.TheVariants.{Plain, Json}
 use Rattle.flutejoin.specs.declared.lines.style.Style.{Style}
 
+-- whether a status says that the object is whole
 abbrev pub is_whole : Status → Bool
 is_whole (Whole length) = true
 is_whole _ = false
@@ -40,6 +41,7 @@ is_told style status conflicts =
 abbrev pub is_shown : Style → Reason → Bool
 is_shown style reason = not style.summary && (not style.conflicts || same_reason Conflicting reason)
 
+-- those of the gaps that a style shows
 abbrev pub shown : Style → List Gap → List Gap
 shown style gaps = filter (λ (gap : Gap). is_shown style gap.reason) gaps
 
@@ -48,6 +50,7 @@ abbrev pub ranges_of : Option Information → List Gap → List ByteRange
 ranges_of None gaps = []
 ranges_of (Some info) gaps = ranges info gaps
 
+-- the line of a gap
 abbrev pub gap_line_in : Form → Gap → List ℕ
 gap_line_in Plain gap = gap_line gap
 gap_line_in Json gap = json_gap_line gap
@@ -75,6 +78,7 @@ object_line_in Plain key status n =
     if nat_lt 0 n then unplaced_line key status n else status_line key status
 object_line_in Json key status n = json_object_line key status n
 
+-- the line of an object
 abbrev pub object_line : Style → Key → Status → ℕ → List ℕ
 object_line style key status conflicts =
     object_line_in style.form key status (unplaced_in style status conflicts)

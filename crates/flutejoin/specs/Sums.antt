@@ -19,18 +19,22 @@ use Rattle.flutejoin.specs.declared.gaps.session_sums.SessionSums.{SessionSums}
 
 -- ---- what an object adds to each sum
 
+-- what a status adds to the number of whole objects
 abbrev pub whole_in : Status → ℕ
 whole_in (Whole length) = 1
 whole_in _ = 0
 
+-- what a status adds to the number of partial objects
 abbrev pub partial_in : Status → ℕ
 partial_in (Partial missing conflicting misfit) = 1
 partial_in _ = 0
 
+-- what a status adds to the number of missing symbols
 abbrev pub missing_in : Status → ℕ
 missing_in (Partial missing conflicting misfit) = missing
 missing_in _ = 0
 
+-- what a status adds to the number of misfit symbols
 abbrev pub misfit_in : Status → ℕ
 misfit_in (Partial missing conflicting misfit) = misfit
 misfit_in _ = 0
@@ -88,6 +92,7 @@ session_line form part = sums_line form (sums_of part.0 part.1)
 
 -- ---- sums as objects are added
 
+-- the sums of a session before any object
 pub record IsNone (session : Session) (sums : SessionSums) : Type 0 where
   pub session_is : sums.session ≡ session
   pub objects : sums.objects ≡ 0
@@ -98,6 +103,7 @@ pub record IsNone (session : Session) (sums : SessionSums) : Type 0 where
   pub misfit : sums.misfit ≡ 0
   pub unknown : sums.unknown ≡ 0
 
+-- the sums after an object of this status, with so many conflicts
 pub record AddsObject (status : Status) (conflicts : ℕ) (old new : SessionSums) : Type 0 where
   pub session : new.session ≡ old.session
   pub objects : new.objects ≡ old.objects + 1

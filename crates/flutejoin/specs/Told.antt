@@ -14,6 +14,7 @@ use Rattle.flute_store.specs.declared.status.Status.{Status}
 use Rattle.flute_store.specs.Held.{HoldsObject}
 use Rattle.flutejoin.specs.Objects.{bytes_at, gaps_at, info_at, status_at}
 
+-- what a walk tells of an object
 pub record Told : Type 0 where
   pub key : Key
   pub status : Status

@@ -29,6 +29,7 @@ Merges first second old new =
     (count : ℕ) × Merged MAX_ENTRIES count (Some first) (Some second) old new
     × (count ≤ MAX_ENTRIES)
 
+-- why a call of merge fails
 abbrev pub MergeCallFails : List ℕ → List ℕ → CommandFault → Type 0
 MergeCallFails first second fault =
     MergeFails (Some first) (Some second) fault

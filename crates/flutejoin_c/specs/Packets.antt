@@ -14,9 +14,11 @@ use Rattle.flutejoin_c.specs.declared.packet.InfoFields.{InfoFields}
 use Rattle.flutejoin_c.specs.declared.packet.SymbolFields.{SymbolFields}
 use Rattle.flutejoin_c.specs.declared.packet.PacketFields.{PacketFields}
 
+-- the FDT Instance ID in fields, if it is there
 abbrev pub instance_in : InstanceFields → Option ℕ
 instance_in f = if f.present == 0 then None else Some f.id
 
+-- the transmission information in fields, if it is there
 abbrev pub info_in : InfoFields → Option Information
 info_in f = if f.present == 0 then None else Some (information f.length f.symbol f.block)
 

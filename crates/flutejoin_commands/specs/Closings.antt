@@ -10,6 +10,7 @@ pub record Closing : Type 0 where
   pub name : List ℕ
   pub entries : Entries
 
+-- what became of an output at this name, put together
 abbrev pub closing : List ℕ → Entries → Closing
 closing name e = record { name = name; entries = e }
 

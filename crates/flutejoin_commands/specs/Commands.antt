@@ -16,6 +16,7 @@ pub record Devices : Type 0 where
   pub report : Option (List ℕ)
   pub report_failures : ℕ
 
+-- the folder and the report of a command, put together
 abbrev pub devices : Option Entries → ℕ → Option (List ℕ) → ℕ → Devices
 devices f m r n =
     record { folder = f; folder_failures = m; report = r; report_failures = n }

@@ -87,47 +87,57 @@ abbrev pub joins_without : JoinLine → List ℕ → Deed
 joins_without line list = plain {A = JoinCounts} (λ files. JoinsWithoutNames files line list)
     (λ files. JoinWithoutFails files line list) (join_lines true line.reasons)
 
+-- what `join` does, with the list of objects that it leaves out, or without one
 abbrev pub joins_by : JoinLine → Option (Bor (List ℕ)) → Deed
 joins_by line None = joins_all line
 joins_by line (Some list) = joins_without line list.now
 
+-- what `join` does
 abbrev pub joins : JoinLine → Deed
 joins line = joins_by line line.without
 
+-- what `merge` does
 abbrev pub merges : MergeLine → Deed
 merges line = plain {A = ℕ} (λ files. MergesNames files line.a.now line.b.now)
     (λ files. MergeNamesFails files line.a.now line.b.now) entries_line
 
+-- what `minus` does
 abbrev pub subtracts : MinusLine → Deed
 subtracts line = plain {A = ℕ} (λ files. MinusOfNames files line.first.now line.second.now)
     (λ files. MinusOfNamesFails files line.first.now line.second.now) entries_line
 
+-- what `fill` does
 abbrev pub fills : FillLine → Deed
 fills line = plain {A = ℕ}
     (λ files. FillsOfNames files line.asking line.journal.now line.gaps.now)
     (λ files. FillOfNamesFails files line.journal.now line.gaps.now) entries_line
 
+-- what `info` does
 abbrev pub adds : InfoLine → Deed
 adds line = plain {A = ℕ} (λ files. AddsToName files line.journal.now line.key line.info)
     (λ files. AddToNameFails files (most_of line.limit) line.journal.now line.key line.info)
     entries_line
 
+-- what `info --list` does
 abbrev pub adds_list : InfoListLine → Deed
 adds_list line = plain {A = ℕ} (λ files. AddsListOfNames files line.journal.now line.list.now)
     (λ files. AddListOfNamesFails files (most_of line.limit) line.journal.now line.list.now)
     entries_line
 
+-- what `forget` does
 abbrev pub forgets : ForgetLine → Deed
 forgets line = plain {A = ForgetCounts}
     (λ files. ForgetsInName files line.journal.now line.selection)
     (λ files. ForgetInNameFails files line.journal.now) forget_lines
 
+-- what `forget --list` does
 abbrev pub forgets_list : ForgetListLine → Deed
 forgets_list line = plain {A = ForgetCounts}
     (λ files. ForgetsListOfNames files line.inputs.journal.now line.inputs.list.now line.selection)
     (λ files. ForgetListOfNamesFails files line.inputs.journal.now line.inputs.list.now)
     forget_lines
 
+-- what `extract` does
 abbrev pub extracts : ExtractLine → Deed
 extracts line = record {
   Answer = ℕ;
@@ -137,6 +147,7 @@ extracts line = record {
   lines = bytes_line;
 }
 
+-- what `carousel` does
 abbrev pub sends : CarouselLine → Deed
 sends line = plain {A = ℕ} (λ files. SendsName files line.file.now line.key line.symbol line.block)
     (λ files. SendNameFails files line.file.now line.key line.symbol line.block) datagrams_line
@@ -150,12 +161,14 @@ pub record Printing : Type 1 where
   pub fails : (List ℕ → Option Places) → Option Files → Option (List ℕ) → Option (List ℕ)
       → CommandFault → Type 0
 
+-- what `packet` prints
 abbrev pub prints_packet : PacketLine → Printing
 prints_packet line = record {
   done = λ folders files. PrintsPacket line.hex.now line.form;
   fails = λ folders files. PacketFails line.hex.now line.form;
 }
 
+-- what `show` prints
 abbrev pub shows : ShowLine → Printing
 shows line = record {
   done = λ folders files. ShowsName files line.inputs.journal.now (list_of line.inputs) line.style
@@ -164,6 +177,7 @@ shows line = record {
       line.style line.selection;
 }
 
+-- what `gaps` prints
 abbrev pub lists : GapsLine → Printing
 lists line = record {
   done = λ folders files. ListsName files line.inputs.journal.now (list_of line.inputs)
@@ -172,6 +186,7 @@ lists line = record {
       (most_of line.limit) line.selection line.style;
 }
 
+-- what `compare` prints
 abbrev pub compares : CompareLine → Printing
 compares line = record {
   done = λ folders files. ComparesNames files line.first.now line.second.now line.selection

@@ -31,6 +31,7 @@ use Rattle.flutejoin_commands.specs.Works.{MergeReadFails, MergesRead, SendReadF
 use Rattle.flutejoin_commands.specs.Worlds.{IsNotOverwritten}
 use Rattle.flutejoin_line.specs.declared.join_line.JoinLine.{JoinLine}
 
+-- the file of this name has these bytes
 abbrev pub IsAt : Files → List ℕ → List ℕ → Type 0
 IsAt files name bytes = files name ≡ Some bytes
 
@@ -82,6 +83,7 @@ module _ (files : Option Files) where
   JoinsNames line counts old new = IfFiles files (λ f. OfContents f (names_of line)
       (λ contents. JoinsRead (join_choice line None) contents counts old new))
 
+  -- why `join` fails, by the files of its names
   abbrev pub JoinNamesFails : JoinLine → CommandFault → Type 0
   JoinNamesFails line fault =
       IsBefore files (names_of line) fault
@@ -96,6 +98,7 @@ module _ (files : Option Files) where
       (λ keys. OfContents f (names_of line)
       (λ contents. JoinsRead (join_choice line (Some keys)) contents counts old new)))
 
+  -- why `join --without` fails, by the files of its names
   abbrev pub JoinWithoutFails : JoinLine → List ℕ → CommandFault → Type 0
   JoinWithoutFails line list fault =
       IsBefore files (names_of line ++ list ∷ []) fault
@@ -110,6 +113,7 @@ module _ (files : Option Files) where
       → Type 0
   MergesNames a b n old new = IfFiles files (λ f. MergesRead (f a) (f b) n old new)
 
+  -- why `merge` fails, by the files of its names
   abbrev pub MergeNamesFails : List ℕ → List ℕ → CommandFault → Type 0
   MergeNamesFails a b fault =
       IsBefore files (a ∷ b ∷ []) fault
@@ -120,6 +124,7 @@ module _ (files : Option Files) where
       → Type 0
   MinusOfNames a b n old new = IfFiles files (λ f. WritesMinus (f a) (f b) n old new)
 
+  -- why `minus` fails, by the files of its names
   abbrev pub MinusOfNamesFails : List ℕ → List ℕ → CommandFault → Type 0
   MinusOfNamesFails a b fault =
       IsBefore files (a ∷ b ∷ []) fault ⊎ IfFiles files (λ f. MergeFails (f a) (f b) fault)
@@ -130,6 +135,7 @@ module _ (files : Option Files) where
   FillsOfNames asking j gaps n old new =
       IfFiles files (λ f. WritesFill asking (f j) (f gaps) n old new)
 
+  -- why `fill` fails, by the files of its names
   abbrev pub FillOfNamesFails : List ℕ → List ℕ → CommandFault → Type 0
   FillOfNamesFails j gaps fault =
       IsBefore files (j ∷ gaps ∷ []) fault ⊎ IfFiles files (λ f. FillFails (f j) (f gaps) fault)
@@ -140,6 +146,7 @@ module _ (files : Option Files) where
   AddsToName j key info n old new =
       IfFiles files (λ f. AddsInformation (f j) key info n old new)
 
+  -- why `info` fails, by the file of its name
   abbrev pub AddToNameFails : Limits → List ℕ → Key → Information → CommandFault
       → Type 0
   AddToNameFails most j key info fault =
@@ -151,6 +158,7 @@ module _ (files : Option Files) where
   ForgetsInName j selection counts old new =
       IfFiles files (λ f. ForgetsIn (f j) (all_but selection) counts old new)
 
+  -- why `forget` fails, by the file of its name
   abbrev pub ForgetInNameFails : List ℕ → CommandFault → Type 0
   ForgetInNameFails j fault =
       IsBefore files (j ∷ []) fault ⊎ IfFiles files (λ f. ForgetFails (f j) fault)
@@ -161,6 +169,7 @@ module _ (files : Option Files) where
   ForgetsListOfNames j list selection counts old new =
       IfFiles files (λ f. ForgetsListed selection (f list) (f j) counts old new)
 
+  -- why `forget --list` fails, by the files of its names
   abbrev pub ForgetListOfNamesFails : List ℕ → List ℕ → CommandFault → Type 0
   ForgetListOfNamesFails j list fault =
       IsBefore files (j ∷ list ∷ []) fault
@@ -171,6 +180,7 @@ module _ (files : Option Files) where
       → Option (List ℕ) → Type 0
   AddsListOfNames j list n old new = IfFiles files (λ f. AddsListRead (f j) (f list) n old new)
 
+  -- why `info --list` fails, by the files of its names
   abbrev pub AddListOfNamesFails : Limits → List ℕ → List ℕ → CommandFault → Type 0
   AddListOfNamesFails most j list fault =
       IsBefore files (j ∷ list ∷ []) fault
@@ -187,6 +197,7 @@ module _ (files : Option Files) where
   HoldsOfName most j key n old new =
       IfFiles files (λ f. Held (WritesObject most (f j) key) n old new)
 
+  -- why `extract` fails, by the file of its name
   abbrev pub ExtractOfNameFails : Limits → List ℕ → Key → CommandFault → Type 0
   ExtractOfNameFails most j key fault =
       IsBefore files (j ∷ []) fault
@@ -198,6 +209,7 @@ module _ (files : Option Files) where
   SendsName name key symbol block n old new =
       IfFiles files (λ f. SendsRead (f name) key symbol block n old new)
 
+  -- why `carousel` fails, by the file of its name
   abbrev pub SendNameFails : List ℕ → Key → ℕ → ℕ → CommandFault → Type 0
   SendNameFails name key symbol block fault =
       IsBefore files (name ∷ []) fault

@@ -15,6 +15,7 @@ pub record Outlets : Type 0 where
   pub report : Option (List ℕ)
   pub report_failures : ℕ
 
+-- an output that takes bytes directly and the report of a command, put together
 abbrev pub outlets : Option (List ℕ) → ℕ → Option (List ℕ) → ℕ → Outlets
 outlets o m r n = record { output = o; output_failures = m; report = r; report_failures = n }
 

@@ -45,6 +45,7 @@ use Rattle.flutejoin_line.specs.declared.limit.Limit.{Limit}
 abbrev pub bytes_line : ℕ → List ℕ
 bytes_line n = count_line (codes "bytes") n
 
+-- the line with the number of datagrams
 abbrev pub datagrams_line : ℕ → List ℕ
 datagrams_line n = count_line (codes "datagrams") n
 
@@ -97,6 +98,7 @@ abbrev pub JoinsRead : Choice → List (List ℕ) → JoinCounts → Option (Lis
 JoinsRead choice contents =
     Readable (λ (counts : JoinCounts). counts.entries) (JoinsTo choice contents)
 
+-- why a join of inputs with these bytes fails, also since commands could not read its journal
 abbrev pub JoinReadFails : Choice → List (List ℕ) → CommandFault → Type 0
 JoinReadFails choice contents fault =
     JoinToFails choice contents fault
@@ -107,6 +109,7 @@ abbrev pub MergesRead : Option (List ℕ) → Option (List ℕ) → ℕ → Opti
     → Option (List ℕ) → Type 0
 MergesRead first second = Readable (λ n. n) (λ n. Merged MAX_ENTRIES n first second)
 
+-- why a merge of these journals fails, also since commands could not read its journal
 abbrev pub MergeReadFails : Option (List ℕ) → Option (List ℕ) → CommandFault → Type 0
 MergeReadFails first second fault =
     MergeFails first second fault
@@ -190,6 +193,7 @@ abbrev pub AddsInformation : Option (List ℕ) → Key → Information → ℕ �
 AddsInformation input key info =
     Readable (λ n. n) (λ n old new. AddsFacts input (Info key info ∷ []) old new n)
 
+-- why `info` fails with this input, also since commands could not read its journal
 abbrev pub AddFails : Limits → Option (List ℕ) → Key → Information → CommandFault
     → Type 0
 AddFails most input key info fault =
@@ -201,6 +205,7 @@ abbrev pub AddsListRead : Option (List ℕ) → Option (List ℕ) → ℕ → Op
     → Option (List ℕ) → Type 0
 AddsListRead input list = Readable (λ n. n) (AddsList input list)
 
+-- why `info --list` fails with these inputs, also since commands could not read its journal
 abbrev pub AddListReadFails : Limits → Option (List ℕ) → Option (List ℕ) → CommandFault
     → Type 0
 AddListReadFails most input list fault =
@@ -211,6 +216,7 @@ abbrev pub SendsRead : Option (List ℕ) → Key → ℕ → ℕ → ℕ → Opt
     → Option (List ℕ) → Type 0
 SendsRead input key symbol block = Readable (λ n. n) (SendsInput input key symbol block)
 
+-- why `carousel` fails with this content, also since commands could not read its file
 abbrev pub SendReadFails : Option (List ℕ) → Key → ℕ → ℕ → CommandFault → Type 0
 SendReadFails input key symbol block fault =
     SendFails input key symbol block fault

@@ -13,6 +13,7 @@ use Rattle.flutejoin.specs.OutputGuard.{IsKeptOutput, IsOverwritten}
 use Rattle.flutejoin.specs.declared.output_guard.Overwrites.{Overwrites}
 use Rattle.flutejoin_commands.specs.Files.{Files}
 
+-- the bytes of a file
 abbrev pub bytes_of : Stored → List ℕ
 bytes_of file = file.bytes
 
@@ -119,6 +120,7 @@ pub record Outside : Type 0 where
   pub output : Option (List ℕ)
   pub errors : Option (List ℕ)
 
+-- what contracts see of a world, put together
 abbrev pub outside : Option Files → Option (List ℕ) → Option (List ℕ) → Outside
 outside f o e = record { files = f; output = o; errors = e }
 

@@ -57,10 +57,11 @@ use Rattle.flutejoin_line.specs.declared.target.Target.{Target}
 
 -- ---- what several commands have
 
+-- the text is the word of this argument
 abbrev pub IsWord : List ℕ → List Row → Bor (List ℕ) → Type 0
 IsWord id rows text = text.now ≡ word id rows
 
--- OUT, and what it overwrites: by `--force`
+-- the target of a command: OUT, and what it overwrites, by `--force`
 pub record IsTarget (overwrites_by : Bool → Overwrites) (rows : List Row) (target : Target)
     : Type 0 where
   pub out : IsWord (codes "OUT") rows target.out
@@ -68,6 +69,7 @@ pub record IsTarget (overwrites_by : Bool → Overwrites) (rows : List Row) (tar
   pub is_forced : IsFlag (codes "force") rows force
   pub overwrites : target.overwrites ≡ overwrites_by force
 
+-- whether `--any-size` was given, by the limit
 abbrev pub is_any_size : Limit → Bool
 is_any_size Shelf = false
 is_any_size AnySize = true
@@ -76,6 +78,7 @@ is_any_size AnySize = true
 abbrev pub IsLimit : List Row → Limit → Type 0
 IsLimit rows limit = IsFlag (codes "any-size") rows (is_any_size limit)
 
+-- whether `--json` was given, by the form
 abbrev pub is_json : Form → Bool
 is_json Plain = false
 is_json Json = true
@@ -84,48 +87,51 @@ is_json Json = true
 abbrev pub IsForm : List Row → Form → Type 0
 IsForm rows form = IsFlag (codes "json") rows (is_json form)
 
--- two journals
+-- the arguments of a command with two journals
 abbrev pub pair_rules : List Rule
 pair_rules = place (codes "A") ∷ place (codes "B") ∷ []
 
+-- the words of the two journals
 abbrev pub pair_words : List Row → List (List ℕ)
 pair_words rows = word (codes "A") rows ∷ word (codes "B") rows ∷ []
 
--- standard input is one of them at most
+-- the two journals of a command, of which standard input is at most one
 pub record IsPair (rows : List Row) (first second : Bor (List ℕ)) : Type 0 where
   pub first_is : IsWord (codes "A") rows first
   pub second_is : IsWord (codes "B") rows second
   pub once : is_standard_twice (pair_words rows) ≡ false
 
--- a list, and a journal
+-- the words of a list and of a journal
 abbrev pub list_words : List Row → List (List ℕ)
 list_words rows = word (codes "list") rows ∷ word (codes "J") rows ∷ []
 
--- the name of the list, if there is one
+-- the name of the list of objects, if there is one
 abbrev pub list_of : ListedJournal → Option (List ℕ)
 list_of inputs = option_map (λ (list : Bor (List ℕ)). list.now) inputs.list
 
--- standard input is one of them at most
+-- a journal and perhaps a list of its objects, of which standard input is at most one
 pub record IsListedJournal (rows : List Row) (inputs : ListedJournal) : Type 0 where
   pub list : list_of inputs ≡ first_of (codes "list") rows
   pub journal : IsWord (codes "J") rows inputs.journal
   pub once : is_standard_twice (list_words rows) ≡ false
 
--- OUT is one of two words, and not standard output
+-- whether OUT, if it is not standard output, is one of two words
 abbrev pub is_out_among : List Row → List ℕ → List ℕ → Bool
 is_out_among rows first second =
     let out = word (codes "OUT") rows in
     not (bytes_eq out (codes "-")) && (bytes_eq out first || bytes_eq out second)
 
--- it is one of the two journals
+-- whether OUT is one of the two journals
 abbrev pub is_out_an_input : List Row → Bool
 is_out_an_input rows = is_out_among rows (word (codes "A") rows) (word (codes "B") rows)
 
 -- ---- the commands
 
+-- the arguments of `packet`
 abbrev pub packet_rules : List Rule
 packet_rules = long_flag (codes "json") ∷ place (codes "HEX") ∷ []
 
+-- the line of `packet` that these words say
 pub record IsPacketLine (rows : List Row) (line : PacketLine) : Type 0 where
   pub form : IsForm rows line.form
   pub hex : IsWord (codes "HEX") rows line.hex
@@ -136,6 +142,7 @@ show_rules =
     size_flag ∷ option (codes "list") ∷ long_flag (codes "sums") ∷ long_flag (codes "json")
     ∷ long_flag (codes "conflicts") ∷ object_rules ++ journal_rules
 
+-- the line of `show` that these words say
 pub record IsShowLine (rows : List Row) (line : ShowLine) : Type 0 where
   pub selection : IsSelection rows line.selection
   pub form : IsForm rows line.style.form
@@ -159,6 +166,7 @@ pub record IsStyled (rows : List Row) (s : Selection) (style : Style) : Type 0 w
   pub ranges : IsFlag (codes "ranges") rows style.ranges
   pub form : IsForm rows style.form
 
+-- the line of `gaps` that these words say
 pub record IsGapsLine (rows : List Row) (line : GapsLine) : Type 0 where
   pub limit : IsLimit rows line.limit
   pub styled : IsStyled rows line.selection line.style
@@ -170,6 +178,7 @@ compare_rules =
     size_flag ∷ long_flag (codes "check") ∷ long_flag (codes "summary") ∷ long_flag (codes "json")
     ∷ object_rules ++ pair_rules
 
+-- the line of `compare` that these words say
 pub record IsCompareLine (rows : List Row) (line : CompareLine) : Type 0 where
   pub selection : IsSelection rows line.selection
   pub check : IsFlag (codes "check") rows line.style.check
@@ -184,6 +193,7 @@ extract_rules =
     ∷ option (codes "source") ∷ session_list ∷ option (codes "toi") ∷ option (codes "fdt")
     ∷ journal_rules
 
+-- the line of `extract` that these words say
 pub record IsExtractLine (rows : List Row) (line : ExtractLine) : Type 0 where
   pub one : IsFlag (codes "all") rows false
   pub form : first_unfit extract_form rows ≡ None
@@ -192,6 +202,7 @@ pub record IsExtractLine (rows : List Row) (line : ExtractLine) : Type 0 where
   pub key : IsKey (HasSource rows) rows line.key
   pub journal : IsWord (codes "J") rows line.journal
 
+-- the line of `extract --all` that these words say
 pub record IsExtractAllLine (rows : List Row) (line : ExtractAllLine) : Type 0 where
   pub all : IsFlag (codes "all") rows true
   pub form : first_unfit all_form rows ≡ None
@@ -220,6 +231,7 @@ pub record AreNumbersOf (rows : List Row) (info : Information) : Type 0 where
   pub is_block : IsNumber (codes "block") (2 ^ 32) rows block
   pub same : info ≡ information length symbol block
 
+-- the line of `info` that these words say
 pub record IsInfoLine (rows : List Row) (line : InfoLine) : Type 0 where
   pub one : first_of (codes "list") rows ≡ None
   pub form : first_unfit info_form rows ≡ None
@@ -229,6 +241,7 @@ pub record IsInfoLine (rows : List Row) (line : InfoLine) : Type 0 where
   pub info : AreNumbersOf rows line.info
   pub journal : IsWord (codes "J") rows line.journal
 
+-- the line of `info --list` that these words say
 pub record IsInfoListLine (rows : List Row) (line : InfoListLine) : Type 0 where
   pub list : first_of (codes "list") rows ≡ Some line.list.now
   pub form : first_unfit list_form rows ≡ None
@@ -237,6 +250,7 @@ pub record IsInfoListLine (rows : List Row) (line : InfoListLine) : Type 0 where
   pub limit : IsLimit rows line.limit
   pub journal : IsWord (codes "J") rows line.journal
 
+-- the arguments of `join`
 abbrev pub join_rules : List Rule
 join_rules =
     out ∷ force_flag ∷ size_flag ∷ option (codes "memory") ∷ option (codes "source")
@@ -248,6 +262,7 @@ join_rules =
 abbrev pub without_words : List Row → List (List ℕ)
 without_words rows = word_if (first_of (codes "without") rows)
 
+-- the words of the inputs of `join`, with its list
 abbrev pub join_words : List Row → List (List ℕ)
 join_words rows = without_words rows ++ words (codes "INPUT") rows
 
@@ -263,22 +278,27 @@ pub record IsJoinLine (rows : List Row) (line : JoinLine) : Type 0 where
   pub inputs : map (λ input. input.now) line.inputs.items ≡ words (codes "INPUT") rows
   pub once : is_standard_twice (join_words rows) ≡ false
 
+-- the arguments of `merge`
 abbrev pub merge_rules : List Rule
 merge_rules = out ∷ force_flag ∷ size_flag ∷ pair_rules
 
+-- the line of `merge` that these words say
 pub record IsMergeLine (rows : List Row) (line : MergeLine) : Type 0 where
   pub target : IsTarget overwrites_journal rows line.target
   pub pair : IsPair rows line.a line.b
   pub others : is_out_an_input rows ≡ false
 
+-- the arguments of `minus`
 abbrev pub minus_rules : List Rule
 minus_rules = merge_rules
 
+-- the line of `minus` that these words say
 pub record IsMinusLine (rows : List Row) (line : MinusLine) : Type 0 where
   pub target : IsTarget overwrites_journal rows line.target
   pub pair : IsPair rows line.first line.second
   pub others : is_out_an_input rows ≡ false
 
+-- the arguments of `fill`
 abbrev pub fill_rules : List Rule
 fill_rules =
     out ∷ force_flag ∷ size_flag ∷ option (codes "gaps") ∷ long_flag (codes "only") ∷ journal_rules
@@ -287,6 +307,7 @@ fill_rules =
 abbrev pub fill_words : List Row → List (List ℕ)
 fill_words rows = word (codes "gaps") rows ∷ word (codes "J") rows ∷ []
 
+-- whether OUT is also an input of `fill`
 abbrev pub is_out_of_fill : List Row → Bool
 is_out_of_fill rows = is_out_among rows (word (codes "J") rows) (word (codes "gaps") rows)
 
@@ -295,6 +316,7 @@ abbrev pub asking_by : Bool → Asking
 asking_by false = AskAll
 asking_by true = Only
 
+-- the line of `fill` that these words say
 pub record IsFillLine (rows : List Row) (line : FillLine) : Type 0 where
   pub form : first_unfit fill_form rows ≡ None
   pub target : IsTarget overwrites_journal rows line.target
@@ -311,6 +333,7 @@ abbrev pub forget_rules : List Rule
 forget_rules =
     out ∷ force_flag ∷ size_flag ∷ option (codes "list") ∷ selection_rules ++ journal_rules
 
+-- the line of `forget` that these words say
 pub record IsForgetLine (rows : List Row) (line : ForgetLine) : Type 0 where
   pub no_list : first_of (codes "list") rows ≡ None
   pub target : IsTarget overwrites_journal rows line.target
@@ -318,6 +341,7 @@ pub record IsForgetLine (rows : List Row) (line : ForgetLine) : Type 0 where
   pub some : is_everything line.selection ≡ false
   pub journal : IsWord (codes "J") rows line.journal
 
+-- the line of `forget --list` that these words say
 pub record IsForgetListLine (rows : List Row) (line : ForgetListLine) : Type 0 where
   pub list : first_of (codes "list") rows ≡ Some line.inputs.list.now
   pub once : is_standard_twice (list_words rows) ≡ false
@@ -325,9 +349,11 @@ pub record IsForgetListLine (rows : List Row) (line : ForgetListLine) : Type 0 w
   pub selection : IsSelection rows line.selection
   pub journal : IsWord (codes "J") rows line.inputs.journal
 
+-- the arguments of `carousel`
 abbrev pub carousel_rules : List Rule
 carousel_rules = out ∷ force_flag ∷ key_rules ++ size_rules ++ place (codes "FILE") ∷ []
 
+-- the line of `carousel` that these words say
 pub record IsCarouselLine (rows : List Row) (line : CarouselLine) : Type 0 where
   pub target : IsTarget overwrites_other rows line.target
   pub key : IsKey IsZero rows line.key

@@ -6,6 +6,7 @@ use Rattle.std.specs.Str.{bytes_eq}
 use Rattle.flutejoin.specs.declared.command_fault.CommandFault.{CommandFault}
 use Rattle.flutejoin.specs.declared.command_fault.CommandFault.TheVariants.{StandardInputTwice}
 
+-- whether the word is `-`, standard input
 abbrev pub is_standard : List ℕ → Bool
 is_standard word = bytes_eq word (codes "-")
 

@@ -70,6 +70,7 @@ pub record AreJoinOptions (rows : List Row) : Type 0 where
   pub sender : ℕ
   pub is_sender : HasSource rows sender
 
+-- why words are no line of `join`
 abbrev pub IsJoinFault : List Row → CommandFault → Type 0
 IsJoinFault rows (BadNumber option) = IsWrongOfJoin rows option.now
 IsJoinFault rows BadSource =
@@ -100,16 +101,18 @@ IsAllFault rows StandardInputTwice =
     × (is_standard_twice (list_words rows) ≡ true)
 IsAllFault rows _ = ⊥
 
+-- why words are no line of `extract` for one object
 abbrev pub IsOneFault : List Row → CommandFault → Type 0
 IsOneFault rows =
     IsFormFault extract_form (IsKeyFault (key_options rows) (HasSource rows) rows) rows
 
--- of `extract`, by its form
+-- why words are no line of `extract`, with `--all` or for one object
 abbrev pub IsExtractFault : List Row → CommandFault → Type 0
 IsExtractFault rows fault =
     (IsFlag (codes "all") rows true × IsAllFault rows fault)
     ⊎ (IsFlag (codes "all") rows false × IsOneFault rows fault)
 
+-- why words are no line of `info --list`
 abbrev pub IsListFault : List Row → CommandFault → Type 0
 IsListFault rows = IsFormFault list_form (IsTwice (list_words rows)) rows
 
@@ -121,40 +124,41 @@ pub record AreNoInformation (rows : List Row) (fault : InfoFault) : Type 0 where
   pub are : AreNumbersOf rows info
   pub why : info_fault info ≡ Some fault
 
--- of `info` of one object
+-- why words are no line of `info` for one object
 abbrev pub IsNumbersFault : List Row → CommandFault → Type 0
 IsNumbersFault rows (BadInformation fault) =
     (first_unfit info_form rows ≡ None) × AreNoInformation rows fault
 IsNumbersFault rows fault =
     IsFormFault info_form (IsKeyFault (info_options rows) (HasSource rows) rows) rows fault
 
--- of `info`, by its form
+-- why words are no line of `info`, with `--list` or for one object
 abbrev pub IsInfoFault : List Row → CommandFault → Type 0
 IsInfoFault rows fault =
     ((is_some (first_of (codes "list") rows) ≡ true) × IsListFault rows fault)
     ⊎ ((first_of (codes "list") rows ≡ None) × IsNumbersFault rows fault)
 
--- of a journal, or a list of its objects, of which entries are selected
+-- why words are no line of a command with a journal, a list of its objects, and a selection
 abbrev pub IsListedFault : List Row → CommandFault → Type 0
 IsListedFault rows StandardInputTwice =
     ((s : Selection) × IsSelection rows s) × (is_standard_twice (list_words rows) ≡ true)
 IsListedFault rows fault = IsSelectionFault rows fault
 
--- of `forget` of a list
+-- why words are no line of `forget --list`
 abbrev pub IsForgetListFault : List Row → CommandFault → Type 0
 IsForgetListFault rows StandardInputTwice = is_standard_twice (list_words rows) ≡ true
 IsForgetListFault rows fault = IsSelectionFault rows fault
 
+-- why words are no line of `forget`
 abbrev pub IsForgetFault : List Row → CommandFault → Type 0
 IsForgetFault rows fault =
     ((is_some (first_of (codes "list") rows) ≡ true) × IsForgetListFault rows fault)
     ⊎ ((first_of (codes "list") rows ≡ None) × IsChoiceFault rows fault)
 
--- of two journals
+-- why words are no line of a command with two journals
 abbrev pub IsPairFault : List Row → CommandFault → Type 0
 IsPairFault rows = IsTwice (pair_words rows)
 
--- and of an output beside them
+-- why words are no line of a command with two journals that writes an output
 abbrev pub IsOutFault : List Row → CommandFault → Type 0
 IsOutFault rows OutputIsInput =
     (is_standard_twice (pair_words rows) ≡ false) × (is_out_an_input rows ≡ true)

@@ -9,6 +9,7 @@ use Rattle.flutejoin_replicas.specs.declared.steps.StepFault.{StepFault}
 use Rattle.flutejoin_replicas.specs.declared.steps.StepFault.TheVariants.{Journal, Full}
 use Rattle.flutejoin_replicas.specs.declared.steps.StepFault.TheVariants.{OutOfMemory}
 
+-- the fault of a step whose join was refused
 abbrev pub fault_of_join : JoinRefusal → StepFault
 fault_of_join join.Full = Full
 fault_of_join join.OutOfMemory = OutOfMemory
@@ -18,6 +19,7 @@ abbrev pub fault_of_read : ReadFault → StepFault
 fault_of_read read.OutOfMemory = OutOfMemory
 fault_of_read fault = Journal fault
 
+-- the fault of a step whose journal could not be read
 abbrev pub fault_of_load : LoadFault → StepFault
 fault_of_load (load.Read fault) = fault_of_read fault
 fault_of_load load.Full = Full

@@ -22,6 +22,7 @@ pub data Task : Type 1 where
   leaves : Target → Deed → Task
   prints : Printing → Task
 
+-- what a line asks the program to do
 abbrev pub task_of : Line → Task
 task_of (Packet line) = prints (prints_packet line)
 task_of (Show line) = prints (shows line)
