@@ -12,8 +12,8 @@ use Rattle.flute_journal.specs.Frame.{Frame, AreItems, up_to_end}
 use Rattle.flute_journal.specs.Input.{AsksMemory, IsFaultUpTo, IsSettled, IsWithin}
 
 -- The reading of framed files, item by item. As in `specs/Frame`, V is the type of an item, T that
--- of what the header contains (its values are named `told`). P is the type of a reader's place: what
--- it keeps of the header and of the items that were read.
+-- of what the header contains (its values are named `told`). P is the type of a reader's place:
+-- what it keeps of the header, and of the items before it.
 pub record Framing (V P T : Type 0) : Type 1 where
   pub frame : Frame V T
   -- the place after these items
@@ -101,35 +101,35 @@ module _ {V P T : Type 0} (framing : Framing V P T) where
       IsFaultUpTo (framing.frame.end (framing.count place))
       (framing.next_fault place limit) old new f
 
-  -- how many items were given
+  -- how many items a reader gave
   abbrev pub count_at : ReaderState P → ℕ
   count_at (Items place) = framing.count place
   count_at _ = 0
 
-  -- the place of the next item, if a header that is still to be read contains this
+  -- the place of a reader's next item; of one that has not read the header, if that contains `told`
   abbrev pub place_at : T → ReaderState P → P
   place_at told (Items place) = place
   place_at told _ = framing.place_after told []
 
-  -- what the header contains
+  -- what the header contains, as a reader knows it; of one that has not read it, `told`
   abbrev pub told_at : T → ReaderState P → T
   told_at told state = framing.told (place_at told state)
 
-  -- what is before the next item
+  -- the bytes before the next item: the header, as long as that was not read
   abbrev pub opening : T → ReaderState P → List ℕ
   opening told Header = framing.frame.header told
   opening told _ = []
 
-  -- that, and the next item
+  -- the bytes that a reader takes for the next item: what is before it, and the item
   abbrev pub next_bytes : T → ReaderState P → V → List ℕ
   next_bytes told state x = opening told state ++ framing.frame.item (told_at told state) x
 
-  -- or the end
+  -- the bytes that a reader takes for the end: what is before it, and the end
   abbrev pub end_bytes : T → ReaderState P → List ℕ
   end_bytes told state =
       opening told state ++ framing.frame.end (framing.count (place_at told state))
 
-  -- the fault of the bytes that are left, up to the next item
+  -- the first fault of the bytes that are left, up to the end of the next item
   abbrev pub fault_from : ReaderState P → ℕ → List ℕ → Option ReadFault
   fault_from Header limit bytes =
       or_else (framing.header_fault bytes)

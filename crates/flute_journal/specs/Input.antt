@@ -10,13 +10,13 @@ use Rattle.flute_journal.specs.declared.fault.ReadFault.TheVariants as faults
 abbrev pub Advances : Option (List ℕ) → Option (List ℕ) → ℕ → Type 0
 Advances old new n = (bytes : List ℕ) × Consumes old new bytes × (length bytes ≤ n)
 
--- these bytes were read: n of them, or fewer at the end of the input
+-- reading gave these bytes: n of them, or fewer at the end of the input
 pub record Fills (old new : Option (List ℕ)) (n : ℕ) (bytes : List ℕ) : Type 0 where
   pub read : Consumes old new bytes
   pub most : length bytes ≤ n
   pub fewer : length bytes < n → IsAtEnd new
 
--- these bytes were read: n of them, or fewer at the end of the input, or if the source failed
+-- reading gave these bytes: n of them, or fewer at the end of the input, or if the source failed
 pub record ReadsUpTo (old new : Option (List ℕ)) (n : ℕ) (failed : Bool)
     (bytes : List ℕ) : Type 0 where
   pub read : Consumes old new bytes

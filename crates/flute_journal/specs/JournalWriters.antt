@@ -23,7 +23,7 @@ pub record PutsJournal (cut : Bool) (old new : Option (List ℕ)) (facts : List 
 abbrev pub WritesJournal : Option (List ℕ) → Option (List ℕ) → List Fact → ℕ → Type 0
 WritesJournal old new facts count = PutsJournal false old new facts count
 
--- these bytes were written, if the sink had not failed before; else nothing was appended
+-- a sink took these bytes, if it had not failed before; else it got nothing
 abbrev pub PutsBytes : Bool → Bool → Option (List ℕ) → Option (List ℕ) → List ℕ → Type 0
 PutsBytes false failed old new bytes = Written failed old new bytes
 PutsBytes true true old new bytes = Appends old new []

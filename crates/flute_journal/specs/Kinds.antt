@@ -11,7 +11,7 @@ journal_magic = 0x46 ∷ 0x4C ∷ 0x4A ∷ 0x4E ∷ []
 abbrev pub file_magic : List ℕ
 file_magic = 0x46 ∷ 0x4C ∷ 0x44 ∷ 0x47 ∷ []
 
--- they begin as a journal does, or as a datagram file
+-- the bytes begin as a journal does, or as a datagram file
 abbrev pub HasKind : Kind → List ℕ → Type 0
 HasKind Journal bytes = take 4 bytes ≡ journal_magic
 HasKind Datagrams bytes = take 4 bytes ≡ file_magic

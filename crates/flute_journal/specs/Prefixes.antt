@@ -35,7 +35,7 @@ pub data EndsAfter (version : Version) (entries : List Fact) (bytes : List ℕ) 
   after_entries : (part : List ℕ) → bytes ≡ without_end_in version entries ++ part
       → IsWithin (entry_in version) (IsFactIn version) part → EndsAfter version entries bytes
 
--- of an input these whole entries were read, and at most one more
+-- these whole entries of an input were read, and at most one more
 pub record ReadsEntries (input left : Option (List ℕ)) (entries : List Fact) : Type 0 where
   pub version : Version
   pub valid : AllByRecursion (IsFactIn version) entries

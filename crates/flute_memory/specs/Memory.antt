@@ -8,7 +8,7 @@ use Rattle.flute_output.specs.Entries.{Stored, Entries}
 abbrev pub stored : StoredFile → Stored
 stored file = record { bytes = file.bytes.items; on_disk = file.on_disk }
 
--- the same of a file that may be missing
+-- a file in memory that may be missing, as outputs speak of one
 abbrev pub stored_files : Option StoredFile → Option Stored
 stored_files file = option_map stored file
 

@@ -13,7 +13,7 @@ named_file file = record { name = file.name.items; bytes = file.bytes.items }
 abbrev pub filled : MemoryFiles → Filled
 filled folder = record { files = map named_file folder.files.items; on_disk = folder.on_disk }
 
--- the same of a folder that may be missing
+-- a folder in memory that may be missing, as outputs speak of one
 abbrev pub filled_or_none : Option MemoryFiles → Option Filled
 filled_or_none folder = option_map filled folder
 

@@ -46,7 +46,7 @@ made_beside p = record p {
   past = [];
 }
 
--- it is made, and OUT is not there
+-- the folder beside OUT was made, and OUT is not there
 pub record IsMade (old new : Places) : Type 0 where
   pub none : old.out ≡ None
   pub made : new ≡ made_beside old
@@ -67,17 +67,17 @@ puts more p = record p { open_file = option_map (with_bytes more) p.open_file }
 abbrev pub with_files : List NamedFile → Filled → Filled
 with_files more f = record { files = f.files ++ more; on_disk = false }
 
--- the open file is among the files of the folder
+-- the places after this open file is closed, and is one of the folder beside OUT
 abbrev pub keeps_open : Option NamedFile → Places → Places
 keeps_open None p = record p { open_file = None }
 keeps_open (Some file) p =
     record p { beside = option_map (with_files (file ∷ [])) p.beside; open_file = None }
 
--- the places after the open file is closed, and is one of the folder
+-- the places after their open file is closed, and is one of the folder beside OUT
 abbrev pub keeps : Places → Places
 keeps p = keeps_open p.open_file p
 
--- the open file is removed
+-- the places after their open file is removed
 abbrev pub leaves : Places → Places
 leaves p = record p { open_file = None }
 
@@ -130,7 +130,7 @@ files_in (Some f) = f.files
 abbrev pub files_beside : Places → List NamedFile
 files_beside p = files_in p.beside
 
--- these files are more in the folder beside OUT, this file is open, if any, and OUT is what it was
+-- the folder beside OUT has these files more, this file is open, if any, and OUT is as it was
 pub record Fills (files : List NamedFile) (open_file : Option NamedFile)
     (old new : Places) : Type 0 where
   pub beside : files_beside new ≡ files_beside old ++ files

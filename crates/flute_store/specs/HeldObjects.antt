@@ -15,7 +15,7 @@ module _ {S X : Type 0} (objects_of : S → List (ObjectName × X)) where
   abbrev pub keyed_objects : List (Session × S) → List (Key × X)
   keyed_objects sessions = flat_map (λ e. keyed e.0 (objects_of e.1)) sessions
 
-  -- those of a session that was begun come first
+  -- the objects that are still to be given: first those of the session that was begun
   abbrev pub objects_left : Option (Session × List (ObjectName × X)) → List (Session × S)
       → List (Key × X)
   objects_left None sessions = keyed_objects sessions

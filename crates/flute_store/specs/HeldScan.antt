@@ -51,7 +51,7 @@ pub record KeepsGaps (v w : HeldScan) : Type 0 where
   pub onward : v.ticks ≤ w.ticks
   pub ahead : IsAheadOf v w
 
--- it was found that nothing is left, which takes a tick the first time
+-- the scan once it was found that nothing is left, which takes a tick the first time
 abbrev pub with_end : HeldScan → HeldScan
 with_end w = record w { ticks = w.ticks + last_tick w.ended; ended = true }
 

@@ -54,7 +54,7 @@ walk_of w held = record {
 abbrev pub symbols_left : Walk → List SymbolId
 symbols_left w = block_from w.sbn w.esi w.size ++ blocks_from w.partition w.begun
 
--- those of them that are wanted
+-- the symbols that a walk has still to come to and that are wanted
 unfoldable pub left : Walk → List (SymbolId × Reason)
 left w = wanted w.partition w.held (symbols_left w)
 
@@ -63,7 +63,7 @@ abbrev pub pending : Option Gap → List (SymbolId × Reason)
 pending None = []
 pending (Some gap) = listed gap
 
--- and those of them that are wanted, with the run
+-- the symbols that a walk will still give in gaps: those of its open run, and those to come
 abbrev pub all_left : Walk → List (SymbolId × Reason)
 all_left w = pending w.run ++ left w
 
@@ -75,7 +75,7 @@ gaps_left w = runs (all_left w)
 abbrev pub remaining : Walk → ℕ
 remaining w = (length (sizes w.partition) - w.begun) + length w.held
 
--- these are after the symbol
+-- all symbols that are still held come after this one
 abbrev pub IsBehind : ℕ → ℕ → List (SymbolId × Cell (List ℕ)) → Type 0
 IsBehind sbn esi held =
     AllByRecursion (λ id. symbol_id_cmp (symbol_id sbn esi) id ≡ Less) (keys_of held)

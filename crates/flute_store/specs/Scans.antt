@@ -58,7 +58,8 @@ pub record IsScan (o : ScanState) : Type 0 where
   pub within : CountsWithin o.walk o.wanted
   pub partition : o.walk.partition ≡ o.info
 
--- these come next, if that was shown
+-- the symbols that are still to come: the first of them is that of the next fact; none if there is
+-- no next fact
 abbrev pub ComesAs : Key → Option Fact → List (SymbolId × Cell (List ℕ)) → Type 0
 ComesAs key None more = more ≡ []
 ComesAs key (Some f) more =

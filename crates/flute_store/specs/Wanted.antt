@@ -22,7 +22,7 @@ want_cell info id _ = Some Missing
 abbrev pub with_reason : SymbolId → Reason → SymbolId × Reason
 with_reason id reason = (id, reason)
 
--- those of the symbols that are wanted, each with its reason
+-- those of some symbols that are wanted, by what is held, each with its reason
 unfoldable pub wanted : Information → List (SymbolId × Cell (List ℕ)) → List SymbolId
     → List (SymbolId × Reason)
 wanted info held symbols =

@@ -89,7 +89,7 @@ abbrev pub KeysRise : List Key → Type 0
 KeysRise [] = Unit {0}
 KeysRise (key ∷ keys) = KeysAfter key keys × KeysRise keys
 
--- these are the rows of all objects that the facts or the others name, in their order
+-- the rows are those of all objects that the facts or the others name, in their order
 pub record AreRows (facts others : List Fact) (rows : List Row) : Type 0 where
   pub keys : List Key
   pub rise : KeysRise keys

@@ -14,13 +14,14 @@ use Rattle.flute_streams.specs.declared.streams.minus.Turn.TheVariants.{Stay, Fi
 use Rattle.flute_streams.specs.Behind.{Behind, UpTo}
 use Rattle.flute_streams.specs.Minus.{has, minus}
 
--- of which stream the fact goes, by their order, and by whether the second has the first's
+-- which of two streams goes on, or neither (`Stay`), by the order of their facts, and by whether
+-- the second has the fact of the first
 abbrev pub turn_at : Ordering → Bool → Turn
 turn_at Less has = Stay
 turn_at Equal has = if has then First else Stay
 turn_at Greater has = Second
 
--- which stream goes on, by what they hold
+-- which of two streams goes on, or neither, by the facts that they hold
 abbrev pub turn_of : Option Fact → Option Fact → Turn
 turn_of (Some f) (Some g) = turn_at (address_cmp (address f) (address g)) (has (Some g) f)
 turn_of (Some f) None = Stay
@@ -96,7 +97,7 @@ module _ {S T : Type 0} (a : Behaviour S) (b : Behaviour T) where
         LeftOf (a.ends start.first now.first) (b.ends start.second now.second) facts;
   }
 
-  -- it let go of what it held, and the streams went on since
+  -- the stream let go of what it held, and its two streams went on since
   pub record Walks (old now : Minus S T) : Type 0 where
     pub between : (start : Minus S T) (facts : List Fact) → Passed old.begun start old facts
         → Between start now (facts ++ option_list (a.held old.first))

@@ -9,18 +9,18 @@ use Rattle.flute_streams.specs.declared.merge.two_streams.MergeFault.{MergeFault
 use Rattle.flute_streams.specs.declared.merge.two_streams.MergeFault.TheVariants.{First, Second}
 use Rattle.flute_streams.specs.declared.merge.two_streams.MergeFault.TheVariants.{Write}
 
--- the fault of the input with that number
+-- the fault of a merge of two inputs, by the number of the one that could not be read
 abbrev pub fault_at : ℕ → ReadFault → MergeFault
 fault_at zero fault = First fault
 fault_at (suc number) fault = Second fault
 
--- that of one that stops only if it cannot be read
+-- the fault of a merge of two inputs, by that of the stream with this number: only reading fails
 abbrev pub IsFaultAt : ℕ → LoadFault → MergeFault → Type 0
 IsFaultAt number (Read fault) merge = merge ≡ fault_at number fault
 IsFaultAt number Full merge = ⊥
 IsFaultAt number OutOfMemory merge = ⊥
 
--- the fault of a merge of two
+-- the fault of a merge of two inputs, by that of a merge of any number of streams
 abbrev pub IsFaultOfTwo : StreamsFault → MergeFault → Type 0
 IsFaultOfTwo (of_any.Input fault) merge = IsFaultAt fault.number fault.fault merge
 IsFaultOfTwo of_any.Write merge = merge ≡ Write

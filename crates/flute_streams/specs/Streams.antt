@@ -65,13 +65,13 @@ module _ {S : Type 0} (b : Behaviour S) where
         → Gave start new (F ++ option_list (b.held old))
     pub fewer : b.most new + length (option_list (b.held old)) ≤ b.most old
 
-  -- it gave these facts, and then stopped at a fault
+  -- the stream gave these facts, and then stopped at a fault
   pub record Stopped (start now : S) (F : List Fact) (fault : LoadFault) : Type 0 where
     pub reads : b.reads start now F
     pub fails : b.fails start now (Some fault)
     pub stops : b.stops start fault
 
-  -- it has given the fact that it held, and stopped
+  -- the stream has given the fact that it held, and stopped
   abbrev pub StopsAt : S → S → LoadFault → Type 0
   StopsAt old new fault =
       (start : S) (F : List Fact) → b.passes start old F
@@ -99,7 +99,7 @@ module _ {S : Type 0} (b : Behaviour S) where
   heads [] = []
   heads (s ∷ streams) = option_list (b.held s) ++ heads streams
 
-  -- they hold at most so many facts from now on
+  -- the streams hold at most so many facts from now on
   abbrev pub most_of : List S → ℕ
   most_of [] = 0
   most_of (s ∷ streams) = b.most s + most_of streams

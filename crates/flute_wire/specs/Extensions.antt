@@ -16,7 +16,7 @@ pub record HeaderExtension : Type 0 where
 abbrev pub words : HeaderExtension → ℕ
 words e = if nat_lt e.het 128 then slice_index e.body 0 else 1
 
--- it has that many words, so not none
+-- an extension has as many words of 32 bits as it says, so at least one
 abbrev pub IsExtension : HeaderExtension → Type 0
 IsExtension e = 1 + length e.body ≡ 4 * words e
 

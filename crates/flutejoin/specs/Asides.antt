@@ -43,7 +43,8 @@ module _ {R : Type 0} (unread : R → Option (List ℕ)) (buffered : R → List 
   abbrev pub HoldTogether : List (OwnedJournalStream R) → List Fact → Type 0
   HoldTogether runs facts = (own : List Fact) × AreRunsOf runs own × Same own facts
 
-  -- these facts are held: in a run, if there is one, and else in a store
+  -- the facts that are held: those of the run, a journal that was put aside, if there is one; else
+  -- those of the store
   abbrev pub AreHeld : List Fact → Option (OwnedJournalStream R) → List Fact → Type 0
   AreHeld store None facts = facts ≡ store
   AreHeld store (Some run) facts = IsRunOf run facts

@@ -79,7 +79,7 @@ sides_words s =
     codes " same " ++ decimal s.same ++ (codes " differ " ++ decimal s.differ)
     ++ (codes " first " ++ decimal s.first) ++ (codes " second " ++ decimal s.second)
 
--- the same as members of an object of JSON
+-- the members of JSON about such counts
 abbrev pub json_sides : Sides → List ℕ
 json_sides s =
     codes "\"same\":" ++ decimal s.same ++ (codes ",\"differ\":" ++ decimal s.differ)

@@ -186,12 +186,12 @@ pub record AskedOf (asking : Asking) (P : List Fact → Type 0) (Q : List Listed
   pub lines_are : Q lines
   pub asked_for : facts ≡ asked asking lines all
 
--- these are the lines of the bytes that are known
+-- the lines are those of the bytes, if these are known
 abbrev pub AreOf : Option (List ℕ) → List ListedLine → Type 0
 AreOf input lines = IfSome input (λ bytes. IsListing bytes lines)
 
 module _ {S R : Type 0} (a : Behaviour S) (unread : R → Option (List ℕ)) (failures : R → ℕ) where
-  -- the same, of the state of a stream
+  -- what a stream is to do next: read a line, give the fact, or pass over it
   abbrev pub turn_in : Filled S R → Turn
   turn_in m = turn_of m.asking m.list.object m.list.last (address_of (a.held m.facts))
 

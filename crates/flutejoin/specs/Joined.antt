@@ -28,12 +28,12 @@ pub record Choice : Type 0 where
   pub sender : ℕ
   pub takes : Key → Bool
 
--- this sender, and the objects of a scope that are not listed, within limits
+-- the choice of this sender and of the objects of a scope that are not listed, within limits
 abbrev pub choice_without : Limits → ℕ → Scope → Option (BTreeSet Key) → Choice
 choice_without most sender scope without =
     record { most = most; sender = sender; takes = takes_without without scope }
 
--- this sender and these objects, within limits
+-- the choice of this sender and of these objects, within limits
 abbrev pub choice_of : Limits → ℕ → Objects → Choice
 choice_of most sender objects = choice_without most sender objects.scope (listed objects)
 

@@ -51,7 +51,7 @@ json_information i =
 abbrev pub json_id : SymbolId → List ℕ
 json_id id = codes "\"symbol\":{\"sbn\":" ++ decimal id.sbn ++ codes ",\"esi\":" ++ decimal id.esi
 
--- and how many bytes
+-- the members about a symbol: which it is, and how many bytes it has
 abbrev pub json_symbol : SymbolId → ℕ → List ℕ
 json_symbol id len = json_id id ++ codes ",\"length\":" ++ decimal len
 
@@ -77,7 +77,7 @@ json_fact_line sums fact = json_line (fact_members sums fact)
 unfoldable pub json_count_line : List ℕ → ℕ → List ℕ
 json_count_line word n = json_line (codes "\"" ++ word ++ codes "\":" ++ decimal n)
 
--- the same, or `null` if there is none
+-- the member of a line with transmission information, `null` if there is none
 abbrev pub json_info_or_null : Option Information → List ℕ
 json_info_or_null None = codes "\"info\":null"
 json_info_or_null (Some info) = json_information info

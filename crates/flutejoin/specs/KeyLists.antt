@@ -46,7 +46,7 @@ pub record IsNoName (words : List ℕ) : Type 0 where
   pub some : NamesNone words → ⊥
   pub other : (key : Key) → IsKey key → Names words key → ⊥
 
--- these objects are in the set, and no others
+-- a set has these objects, and no others
 abbrev pub HasKeys : BTreeSet Key → List Key → Type 0
 HasKeys keys named =
     (key : Key) → contains key_cmp keys key ≡ list_any (λ one. same_key one key) named

@@ -7,7 +7,7 @@ use Rattle.flutejoin.specs.declared.limits.TheConstants.{MAX_ENTRIES, MAX_SESSIO
 use Rattle.flutejoin.specs.declared.limits.TheConstants.{MAX_SYMBOLS, ANY_SESSIONS, ANY_OBJECTS}
 use Rattle.flutejoin.specs.declared.limits.TheConstants.{ANY_SYMBOLS}
 
--- so many sessions, objects of each and symbols of each object
+-- how many sessions, objects of a session and symbols of an object there may be
 pub record Limits : Type 0 where
   pub sessions : ℕ
   pub objects : ℕ

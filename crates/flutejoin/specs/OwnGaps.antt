@@ -91,7 +91,7 @@ pub record IsAnswerTo (asker journal written : List ℕ) : Type 0 where
 
 -- ---- what `compare` finds
 
--- of all that two journals contain nothing differs
+-- nothing differs of all that two journals contain
 pub record AreAlike (first second : List ℕ) : Type 0 where
   pub choice : Selection
   pub other : Selection

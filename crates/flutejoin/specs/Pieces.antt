@@ -26,7 +26,7 @@ packet_head c =
     codes "session " ++ decimal c.tsi ++ codes "\n" ++ object_words (object_named c.toi c.instance)
     ++ codes "\n" ++ info_or_none c.info ++ codes "\n" ++ symbol_head c.symbol
 
--- and in JSON, all before the line of the symbol
+-- the lines of a packet in JSON, up to that of its symbol
 unfoldable pub json_packet_head : Content → List ℕ
 json_packet_head c =
     codes "{\"tsi\":" ++ decimal c.tsi ++ codes "}\n{"

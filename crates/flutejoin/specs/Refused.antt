@@ -23,11 +23,11 @@ AreRefusedFor why n (datagram ∷ datagrams) =
 abbrev pub count_for : Reasons → Refusal → ℕ
 count_for reasons why = slice_index reasons.counts (place why)
 
--- and for all reasons together
+-- how many datagrams are refused for all reasons together
 abbrev pub all_counts : Reasons → ℕ
 all_counts reasons = sum reasons.counts
 
--- these are the counts of the datagrams, for each reason
+-- the counts are those of the datagrams, for each reason
 abbrev pub AreReasons : Reasons → List (List ℕ) → Type 0
 AreReasons reasons datagrams =
     (why : Refusal) → AreRefusedFor why (count_for reasons why) datagrams

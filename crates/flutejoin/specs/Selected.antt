@@ -7,7 +7,7 @@ use Rattle.flute_parts.specs.declared.key.Key.{Key}
 use Rattle.flute_streams.specs.Selections.{is_listed, selects}
 use Rattle.flute_streams.specs.declared.choice.selection.Selection.{Selection}
 
--- those that are selected, in their order
+-- those of the facts that are selected, in their order
 abbrev pub selected : Selection → List Fact → List Fact
 selected s facts = filter (selects s) facts
 
