@@ -71,6 +71,7 @@ class Station:
         self.begin()
 
     def begin(self) -> None:
+        """Opens the station's journals anew, as a run of it does that starts."""
         log = KeptLog("station", self.said)
         program = Program(str(run.PROGRAM), lambda: None)
         settings = Settings(0, 0, False, None, self.same)
@@ -166,10 +167,12 @@ class AskedCase(CentreCase):
         return centre, [{"name": name, "ssh": name} for name in self.names]
 
     def stop_asking(self) -> None:
+        """Ends the calls of the centre that run."""
         if self.asker:
             self.asker.stop()
 
     def open(self) -> None:
+        """Opens the centre anew, as a run of it does that starts, and its stations' calls."""
         self.stop_asking()
         super().open()
         self.asker = Asker(self.centre, self.told)
@@ -187,6 +190,7 @@ class AskedCase(CentreCase):
         return count + self.centre.work()
 
     def pause(self) -> None:
+        """Waits until a call of the centre has ended."""
         assert self.asker
         calls = [each.call for each in self.asker.stations if each.call]
         if calls:

@@ -37,6 +37,7 @@ def key(toi: int, tsi: int = 7) -> Key:
 
 
 def write(path: str, contents: Contents) -> str:
+    """Writes a journal with these contents, and returns its path."""
     with open(path, "wb") as out:
         copy = Copy(out)
         for of in sorted(contents):
@@ -55,6 +56,7 @@ def write(path: str, contents: Contents) -> str:
 
 
 def read(path: str) -> Contents:
+    """The contents of a journal, by object: its information and its symbols."""
     found: Dict[Key, Tuple[Optional[Numbers], Symbols]] = {}
     for of, _, every in merged([path], lambda _: True):
         information: Optional[Numbers] = None
@@ -131,6 +133,7 @@ class Case(unittest.TestCase):
         return str(self.folder / name)
 
     def generations(self) -> Generations:
+        """Generations in journals g1, g2 and so on of the test's folder."""
         return Generations(
             lambda number: self.path(f"g{number}"),
             lambda path: self.aside.append(read(path)),

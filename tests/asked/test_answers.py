@@ -52,11 +52,13 @@ class AnswerCase(run.Case):
         self.station.loss = 0
 
     def ask(self, request: str | bytes, *more: object, **how: object) -> Run:
+        """Runs flutejoin-station --answer with this request."""
         data = request if isinstance(request, bytes) else request.encode()
         words = "--answer", "news", "--flutejoin", run.PROGRAM, *more
         return self.tool("flutejoin-station", words, stdin=data, **how)
 
     def parts(self, done: Run) -> list[tuple[Part, bytes]]:
+        """The parts of an answer, each with its bytes."""
         self.check("it answers", done, 0, None, "")
         file = io.BytesIO(done.out)
         return [(part, file.read(part.size)) for part in parts_of(file)]
@@ -70,6 +72,7 @@ class AnswerCase(run.Case):
         }
 
     def mark(self, done: Run) -> str:
+        """The mark in an answer."""
         (found,) = [part.words[0] for part, _ in self.parts(done) if part.kind == "mark"]
         return found
 
@@ -168,6 +171,7 @@ class Answers(AnswerCase):
         self.holds("an object is gone", [(it.key, it.total) for it in changes] == [(of(2), 0)])
 
     def values(self, request: str) -> dict[str, dict[tuple[bytes, bytes], bytes]]:
+        """The values of symbols in the answer to a request, by journals."""
         found: dict[str, dict[tuple[bytes, bytes], bytes]] = {}
         for part, data in self.parts(self.ask(request)):
             if part.kind == "values":
@@ -238,6 +242,7 @@ class Hostile(AnswerCase):
         self.line = f"{FRONT} 1 partial missing 1 conflicting 0 misfit 0\n"
 
     def tree(self) -> dict[str, int]:
+        """The files of the test and their lengths, but for those of answers."""
         return {
             str(path.relative_to(self.folder)): path.stat().st_size
             for path in self.folder.rglob("*")
@@ -245,6 +250,7 @@ class Hostile(AnswerCase):
         }
 
     def refused(self, name: str, request: str | bytes, *more: object) -> None:
+        """Checks that a request is refused with one line, and changes nothing."""
         before = self.tree()
         done = self.ask(request, *more)
         lines = done.err.decode().splitlines()
@@ -398,6 +404,7 @@ class Forms(run.Case):
 
     @staticmethod
     def drawn(draw: random.Random) -> dict[Key, Sums]:
+        """Sums of eight objects, each of some drawn symbols of one of two versions."""
         found = {}
         for toi in range(1, 9):
             version = draw.choice("aab")

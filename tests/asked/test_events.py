@@ -29,6 +29,7 @@ class Events(AskedCase):
         self.hear(second[third:])
 
     def delivers(self, files: list[Sent]) -> None:
+        """Checks that the centre has delivered these files, each once, and no other."""
         wanted = self.wanted(files)
         found = self.files()
         missing = sorted(wanted.keys() - found.keys())

@@ -71,11 +71,13 @@ class Sshd(CentreCase):
         self.serve()
 
     def key(self, name: str) -> None:
+        """Makes a key for ssh."""
         path = self.path(f"{name}.key")
         words = ["ssh-keygen", "-q", "-t", "ed25519", "-N", "", "-C", name, "-f", path]
         self.assertEqual(self.command(words).status, 0)
 
     def serve(self) -> None:
+        """Starts sshd, and waits until it listens."""
         assert SSHD
         words = ["sh", "-c", START, SSHD]
         if os.geteuid() == 0:
@@ -88,6 +90,7 @@ class Sshd(CentreCase):
         self.holds("sshd runs", self.sshd.poll() is None, self.read("sshd.err"))
 
     def options(self, name: str) -> list[str]:
+        """The options of ssh by which a station is reached with its key."""
         given = f"UserKnownHostsFile={self.path('known')}", "StrictHostKeyChecking=yes"
         words = ["-F", "/dev/null", "-p", str(self.port), "-i", str(self.path(f"{name}.key"))]
         return [*words, *[word for it in given for word in ("-o", it)], "-o", "IdentitiesOnly=yes"]
@@ -99,6 +102,7 @@ class Sshd(CentreCase):
         return super().tables()[0], stations
 
     def once(self, status: int = 0, told: Expected = None) -> None:
+        """Runs the centre once, and checks its status and what it says."""
         words = [sys.executable, TOOLS / "flutejoin-centre", "--config", self.write_settings()]
         self.check("a round", self.command([*words, "--once"]), status, "", told)
 

@@ -69,6 +69,7 @@ class Held(AnswerCase):
         return child
 
     def answer(self, child: subprocess.Popen[bytes]) -> run.Run:
+        """Waits for the end of an answer, and returns it."""
         child.wait(run.LONGEST)
         return run.Run(child.returncode, self.read("answer"), self.read("err"))
 
@@ -175,6 +176,7 @@ class Waiting(CallWithoutSsh):
             self.answer()
 
     def answer(self) -> None:
+        """Has the call end with the answer that it was given."""
         self.is_answered = True
         self.given()
 
@@ -233,6 +235,8 @@ class Patience(AskedCase):
             self.centre.work()
 
     def delivers(self, files: list[Sent]) -> bool:
+        """Takes turns of the centre until it has delivered these files, for a minute."""
+
         def is_there() -> bool:
             self.turn()
             return self.files() == self.wanted(files)

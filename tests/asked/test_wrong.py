@@ -78,6 +78,7 @@ class Wrong(AskedCase):
         self.wrong("north")
 
     def same_kept(self, name: str, kept: dict[str, dict[str, bytes]]) -> None:
+        """Checks that what is kept is as it was, but for marks."""
         now = self.kept()
         for folder, of in kept.items():
             paths = of.keys() | now[folder].keys()
@@ -161,6 +162,7 @@ class Wrong(AskedCase):
         self.is_right(self.all)
 
     def pause(self) -> None:
+        """Waits until all calls of the centre have ended."""
         assert self.asker
         for each in self.asker.stations:
             if each.call:

@@ -69,6 +69,7 @@ def calls_of(log: str, folder: pathlib.Path) -> list[Call]:
 
 
 def call_of(found: re.Match[str], number: int, folder: pathlib.Path) -> Call:
+    """The call of the system in a line of strace."""
     name, arguments, returned, error, behind = found.groups()
     texts = [bytes_of(it) for it in TEXT.findall(arguments)]
     file = FILE.match(arguments)

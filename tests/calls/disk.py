@@ -31,12 +31,14 @@ class Node:
         self.names.setdefault(name, [None]).append(to)
 
     def grow(self, more: bytes) -> None:
+        """Adds bytes that the disk may have in part, as zeros, or not yet."""
         before = self.content or b""
         self.content = before + more
         halves = before + more[: len(more) // 2], before + bytes(len(more)), before + more
         self.may += [it for it in halves if it not in self.may]
 
     def sync(self) -> None:
+        """Brings the bytes, and of a folder the names, to the disk."""
         self.may = [self.content or b""]
         self.names = {name: nodes[-1:] for name, nodes in self.names.items()}
 
@@ -49,6 +51,7 @@ class Node:
 
 
 def may_be(nodes: list[Optional[Node]]) -> list[Left]:
+    """What the disk may have of any of these files, each once."""
     found: list[Left] = []
     for node in nodes:
         found += [it for it in (node.left() if node else [None]) if it not in found]
@@ -72,6 +75,7 @@ class Disk:
         return node, name
 
     def node(self, path: str) -> Optional[Node]:
+        """The file that a path leads to now."""
         folder, name = self.at(path)
         return folder.now(name)
 

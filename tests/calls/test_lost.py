@@ -11,6 +11,8 @@ class LostPower(Writing):
     """OUT is what it was or the new file, whole, and after success the new one."""
 
     def lasts(self, words: str, out: str) -> None:
+        """Runs a command, and checks at each of its calls that a lost power leaves the old or the
+        new output."""
         self.begin()
         disk = Disk(self.folder)
         done, calls = self.traced(words)
@@ -22,6 +24,7 @@ class LostPower(Writing):
         self.bears(words, calls, out, new)
 
     def new(self, out: str) -> Left:
+        """The output of a command: its bytes, or its files."""
         if self.path(out).is_dir():
             return {name: [content] for name, content in self.files(out).items()}
         return self.read(out)

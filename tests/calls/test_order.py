@@ -167,6 +167,7 @@ class PutAside(Writing):
     """What is put aside is private, has no name before it has a byte, and is made if needed."""
 
     def sent(self, name: str, length: int, toi: int) -> None:
+        """Makes a datagram file of an object of drawn bytes."""
         self.write("large", os.urandom(length))
         self.made(f"carousel -o {name} --tsi 7 --toi {toi} --symbol 1000 --block 64 large")
 

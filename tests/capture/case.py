@@ -111,6 +111,7 @@ class Case(run.Case):
         self.path("made").mkdir()
 
     def python(self, *words: object) -> Run:
+        """Runs a script by this Python, which has to succeed."""
         done = self.command([sys.executable, *words])
         self.assertEqual(done.status, 0, done)
         return done
@@ -123,6 +124,7 @@ class Case(run.Case):
         self.rows_made("made", *(f"{name}|{ROWS[name][0]}" for name in names))
 
     def rows_made(self, folder: str, *rows: str) -> None:
+        """Makes the captures of these rows (`captures.py make`) in a folder."""
         self.write("rows", "".join(f"{row}\n" for row in rows))
         self.path(folder).mkdir(exist_ok=True)
         self.helper("make", "rows", folder)
@@ -131,6 +133,7 @@ class Case(run.Case):
         return self.tool("flutejoin-capture", words, **how)
 
     def capture_row(self, name: str, words: run.Words, *wanted: Any, **how: Any) -> Run:
+        """Runs flutejoin-capture, and checks its status and outputs."""
         done = self.capture(words, **how)
         self.check(name, done, *wanted)
         return done
@@ -160,5 +163,6 @@ class Case(run.Case):
         self.holds(f"{name}: no other senders", len(senders) <= len(files), senders)
 
     def left_out(self, done: Run) -> str:
+        """The lines about what was left out, without their first words."""
         found = [line for line in done.lines() if line.startswith("left out ")]
         return "\n".join(line.removeprefix("left out ") for line in found)

@@ -202,6 +202,7 @@ class Damaged(Case):
         return self.helper("run", TOOL, "lines").lines()
 
     def all_of_them_were_sent(self) -> None:
+        """Checks that what came of damaged captures are datagrams that were sent, and no others."""
         self.made("join -o wanted got1 got2")
         files = [str(path) for path in sorted(self.path("damaged").glob("*.out/*.fldg"))]
         self.holds("files of damaged captures", len(files) > 50, len(files))

@@ -50,6 +50,7 @@ class Mended(Case):
         return self.tool("flutejoin-mend", words, **how)
 
     def mend_row(self, name: str, words: run.Words, *wanted: Any, **how: Any) -> Run:
+        """Runs flutejoin-mend, and checks its status and outputs."""
         done = self.mend(words, **how)
         self.check(name, done, *wanted)
         return done
@@ -94,6 +95,7 @@ class EachByte(Mended):
             self.taken(file)
 
     def taken(self, file: str) -> None:
+        """Checks that what was mended of a file are datagrams or entries of the whole file."""
         self.made(f"join -f -o wanted {file}")
         self.write("merged", self.read("wanted"))
         files = [str(path) for path in sorted(self.path(f"mended.{file}").iterdir())]

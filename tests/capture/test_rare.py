@@ -49,6 +49,7 @@ def frame(payload: bytes, checksum: bool = True, tags: bytes = b"") -> bytes:
 
 
 def pcap(frames: list[bytes], times: list[int] | None = None, magic: int = 0xA1B2C3D4) -> bytes:
+    """A capture with these frames; `magic` says in which form of pcap."""
     made = [struct.pack("<IHHiIII", magic, 2, 4, 0, 0, 262144, 1)]
     more = b"\0" * (8 if magic == 0xA1B2CD34 else 0)
     for at, of in enumerate(frames):
@@ -67,11 +68,13 @@ class Cases(unittest.TestCase):
         return os.path.join(self.folder, name)
 
     def made(self, data: bytes, name: str = "capture") -> str:
+        """Writes a capture, and returns its path."""
         with open(self.path(name), "wb") as file:
             file.write(data)
         return self.path(name)
 
     def run_tool(self, *words: str, tool: str = "capture") -> subprocess.CompletedProcess[str]:
+        """Runs flutejoin-capture, or another tool."""
         command = [sys.executable, os.path.join(TOOLS, f"flutejoin-{tool}"), *words]
         return subprocess.run(command, capture_output=True, text=True, timeout=LONGEST)
 
@@ -138,6 +141,7 @@ class Segments(Cases):
 
 class Fragments(Cases):
     def pieces(self, size: int = 400, payload: bytes | None = None) -> list[bytes]:
+        """The frames of one datagram in fragments of so many bytes."""
         payload = packet(b"s" * 1000, 1000) if payload is None else payload
         data = captures.udp(SENDER, GROUP, payload)
         return [ETHERNET + IP + of for of in captures.fragments(SENDER, GROUP, data, 9, size)]
@@ -215,6 +219,7 @@ class Fragments(Cases):
 
 
 def pcapng_head(options: bytes = b"") -> bytes:
+    """How a pcapng capture of one interface with these options begins."""
     section = captures.block("<", 0x0A0D0D0A, struct.pack("<IHHq", 0x1A2B3C4D, 1, 0, -1))
     return section + captures.block("<", 1, struct.pack("<HHI", 1, 0, 262144) + options)
 
@@ -293,6 +298,7 @@ class Senders(Cases):
         return [from_address(number, packet(b"made up")) for number in range(count)]
 
     def run_on(self, frames: list[bytes], *options: str, name: str = "capture", **how: Any) -> Any:
+        """Runs flutejoin-capture on a capture of these frames."""
         made = self.made(pcap(frames), name)
         words = "--port", "4001", *options, "-o", self.path("out"), "-" if how else made
         command = [sys.executable, os.path.join(TOOLS, "flutejoin-capture"), *words]
@@ -527,6 +533,7 @@ class Bounds(Cases):
 
 class Runs(Cases):
     def begun(self, *words: str, **more: Any) -> subprocess.Popen[str]:
+        """Starts flutejoin-capture, which is ended with the test."""
         command = [sys.executable, os.path.join(TOOLS, "flutejoin-capture"), *words]
         process = subprocess.Popen(
             command, stdout=subprocess.PIPE, stderr=subprocess.PIPE, text=True, **more
@@ -535,6 +542,7 @@ class Runs(Cases):
         return process
 
     def wait_for(self, holds: Callable[[], object]) -> None:
+        """Waits until a condition holds."""
         end = time.monotonic() + LONGEST
         while not holds():
             self.assertLess(time.monotonic(), end)

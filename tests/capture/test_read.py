@@ -34,6 +34,7 @@ out.finish()
 
 
 def ipv6_and_ipv4(folder: str) -> str:
+    """What flutejoin-capture prints of the two senders, with their files in this folder."""
     return (
         f"{folder}/2001-db8--1.fldg: 27 datagrams from 2001:db8::1\n"
         f"{folder}/10.0.0.1.fldg: 23 datagrams from 10.0.0.1\n"

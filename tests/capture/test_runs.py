@@ -32,16 +32,19 @@ PLACES = 12, 14, 17, 20, 23, 24, 26, 33, 35, 37, 39, 40, 42, 44, 50, 79, 80, 81,
 
 
 def frame(sender: bytes, payload: bytes, number: int = 0, front: bytes = ETHERNET) -> bytes:
+    """A frame with a datagram of this sender over IPv4."""
     data = captures.udp(sender, GROUP, payload)
     return front + captures.ip4(sender, GROUP, 17, data, number)
 
 
 def frame6(sender: bytes, payload: bytes, front: bytes) -> bytes:
+    """A frame with a datagram of this sender over IPv6."""
     source, target = sender.rjust(16, b"\xfd"), GROUP.rjust(16, b"\xff")
     return front + captures.ip6(source, target, 17, captures.udp(source, target, payload))
 
 
 def with_word_added(data: bytes, place: int, number: int) -> bytes:
+    """The bytes with a number added to the word of 16 bits at a place."""
     word = (int.from_bytes(data[place : place + 2], "big") + number) & 0xFFFF
     return data[:place] + word.to_bytes(2, "big") + data[place + 2 :]
 
@@ -54,6 +57,7 @@ def without_checksum(data: bytes, place: int) -> bytes:
 
 
 def session(symbol: int = 60) -> list[bytes]:
+    """The datagrams of a session of two files and an object that nothing describes."""
     files = [Sent(it, bytes([it]) * 40 * symbol, f"http://a/{it}", None, symbol) for it in (1, 2)]
     sent = instance(7, 1, fdt(files))
     for file in files:
@@ -67,6 +71,7 @@ class AtOnce(run.Case):
     link = 1
 
     def capture(self, form: str, frames: list[bytes], snap: int = 65535) -> str:
+        """Writes a capture of these frames, and returns its path."""
         rows = [(self.link, each[:snap], len(each)) for each in frames]
         self.write("capture", captures.FORMS[form](rows, snap))
         return str(self.path("capture"))

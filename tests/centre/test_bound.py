@@ -19,12 +19,14 @@ class Bounded(CentreCase):
     """What a centre lets go of, by its clock."""
 
     def bound(self, most: int) -> Bound:
+        """Has the centre keep to a bound once."""
         house = House(self.centre, Model(self.centre, self.clock.now), self.told)
         bound = Bound(self.centre, house, self.told)
         bound.keep(most)
         return bound
 
     def held(self, folder: str) -> list[str]:
+        """The names of what is in a folder of the centre."""
         path = self.path(f"centre/{folder}")
         return sorted(os.listdir(path)) if path.exists() else []
 

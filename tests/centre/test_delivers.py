@@ -234,6 +234,7 @@ class Delivers(CentreCase):
         self.holds("the same", found[0] == found[1])
 
     def push_all(self, pushes: list[tuple[str, list[bytes]]]) -> None:
+        """Pushes datagrams of stations, one after another, with a round after each."""
         for name, datagrams in pushes:
             if datagrams:
                 self.push(name, datagrams)
@@ -244,6 +245,7 @@ class OneStation(CentreCase):
     """flutejoin-station --deliver: the same for who has one station."""
 
     def run_station(self, *more: object) -> Run:
+        """Runs a station for half a second that delivers its own files."""
         words = ["--port", free_port(), "--seconds", 0.5, "-o", "news", "--deliver", "here", *more]
         return self.tool("flutejoin-station", [*words, "--flutejoin", run.PROGRAM])
 

@@ -28,6 +28,7 @@ GROUNDS = {"bg": ("fg", "dim", "full", "bad", "ok"), "badbg": ("fg", "dim", "bad
 
 
 def luminance(colour: str) -> float:
+    """The relative luminance of a colour (WCAG 2)."""
     digits = colour[1:] if len(colour) == 7 else "".join(2 * it for it in colour[1:])
     parts = [int(digits[at : at + 2], 16) / 255 for at in (0, 2, 4)]
     linear = [
@@ -37,6 +38,7 @@ def luminance(colour: str) -> float:
 
 
 def contrast(one: str, other: str) -> float:
+    """The contrast ratio of two colours (WCAG 2)."""
     low, high = sorted(map(luminance, (one, other)))
     return (high + 0.05) / (low + 0.05)
 
@@ -47,6 +49,7 @@ class Draws(CentreCase):
         self.telling = Telling(self.centre, self.told)
 
     def pictures(self) -> dict[str, str]:
+        """The pictures beside the page, by their names."""
         folder = self.path("centre/page/pictures")
         return {it.name: it.read_text() for it in sorted(folder.iterdir())}
 
@@ -54,6 +57,7 @@ class Draws(CentreCase):
         return self.path("centre/page/index.html").read_text()
 
     def links(self) -> list[str]:
+        """The links to pictures on the page."""
         elements = Parsed(self.page()).elements
         found = [it.get("href") or "" for tag, it in elements if tag == "a"]
         return [it for it in found if it.startswith("pictures/")]
@@ -165,6 +169,7 @@ class Many(CentreCase):
     FILES, SYMBOLS = 4000, 16
 
     def fill(self) -> None:
+        """Has the centre take very many files of which each station has a part."""
         files = [
             file_of(toi, self.SYMBOLS * 1400, name=f"http://data.example/day/region/{toi:05}.bin")
             for toi in range(1, self.FILES + 1)
@@ -178,6 +183,7 @@ class Many(CentreCase):
                 self.come(each, toi, bits)
 
     def come(self, arrival: Arrival, toi: int, bits: int) -> None:
+        """Has symbols of an object come of a station, without a journal."""
         key = Key(SOURCE, TSI, FILE, toi)
         symbols = Symbols()
         symbols.blocks[0] = bits

@@ -45,10 +45,12 @@ class Keeping(CentreCase):
         House(self.centre, Model(self.centre, self.clock.now), self.told).keep()
 
     def pass_by(self, days: float) -> None:
+        """Has days pass, and the centre let go of what is over then."""
         self.clock.now += days * DAY
         self.house()
 
     def held(self, folder: str) -> list[str]:
+        """The names of what is in a folder of the centre."""
         path = self.path(f"centre/{folder}")
         return sorted(os.listdir(path)) if path.exists() else []
 
@@ -333,6 +335,7 @@ class Month(Keeping):
         return [file_of(number * FILES + at + 1, 3000 + 40 * at) for at in range(FILES)]
 
     def sent(self, number: int) -> list[bytes]:
+        """The datagrams of a window: its files, and an FDT Instance of them and those before."""
         expires = int(self.clock.now + 8 * HOUR + NTP_TO_UNIX)
         files = self.window(number)
         before = self.window(number - 1) if number else []

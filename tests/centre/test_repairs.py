@@ -109,6 +109,7 @@ class RepairCase(CentreCase):
         return told
 
     def delivered(self, name: str, files: Sequence[Sent]) -> None:
+        """Checks that the files of the centre are these, as the origin has them."""
         host = self.origin.url.partition("://")[2]
         wanted = {f"{host}/day/{it.toi}.bin": it.content for it in files}
         self.holds(f"{name}: the files are those of the origin", self.files() == wanted,

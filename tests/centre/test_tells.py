@@ -254,11 +254,13 @@ class Asks(CentreCase):
     """The tool's questions, its server, and what it tells systemd."""
 
     def some(self) -> None:
+        """Pushes one file whole and one of which symbols are missing."""
         files = [file_of(toi, 14_000) for toi in (1, 2)]
         self.push("north", announced(files) + packets(files[:1]) + files[1].packets(7)[:5])
         self.push("south", files[1].packets(7)[4:8])
 
     def ask(self, *words: str) -> tuple[int, list[str]]:
+        """Asks the centre a question, and returns the status and the lines."""
         done = self.tool_run(*words)
         return done.status, done.lines()
 
@@ -325,6 +327,7 @@ class Asks(CentreCase):
                 told.append(heard.recv(4096).decode())
 
     def get(self, port: int, path: str) -> tuple[bytes, bytes]:
+        """Gets a path of the page's server: the head and the body of the answer."""
         with socket.create_connection(("127.0.0.1", port)) as to:
             to.sendall(f"GET {path} HTTP/1.0\r\n\r\n".encode())
             found = b"".join(iter(lambda: to.recv(1 << 16), b""))
@@ -332,6 +335,7 @@ class Asks(CentreCase):
         return head, body
 
     def serve(self, port: int) -> None:
+        """Checks what the page's server gives and refuses."""
         self.holds("the page", b"<h1>Reception" in self.get(port, "/")[1])
         head, body = self.get(port, "/files/data.example/day/00001.bin")
         self.holds("a file", body == file_of(1, 14_000).content)

@@ -43,20 +43,24 @@ class Stations(run.Case):
             self.made(["join", "-o", "once", "once", *names[at : at + 63]])
 
     def refused(self, name: str, done: Run, text: str) -> None:
+        """Checks that a run failed, and printed this text."""
         is_told = text.encode() in done.out + done.err
         self.holds(name, done.status != 0 and is_told, done)
 
 
 class Reduce(Stations):
     def reduce(self, inputs: str, by: str = HERE) -> Run:
+        """Runs reduce.sh over the inputs that a pattern names."""
         words = [EXAMPLES / "reduce.sh", inputs, "reduced", *shlex.split(by)]
         return self.command(words)
 
     def nothing_left(self, name: str) -> None:
+        """Checks that no file of a part of the work is left."""
         parts = [it for it in os.listdir(self.folder) if ".parts." in it]
         self.holds(f"{name}: nothing is left", not parts, parts)
 
     def reduced(self, name: str, done: Run, wanted: run.Content = "once") -> None:
+        """Checks that reduce.sh made the wanted journal, and left nothing else."""
         self.check(name, done, 0, None, None)
         self.same(f"{name}: the journal", "reduced", wanted)
         self.nothing_left(name)
@@ -94,11 +98,13 @@ class Levels(Stations):
         return self.command([EXAMPLES / "levels.sh", "store", *words])
 
     def grow(self, *names: str) -> None:
+        """Adds inputs to the levels, one after another."""
         for name in names:
             done = self.level(name)
             self.assertEqual(done.status, 0, done)
 
     def stored(self, level: str = "*") -> list[str]:
+        """The journals in the levels."""
         paths = self.path("store").glob(f"{level}/*")
         return [str(path.relative_to(self.folder)) for path in sorted(paths)]
 

@@ -45,11 +45,13 @@ class Tree(run.Case):
         self.path("counted").chmod(0o755)
 
     def received(self, sent: str, folder: str, *numbers: int) -> None:
+        """Makes what stations of these numbers received, each with other losses."""
         words = [sys.executable, EXAMPLES / "stations.py", sent, folder, *numbers]
         done = self.command(words)
         self.assertEqual(done.status, 0, done)
 
     def stations(self, folder: str = "stations") -> list[str]:
+        """The paths of what stations received."""
         paths = [path for path in self.path(folder).rglob("*") if path.is_file()]
         return sorted(str(path.relative_to(self.folder)) for path in paths)
 
@@ -84,6 +86,7 @@ class Tree(run.Case):
         self.same(f"{name}: all at once", "once", out)
 
     def nothing_half_done(self, name: str) -> None:
+        """Checks that no file is left that a run had only begun."""
         plans = [*self.folder.rglob("*.partial"), *self.folder.rglob("plan.?*")]
         left = [path for path in plans if path.name != "plan.mk"]
         self.holds(f"{name}: nothing half done", not left, left)
@@ -162,6 +165,7 @@ class Stations(Tree):
 
 class Names(Tree):
     def odd(self) -> None:
+        """Makes stations whose names are hard for a shell or make."""
         self.path("odd").mkdir()
         for number, name in enumerate(ODD, 10):
             self.write(f"odd/{name}", self.read(f"stations/s{number:05}"))

@@ -98,6 +98,7 @@ class Case(unittest.TestCase):
         return self.journal(name, instance(7, 1, fdt(files, **root)), *sent)
 
     def tree(self, folder: str = "files") -> dict[str, bytes]:
+        """The files in a folder, by their paths there."""
         root = self.folder / folder
         paths = [path for path in root.rglob("*") if path.is_file()]
         return {str(path.relative_to(root)): path.read_bytes() for path in paths}

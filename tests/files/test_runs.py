@@ -193,6 +193,8 @@ class Runs(Case):
         self.assertGreater(len(statuses), 20)
 
     def stopped_at(self, moment: str) -> int:
+        """Runs the tool with a signal at this moment, and returns its status. Nothing is left of
+        it."""
         self.environment = {"PYTHONPATH": str(self.folder), "MOMENT": moment}
         child = self.start("-o", "files", "all")
         _, err = child.communicate(timeout=LONGEST)

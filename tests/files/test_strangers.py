@@ -131,6 +131,7 @@ class Lengths(Case):
         self.right = [*instance(7, 1, fdt([self.file])), *self.file.packets(7)]
 
     def decides(self, others: list[bytes], *words: object, told: str) -> None:
+        """Checks that the right file is written, also where a stranger sent these datagrams."""
         self.journal("all", self.right, others)
         shutil.rmtree(self.folder / "files", ignore_errors=True)
         answer = self.files("-o", "files", *words, "all")

@@ -53,6 +53,7 @@ def page_of(library: str) -> pathlib.Path:
 
 
 def blocks(page: pathlib.Path) -> Iterator[Block]:
+    """Yields the blocks of code on a page, each with the paragraph before it."""
     lines: Optional[list[str]] = None
     before = last = ""  # the paragraph so far, and the one before it
     for line in stripped(page.read_text()):

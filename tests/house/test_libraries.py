@@ -45,6 +45,7 @@ def readme_of(library: str) -> list[str]:
 
 
 def examples(library: str, page: list[str]) -> Iterator[Example]:
+    """Yields the blocks of code on a page, each with the crate that the text before it names."""
     crate: Optional[str] = None
     example: Optional[list[str]] = None
     for line in page:
@@ -80,6 +81,7 @@ def anchors_of(path: pathlib.Path) -> set[str]:
 
 
 def lost_links(page: pathlib.Path) -> list[str]:
+    """The links of a page that lead nowhere."""
     links = re.findall(r"\]\(([^)]+)\)", page.read_text())
     of_page = [f"{page.name}{it}" if it.startswith("#") else it for it in links]
     return [it for it in of_page if ":" not in it and leads_nowhere(page.parent, it)]

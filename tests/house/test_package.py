@@ -47,6 +47,7 @@ PARTS = (
 
 class Installed(run.Case):
     def make(self, *words: str) -> Run:
+        """Runs make, to install into a folder of the test."""
         given = "--no-print-directory", "-s", "-C", ROOT, f"PROGRAM={run.PROGRAM}"
         place = f"DESTDIR={self.path('by_make')}", "PREFIX=/usr/local"
         return self.command(["make", *given, *words, *place])

@@ -31,6 +31,7 @@ IGNORED = "--ignore=E402,E203,W503,E704"
 
 
 def sources(*folders: str) -> list[pathlib.Path]:
+    """The files of Python in these folders, with the scripts."""
     paths = [path for folder in folders for path in sorted((ROOT / folder).rglob("*"))]
     return [it for it in paths if it.suffix == ".py" or (it.is_file() and is_script(it))]
 
@@ -41,11 +42,13 @@ def is_script(path: pathlib.Path) -> bool:
 
 
 def trees(*folders: str) -> Iterator[tuple[pathlib.Path, ast.Module]]:
+    """Yields the files of Python in these folders, parsed as the oldest version does."""
     for path in sources(*folders):
         yield path, ast.parse(path.read_text(), feature_version=OLDEST)
 
 
 def imported(tree: ast.AST) -> set[str]:
+    """The modules that a file imports."""
     found = set()
     for node in ast.walk(tree):
         if isinstance(node, ast.Import):
@@ -113,6 +116,7 @@ class Checkers(unittest.TestCase):
     """Other programs that check Python."""
 
     def finds_nothing(self, names: str, *words: object, **paths: str) -> None:
+        """Runs a checker, if one of these names is installed, which must report nothing."""
         found = [path for path in map(shutil.which, names.split()) if path]
         if not found:
             self.skipTest(f"{names.split()[0]} is not installed")

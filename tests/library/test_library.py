@@ -86,6 +86,8 @@ class Drawn(Case):
         return datagram[:-1] + self.draw.randbytes(1)
 
     def drawn_journal(self) -> bytes:
+        """A journal of drawn datagrams, of which some have wrong bytes; it may be spoiled
+        itself."""
         count = self.draw.randrange(len(self.datagrams))
         kept = [self.changed(each) for each in self.draw.sample(self.datagrams, count)]
         self.write("station", datagram_files.content(kept))
@@ -108,6 +110,7 @@ class Drawn(Case):
         return (done.out if is_told else b"") + self.read("out")
 
     def agree(self, name: str, words: str, answer: Answer, is_told: bool = False) -> None:
+        """Checks that a call's answer is that of the command in these words."""
         wanted = self.answer(words, is_told)
         self.holds(f"{name}: {words}", answer == wanted, f"{answer!r:.300} and not {wanted!r:.300}")
 
@@ -208,6 +211,7 @@ def shown(journal: bytes) -> bytes:
 
 
 def line_of(entry: Entry) -> str:
+    """The line that `flutejoin show` prints of an entry."""
     of, info, symbol = entry.object, entry.information, entry.symbol
     words = [f"source {of.sender:032x}"] if of.sender else []
     words.append(f"session {of.tsi} object")

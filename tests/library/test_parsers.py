@@ -60,6 +60,7 @@ class Compared(Case):
         self.differences: list[object] = []
 
     def agree(self, given: bytes, what: str, found: object, wanted: object) -> None:
+        """Notes that what was found differs from what is wanted."""
         if found != wanted and len(self.differences) < 5:
             self.differences.append((given.hex()[:400], what, found, wanted))
 
@@ -187,6 +188,7 @@ def by_library(journal: bytes) -> Union[str, list[bytes]]:
 
 
 def spelled(entry: flutejoin.Entry) -> bytes:
+    """The bytes of an entry of the library."""
     of, info, symbol = entry.object, entry.information, entry.symbol
     tag, number = (1, of.toi) if of.instance is None else (0, of.instance)
     name = holdings.Key(of.sender.to_bytes(16, "big"), of.tsi, tag, number).raw()
@@ -198,6 +200,7 @@ def spelled(entry: flutejoin.Entry) -> bytes:
 
 
 def written(entry: entries.Entry) -> bytes:
+    """The bytes of an entry of the tools."""
     (source, tsi, tag, number, symbol), kind, value = entry
     name = holdings.Key(source, tsi, tag, number).raw()
     size = LENGTH.pack(len(value)) if kind == entries.SYMBOL else b""

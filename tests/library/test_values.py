@@ -23,6 +23,7 @@ class Values(Case):
         self.object = Object(NUMBER, 7, 1)
 
     def fault(self, call: Callable[..., object], *arguments: object) -> Optional[Fault]:
+        """The fault that a call raises; None if it raises none."""
         try:
             call(*arguments)
         except Fault as fault:

@@ -38,6 +38,7 @@ def match_of(pattern: str | re.Pattern[str], text: str | None) -> re.Match[str]:
 
 
 def run(*words: str) -> list[str]:
+    """The lines that a command of flutejoin prints."""
     told = subprocess.run(["flutejoin", *words], check=True, capture_output=True, text=True)
     return told.stdout.splitlines()
 
@@ -155,6 +156,7 @@ def expected(paths: list[str]) -> Iterator[tuple[str, list[Panel]]]:
 
 
 def compare(one: object, other: object, what: str) -> None:
+    """Ends the script with a message if two values differ."""
     if one != other:
         sys.exit(f"{what}: drawn is {one!r}, and told is {other!r}")
 
@@ -173,7 +175,7 @@ def see_page(page: str, wanted: list[tuple[str, list[Panel]]]) -> None:
         for panel, (words, listing, kinds) in zip(panels, told):
             texts = [text.text or "" for text in panel.findall(f"{SVG}text")]
             legend = ", ".join(text for text in texts if text.split()[0] in NAMES)
-            # The title ends in the counts, as "held 3, missing 2", only if there are cells to count.
+            # A title has the counts, as "held 3, missing 2", only if there are cells to count.
             wanted_legend = counts(kinds) if ": held " in words else ""
             compare(legend, wanted_legend, f"{words}: its legend")
             see_cells(panel.findall(f"{SVG}g"), listing, kinds, words)
@@ -239,6 +241,7 @@ def sign(part: list[str]) -> str:
 
 
 def see_text(text: list[str], wanted: list[tuple[str, list[Panel]]]) -> None:
+    """Compares what was drawn with characters with the panels that each object should have."""
     lines = iter(text[2:])
     scale = re.compile(r"a row is (?:a block|(\d+) blocks), a cell is (?:a symbol|(\d+) symbols)")
     for key, panels in wanted:

@@ -66,6 +66,7 @@ class Printing(Program):
 def surveyed(
     printed: Callable[[Sequence[str]], Iterable[str]], is_text: bool = True
 ) -> map_survey.Survey:
+    """A survey of one journal, of which a made-up program prints these lines."""
     told = common_gaps.Gaps(Printing(printed))
     return map_survey.Survey(told, ["journal"], {}, None, is_text)
 
@@ -108,6 +109,7 @@ class Pictures(unittest.TestCase):
         os.chmod(os.path.join(self.folder, "program"), 0o755)
 
     def made(self, name: str, text: str) -> None:
+        """Writes a file that the made-up program prints."""
         with open(os.path.join(self.folder, name), "w") as file:
             file.write(text)
 
@@ -121,6 +123,7 @@ class Pictures(unittest.TestCase):
         self.made(f"{name}.show", "".join(f"session 7 object {toi} {info}\n" for toi in states))
 
     def map(self, *words: str) -> str:
+        """Runs flutejoin-map with the made-up program, and returns what it prints."""
         command = [sys.executable, os.path.join(TOOLS, "flutejoin-map"), "--flutejoin", "./program"]
         ran = subprocess.run(
             [*command, *words], cwd=self.folder, capture_output=True, text=True, timeout=LONGEST

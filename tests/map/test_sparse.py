@@ -26,6 +26,7 @@ class Sparse(run.Case):
         return [header(7, toi, lengths) + b"\0\1\0\0x" for toi in tois]
 
     def sparse_journal(self, *more: bytes) -> None:
+        """Makes a journal with many objects of one symbol each, and of these datagrams."""
         datagram_files.write(str(self.path("sent")), [*self.sent(range(1, MANY + 1)), *more])
         self.made(f"join --any-size --source {SENDER} -o journal sent")
 

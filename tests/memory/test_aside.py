@@ -28,6 +28,7 @@ def records_of(file: bytes) -> list[bytes]:
 
 class Sent(run.Case):
     def records(self, content: bytes, toi: int, symbol: int, block: int) -> list[bytes]:
+        """The records of an object of this content."""
         self.write("content", content)
         words = f"carousel -f -o sent --tsi 7 --toi {toi} --symbol {symbol} --block {block} content"
         self.made(words)

@@ -90,6 +90,7 @@ class Sweeps(Case):
         return self.bytes_of("made")
 
     def sweep(self, words: str, status: int = 0, before: bytes | None = None) -> None:
+        """Runs a command with each of its requests for memory refused in turn."""
         self.begin(before)
         command = [self.built, *run.split(words)]
         ample = self.command(command), self.left()
@@ -172,6 +173,7 @@ class Libraries(Case):
         return path
 
     def tell(self, name: str, sums: list[tuple[int, int]]) -> None:
+        """Checks that faults of memory came, and prints how many."""
         told, as_ample = (sum(numbers) for numbers in zip(*sums))
         self.holds(f"{name}: faults of memory", told, sums)
         print(f"refused: {name}: {told} refused requests told, {as_ample} as with ample memory")

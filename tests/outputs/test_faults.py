@@ -26,6 +26,7 @@ class Stays(Case):
     """`all` is there, and `fresh` isn't."""
 
     def stays(self, name: str, done: Run, target: str, before: str, *wanted: Any) -> None:
+        """Checks that a run failed as wanted, and left the output as it was."""
         self.check(f"{name}, to {target}", done, *wanted)
         self.alone(name, target)
         if target == "all":

@@ -184,6 +184,7 @@ class Closed(Case):
     """With standard output, standard error or both closed, a command still writes OUT whole."""
 
     def closed(self, words: str, wanted: str = "") -> None:
+        """Runs a command with standard streams closed, and checks its status and outputs."""
         for streams, status, err in (
             ([1], 3, WRITE),
             ([2], 0, ""),
@@ -235,6 +236,7 @@ class Sizes(Case):
     MOST = (1 << 32) - 1
 
     def huge(self, begin: bytes, size: int) -> None:
+        """Makes a sparse file of this size that begins with these bytes."""
         self.write("huge", begin)
         os.truncate(self.path("huge"), size)
 

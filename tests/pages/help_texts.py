@@ -94,6 +94,7 @@ class Case(run.Case):
         return [command for command in found if command != "help"]
 
     def help_of(self, command: str) -> str:
+        """The help text of a command, which is run once."""
         if command not in self.helps:
             done = self.shell(f"{command} --help")
             self.assertEqual(done.status, 0, done)

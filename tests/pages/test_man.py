@@ -33,6 +33,7 @@ WRITTEN = re.compile(r"(?<![\w./-])(flutejoin(?:-[a-z]+| [a-z]+))((?: +[^ |;&<>`
 
 class Man(help_texts.Case, PagesCase):
     def has(self, page: str, *texts: str) -> None:
+        """Checks that a man page has these texts."""
         of = plain(page)
         for text in sorted(set(texts)):
             self.holds(f"{page}.1 has {text}", text in of)

@@ -205,6 +205,7 @@ class CompareDrawn(Case):
     """Random journals, compared with what `show` prints of them."""
 
     def drawn_pair(self, number: int) -> None:
+        """Writes two drawn journals, a and b, that have much in common."""
         draw = random.Random(number)
         places = drawn_places(draw)
         first = drawn(draw, places)
@@ -213,6 +214,7 @@ class CompareDrawn(Case):
             self.file(name, HEADER2, *entries, ended(len(entries)))
 
     def shown(self, journal: str) -> Shown:
+        """What `show` prints of a journal, by objects."""
         objects: Shown = {}
         for line in self.made(f"show {journal}").lines()[:-1]:
             found = LINE.fullmatch(line)

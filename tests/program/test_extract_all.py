@@ -58,6 +58,7 @@ class Object:
 
 
 def entries_of(name: Name, told: Object) -> list[bytes]:
+    """The entries of an object in a journal."""
     entries = []
     if told.is_in_conflict:
         entries.append(b"\x02" + name.key())
@@ -75,11 +76,13 @@ def entries_of(name: Name, told: Object) -> list[bytes]:
 
 
 def journal_of(objects: dict[Name, Object]) -> bytes:
+    """A journal of these objects."""
     entries = [entry for name in sorted(objects) for entry in entries_of(name, objects[name])]
     return b"FLJN\x00\x02" + b"".join(entries) + b"\xff" + struct.pack(">Q", len(entries))
 
 
 def whole(length: int, symbol: int, block: int) -> Object:
+    """An object of these lengths with all of its symbols, of drawn bytes."""
     values: dict[tuple[int, int], bytes | None] = {
         place: os.urandom(min(symbol, length - at * symbol))
         for at, place in enumerate(partition(length, symbol, block))
@@ -114,6 +117,7 @@ def random_object(chance: random.Random) -> Object:
 
 
 def random_journal(chance: random.Random) -> dict[Name, Object]:
+    """Objects that are drawn: whole, partial, in conflict, of several senders."""
     objects = {}
     for _ in range(chance.randrange(12)):
         tag = chance.randrange(2)
@@ -143,6 +147,7 @@ class ExtractAll(unittest.TestCase):
         return {path.name: path.read_bytes() for path in self.out.iterdir()}
 
     def extract(self, *words: str, status: int = 0) -> str:
+        """Runs `extract --all` with this status, and returns what it prints."""
         ran = run("extract", "--all", "-o", self.out, *words, self.journal)
         self.assertEqual(ran.returncode, status, ran.stderr)
         told: bytes = ran.stdout
@@ -216,6 +221,7 @@ class ExtractAll(unittest.TestCase):
             self.assertEqual((self.out / name.file()).read_bytes(), content)
 
     def no_folder(self, *words: str, journal: bytes, status: int = 1) -> None:
+        """Checks that `extract --all` of this journal fails, and leaves no folder."""
         self.journal.write_bytes(journal)
         self.extract(*words, status=status)
         self.assertFalse(self.out.exists())

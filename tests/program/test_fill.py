@@ -159,11 +159,13 @@ class FillLines(Case):
     """Lines are taken exactly as `gaps` prints them, in its order."""
 
     def refused(self, name: str, number: int, *listed: str, end: str = "\n") -> None:
+        """Checks that `fill` refuses the line of this number."""
         self.write("lines", "\n".join(listed) + end)
         words = "fill -o got --gaps lines whole"
         self.row(name, words, 1, "", f"bad line {number}")
 
     def taken(self, name: str, *listed: str) -> None:
+        """Checks that `fill` takes these lines."""
         self.write("lines", lines(*listed))
         self.row(name, "fill -o got --gaps lines empty", 0, "entries 0")
 

@@ -62,6 +62,7 @@ class FillDrawn(Case):
     """Random journals, compared with the definition, and joined."""
 
     def held(self, name: str, places: List[Place], held: Held) -> List[str]:
+        """Writes a journal that holds this at these places, and returns its entries."""
         entries = entries_of(places, held)
         self.file(name, HEADER2, *entries, ended(len(entries)))
         return entries

@@ -162,6 +162,7 @@ class Object(NamedTuple):
         return f" unplaced conflicting {count}" if count else ""
 
     def counts(self) -> list[int]:
+        """What the object adds to the numbers of its session's summary."""
         partial = self.state.startswith("partial")
         of_symbols = [int(number) for number in re.findall("[0-9]+", self.state)]
         whole = self.state.startswith("whole")
@@ -183,6 +184,7 @@ def objects_of(text: list[str], conflicts: list[int]) -> list[Object]:
 
 
 def summed(objects: list[Object]) -> list[str]:
+    """The lines of `gaps --summary` about these objects."""
     sessions: dict[str, list[int]] = {}
     for one in objects:
         before = sessions.setdefault(one.session, [0] * len(COUNTS))
@@ -245,6 +247,7 @@ class GapsDrawn(Case):
     def same_runs(
         self, number: int, objects: list[Object], conflicting: list[Object], whole: bool
     ) -> None:
+        """Checks what `gaps` prints of a drawn journal by each of its options."""
         faults = [(1, NOT_WHOLE), (0, "")]
         plain = [line for one in objects for line in (one.line, *one.gaps)]
         status, fault = faults[whole]

@@ -111,6 +111,7 @@ class JsonCase(Case):
         return self.made(f"show {words}").out.decode("ascii").splitlines()
 
     def each(self) -> List[str]:
+        """The names of the journals of the test, which are written."""
         self.drawn_journals()
         return ["whole", "instance", "joined", "empty", "greatest", "long"] + [
             f"drawn{number}" for number in range(JOURNALS)

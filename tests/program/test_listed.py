@@ -151,6 +151,7 @@ class ListFaults(Case):
     """The faults of a list, in their order with those of the journal and the output."""
 
     def each(self, told: str, more: str, status: int, fault: str) -> None:
+        """Checks that each command with a list fails so."""
         for words in "show", "gaps", "gaps --check --json", "extract --all -o got":
             self.row(f"{told}: {words}", f"{words} {more}", status, "", fault)
         self.absent(f"{told}: no folder", "got", "got.partial")
@@ -227,6 +228,7 @@ class ListedDrawn(Case):
         self.holds("many lists name some", some > JOURNALS // 2, some)
 
     def same_folders(self, number: int, more: str) -> None:
+        """Checks that `extract --all --list` writes what it would of a journal of these objects."""
         wanted = self.made(f"extract --all -o wanted {more} left").out
         self.row(f"{number}: extract --all", f"extract --all -o got {more} --list keys all", 0,
                  wanted)

@@ -151,6 +151,7 @@ class MinusDrawn(Case):
     """Random journals, compared with the definition, and joined."""
 
     def drawn_pair(self, number: int) -> tuple[list[Place], Held, Held]:
+        """Writes two drawn journals, a and b, and returns what each holds at which places."""
         draw = random.Random(number)
         places = drawn_places(draw)
         first = drawn(draw, places)

@@ -122,6 +122,7 @@ class Held(NamedTuple):
 
 
 def held_of(text: List[str]) -> Dict[str, Held]:
+    """What lines of `show` hold of each object."""
     objects: Dict[str, Held] = {}
     for line in text:
         found = LINE.fullmatch(line)
@@ -163,6 +164,7 @@ def wanted_bytes(held: Held, conflicts: bool) -> Iterator[int]:
 
 
 def ranges_of(places: Iterator[int]) -> List[str]:
+    """The runs of consecutive places, as the lines of ranges have them."""
     runs: List[List[int]] = []
     for place in places:
         if runs and runs[-1][1] + 1 == place:
@@ -203,6 +205,7 @@ def drawn_object(draw: random.Random, key: str) -> List[str]:
 
 
 def drawn_journal(draw: random.Random) -> List[str]:
+    """The entries of a drawn journal."""
     entries = []
     for sender in sorted(draw.sample((0, 1, (0xFFFF << 32) + 0x0A000001), draw.randint(1, 2))):
         for session in sorted(draw.sample(range(1, 6), draw.randint(1, 2))):

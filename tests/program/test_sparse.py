@@ -51,15 +51,18 @@ class Draw:
         self.conflicts = draw.choice([0.0, 0.1, 0.5])
 
     def id_of(self, index: int) -> bytes:
+        """The block and number of a symbol, by its place; the last has the greatest."""
         last = index == self.symbols - 1
         block, symbol = (65535, 65535) if last else divmod(index, BLOCK)
         return block.to_bytes(2, "big") + symbol.to_bytes(2, "big")
 
     def information(self) -> bytes:
+        """Transmission information, in which two inputs may differ."""
         length = self.symbols * SYMBOL - (self.draw.random() < self.conflicts / 4)
         return length.to_bytes(6, "big") + SYMBOL.to_bytes(2, "big") + BLOCK.to_bytes(4, "big")
 
     def input(self) -> Values:
+        """What an input has of the objects: few symbols of each."""
         values: Values = {}
         for toi in range(1, self.objects + 1):
             if self.draw.random() < 0.2:

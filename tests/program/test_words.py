@@ -76,6 +76,7 @@ class Help(Case):
     """The examples of each help run as they are printed, in one folder, in their order."""
 
     def examples(self, text: str) -> str:
+        """The commands of the examples in a help text."""
         behind = re.split("[Ee]xample", text, maxsplit=1)[-1]
         return lines(*re.findall("^  ((?:flutejoin|seq) .*)", behind, re.MULTILINE))
 
@@ -98,6 +99,7 @@ class Help(Case):
         self.same("the file that comes out", "tried/file", "tried/out")
 
     def run_examples(self, command: str, text: str) -> None:
+        """Checks that the examples in a help text can be run as they are printed."""
         examples = self.examples(text)
         self.holds(f"help of {command} gives an example", examples)
         if command == "carousel":

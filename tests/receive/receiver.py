@@ -98,6 +98,7 @@ class Receiver:
         return STAMP.sub("", os.pread(self.told.fileno(), 1 << 20, 0).decode())
 
     def until(self, holds: Callable[[], object], what: str) -> None:
+        """Waits until a condition holds while the receiver runs."""
         end = time.monotonic() + LONGEST_WAIT
         while not holds():
             has_ended = self.process.poll() is not None
@@ -116,6 +117,7 @@ class Receiver:
             yield number
 
     def until_told_soon(self, text: str) -> None:
+        """Waits until the receiver has said this, for some seconds."""
         if not any(text in self.stderr() for _ in self.seconds()):
             self.test.fail(f"{text}: not within some seconds; {self.stderr()}")
 
@@ -136,6 +138,7 @@ class Receiver:
         self.until(lambda: not self.waiting(), "an empty receive buffer")
 
     def send(self, datagrams: Iterable[bytes], source: str = "127.0.0.1", port: int = 0) -> None:
+        """Sends datagrams to the receiver's port from an address of the loopback."""
         with socket.socket(socket.AF_INET, socket.SOCK_DGRAM) as udp:
             udp.bind((source, 0))
             for number, datagram in enumerate(datagrams):
@@ -153,6 +156,7 @@ class Receiver:
         self.until(holds, f"{count} datagrams in {names}")
 
     def end(self, number: int = signal.SIGINT) -> tuple[int, list[str]]:
+        """Ends the receiver by a signal; returns its status and its lines."""
         self.process.send_signal(number)
         return self.ended()
 

@@ -49,6 +49,7 @@ class Described(run.Case):
         ]
 
     def finds(self, name: str, text: str, *wanted: Found) -> None:
+        """Checks what a session description says."""
         found = self.found(text)
         self.holds(name, found == list(wanted), found)
 
@@ -154,6 +155,7 @@ class Described(run.Case):
         self.holds("UTF-8", "is not UTF-8" in str(fault.exception))
 
     def refused(self, tool: str, words: str | Sequence[object], told: bytes) -> None:
+        """Checks that a tool refuses a session description by one line."""
         done = self.tool(tool, words)
         is_line = done.err.count(b"error: ") == 1 and b"Traceback" not in done.err
         self.holds(f"{tool} {words}", done.status == 2 and is_line and told in done.err, done)

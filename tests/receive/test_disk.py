@@ -215,6 +215,8 @@ class Disk(Case):
         return records(self.path(f"kept/127.0.0.1.{number}.fldg"))
 
     def lost_name(self, lose: Callable[[], object], told: str) -> tuple[Receiver, list[bytes]]:
+        """Has a file lose its name while the receiver is stopped. Returns the receiver and what was
+        sent."""
         receiver = Receiver(self, "-o", "kept")
         before, after = self.symbols(30), self.symbols(30, toi=2)
         receiver.send(before)

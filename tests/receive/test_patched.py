@@ -56,6 +56,7 @@ class Patched(Case):
     """Runs of the tool with a part of Python or of the system replaced."""
 
     def run_patched(self, patch: str, *words: str) -> Receiver:
+        """Starts a receiver in which lines of Python have changed something."""
         script = (
             f"import runpy, sys\nsys.argv[0] = {TOOL!r}\nsys.path.insert(0, {TOOLS!r})\n{patch}\n"
             f"runpy.run_path({TOOL!r}, run_name='__main__')\n"

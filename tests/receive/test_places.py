@@ -78,6 +78,7 @@ class Kept(Writer):
         self.files: set[str] = set()
 
     def give(self, growing: Growing, order: Order) -> bool:
+        """Counts what the writer would be given."""
         address = str(growing.address)
         if isinstance(order, Block):
             self.datagrams[address] += order.records
@@ -110,10 +111,12 @@ class Receiver:
             self.senders.each_second(self.now)
 
     def seconds(self, count: float, *senders: Iterator[list[tuple[bytes, bytes]]]) -> None:
+        """Has seconds pass in which these senders send."""
         for _ in range(round(count * STEP)):
             self.step(itertools.chain.from_iterable([next(it) for it in senders]))
 
     def end(self) -> None:
+        """Ends the run: what waits is written or left out."""
         self.senders.give_places(self.now, is_end=True)
         self.senders.each_second(self.now)
         self.senders.hand_over()

@@ -69,6 +69,7 @@ class Sessions(Case):
         self.assertEqual([each["bytes_on_disk"] for each in told["senders"]], [250, 250])
 
     def refused(self, text: str, *words: str) -> str:
+        """Checks that settings are refused, and returns the line that says why."""
         with open(self.path("wrong.toml"), "w") as file:
             file.write(text)
         command = [sys.executable, "-S", TOOL, "--config", "wrong.toml", *words]

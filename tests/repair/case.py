@@ -43,6 +43,7 @@ class Case(run.Case):
         self.origin = self.server()
 
     def server(self, **how: Any) -> Origin:
+        """Starts a server with these settings, which ends with the test."""
         origin = Origin(**how)
         self.addCleanup(origin.close)
         return origin

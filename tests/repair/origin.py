@@ -99,6 +99,7 @@ class Origin:
                 stream.close()
 
     def serve(self) -> None:
+        """Takes connections, each in a thread."""
         while True:
             try:
                 stream = self.listener.accept()[0]
@@ -110,6 +111,7 @@ class Origin:
             threading.Thread(target=self.talk, args=[stream], daemon=True).start()
 
     def talk(self, stream: socket.socket) -> None:
+        """Answers the requests of a connection."""
         try:
             if self.context:
                 stream = self.context.wrap_socket(stream, server_side=True)
@@ -138,6 +140,7 @@ class Origin:
         return b"\r\nConnection: close\r\n" not in said[:500]
 
     def say(self, stream: socket.socket, said: bytes) -> None:
+        """Sends an answer, and counts its bytes."""
         self.sent += len(said)
         stream.sendall(said)
 

@@ -29,6 +29,7 @@ class Generations(Case):
             self.gathered("--source", SENDER, name)
 
     def gathered(self, *words: object) -> Run:
+        """Runs flutejoin-gather."""
         words = "-o", "kept", "--flutejoin", run.PROGRAM, *words
         done = self.tool("flutejoin-gather", words)
         self.check("gathered", done, 0, None, None)
@@ -38,6 +39,7 @@ class Generations(Case):
         return sorted(it.name for it in self.path("kept").glob("*.journal"))
 
     def mend(self, words: str = "") -> Run:
+        """Runs flutejoin-repair on the journals that were gathered."""
         every = f"--base {self.origin.url}/news/ --flutejoin {run.PROGRAM} {words} -o more.fldg"
         return self.tool("flutejoin-repair", f"{every} kept/{SENDER}.journal")
 

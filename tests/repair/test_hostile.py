@@ -78,6 +78,7 @@ class Descriptions(Case):
     """FDT Instances that name what nobody may ask for."""
 
     def described(self, location: str, **root: Any) -> None:
+        """Makes a journal that lacks a symbol of a file which lies there."""
         file = self.sent(1, content(1))
         file.location = location
         self.journal_without("all", [file], {1: [3]}, fdt([file], **root))
@@ -327,6 +328,7 @@ class Secure(Case):
     """TLS: the certificate of the name in the URL."""
 
     def certificate(self, name: str, names: str) -> ssl.SSLContext:
+        """A server's settings of TLS with a certificate for these names."""
         words = "req -x509 -newkey ec -pkeyopt ec_paramgen_curve:prime256v1 -nodes -days 2"
         words += f" -subj /CN=test -addext subjectAltName={names}"
         words += f" -keyout {name}.key -out {name}.pem"
@@ -336,6 +338,7 @@ class Secure(Case):
         return context
 
     def secure(self, names: str) -> None:
+        """Starts a server with TLS, and makes a journal that lacks symbols of its file."""
         self.origin = self.server(context=self.certificate("one", names))
         self.one = self.sent(1, content(1))
         self.journal_without("all", [self.one], {1: [3, 9]})

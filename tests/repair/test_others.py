@@ -34,6 +34,7 @@ class Words(Case):
         self.journal_without("all", self.every, {1: [3], 2: [4]})
 
     def wrong(self, words: str, told: str, status: int = 2) -> None:
+        """Checks that a command line is refused with this text, and no server asked."""
         done = self.tool("flutejoin-repair", f"--flutejoin {run.PROGRAM} {words}")
         self.check(words, done, status, "", None)
         self.holds(f"{words}: told", told in done.err.decode(), done.err.decode()[-300:])

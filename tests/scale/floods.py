@@ -49,6 +49,7 @@ class Flood(NamedTuple):
 
 
 def send(flood: Flood, port: int, seconds: float, sent: c_uint64) -> None:
+    """Sends datagrams of made-up senders for some seconds, and counts them."""
     sending = socket.socket(socket.AF_INET, socket.SOCK_RAW, socket.IPPROTO_RAW)
     udp = struct.pack(">HHHH", 5000, port, 8 + flood.size, 0)
     front = struct.pack(">BBHHHBBH", 0x45, 0, 28 + flood.size, 0, 0, 64, socket.IPPROTO_UDP, 0)
@@ -73,6 +74,7 @@ def real(port: int, seconds: float) -> int:
 
 
 def measure(flood: Flood, seconds: float) -> None:
+    """Prints what a receiver kept of the real sender in such a flood."""
     port, flooded = free_port(), multiprocessing.RawValue(c_uint64)
     with tempfile.TemporaryDirectory() as room:
         words = [str(ROOT / "tools" / "flutejoin-receive"), "--port", str(port), "-o", f"{room}/at"]

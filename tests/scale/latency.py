@@ -98,6 +98,7 @@ class Runs:
 
 
 def until(is_so: Callable[[], object]) -> None:
+    """Waits until a condition holds."""
     end = time.monotonic() + LONGEST
     while not is_so():
         assert time.monotonic() < end, "it took too long"
@@ -105,12 +106,14 @@ def until(is_so: Callable[[], object]) -> None:
 
 
 def family(pid: int) -> Iterator[int]:
+    """Yields the numbers of a process and of its children, and theirs."""
     yield pid
     for child in pathlib.Path(f"/proc/{pid}/task/{pid}/children").read_text().split():
         yield from family(int(child))
 
 
 def times_of(pid: int) -> float:
+    """The seconds of a processor that a process and its children took."""
     found = 0
     for each in family(pid):
         fields = pathlib.Path(f"/proc/{each}/stat").read_text().rpartition(")")[2].split()

@@ -58,6 +58,7 @@ class AnySize(run.Case):
         self.row(f"{words}", words, 0, told)
 
     def leaves(self, told: str, out: bytes, *words: str) -> None:
+        """Checks that a command prints this, and leaves this output."""
         self.prints(told, *words)
         self.same(f"{words}: OUT", "out", out)
         self.remove("out")

@@ -44,6 +44,7 @@ def records(data: bytes) -> list[bytes]:
 
 
 def datagram_file(path: pathlib.Path, of: list[bytes]) -> pathlib.Path:
+    """Writes a datagram file of these records, with its folder."""
     path.parent.mkdir(parents=True, exist_ok=True)
     path.write_bytes(HEADER + b"".join(of))
     return path
@@ -181,6 +182,7 @@ def is_stopped(process: int) -> bool:
 
 
 def keeper(folder: pathlib.Path, has_outbox: bool, program: object = PROGRAM) -> Keeper:
+    """What joins the files of a station's folder, at once and without a receiver."""
     settings = Settings(0, 0, has_outbox)
     return Keeper(str(folder), Program(str(program), lambda: None), settings, ServiceLog("station"))
 

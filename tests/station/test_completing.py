@@ -22,6 +22,7 @@ LONG = 1e6  # seconds of a window that never ends
 
 
 def file_of(toi: int, size: int = 5000, is_in_packets: bool = True) -> Sent:
+    """A file of small symbols."""
     name = f"http://a.example/{toi}"
     return Sent(toi, bytes([toi]) * size, name, None, 1000, 4, is_in_packets)
 
@@ -52,6 +53,8 @@ class Follows(Case):
         self.begin(Told())
 
     def begin(self, program: Told, journals: Sequence[str] = ()) -> None:
+        """Begins to follow objects, with these journals of an earlier run."""
+
         def known(sender: Sender, key: Key) -> Optional[Numbers]:
             return self.known.get(key.number)
 
@@ -186,6 +189,7 @@ class Flooded(Case):
     """A sender whose headers are all new, beside a real one."""
 
     def part_of(self, address: str, datagrams: Iterable[bytes]) -> tuple[Sender, Part]:
+        """Writes a datagram file of a sender."""
         path = self.news / "in" / f"{address}.fldg"
         path.write_bytes(datagram_files.content(datagrams))
         found = sender_of(path.name)
@@ -229,6 +233,7 @@ class Joins(Case):
     """A station joins when the last symbol came, and not when the window ends."""
 
     def add(self, path: pathlib.Path, datagrams: Iterable[bytes]) -> None:
+        """Adds datagrams to a file that grows."""
         with path.open("ab") as file:
             file.write(datagram_files.content(datagrams)[len(datagram_files.HEADER) :])
 

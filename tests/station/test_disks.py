@@ -18,6 +18,7 @@ APART = "FLUTEJOIN_MOUNTS"
 
 @functools.lru_cache(maxsize=None)
 def can_mount() -> bool:
+    """Whether file systems can be mounted here, in a namespace."""
     words = "unshare", "-m", "mount", "-t", "tmpfs", "none", "/mnt"
     return subprocess.run(words, capture_output=True).returncode == 0
 

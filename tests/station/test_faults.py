@@ -53,6 +53,7 @@ class Faults(Case):
         self.programs_that_fail(work, sent)
 
     def parts_at_fault(self, folder: pathlib.Path, sent: list[bytes], wanted: bytes) -> None:
+        """Checks a station of which several datagram files are cut or none at all."""
         (folder / "in").mkdir(parents=True)
         (folder / f"in/{NAME}.fldg").write_text("no datagram file at all")
         datagram_file(folder / f"in/{NAME}.2.fldg", sent[:20])

@@ -58,6 +58,7 @@ class Station:
         self.begin()
 
     def begin(self) -> None:
+        """Opens the station's journals, as a run of it does that starts."""
         log = KeptLog("station", self.said)
         program = Program(str(run.PROGRAM), lambda: None)
         self.keeper = Keeper(str(self.folder), program, Settings(0, 0, True), log)
@@ -67,6 +68,7 @@ class Station:
         self.begin()
 
     def hear(self, sent: Iterable[bytes], sender: str = SENDER) -> None:
+        """Has datagrams come, of which some are lost."""
         heard = [it for it in sent if self.draw.random() >= LOSS]
         if self.adapting:
             heard = [it for datagram in heard for it in self.adapting.take(datagram).datagrams]
@@ -78,10 +80,12 @@ class Station:
             file.write(data[6:] if path.exists() and path.stat().st_size else data)
 
     def minute(self) -> None:
+        """Joins what came."""
         while self.keeper.waiting():
             self.keeper.work(False)
 
     def push(self, centre: pathlib.Path) -> None:
+        """Pushes the station's outbox to the centre by push.sh."""
         path = f"{centre.parent / 'bin'}:{os.environ['PATH']}"
         words = [ROOT / "examples/push.sh", self.folder, f"centre/{self.folder.name}", "sh", "-c"]
         done = subprocess.run(
@@ -122,6 +126,7 @@ class Events(unittest.TestCase):
             self.minute()
 
     def minute(self) -> None:
+        """Has each station join what came, and push it."""
         for station in self.stations:
             station.minute()
             if any((station.folder / "outbox").glob("*.journal")):
@@ -154,6 +159,7 @@ class Events(unittest.TestCase):
         self.assertEqual(wrong, [])
 
     def journals(self, station: int, pattern: str = "*/*.journal") -> list[str]:
+        """The journals of a station, by their paths in its folder."""
         folder = self.stations[station].folder
         return sorted(str(path.relative_to(folder)) for path in folder.glob(pattern))
 
@@ -376,6 +382,7 @@ class Gathered(Events):
     """flutejoin-gather alone."""
 
     def gather(self, *words: object, status: int = 0) -> subprocess.CompletedProcess[str]:
+        """Runs flutejoin-gather."""
         done = subprocess.run(
             [
                 sys.executable,
@@ -389,6 +396,7 @@ class Gathered(Events):
         return done
 
     def datagrams(self, name: str, sent: list[bytes]) -> str:
+        """Writes a datagram file, and returns its name."""
         path = self.folder / name
         path.parent.mkdir(exist_ok=True)
         path.write_bytes(datagram_files.content(sent))
@@ -525,6 +533,7 @@ class Asked(Events):
         return self.program.join(ipaddress.ip_address(SENDER).packed, out, journals)
 
     def minute(self) -> None:
+        """Has each station join what came, and asks it for what is wanted."""
         for station in self.stations:
             station.minute()
             for folder in "journals", "recent", "aside":
@@ -535,6 +544,7 @@ class Asked(Events):
                 shutil.copy2(document, self.all / "fdt")
 
     def ask(self, wants: Wants, journal: str) -> None:
+        """Has a journal's symbols that are wanted come, and checks that no others do."""
         lines, answer = "".join(wants.lines()), str(self.folder / "answer")
         if not wants.by_raw:
             return
@@ -613,6 +623,7 @@ class Levels(Events):
     stations_of = 0
 
     def level(self, sent: list[bytes], status: int = 0) -> None:
+        """Adds a datagram file by levels.sh, and checks its status."""
         path = self.folder / "hour"
         path.write_bytes(datagram_files.content(sent))
         words = [ROOT / "examples/levels.sh", "centre", "hour", "--source", SENDER]
@@ -820,6 +831,7 @@ class Files(Events):
         self.compare(files)
 
     def gaps(self, *journals: pathlib.Path) -> list[str]:
+        """What `gaps` prints of some journals together."""
         join = [run.PROGRAM, "join", "-o", "-", *journals]
         joined = subprocess.run([*map(str, join)], capture_output=True, check=True).stdout
         words = [run.PROGRAM, "gaps", "-"]
@@ -883,6 +895,7 @@ class Files(Events):
         self.compare(sum(runs, []))
 
     def map_of(self, *journals: object) -> list[str]:
+        """The lines of flutejoin-map that count symbols."""
         command = [TOOLS / "flutejoin-map", "--flutejoin", run.PROGRAM, "--text", *journals]
         words = [sys.executable, *map(str, command)]
         done = subprocess.run(words, capture_output=True, text=True, cwd=self.folder)

@@ -38,6 +38,7 @@ class Witness:
         self.thread.start()
 
     def watch(self) -> None:
+        """Copies each datagram file that appears, until the end."""
         while not self.is_over:
             with contextlib.suppress(FileNotFoundError):
                 for entry in os.scandir(self.folder):

@@ -44,6 +44,7 @@ sys.exit(done.returncode)
 
 class Outbox(Case):
     def push(self, work: pathlib.Path, *command: str) -> subprocess.CompletedProcess[str]:
+        """Runs push.sh from the station's folder to that of a centre."""
         path = f"{work / 'bin'}:{os.environ['PATH']}"
         return subprocess.run(
             [PUSH, "news", work / "centre/north", *command],

@@ -92,24 +92,29 @@ class Case(run.Case):
 
     @contextlib.contextmanager
     def set_clock(self) -> Iterator[Clock]:
+        """A context in which the clock is one that the test sets."""
         with mock.patch("time.monotonic", self.clock):
             yield self.clock
 
     def incoming(self, name: str, datagrams: Iterable[bytes]) -> pathlib.Path:
+        """Writes a datagram file that a receiver would have written."""
         path = self.news / "in" / f"{name}.fldg"
         path.write_bytes(records(datagrams))
         return path
 
     def keeper(self, program: Program | None = None, **settings: Any) -> Keeper:
+        """What joins the files of the station's folder, with these settings."""
         chosen: dict[str, Any] = {"every": 0, "keep_raw": 0, "has_outbox": False, **settings}
         program = program or Program(str(run.PROGRAM), lambda: None)
         return Keeper(str(self.news), program, Settings(**chosen), self.told)
 
     def joined_all(self, keeper: Keeper) -> None:
+        """Joins until nothing waits."""
         while keeper.waiting():
             keeper.work(False)
 
     def journals(self, name: str = REAL) -> list[str]:
+        """The journals of a sender that are there."""
         paths = [self.news / folder / f"{name}.journal" for folder in ("journals", "recent")]
         return [str(path) for path in paths if path.exists()]
 
@@ -121,6 +126,8 @@ class Most(Case):
     """The disk that a station takes."""
 
     def sender(self, name: str, size: int, age: int) -> None:
+        """Makes a sender with a datagram file and a journal of so many bytes, so many seconds
+        old."""
         for folder, ending in ("in", ".fldg"), ("journals", ".journal"):
             path = self.news / folder / (name + ending)
             path.parent.mkdir(exist_ok=True)
@@ -128,6 +135,7 @@ class Most(Case):
             os.utime(path, (1e9 - age, 1e9 - age))
 
     def room(self, most: int) -> Room:
+        """Has the station keep to a bound once."""
         shelves = [Shelf(str(self.news / name)) for name in ("raw", "aside")]
         room = Room(str(self.news), most, shelves, self.told)
         room.keep_at_times()
@@ -298,6 +306,7 @@ class Restart(Case):
         return self.keeper().waiting()
 
     def joined(self, name: str = REAL) -> pathlib.Path:
+        """Joins a datagram file in a run that ends."""
         path = self.incoming(name, symbols(40))
         keeper = self.keeper()
         self.joined_all(keeper)
@@ -364,10 +373,12 @@ class Full(Case):
     """More sessions than one join takes, all from the address of a real sender."""
 
     def flood(self, count: int) -> list[bytes]:
+        """Datagrams of so many sessions, one of each."""
         front = bytes.fromhex("10a0040000000000")
         return [front + struct.pack(">II", 1000 + tsi, 1) + b"\0\0\0\0N" for tsi in range(count)]
 
     def real(self) -> list[bytes]:
+        """The datagrams of a large object."""
         data = random.Random(1).randbytes(7984 * 100)
         return flute_sender.packets(7, 1, data, 100, 64)
 
@@ -524,6 +535,7 @@ class OnTheDisk(Case):
     """New files are on the disk with their names."""
 
     def synced(self, work: Callable[[], object]) -> set[int]:
+        """The inodes of the files that were brought to the disk by some work."""
         inodes, fsync = set(), os.fsync
 
         def kept(descriptor: int) -> None:

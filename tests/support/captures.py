@@ -98,6 +98,7 @@ def ip4(
     place: int = 0,
     options: bytes = b"",
 ) -> bytes:
+    """An IPv4 packet."""
     first, length = 0x45 + len(options) // 4, 20 + len(options) + len(data)
     fields = first, 0, length, number, place, 16, protocol, 0, source, target
     head = struct.pack(">BBHHHBBH4s4s", *fields) + options
@@ -109,12 +110,14 @@ def ip6(source: bytes, target: bytes, kind: int, data: bytes) -> bytes:
 
 
 def ip(source: bytes, target: bytes, protocol: int, data: bytes) -> bytes:
+    """An IP packet of the version of its addresses."""
     if len(source) == 4:
         return ip4(source, target, protocol, data)
     return ip6(source, target, protocol, data)
 
 
 def udp(source: bytes, target: bytes, payload: bytes, port: int = PORT) -> bytes:
+    """A UDP datagram with its checksum."""
     data = struct.pack(">HHHH", 40000, port, 8 + len(payload), 0) + payload
     pseudo = source + target + struct.pack(">II", len(data), 17)
     return data[:6] + struct.pack(">H", ones(pseudo + data) or 0xFFFF) + data[8:]
@@ -173,6 +176,7 @@ class Capture:
             self.packets.append(self.error(source, target, self.packets[-1]))
 
     def head(self, source: bytes, target: bytes, data: bytes, spoil: Optional[str]) -> bytes:
+        """An IP packet of a datagram, with what an option spoils."""
         if len(source) == 16:
             if self.options.headers:  # hop-by-hop and destination options
                 headers = b"\x3c\0\1\4\0\0\0\0" + b"\x11\1\1\x0c" + b"\0" * 12
@@ -262,6 +266,7 @@ class Capture:
 
 
 def pcap(frames: list[Frame], order: str, magic: int, snap: int) -> bytes:
+    """A capture of these frames in a form of pcap."""
     made = [struct.pack(order + "IHHiIII", magic, 2, 4, 0, 0, snap, frames[0][0])]
     for at, (_link, frame, length) in enumerate(frames):
         second, part = divmod(at, 1000)
@@ -271,6 +276,7 @@ def pcap(frames: list[Frame], order: str, magic: int, snap: int) -> bytes:
 
 
 def block(order: str, number: int, body: bytes) -> bytes:
+    """A block of pcapng."""
     body += b"\0" * (-len(body) % 4)
     length = struct.pack(order + "I", 12 + len(body))
     return struct.pack(order + "I", number) + length + body + length
@@ -324,6 +330,7 @@ FORMS = {
 
 
 def make(name: str, words: list[str]) -> None:
+    """Makes the capture that a row names."""
     parser = argparse.ArgumentParser()
     parser.add_argument("--form", choices=FORMS, default="pcap")
     parser.add_argument("--link", default="ethernet")
@@ -358,6 +365,7 @@ def make(name: str, words: list[str]) -> None:
 
 
 def damage(folder: str, count: str, names: list[str]) -> None:
+    """Makes so many damaged copies of captures."""
     draw = random.Random(22)
     for number in range(int(count)):
         with open(names[number % len(names)], "rb") as file:
@@ -372,6 +380,7 @@ def damage(folder: str, count: str, names: list[str]) -> None:
 
 
 def cuts(name: str, folder: str) -> None:
+    """Makes copies of a file, cut at each byte."""
     with open(name, "rb") as file:
         data = file.read()
     for length in range(len(data)):
@@ -396,11 +405,13 @@ def pieces(data: bytes) -> Iterator[bytes]:
 
 
 def journal(version: int, entries: list[bytes]) -> bytes:
+    """A journal of these entries."""
     end = b"\xff" + len(entries).to_bytes(8, "big")
     return b"FLJN\0" + bytes([version]) + b"".join(entries) + end
 
 
 def version1(name: str, out: str) -> None:
+    """Makes a journal of version 1 of one of version 2."""
     with open(name, "rb") as file:
         entries = list(pieces(file.read()))
     with open(out, "wb") as file:
@@ -408,6 +419,7 @@ def version1(name: str, out: str) -> None:
 
 
 def mended(name: str, folder: str) -> None:
+    """Makes what flutejoin-mend should write of a journal that is cut at each byte."""
     with open(name, "rb") as file:
         data = file.read()
     for length in range(4, len(data)):

@@ -79,6 +79,7 @@ class Counts:
 
 
 def split(words: Words) -> list[str | bytes]:
+    """The words of a command line, as a shell splits them."""
     if isinstance(words, str):
         return [*shlex.split(words)]
     return [word if isinstance(word, bytes) else str(word) for word in words]
@@ -110,6 +111,7 @@ def search_of(pattern: str | re.Pattern[str], text: str) -> re.Match[str]:
 
 
 def end(child: subprocess.Popen[bytes]) -> None:
+    """Kills a child, if it runs, and closes its streams."""
     with contextlib.suppress(ProcessLookupError):
         child.kill()
     child.wait()

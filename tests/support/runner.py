@@ -26,6 +26,7 @@ def folders() -> list[str]:
 
 
 def modules(folder: str) -> list[ModuleType]:
+    """The modules of a folder that have tests."""
     names = sorted(path.stem for path in (TESTS / folder).glob("test_*.py"))
     return [importlib.import_module(f"tests.{folder}.{name}") for name in names]
 

@@ -47,6 +47,7 @@ class Coverage:
         self.last = self.steps = self.most = 0
 
     def called(self, frame: FrameType, _event: str, _: Any) -> Optional[Trace]:
+        """What Python calls at each call of a function: follows those of the tools."""
         code = frame.f_code
         is_ours = self.is_ours.get(code)
         if is_ours is None:
@@ -54,6 +55,7 @@ class Coverage:
         return self.stepped if is_ours else None
 
     def stepped(self, frame: FrameType, event: str, _: Any) -> Optional[Trace]:
+        """What Python calls at each step of such a function: notes it, and counts."""
         if event == "line":
             self.run.add((frame.f_code, self.last, frame.f_lineno))
             self.last = frame.f_lineno
@@ -163,12 +165,14 @@ class Fuzzed:
         print(f"fuzz: {self.name}: a fault, by {path} of {len(data)} bytes:\n{text}", flush=True)
 
     def turn(self, count: int) -> None:
+        """Gives the parser so many further inputs."""
         for _ in range(count):
             data = changed(self.draw, self.kept, tuple(self.parser.words))
             if self.take(data) and len(self.kept) < MOST_KEPT:
                 self.kept.append(data)
 
     def line(self) -> str:
+        """What is printed of the parser."""
         told = f"{self.inputs} inputs, {len(self.kept)} kept, {len(self.coverage.seen)} steps seen"
         return f"fuzz: {self.name}: {told}, at most {self.steps} taken; {self.faults} faults"
 

@@ -56,6 +56,7 @@ class Parser(NamedTuple):
 
 
 def session() -> list[bytes]:
+    """The datagrams of a small session of two files."""
     sent = [Sent(1, b"number one" * 9, "http://h/a", symbol=20), Sent(2, b"", "b", symbol=8)]
     return [*flute_sender.instance(7, 1, b"<FDT/>"), *sent[0].packets(7), *sent[1].packets(7)]
 
@@ -69,6 +70,7 @@ def shaped() -> list[list[bytes]]:
 
 
 def frames(link: str = "ethernet", fragment: int = 0) -> list[made.Frame]:
+    """These datagrams in frames of a link."""
     kind, *heads = made.LINKS[link]
     found = []
     for at, datagram in enumerate(session()):
@@ -83,6 +85,7 @@ def frames(link: str = "ethernet", fragment: int = 0) -> list[made.Frame]:
 
 
 def of_captures() -> list[bytes]:
+    """Captures that others are made of."""
     forms = [form(frames(), 1 << 16) for name, form in made.FORMS.items() if "ng" not in name]
     pcapng = made.FORMS["pcapng"](frames()[:2], 1 << 16).replace(bytes(70_000), bytes(12))
     links = [made.pcap(frames(link), "<", 0xA1B2C3D4, 1 << 16) for link in made.LINKS]
@@ -114,6 +117,8 @@ class Bytes(io.RawIOBase):
 
 
 def capture(data: bytes) -> None:
+    """Reads a capture as flutejoin-capture does."""
+
     def hand_on(source: bytes, target: bytes, port: int, payload: bytes) -> None:
         assert len(source) == len(target) in (4, 16) and len(payload) <= LONGEST, payload
         taken = adapting.Adapting().take(payload)
@@ -132,6 +137,7 @@ def capture(data: bytes) -> None:
 
 
 def of_fdt() -> list[bytes]:
+    """FDT Instances that others are made of."""
     more = {"Content-Encoding": "gzip"}
     sent = [Sent(1, b"one", "http://h/a"), Sent(2, b"two" * 99, "b c", b"2", 9, 2, more=more)]
     plain = flute_sender.fdt(sent)
@@ -142,6 +148,7 @@ def of_fdt() -> list[bytes]:
 
 
 def instance(data: bytes) -> None:
+    """Reads an FDT Instance."""
     fdt.likely_rank(data, 1)
     try:
         found = fdt.read_from(io.BytesIO(data), 1, "1", fdt.XmlBudget(1 << 24))
@@ -156,11 +163,13 @@ def instance(data: bytes) -> None:
 
 
 def entry(kind: int, sender: bytes, toi: int, rest: bytes) -> bytes:
+    """An entry of a journal: of this kind and object, and with this rest."""
     key = sender + struct.pack(">IHB", 0, 7, 1) + toi.to_bytes(14, "big")
     return bytes([kind]) + key + rest
 
 
 def of_files() -> list[bytes]:
+    """Journals and datagram files that others are made of."""
     datagrams = HEADER + b"".join(LENGTH.pack(len(it)) + it for it in session())
     sender = bytes(10) + b"\xff\xff\n\0\0\1"
     information = struct.pack(">HIHI", 0, 90, 20, 64)
@@ -228,6 +237,7 @@ def datagrams(data: bytes) -> None:
 
 
 def of_names() -> list[bytes]:
+    """Names of files that others are made of."""
     texts = ("http://h.example/a/b.txt?q#f", "../../x", "//h/%2e%2e/%2F", "a~b.partial", "",
              "http://u@H:80/\u00e9\u202e/" + "long" * 80, "b.from-10.0.0.1", "-a/.b/..", "mailto:x")
     return ["\n".join(texts).encode(), *(text.encode() for text in texts)]
@@ -256,6 +266,7 @@ ENCODINGS = "", *content.ENCODINGS
 
 
 def of_content() -> list[bytes]:
+    """Encoded files that others are made of: the first byte is the encoding, the second the MD5."""
     text = b"a text that is encoded, " * 20
     stream = zlib.compressobj(wbits=-15)
     raw = stream.compress(text) + stream.flush()
@@ -306,6 +317,7 @@ class MadeUpConnection:
 
 
 def answer_of(data: bytes, most: int) -> http.Answer:
+    """An answer of a server that sends these bytes, at most so many at once."""
     made_up = MadeUpConnection(data, most)
     connection = http.Connection(made_up, http.Spending(1 << 30, 600))  # type: ignore
     connection.begin(0)
@@ -332,6 +344,7 @@ def answers(data: bytes) -> None:
 
 
 def of_answers() -> list[bytes]:
+    """Answers of servers that others are made of."""
     part = b"\r\n--ab\r\nContent-Range: bytes %d-%d/90\r\n\r\n%s"
     body = b"".join(part % (a, b, WHOLE[a : b + 1]) for a, b in ASKED) + b"\r\n--ab--\r\n"
     kind = b"Content-Type: multipart/byteranges; boundary=ab\r\n"
@@ -359,6 +372,7 @@ def symbols(data: bytes) -> None:
 
 
 def of_symbols() -> list[bytes]:
+    """Answers with symbols (3GPP) that others are made of."""
     group = struct.Struct(">HHH")
     short = group.pack(1, 0, 0) + bytes(9) + group.pack(2, 2, 0) + bytes(16)
     return [short, group.pack(2, 0, 0) + bytes(18) + group.pack(2, 2, 0) + bytes(18)]
@@ -381,6 +395,7 @@ def of_urls() -> list[bytes]:
 
 
 def of_places() -> list[bytes]:
+    """FDT Instances that say where files lie."""
     inner = "<Alternate-Content-Location>b</Alternate-Content-Location>"
     form = f"<Alternate-Content-Location-1>{inner}</Alternate-Content-Location-1>"
     xml = flute_sender.fdt([Sent(1, b"a", "b")]).decode().replace("/>", f">{form}</File>")
@@ -400,6 +415,7 @@ def located(data: bytes) -> None:
 
 
 def of_descriptions() -> list[bytes]:
+    """Session descriptions that others are made of."""
     front = b"v=0\no=- 1 1 IN IP4 10.0.0.1\ns=-\nt=0 0\na=flute-ch:2\na=flute-tsi:7\n"
     one = b"c=IN IP4 239.1.1.1/127/2\nm=application 4001 FLUTE/UDP 0\n"
     six = b"m=application 4001/2 FLUTE/UDP 0\nc=IN IP6 FF3E::8000:1/2\n"
@@ -408,6 +424,7 @@ def of_descriptions() -> list[bytes]:
 
 
 def description(data: bytes) -> None:
+    """Reads a session description."""
     try:
         found = sdp.described(data)
     except ValueError as fault:
@@ -439,5 +456,6 @@ PARSERS = {
 
 
 def corpora() -> Iterator[tuple[str, Parser, list[bytes]]]:
+    """Yields each parser with the inputs that others are made of."""
     for name, parser in PARSERS.items():
         yield name, parser, [*parser.corpus()]

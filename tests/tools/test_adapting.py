@@ -266,6 +266,7 @@ def sent(draw: random.Random) -> Sent:
 
 class Drawn(run.Case):
     def view(self, datagram: bytes) -> str:
+        """What `flutejoin packet` prints of a datagram."""
         done = self.program(["packet", datagram.hex()])
         return (done.err or done.out).decode()
 

@@ -40,6 +40,7 @@ def up_to(size: int, pieces: Iterable[bytes]) -> Iterator[bytes]:
 
 
 def again(piece: bytes) -> Iterator[bytes]:
+    """Yields the same bytes again and again."""
     while True:
         yield piece
 
@@ -60,10 +61,12 @@ class Case(run.Case):
             file.writelines(up_to(SIZE - len(front), pieces))
 
     def datagrams(self, name: str, of: Iterable[bytes]) -> None:
+        """Writes a datagram file of as many of these as 10 MB have room for."""
         records = (struct.pack(">H", len(datagram)) + datagram for datagram in of)
         self.filled(name, records, b"FLDG\0\1")
 
     def join(self, of: Iterable[bytes], name: str = "journal") -> None:
+        """Joins such a file to a journal."""
         self.datagrams("sent", of)
         done = self.program(f"join --any-size --source {SENDER} -o {name} sent")
         self.assertEqual((done.status, b"refused 0\n" in done.out), (0, True), done)
@@ -91,6 +94,7 @@ class Case(run.Case):
 
 
 def frame(payload: bytes, sender: int = 1) -> bytes:
+    """A frame with a datagram of this sender, a number."""
     source, group = struct.pack(">I", 0x0B000000 + sender), b"\xef\1\1\1"
     return captures.LINKS["ethernet"][1] + captures.ip4(
         source, group, 17, captures.udp(source, group, payload)
@@ -102,6 +106,7 @@ def captured(frames: Iterable[bytes]) -> Iterator[bytes]:
 
 
 def numbered(begin: bytes, end: bytes = b"") -> Iterator[bytes]:
+    """Yields bytes with a rising number in them."""
     number = 0
     while True:
         yield begin + struct.pack(">I", number) + end
@@ -109,6 +114,7 @@ def numbered(begin: bytes, end: bytes = b"") -> Iterator[bytes]:
 
 
 def fragments(count: int) -> Iterator[bytes]:
+    """Frames that each have a fragment, of datagrams none of which becomes whole."""
     front, ends = captures.LINKS["ethernet"][1], (b"\n\0\0\1", b"\xef\1\1\1")
     numbers = ((at // 255 & 0xFFFF, 0x2000 | 255 - at % 255) for at in range(count))
     return (front + captures.ip4(*ends, 17, bytes(8), *each) for each in numbers)
@@ -133,6 +139,7 @@ INSTANCE = header(7, 0, struct.pack(">I", 192 << 24 | 2 << 20 | 1)) + b"\0\0\0\0
 
 class Captures(Case):
     def capture(self, frames: Iterable[bytes]) -> None:
+        """Checks what flutejoin-capture costs on a capture of these frames."""
         self.filled("capture", captured(frames), FRONT)
         self.kept()
 
@@ -206,6 +213,7 @@ class Objects(Case):
     journals: tuple[str, ...] = ("journal",)
 
     def both(self, *words: object) -> None:
+        """Checks what flutejoin-map and flutejoin-files cost on the journals."""
         program = "--flutejoin", run.PROGRAM
         self.costs("flutejoin-map", *program, "-o", "page.svg", *self.journals)
         listing: list[object] = ["--list"]
@@ -304,6 +312,7 @@ class Folders(Case):
     """Where flutejoin-receive and a station begin."""
 
     def received(self) -> None:
+        """Checks what flutejoin-receive costs that finds such files in its folder."""
         words = "--interface", "127.0.0.1", "--port", 4001, "--seconds", 0, "-o", "kept"
         self.costs("flutejoin-receive", *words)
 
@@ -371,6 +380,7 @@ class Keeping(Case):
         self.costs("flutejoin-station", *program, *words)
 
     def centre(self) -> None:
+        """Checks what a centre costs that takes the journals."""
         self.path("centre").mkdir()
         settings = f'[centre]\nfolder = "{self.path("centre")}"\nflutejoin = "{run.PROGRAM}"\n'
         settings += f'[[station]]\nname = "north"\nfolder = "{self.path("push")}"\n'

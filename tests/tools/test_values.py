@@ -25,6 +25,7 @@ def digits(content: bytes) -> str:
 
 
 def value(of: str, *files: tuple[int, str], length: str = " length 1000") -> str:
+    """The lines that flutejoin-values prints of a value, with how often each file has it."""
     times = sum(count for count, _ in files)
     inside = "".join(f"in {count} {name}\n" for count, name in files)
     return f"{of}{length} times {times}\n{inside}"
@@ -56,6 +57,7 @@ class Values(run.Case):
         self.right, self.bad = self.right_digits[:8], self.bad_digits[:8]
 
     def station(self, name: str, received: bytes) -> None:
+        """Makes a station's folder: its datagram file and its journal."""
         self.path(name).mkdir()
         self.write(f"{name}/10.0.0.1.fldg", received)
         of = f"{name}/10.0.0.1.fldg"
@@ -65,6 +67,7 @@ class Values(run.Case):
         return self.tool("flutejoin-values", words, **how)
 
     def values_row(self, name: str, words: str, *wanted: Any, **how: Any) -> Run:
+        """Runs flutejoin-values, and checks its status and outputs."""
         done = self.values(words, **how)
         self.check(name, done, *wanted)
         return done
