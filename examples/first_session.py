@@ -16,7 +16,7 @@ sys.dont_write_bytecode = True
 import datagram_files
 
 TEXT = b"A file is sent, each station loses other datagrams, and joined they have it.\n"
-SYMBOL, BLOCK = 8, 16
+SYMBOL, BLOCK = 8, 16  # bytes of a symbol, symbols of a block
 COMMANDS = [
     "join -o station1 received1",
     "gaps station1",

@@ -30,7 +30,7 @@ from tests.support.flute_sender import Sent
 from tests.support.kept_log import KeptLog
 from tests.support.run import ROOT
 
-LOSS = 0.3
+LOSS = 0.3  # part of the datagrams that each station loses
 SSH = '''#!{python}
 import os, pathlib, subprocess, sys, time
 at = sys.argv.index("flutejoin-station")

@@ -24,7 +24,7 @@ from flutejoin_tools.journals.merged import merged
 
 NEEDS_PROGRAM = False
 SENDER = bytes(10) + b"\xff\xff\x0a\x09\0\1"
-INFORMATION, SYMBOL, SYMBOL_CONFLICT = 1, 3, 4
+INFORMATION, SYMBOL, SYMBOL_CONFLICT = 1, 3, 4  # kinds of entries
 
 # The contents of a journal: by object its transmission information and the values of its symbols,
 # by block and number; None is a conflict

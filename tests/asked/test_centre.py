@@ -20,7 +20,7 @@ from tests.support import run
 from tests.support.flute_sender import EXPIRES, Sent, fdt, instance
 
 # What is sent beside symbols, in their bytes: entries have 44 bytes, sums 12 at each station
-MOST_MORE = 1.10
+MOST_MORE = 1.10  # times the bytes of the symbols that were wanted
 
 
 def files_of(turn: int, tois: range, most: int = 30_000) -> list[Sent]:

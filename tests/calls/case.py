@@ -26,7 +26,7 @@ CALL = re.compile(r"(?:\d+ +)?(\w+)\((.*)\) += (-?\d+)(?:<.*?>)?(?: (E\w+))?(.*)
 FILE = re.compile(r"(\d+|AT_FDCWD)<((?:\\x[0-9a-f]{2})*)>")
 TEXT = re.compile(r'"((?:\\x[0-9a-f]{2})*)"')
 MODE = re.compile(r"\b0[0-7]*$")
-LONGEST_TEXT = 300_000
+LONGEST_TEXT = 300_000  # bytes of a call's text that strace prints
 
 
 class Call(NamedTuple):

@@ -8,8 +8,8 @@ from tests.outputs.case import CUT, FIRST, SECOND, THIRD
 from tests.support.run import Run
 
 OLD = b"what was there before"
-MODE = 0o640
-NEW_MODE = 0o666
+MODE = 0o640  # permissions of the file that is there before
+NEW_MODE = 0o666  # permissions with which a new file is made, before the umask
 INFORMED = "session 7 object 3 info length 5 symbol 4 block 2\n"
 # Each command that leaves a file, with the numbers of its inputs
 COMMANDS = {

@@ -12,7 +12,7 @@ from tests.centre.case import TSI, CentreCase, announced, file_of, packets
 from tests.support import run
 from tests.support.flute_sender import Sent
 
-SIZE = 140_000
+SIZE = 140_000  # bytes of a file
 
 
 class Bounded(CentreCase):

@@ -23,7 +23,7 @@ from tests.support.flute_sender import Sent
 SOURCE = sender_bytes(SENDER)
 MOST = 500_000  # bytes of a page
 # Of text and of what is drawn, on its ground (WCAG 2.1, 1.4.3 and 1.4.11)
-TEXT, DRAWN = 4.5, 3.0
+TEXT, DRAWN = 4.5, 3.0  # least contrast of text, and of what is drawn (WCAG 2, level AA)
 GROUNDS = {"bg": ("fg", "dim", "full", "bad", "ok"), "badbg": ("fg", "dim", "bad", "full")}
 
 

@@ -22,7 +22,7 @@ from flutejoin_tools.pages.model import Model
 from tests.centre.case import SENDER, TSI, CentreCase, announced, file_of, packets
 from tests.support.flute_sender import Sent, fdt, instance
 
-DAY, HOUR = 86400, 3600
+DAY, HOUR = 86400, 3600  # seconds
 WINDOWS = int(os.environ.get("WINDOWS", 48))
 FILES = int(os.environ.get("FILES", 10))
 LATE = 7  # the file of a window of which the end comes in the next one

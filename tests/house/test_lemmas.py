@@ -14,7 +14,7 @@ from tests.support import run
 from tests.support.run import ROOT
 
 NEEDS_PROGRAM = False
-MOST = 8
+MOST = 8  # arguments by position
 SIGNATURE = re.compile(r"( *)(?:abbrev |unfoldable )?(?:pub )?([^\s():{}]+) : (.*)")
 GROUP = re.compile(r"([({])([^(){}:]+) : ")
 OPENING, CLOSING = "([{", ")]}"

@@ -10,7 +10,7 @@ import time
 from tests.outputs.test_faults import Mounted
 from tests.support import run
 
-GROUPS = 300
+GROUPS = 300  # of inputs that are drawn
 HEADER = b"FLDG\0\1"
 KILLS = 40  # one each 5 ms
 FAULT = "cannot write what is put aside"

@@ -24,7 +24,7 @@ FULL = {"to": "/dev/full"}
 DIFFER = "values differ"
 OBJECT = "session 7 object 1"
 SIDES = "same", "differ", "first", "second"
-PAIRS = 300
+PAIRS = 300  # of journals that are drawn
 CUTS = 8  # pairs of which each input is cut at some bytes
 LINE = re.compile(r"((?:source \w+ )?session \d+) object (.*?) (info|symbol \d+/\d+) (.*)")
 

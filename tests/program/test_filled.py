@@ -8,8 +8,8 @@ from typing import Dict, List, NamedTuple, Sequence
 from tests.program.case import HEADER2, Case, ended
 from tests.program.test_minus import Held, Place, drawn, drawn_places, entries_of
 
-PAIRS = 300
-SPLITS = 100
+PAIRS = 300  # of journals that are drawn
+SPLITS = 100  # drawn ways to split datagrams among a centre and three stations
 SHOWN = re.compile(r"(.*? object (?:fdt )?\d+) (info|symbol) (?:(\d+)/(\d+) )?.*")
 TOLD = re.compile(r"(.*? object (?:fdt )?\d+) (whole|partial|no information|conflicting info)")
 RUN = re.compile(r"gap (\d+)/(\d+)-(\d+) (\w+)")

@@ -11,7 +11,7 @@ from tests.program.test_ranges import drawn_journal
 from tests.support.run import version2
 
 FULL = {"to": "/dev/full"}
-JOURNALS = 100
+JOURNALS = 100  # that are drawn
 NOT_WHOLE = "not all objects are whole"
 DIFFER = "values differ"
 NAME = re.compile(

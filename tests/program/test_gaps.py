@@ -30,7 +30,7 @@ NOT_WHOLE = "not all objects are whole"
 COUNTS = "objects", "whole", "partial", "missing", "conflicting", "misfit", "unknown"
 GAP = "gap 0/1-1 missing"
 JOINED = "session 7 object 1 partial missing 0 conflicting 1 misfit 0"
-DRAWN = 300
+DRAWN = 300  # journals that are drawn
 
 
 def summary(session: str, *counts: int) -> str:

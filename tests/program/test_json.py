@@ -12,7 +12,7 @@ from tests.program.test_minus import drawn, drawn_places, entries_of
 from tests.support import run
 from tests.support.run import version2
 
-JOURNALS = 60
+JOURNALS = 60  # that are drawn
 # The greatest number in each field, in a journal and in a datagram
 MOST = "FFFFFFFFFFFF 01 FFFFFFFFFFFFFFFFFFFFFFFFFFFF"
 GREATEST = f"01 {MOST} FFFF00000000 FFFF 00010000", f"03 {MOST} FFFF FFFF 0001 61"

@@ -26,7 +26,7 @@ from tests.program.test_minus import drawn, drawn_places, entries_of
 from tests.support import run
 from tests.support.run import ZERO, version2
 
-JOURNALS = 40
+JOURNALS = 40  # that are drawn
 ENTRIES = lines(INFO_LINE, FIRST_LINE, LAST_LINE, "entries 3")
 NONE = "entries 0\n"
 NAME = "session 7 object 1\n"

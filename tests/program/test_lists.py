@@ -9,7 +9,7 @@ from tests.program.test_merge import left
 from tests.program.test_minus import drawn, drawn_places, entries_of
 from tests.support import run
 
-PAIRS = 60
+PAIRS = 60  # of journals and lists that are drawn
 
 
 class ForgetList(Case):

@@ -22,7 +22,7 @@ FULL = {"to": "/dev/full"}
 OTHER_LAST = f"03 {KEY} 0000 0001 0004 6F000000"
 MISFIT = f"03 {KEY} 0000 0002 0001 78"
 INFO_CONFLICT, LAST_CONFLICT = f"02 {KEY}", f"04 {KEY} 0000 0001"
-PAIRS = 300
+PAIRS = 300  # of journals that are drawn
 CUTS = 8  # pairs of which each input is cut at some bytes
 
 

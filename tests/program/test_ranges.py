@@ -27,7 +27,7 @@ from tests.support import run
 FULL = {"to": "/dev/full"}
 NOT_WHOLE = "not all objects are whole"
 OBJECT = "session 7 object 1"
-JOURNALS = 300
+JOURNALS = 300  # that are drawn
 LINE = re.compile(r"((?:source \w+ )?session \d+ object (?:fdt )?\d+) (.*)")
 NUMBERS = re.compile(r"info length (\d+) symbol (\d+) block (\d+)")
 SYMBOL = re.compile(r"symbol (\d+)/(\d+) (?:length (\d+) \w*|(conflict))")

@@ -11,8 +11,8 @@ from tests.program.case import NAME, Case
 from tests.support import run
 from tests.support.flute_sender import packets
 
-MEBIBYTE = 1 << 20
-LITTLE = {resource.RLIMIT_AS: 16 * MEBIBYTE}
+MEBIBYTE = 1 << 20  # bytes
+LITTLE = {resource.RLIMIT_AS: 16 * MEBIBYTE}  # memory for a run
 
 
 def datagrams(content: bytes, symbol: int, block: int) -> bytes:

@@ -9,8 +9,8 @@ from tests.program.case import Case, joined
 
 # The value at an address; `None` is a conflict
 Values = dict[bytes, Optional[bytes]]
-GROUPS = 60
-BLOCK, SYMBOL = 64, 4
+GROUPS = 60  # of inputs that are drawn
+BLOCK, SYMBOL = 64, 4  # symbols of a block, bytes of a symbol
 
 
 def key_of(toi: int) -> bytes:

@@ -10,7 +10,7 @@ from tests.program.test_merge import left
 from tests.program.test_minus import drawn, drawn_places, entries_of
 from tests.support import run
 
-PAIRS = 60
+PAIRS = 60  # of inputs and lists that are drawn
 KEYS = "session 7 object 1\n"
 INFORMATION = "40040000 00000005 00000004 00000002"
 

@@ -27,7 +27,7 @@ from tests.receive.test_places import LARGE, SMALL
 from tests.support.run import until
 
 SWITCH = 1e-5  # seconds after which another thread may go on
-REPORTS = 100
+REPORTS = 100  # statuses that a run is asked for
 
 
 class Threads(Inside):

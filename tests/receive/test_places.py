@@ -27,7 +27,7 @@ from flutejoin_tools.receive.writer import Folder, Writer
 from tests.support import run
 
 STEP = 100  # of a second
-SYMBOL = bytes(1380)
+SYMBOL = bytes(1380)  # a symbol as files have them
 REAL, FIRST_MADE_UP = "10.0.0.1", 0x0B000001
 
 

@@ -21,7 +21,7 @@ from tests.support.flute_sender import Sent, fdt, instance
 from tests.support.run import Run
 
 SENDER = "10.9.0.1"
-SYMBOL, BLOCK = 1400, 64
+SYMBOL, BLOCK = 1400, 64  # bytes of a symbol, symbols of a block
 
 
 class Repaired(NamedTuple):

@@ -13,7 +13,7 @@ from tests.repair.origin import HttpRequest, always, answer, head, multipart
 
 KIND = "multipart/byteranges; boundary=00000000000000000017"
 FOREVER = 8 << 20  # bytes of an answer that nobody wants
-LOST = 3, 9, 40
+LOST = 3, 9, 40  # places of symbols that the journal lacks
 Said = Union[bytes, Callable[[HttpRequest], Optional[bytes]]]
 
 

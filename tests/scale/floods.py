@@ -27,7 +27,7 @@ from tests.support.run import ROOT
 REAL, HERE = "127.0.0.2", "127.0.0.1"
 PACE = 100  # datagrams a second of the real sender
 FRONT = header(7, 1, b"")
-PACES = 1, 10, 100, 1000, 10_000, 100_000
+PACES = 1, 10, 100, 1000, 10_000, 100_000  # datagrams a second
 
 
 def waits(pace: float, seconds: float) -> Iterator[int]:

@@ -10,7 +10,7 @@ import datagram_files
 from tests.support import run
 
 SESSIONS, OBJECTS = 64, 4096  # as many as a store holds
-ANY_SESSIONS = 32_767
+ANY_SESSIONS = 32_767  # that the program takes with --any-size
 NUMBERS = (5, 4, 2)  # an object of five bytes, in a block of two symbols
 CONTENT = b"hello"
 ANY = "--any-size"

@@ -17,8 +17,8 @@ from tests.support.run import PROGRAM
 
 OBJECTS = 16
 SYMBOLS = 1_048_575  # with the entry of its FEC OTI an object has 1,048,576 entries
-BLOCK = 65_536
-MOST_MEMORY = 16 << 20
+BLOCK = 65_536  # symbols
+MOST_MEMORY = 16 << 20  # bytes of address space
 BYTE = b"x"
 ENTRIES = OBJECTS * (SYMBOLS + 1)  # the most that a command reads or writes
 TOO_LONG = "status 1: full\n"

@@ -43,7 +43,7 @@ from tests.support.kept_log import KeptLog
 from tests.support.run import ROOT
 
 SENDER = "10.9.0.1"
-LOSS = 0.3
+LOSS = 0.3  # part of the datagrams that each station loses
 TOOLS = ROOT / "tools"
 
 

@@ -23,7 +23,7 @@ import datagram_files
 
 NAMESPACE = "urn:ietf:params:xml:ns:fdt"
 EXPIRES = 4_007_664_000  # 2026-12-31 00:00:00Z, in seconds since 1900
-FDT_SYMBOL, FDT_BLOCK = 1000, 64
+FDT_SYMBOL, FDT_BLOCK = 1000, 64  # bytes of a symbol, symbols of a block of FDT Instances
 # A file of 20,000 bytes, encoded here since other versions of zlib encode it otherwise
 ENCODED = bytes.fromhex(
     "1f8b0800000000000203edc8390180300000b11d2d37b47c05ffc670c1948c19cdf68eceaeee"

@@ -18,7 +18,7 @@ SAID = {
     TIMES: f"sends {TIMES}: written without these fields of RFC 3451",
     SEVERAL: f"sends {SEVERAL}: written one in each",
 }
-CODED = Shape(encoding=3)
+CODED = Shape(encoding=3)  # its packets of FDT Instances have EXT_CENC, as compressed by gzip
 
 
 def deflated(data: bytes) -> bytes:

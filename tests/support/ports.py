@@ -13,9 +13,10 @@ import pathlib
 import socket
 import time
 
+# The first port, and how many processes of tests get how many ports each
 FIRST, PROCESSES, OF_EACH = 10_000, 200, 100
 # Bytes of a receive buffer. The least that systems give by default has room for these and for the
-# datagrams that are sent before the next look.
+# datagrams that are sent before the next look, in datagrams.
 MANY, LOOK_EACH = 150_000, 16
 NUMBERS = itertools.count(FIRST + os.getpid() % PROCESSES * OF_EACH)
 

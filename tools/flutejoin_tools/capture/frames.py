@@ -2,8 +2,8 @@
 from __future__ import annotations
 
 ETHERNET, COOKED, COOKED_2 = 1, 113, 276  # link types, https://www.tcpdump.org/linktypes.html
-RAW_IP = (12, 14, 101, 228, 229)
-LOOPBACK = (0, 108)
+RAW_IP = (12, 14, 101, 228, 229)  # link types of bare IP packets
+LOOPBACK = (0, 108)  # link types of loopback: a family comes first
 # The numbers of IPv4 and IPv6 on loopback, by system.
 FAMILIES = (b"\2", b"\n", b"\x17", b"\x18", b"\x1c", b"\x1e")
 IP = (b"\x08\x00", b"\x86\xdd")

@@ -85,7 +85,7 @@ from flutejoin_tools.common.options import CommandLine
 from flutejoin_tools.common.signals import answer_late_stops, exit_status
 from flutejoin_tools.formats import adapting, packets
 
-MOST_FLOWS = 1 << 16
+MOST_FLOWS = 1 << 16  # that are listed
 FLOWS = f"more than {MOST_FLOWS} flows"
 
 

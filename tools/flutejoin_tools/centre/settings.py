@@ -14,7 +14,7 @@ from flutejoin_tools.common.options import number_of_bytes
 from flutejoin_tools.common.texts import shown
 from flutejoin_tools.receive.settings import read_config
 
-DAY = 86400
+DAY = 86400  # seconds
 UNITS = {"": 1, "s": 1, "m": 60, "h": 3600, "d": DAY, "w": 7 * DAY}
 NAME = re.compile(r"[A-Za-z0-9][A-Za-z0-9_.-]{0,62}", re.ASCII)
 HOST = re.compile(r"[A-Za-z0-9_\[][A-Za-z0-9_.:@%\[\]-]{0,254}", re.ASCII)

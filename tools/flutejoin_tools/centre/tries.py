@@ -10,7 +10,7 @@ from flutejoin_tools.common.outputs import replace_text
 from flutejoin_tools.journals.holdings import Key, key_of
 from flutejoin_tools.pages.model import read_file
 
-DAY = 86400
+DAY = 86400  # seconds
 MOST = 1 << 14  # objects that are remembered
 MOST_BYTES = 1 << 23  # of the file
 LEAST_PAUSE, LONGEST_PAUSE = 60, DAY  # seconds

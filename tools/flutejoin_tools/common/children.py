@@ -5,7 +5,7 @@ import os
 import signal
 from typing import Callable
 
-NICE = 10
+NICE = 10  # lower priority of what runs behind other work
 DIE_WITH_PARENT = 1  # prctl's PR_SET_PDEATHSIG
 
 

@@ -17,7 +17,7 @@ from flutejoin_tools.exchange.news import DOCUMENTS, FOLDERS, has_news
 
 VARIABLE = "SSH_ORIGINAL_COMMAND"  # in which sshd hands on what was asked for
 ASKED = re.compile(r"flutejoin-station --answer --wait (\d{1,2})", re.ASCII)
-MOST_SECONDS = 60
+MOST_SECONDS = 60  # that an answer may wait
 LOOK = 0.25  # seconds between two looks
 FRESH = 10**9  # nanoseconds in which a name may change once more at the same time
 

@@ -16,7 +16,7 @@ from flutejoin_tools.common.texts import has_bytes
 from flutejoin_tools.journals.holdings import Key
 
 MOST_PART, MOST_PATH = 180, 900  # bytes of a part of a path, and of a path
-MOST_DEPTH = 16
+MOST_DEPTH = 16  # folders in one another
 ENDING = 12  # bytes of an ending that a name keeps when it is shortened
 INDEX = "index"  # the file name for a name that ends in a folder
 UNVERIFIED = ".unverified"

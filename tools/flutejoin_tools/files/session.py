@@ -36,7 +36,7 @@ class Described(NamedTuple):
         return ""
 
 
-BAD = Verdict.WRONG, Verdict.WRONG_MD5, Verdict.LEFT
+BAD = Verdict.WRONG, Verdict.WRONG_MD5, Verdict.LEFT  # with these a session isn't done
 APART = 1 << 112  # no TOI is so great: a further file of a TOI has its number and some times this
 
 

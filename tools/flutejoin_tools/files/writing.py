@@ -19,7 +19,7 @@ from flutejoin_tools.files.session import Outcome, Session
 from flutejoin_tools.journals.holdings import Key
 from flutejoin_tools.journals.states import State
 
-WRONG = (Verdict.WRONG, Verdict.WRONG_MD5)
+WRONG = (Verdict.WRONG, Verdict.WRONG_MD5)  # of these the file gets another ending
 
 
 class Ready(NamedTuple):

@@ -40,8 +40,8 @@ TAG = 22  # where the tag is in them
 SENDER, SYMBOL_ID, LENGTH, NUMBERS = 16, 4, 2, 12  # bytes
 # Bytes after the object's number, of an entry that is no symbol
 SIZES = {INFORMATION: NUMBERS, INFORMATION_CONFLICT: 0, SYMBOL_CONFLICT: SYMBOL_ID}
-KINDS = [bytes([kind]) for kind in range(256)]
-LONGEST = 1 + KEY + SYMBOL_ID + LENGTH + (1 << 16)
+KINDS = [bytes([kind]) for kind in range(256)]  # the first byte of an entry of each kind
+LONGEST = 1 + KEY + SYMBOL_ID + LENGTH + (1 << 16)  # bytes of an entry
 
 
 class Key(NamedTuple):

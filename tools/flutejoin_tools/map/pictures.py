@@ -60,7 +60,7 @@ class Left(NamedTuple):
 
 # Text
 
-TEXT_ROWS, TEXT_COLUMNS = 64, 64
+TEXT_ROWS, TEXT_COLUMNS = 64, 64  # of a panel with characters, at most
 
 
 def kinds_words(names: tuple[str, ...]) -> str:

@@ -13,7 +13,7 @@ FEW = 16  # datagrams; a sender with fewer may be a made-up address
 # Seconds after which what came of a sender with fewer is written, and those after which it is left
 # out, if there was no place until then
 LONG_WAIT, LONGEST_WAIT = 50, 60
-MOST_NEWCOMERS = 4096
+MOST_NEWCOMERS = 4096  # that are remembered at a time
 # Bytes that wait, with OF_EACH for a datagram: of the first FEW of each sender, and of all others
 MOST_HELD = MOST_MORE = 12 << 20
 OF_EACH = 128  # bytes that Python takes for a datagram

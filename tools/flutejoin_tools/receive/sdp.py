@@ -14,7 +14,7 @@ from flutejoin_tools.common.texts import shown
 
 MOST_BYTES, MOST_LINES = 1 << 16, 1 << 12  # of a description
 MOST_SESSIONS = 64  # that one description may ask for
-MOST_TSI = (1 << 48) - 1
+MOST_TSI = (1 << 48) - 1  # of 48 bits
 TYPES = "vosiuepcbtrzkam"
 PROTOCOL = "flute/udp"
 ADDRESS = re.compile(r"(\S+?)(?:/(\d{1,3}))?(?:/(\d{1,3}))?", re.ASCII)

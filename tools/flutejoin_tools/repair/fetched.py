@@ -24,8 +24,8 @@ MOST_DECODED = 1 << 28  # bytes that a file is decoded to, if its length is not 
 MOST_WORK = 1 << 36  # bytes that are decoded in all
 # The first two bytes of a header with TSI and TOI of 32 bits each, and of 48 and 112
 NARROW, WIDE = b"\x10\xa0", b"\x10\xf0"
-END_NARROW = 1 << 32
-EXT_FTI = b"\x40\x04"
+END_NARROW = 1 << 32  # TSIs and TOIs below this have a narrow header
+EXT_FTI = b"\x40\x04"  # how that extension begins: its type, and its length of 4 words
 FTI = struct.Struct(">HIHHI")
 
 

@@ -54,7 +54,7 @@ MOST, SECONDS = 10**9, 3600.0  # unless told
 LONGEST = 10**9  # seconds
 DURATION = re.compile(r"(\d{1,10}(?:\.\d{1,9})?)([smhd]?)", re.ASCII)
 UNITS = {"": 1, "s": 1, "m": 60, "h": 3600, "d": 86400}
-MOST_BASES = 64
+MOST_BASES = 64  # URLs of --base
 
 
 class Settings(NamedTuple):

@@ -13,7 +13,7 @@ if TYPE_CHECKING:
     from flutejoin_tools.station.keeping import Keeper
 
 MOST_NAMED = 8  # senders in one line
-HOUR = 3600
+HOUR = 3600  # seconds
 
 
 class Refused(NamedTuple):
