@@ -105,7 +105,7 @@ impl MemoryCalls {
         }
     }
 
-    // The same bytes once more.
+    // A copy of the bytes.
     fn copied(&self, bytes: &[u8]) -> Result<Vec<u8>, CallFault>
         ensures { IfOk result (λ copy. copy.items ≡ bytes.now) }
     {

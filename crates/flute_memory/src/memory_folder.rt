@@ -101,7 +101,7 @@ impl MemoryFolder {
     }
 }
 
-// The same file once more.
+// A copy of the file.
 fn copied(alloc: Global, file: &Option<StoredFile>) -> Result<Option<StoredFile>, AllocError>
     ensures { IfOk result (λ copy. option_map stored copy ≡ option_map stored file.now) }
 {

@@ -11,15 +11,15 @@ use std::fmt;
 /// The header is that of RFC 5651, section 5.
 #[derive(Clone, Copy, Debug, PartialEq, Eq)]
 pub enum Refusal {
-    /// It has more than 65,535 bytes.
+    /// The datagram has more than 65,535 bytes.
     TooLong,
-    /// It has fewer than 4 bytes.
+    /// The datagram has fewer than 4 bytes.
     TooShort,
     /// The version of LCT is not 1.
     LctVersion,
     /// The header's length, HDR_LEN, is less than its fields before the extensions take.
     HeaderLength,
-    /// It has fewer bytes than its header's length, HDR_LEN.
+    /// The datagram has fewer bytes than its header's length, HDR_LEN.
     HeaderCut,
     /// The Transport Session Identifier has no bits.
     NoTsi,

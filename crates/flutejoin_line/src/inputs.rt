@@ -7,7 +7,7 @@ use flutejoin::CommandFault;
 /// The word for standard output as an output, and for standard input as an input.
 pub const STANDARD: &str = "-";
 
-/// That standard input is one of these inputs at most, since it can be read once.
+/// Tests that standard input is one of these inputs at most, since it can be read once.
 ///
 /// # Errors
 ///
@@ -19,7 +19,7 @@ pub fn standard_once(inputs: &[&str]) -> Result<(), CommandFault>
     standard_once_beside(None, inputs)
 }
 
-/// That standard input is one of these inputs, and of a list beside them if there is one, at most.
+/// Tests that standard input is at most one of these inputs and a list, if one is beside them.
 ///
 /// # Errors
 ///

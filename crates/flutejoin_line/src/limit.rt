@@ -8,7 +8,7 @@ use clap::ArgMatches;
 /// How many sessions, objects and symbols a command takes in.
 #[derive(Clone, Copy, Debug, PartialEq, Eq)]
 pub enum Limit {
-    /// Those of a [`Shelf`](flute_store::Shelf).
+    /// As many sessions, objects and symbols as a [`Shelf`](flute_store::Shelf) holds.
     Shelf,
     /// More than a store of the program holds.
     AnySize,

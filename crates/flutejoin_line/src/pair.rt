@@ -16,7 +16,7 @@ pub struct Pair<'a> {
     pub second: &'a str,
 }
 
-/// Those of A and B.
+/// The two journals A and B of a command that prints.
 ///
 /// # Errors
 ///
@@ -31,7 +31,7 @@ pub fn pair_of<'a>(matches: &ArgMatches<'a>) -> Result<Pair<'a>, CommandFault>
     Ok(Pair { first, second })
 }
 
-/// Those of a command that writes OUT.
+/// The two journals A and B of a command that writes OUT.
 ///
 /// # Errors
 ///

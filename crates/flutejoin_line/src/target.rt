@@ -16,7 +16,7 @@ pub struct Target<'a> {
     pub overwrites: Overwrites,
 }
 
-/// That of a command that writes a journal.
+/// The target of a command that writes a journal.
 pub fn journal_target<'a>(matches: &ArgMatches<'a>) -> Target<'a>
     ensures { IsTarget overwrites_journal (found_rows matches.now) result }
 {
@@ -26,7 +26,7 @@ pub fn journal_target<'a>(matches: &ArgMatches<'a>) -> Target<'a>
     }
 }
 
-/// That of a command that writes something else.
+/// The target of a command that writes something else.
 pub fn other_target<'a>(matches: &ArgMatches<'a>) -> Target<'a>
     ensures { IsTarget overwrites_other (found_rows matches.now) result }
 {

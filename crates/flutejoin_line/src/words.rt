@@ -14,14 +14,14 @@ pub fn word<'a>(matches: &ArgMatches<'a>, id: &str) -> Option<&'a str>
     matches.get_str(id)
 }
 
-/// The same, or the empty text if there is none.
+/// The word after the option, or at the place, that has this name; the empty text if there is none.
 pub fn text<'a>(matches: &ArgMatches<'a>, id: &str) -> &'a str
     ensures { result.now ≡ word id.now (found_rows matches.now) }
 {
     word(matches, id).unwrap_or("")
 }
 
-/// That each of these options is given so often.
+/// Tests that each of these options is given so often.
 ///
 /// # Errors
 ///

@@ -41,7 +41,7 @@ pub enum Step {
 /// Why a step was refused.
 #[derive(Clone, Copy, Debug, PartialEq, Eq, Error)]
 pub enum StepFault {
-    /// It names a replica that is not there.
+    /// The step names a replica that is not there.
     #[error("NoReplica")]
     NoReplica,
     /// What it reads is no journal of at most 16,777,216 entries, and this is its first fault.

@@ -134,6 +134,8 @@ class Documents:
     """The FDT Instances that are whole, in a file."""
 
     def __init__(self, path: str, journals: Sequence[str], choice: Choice) -> None:
+        """Their bytes go to a new file, `path`. Of the journals those objects are read that the
+        function `choice` accepts."""
         self.file = open(path, "w+b")
         self.journals = journals
         self.choice: Choice = lambda key: key.tag == FDT_INSTANCE and choice(key)

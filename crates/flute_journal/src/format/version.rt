@@ -6,7 +6,7 @@ ghost use Rattle.flute_journal.specs.Faults.{is_version};
 /// The version of a journal: whether its entries name their senders.
 #[derive(Clone, Copy)]
 pub enum Version {
-    /// They don't, and each sender is 0. Such journals are read, and no longer written.
+    /// Entries don't name their sender, which is 0. Such journals are read, and no longer written.
     One,
     /// Each entry has its sender after its kind.
     Two,

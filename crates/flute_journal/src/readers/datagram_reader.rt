@@ -172,7 +172,7 @@ fn read_record<R: Source>(
     read_fields(alloc, source, max_records, count)
 }
 
-// The same, field by field, and into memory of its own.
+// Reads the next record field by field, into memory of its own.
 #[tactic(auto, using(crate::proofs::framing_lemmas::Records::record_reads))]
 #[inline(never)]
 fn read_fields<R: Source>(

@@ -181,7 +181,7 @@ pub fn read_into<R: Source>(
     hold_anew(alloc, source, max_entries, state, held)
 }
 
-// The same, whatever the next entry is. It is not inlined into the step that advances a stream,
+// Reads the next entry, whatever it is. It is not inlined into the step that advances a stream,
 // which would take longer.
 #[inline(never)]
 fn hold_anew<R: Source>(
@@ -235,7 +235,7 @@ fn read_at<R: Source>(
     read_fields(alloc, source, max_entries, state)
 }
 
-// The same, but the bytes are read field by field.
+// Reads the next entry field by field, and not where it lies in the source's buffer.
 #[tactic(auto, using(crate::proofs::Cited::gives_entries, crate::proofs::Cited::reads_entries))]
 #[inline(never)]
 fn read_fields<R: Source>(

@@ -11,9 +11,9 @@ use flute_parts::{Key, ObjectKey};
 /// Which objects are taken. Each field narrows the others.
 #[derive(Clone, Copy)]
 pub struct Scope {
-    /// Those of these sessions.
+    /// The sessions whose objects are taken.
     pub sessions: Sessions,
-    /// This object of each of them, or any.
+    /// The one object of each session that is taken; if `None`, any.
     pub object: Option<ObjectKey>,
     /// Files alone, and no FDT Instances, which have the TOI 0 (RFC 6726, section 3.4).
     pub files: bool,

@@ -13,9 +13,9 @@ use std::collections::BTreeSet;
 /// Which facts are selected. Each field narrows the others.
 #[derive(Clone, Copy)]
 pub struct Selection {
-    /// Those of this sender, or of any.
+    /// The one sender whose facts are selected; if `None`, any.
     pub sender: Option<Sender>,
-    /// Those of these objects.
+    /// The objects whose facts are selected.
     pub scope: Scope,
     /// Only this symbol of objects.
     pub symbol: Option<SymbolId>,

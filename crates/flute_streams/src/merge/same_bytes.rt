@@ -49,7 +49,7 @@ fn same_pieces(first: &[u8], second: &[u8]) -> bool
     }
 }
 
-// The same of a piece.
+// Whether the bytes are the same in one piece.
 #[inline(always)]
 fn same_piece<const SIZE: usize>(first: &[u8], second: &[u8]) -> bool
     requires first { length first.now ≡ SIZE }

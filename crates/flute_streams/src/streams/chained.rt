@@ -14,7 +14,7 @@ const MOST: usize = 65_535;
 /// the number of any streams and one fit a `usize`.
 #[derive(Drop)]
 pub struct Chained<'a, A, G> {
-    /// It has the number 0.
+    /// The stream with the number 0.
     pub first: &'a mut A,
     /// Their numbers begin with 1.
     pub others: G,

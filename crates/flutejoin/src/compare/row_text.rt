@@ -38,7 +38,7 @@ fn json_row_text(row: &Row) -> Text
     text
 }
 
-// The same as `side_word`, as a string of JSON.
+// The word of `side_word`, as a string of JSON.
 fn json_side_word(side: Option<Side>) -> &'static str
     ensures word { result.now ≡ json_side side }
     ensures len { length result.now ≤ 8 }

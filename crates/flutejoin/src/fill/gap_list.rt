@@ -28,7 +28,7 @@ pub enum GapListFault {
 pub enum LastLine {
     /// None was read yet.
     Unread,
-    /// This one.
+    /// The line that was read last, and is not used up yet.
     Line(ListedLine),
     /// There is no further line.
     Ended,
