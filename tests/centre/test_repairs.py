@@ -371,7 +371,7 @@ class Servers(RepairCase):
 
     def test_bytes_of_a_day(self) -> None:
         """No more than `most` comes in a day; the next one goes on."""
-        most = 110_000  # bytes: what is missing of one file, and not of two
+        most = 110_000  # bytes: of each file 49 symbols of 1,400 are missing, so one has room
         files = self.files_of(1, 2, 3, size=150_000)
         self.push_without(files, [*range(2, 100, 2)])
         self.repair = {"most": most}
@@ -380,9 +380,9 @@ class Servers(RepairCase):
         self.later()
         self.steps()
         self.holds("one file has room", len(self.files()) == 1, self.files().keys())
-        self.holds("no more comes", self.origin.sent < 240_000, self.origin.sent)
+        self.holds("no more comes", self.origin.sent < most, self.origin.sent)
         repair = self.status()["repair"]
-        self.holds("the bound holds", repair["today"] <= 110_000 == repair["most"], repair)
+        self.holds("the bound holds", repair["today"] <= most == repair["most"], repair)
         lines = [it for it in self.told.printed if "until tomorrow" in it]
         self.holds("it is told once", len(lines) == 1, self.told.printed)
         self.holds("that is no failure", not self.told_of_repair(), self.told_of_repair())
