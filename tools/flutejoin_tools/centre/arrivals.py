@@ -1,4 +1,4 @@
-"""A station of a centre, and what it brought or told."""
+"""Joins what belongs to one station of a centre: its folder, and what it brought or told."""
 from __future__ import annotations
 
 import contextlib

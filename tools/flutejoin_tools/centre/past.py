@@ -1,4 +1,4 @@
-"""Journals of what a centre delivered, which are kept for a time."""
+"""Keeps journals of what a centre delivered for a time, and copies from them what is asked for."""
 from __future__ import annotations
 
 import errno

@@ -1,4 +1,4 @@
-"""Addresses of senders: as text, and as the bytes that journals have."""
+"""Turns addresses of senders from text into the bytes that journals have, and back."""
 from __future__ import annotations
 
 import ipaddress

@@ -1,4 +1,4 @@
-"""Processes that end with this one, and work behind other work."""
+"""Prepares children of a tool: they end when it ends, and may run at a low priority."""
 from __future__ import annotations
 
 import os

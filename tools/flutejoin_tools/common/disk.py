@@ -1,4 +1,4 @@
-"""What files take of the disk."""
+"""Counts what files take of the disk: whole blocks."""
 from __future__ import annotations
 
 import os

@@ -1,4 +1,4 @@
-"""What ends a run of a tool, or the part of it that is at fault."""
+"""The exception that ends a run of a tool with an exit status, or the part that is at fault."""
 from __future__ import annotations
 
 

@@ -1,4 +1,4 @@
-"""The names of files: of senders, of what is not whole yet, and of standard output."""
+"""Makes and reads the names of files: a sender's address, an epoch and a number, and an ending."""
 from __future__ import annotations
 
 import ipaddress

@@ -1,4 +1,4 @@
-"""What joins of a station are fed with: whole records of a datagram file, by their sessions."""
+"""Picks what joins of a station read: whole records of a datagram file, or some sessions of it."""
 from __future__ import annotations
 
 import collections

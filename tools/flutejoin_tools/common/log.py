@@ -1,4 +1,4 @@
-"""What a tool says: its lines, and its faults."""
+"""Prints what a tool says: lines on standard output, faults on standard error."""
 from __future__ import annotations
 
 import os

@@ -1,4 +1,4 @@
-"""Outputs of tools: new files, which are whole or not there, and standard output."""
+"""Writes outputs of tools: new files, which are whole or not there, and standard output."""
 from __future__ import annotations
 
 import contextlib

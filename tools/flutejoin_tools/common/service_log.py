@@ -1,4 +1,4 @@
-"""What a service says: bounded, with priorities, and never waiting for who reads it."""
+"""Prints what a service says: bounded, with priorities, and never waiting for who reads it."""
 from __future__ import annotations
 
 import time

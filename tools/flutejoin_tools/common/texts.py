@@ -1,4 +1,4 @@
-"""Texts that are safe to print."""
+"""Makes texts safe to print, that came from files or from the network."""
 from __future__ import annotations
 
 import os

@@ -1,4 +1,4 @@
-"""What a station has, and whether something of it is new since a mark: by names, lengths and times.
+"""Finds what a station has, and whether it is new since a mark, by names, lengths and times.
 """
 from __future__ import annotations
 

@@ -1,4 +1,4 @@
-"""Which FDT Instances describe an object, of a folder of documents that grows."""
+"""Looks up which FDT Instances describe an object, in a folder of documents that grows."""
 from __future__ import annotations
 
 import contextlib

@@ -1,4 +1,4 @@
-"""An FDT Instance that is put together of its symbols, as they come."""
+"""Puts an FDT Instance together of its symbols, in the order in which they come."""
 from __future__ import annotations
 
 import itertools

@@ -1,4 +1,4 @@
-"""Which files objects are about which journals differ: by their MD5, or by what journals agree."""
+"""Finds the files that objects are about which journals differ: by MD5, or what agrees."""
 from __future__ import annotations
 
 import collections

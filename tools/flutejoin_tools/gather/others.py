@@ -1,4 +1,4 @@
-"""Values that differ from what is kept: the MD5 of a file may show that they were sent."""
+"""Keeps values aside that differ from what is kept: a file's MD5 may show that they were sent."""
 from __future__ import annotations
 
 import os

@@ -1,4 +1,4 @@
-"""How what is new of an object compares with what is kept of it, and where it goes."""
+"""Compares what is new of an object with what is kept of it, and decides where it goes."""
 from __future__ import annotations
 
 import itertools

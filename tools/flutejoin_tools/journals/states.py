@@ -1,4 +1,4 @@
-"""The states of objects, as flutejoin prints them."""
+"""Reads the states of objects as flutejoin prints them: whole, partial, no information .."""
 from __future__ import annotations
 
 import re

@@ -1,4 +1,4 @@
-"""Pictures of what stations hold of objects, as a page of SVG and as text.
+"""Draws what stations hold of objects, as a page of SVG and as text.
 
 Source blocks are rows of cells.
 """

@@ -1,4 +1,4 @@
-"""What several journals contain of the objects that are drawn: each by itself, and all together."""
+"""Finds what journals contain of the objects that are drawn: each by itself, and all together."""
 from __future__ import annotations
 
 import ipaddress

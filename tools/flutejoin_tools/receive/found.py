@@ -1,4 +1,4 @@
-"""Datagram files that earlier runs left in a folder: their senders, and where they end."""
+"""Reads datagram files that earlier runs left in a folder: whose they are, and where they end."""
 from __future__ import annotations
 
 import collections

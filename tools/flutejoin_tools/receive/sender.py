@@ -1,4 +1,4 @@
-"""One sender that flutejoin-receive keeps: its files, and its datagrams that wait to be written."""
+"""One sender that flutejoin-receive keeps: hands its datagrams in blocks to the writer."""
 from __future__ import annotations
 
 import collections

@@ -1,4 +1,4 @@
-"""What the system tells of where a session is received, and what to look at if nothing comes."""
+"""Tells where a session is received, by tables of the system, and what to look at in silence."""
 from __future__ import annotations
 
 import contextlib

@@ -1,4 +1,4 @@
-"""What a receiver says, in all of its modules and both of its threads."""
+"""The log of a receiver, for all of its modules and both of its threads."""
 from __future__ import annotations
 
 from flutejoin_tools.common.service_log import EACH, ServiceLog

@@ -1,4 +1,4 @@
-"""What a server says of a file, by which it is the same in all answers, and the one described."""
+"""Compares what servers say of a file: whether all answers are of one, the one described."""
 from __future__ import annotations
 
 import base64

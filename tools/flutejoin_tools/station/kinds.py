@@ -1,4 +1,4 @@
-"""Values of options of a station. Each raises ArgumentTypeError."""
+"""Reads values of a station's options. Each function raises ArgumentTypeError."""
 from __future__ import annotations
 
 import argparse

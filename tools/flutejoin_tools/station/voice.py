@@ -1,4 +1,4 @@
-"""What a station says: its lines, and what its joins printed of each sender."""
+"""Makes the lines that a station says, and counts what its joins printed of each sender."""
 from __future__ import annotations
 
 import collections
