@@ -125,7 +125,7 @@ def journals_in(folder: str) -> list[str]:
 
 
 def copies(journals: Iterable[str], keys: Container[Key], folder: str) -> list[str]:
-    """Writes to a folder what each journal has of some objects; those that have nothing not."""
+    """Writes to a folder what each journal has of some objects, a journal each, if anything."""
     made = []
     for path in journals:
         out_path = os.path.join(folder, f"{len(os.listdir(folder))}{ENDING}")
@@ -220,7 +220,7 @@ class Pending:
             gathering.end()
 
     def copy(self, keys: AbstractSet[Key], folder: str) -> list[str]:
-        """Brings to a folder what each journal has of some objects; those that have nothing not."""
+        """Brings to a folder a copy of what each journal has of some objects, if anything."""
         if self.objects.keys() <= keys:
             return links(self.journals(), folder)
         return copies(self.journals(), keys, folder)
