@@ -143,7 +143,6 @@ class Journals(Compared):
         self.holds("each fault is drawn", faults == OF_JOURNALS, faults ^ OF_JOURNALS)
         self.holds("and journals", DRAWN // 80 < taken < DRAWN // 80 * 3, taken)
 
-
     def test_long(self) -> None:
         """Of a long journal the entries are counted by the tools' own parser, which reads it."""
         journal = b"FLJN\0\1\2" + bytes(6) + b"\1" + bytes(13) + b"\1\xff" + bytes(7) + b"\1"

@@ -186,7 +186,7 @@ class Answering:
                 made.documents[name] = identity
 
     def tell_document(self, path: str, name: str, when: int) -> int:
-        """Tells of one FDT Instance, and returns how many bytes it has; 0 if it is none, or gone."""
+        """Tells of one FDT Instance, and returns how many bytes it has: 0 if it is none or gone."""
         named = DOCUMENT.fullmatch(name)
         rest = name[: -len(REST)] if name.endswith(REST) else ""
         source = source_of(named[1] if named else rest)
