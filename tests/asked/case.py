@@ -109,7 +109,8 @@ class CallWithoutSsh:
         host = command[command.index("flutejoin-station") - 1]
         number = f"{time.time_ns():020}"
         given, said = "".join(request).encode(), []  # type: bytes, list[str]
-        self.path, self.told, self.most = path + PARTIAL, None, most
+        self.path, self.most = path + PARTIAL, most
+        self.failure: Optional[str] = None
         with open(self.path, "w+b") as out:
             try:
                 of = Answering(
@@ -117,7 +118,7 @@ class CallWithoutSsh:
                 )
                 of.answer(given)
             except (Refused, Fault) as fault:
-                self.told = str(fault)
+                self.failure = str(fault)
             out.truncate(min(most, out.tell()))
         data = pathlib.Path(self.path).read_bytes()
         self.size = len(data)
