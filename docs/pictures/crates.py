@@ -11,10 +11,10 @@ import pathlib
 ROOT = pathlib.Path(__file__).resolve().parent.parent.parent
 PROGRAM = "flutejoin_cli"
 # Those of which the program doesn't consist, in dashed boxes; tests and samples have none.
-BESIDE = "flute_memory", "flutejoin_memory", "flutejoin_replicas"
+BESIDE = "flute_memory", "flutejoin_c", "flutejoin_memory", "flutejoin_replicas"
 # The column of a crate that is not in the first one
 COLUMNS = {
-    **{"flute_calls": 1, "flute_output": 1, "flutejoin_replicas": 1},
+    **{"flute_calls": 1, "flute_output": 1, "flutejoin_c": 1, "flutejoin_replicas": 1},
     **{"flute_memory": 2, "flutejoin_memory": 2},
 }
 WIDTH, HIGH, WIDE, STEP = 480, 26, 148, 46
@@ -42,7 +42,7 @@ STYLE = """\
 def crates() -> dict[str, list[str]]:
     """The crates of this repository, each with those that it uses."""
     lines = (ROOT / "crates.txt").read_text().splitlines()
-    rows = {name.strip(): uses.split() for name, _, uses in (line.partition(":") for line in lines)}
+    rows = {name.split()[0]: uses.split() for name, _, uses in (it.partition(":") for it in lines)}
     return {name: [it for it in uses if it in rows] for name, uses in rows.items()}
 
 
