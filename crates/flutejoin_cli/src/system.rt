@@ -158,6 +158,8 @@ impl<'a> World for System<'a> {
     }
 
     fn close(&mut self, _out: &str, _folder: Self::Folder) {}
+
+    fn close_folder(&mut self, _out: &str, _folder: Self::NewFolder) {}
 }
 
 // The regular file that standard output goes to, if this path means standard output.

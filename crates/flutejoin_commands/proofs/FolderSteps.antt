@@ -1,7 +1,8 @@
 -- extract_all_into: a new folder that a command makes, fills and ends (specs/Folders).
 use Rattle.std.proofs.Common.{◌≡◌, ℕ, List, [], ◌++◌, length, Option, Some, None, Result, Ok, Err}
-use Rattle.std.proofs.Common.{inl, inr, refl, sym, ap, ◌∙◌, subst}
-use Rattle.std.specs.Prelude.{◌⊎◌, Bool, IfSome, OnOk, IfOk, IfErr, codes}
+use Rattle.std.proofs.Common.{inl, inr, refl, sym, ap, ◌∙◌, subst, arith, ◌+◌, ◌<◌, ◌≤◌}
+use Rattle.std.proofs.Common.{if◌then◌else◌, is_ok}
+use Rattle.std.specs.Prelude.{◌⊎◌, Bool, IfSome, OnOk, OnErr, IfOk, IfErr, codes}
 use Rattle.flute_parts.specs.declared.fact.Fact.{Fact}
 use Rattle.std.specs.Io.KnownBytes.{Appends}
 use Rattle.std.proofs.KnownBytes.{Appends-trans}
@@ -19,7 +20,8 @@ use Rattle.flutejoin.specs.declared.command_fault.CommandFault.TheVariants.{Cann
 use Rattle.flutejoin.specs.Limits.{Limits}
 use Rattle.flutejoin_commands.specs.Folders.{IsFolderOf, IsKeptFolder, TellsFiles, LeavesFolder}
 use Rattle.flutejoin_commands.specs.Folders.{IsNowhere, FolderFails, of_work, of_device, of_end}
-use Rattle.flutejoin_commands.specs.Folders.{finish_fault}
+use Rattle.flutejoin_commands.specs.Folders.{finish_fault, FolderNames, IsFolderAt}
+use Rattle.flutejoin_commands.specs.Folders.{IsOneFolderAlways, KeepsFolder}
 
 pub made_ready : (o m : Option Places) → LeadsTo IsMade o m → IfSome m IsReady
 made_ready None None h = tt
@@ -235,3 +237,72 @@ not_finished {most} {input} {left} {picks} {o} {m} {f} {n} {r} {r'} {done} {resu
         there_failed o n (inl refl) h
         (subst (λ x. IfOk x (ExtractsAll most input left picks m f r r')) d.1 filling.extracted)
         there
+
+-- ---- failures of the folder and of the report, counted together
+
+-- nothing is beside OUT, whatever was before
+pub none_beside : (a b c d : Option Places) → LeadsTo IsMade a b → LeadsTo FolderStays b c
+    → LeadsTo NoneBeside c d → LeadsTo NoneBeside a d
+none_beside None None None d m s n = n
+none_beside None None (Some c) d m s n = absurd s
+none_beside None (Some b) c d m s n = absurd m
+none_beside (Some a) None c d m s n = absurd m
+none_beside (Some a) (Some b) None d m s n = absurd s
+none_beside (Some a) (Some b) (Some c) None m s n = absurd n
+none_beside (Some a) (Some b) (Some c) (Some d) m s n = n
+
+-- what is so in any case
+pub at_fault : {T E A : Type 0} (B : Type 0) (r : Result T E) → A → OnErr r (B → A)
+at_fault B (Ok x) a = tt
+at_fault B (Err e) a = λ b. a
+
+-- what a fault of ending says, if it is one
+abbrev fault_in : {T : Type 0} → Result T (FinishFault CommandFault) → CommandFault
+fault_in (Ok x) = CannotWrite
+fault_in (Err x) = finish_fault x
+
+-- A folder that was filled, or not, and then ended with a fault: how often the folder had failed
+-- before the end (d) and after it (d'), the report (p), and both at first (all).
+module _ {T : Type 0} (all d p d' : ℕ) (r : Result T (FinishFault CommandFault))
+    (x : FinishFault CommandFault) (is : r ≡ Err x) (more : d ≤ d') (counted : all ≤ d + p)
+  where
+    pub gone_if_quiet : {N : Type 0} (done : Result T CommandFault)
+        → (d' ≡ d + (if is_ok done then 1 else 0) → N) → OnOk done (OnErr r (d < d'))
+        → d' + p ≡ all → N
+    gone_if_quiet (Ok y) gone ended same =
+        let later = subst (λ z. OnErr z (d < d')) is ended in
+        absurd (let no : ⊥ = omega (arith, later, counted, same) in no)
+    gone_if_quiet (Err e) gone ended same =
+        gone (let kept : d' ≡ d + 0 = omega (arith, more, counted, same) in kept)
+
+    pub fault_caused : (done : Result T CommandFault) → IfErr done (λ e. r ≡ Err (finish.Work e))
+        → IfErr done (λ e. e ≡ CannotWrite → all < d + p) → OnOk done (OnErr r (d < d'))
+        → finish_fault x ≡ CannotWrite → all < d' + p
+    fault_caused (Ok y) first caused ended fault =
+        let later = subst (λ z. OnErr z (d < d')) is ended in
+        omega (arith, later, counted)
+    fault_caused (Err e) first caused ended fault =
+        let before = caused (ap fault_in (sym first ∙ is) ∙ fault) in
+        omega (arith, before, more)
+
+-- ---- names of new folders
+
+same_folder : (p : Option Places) → LeadsTo FolderStays p p
+same_folder None = tt
+same_folder (Some p) = record { out = refl; past = refl; named = refl }
+
+-- names that lead to what they led to
+pub keeps_same : (name : List ℕ) {old new : FolderNames} → new ≡ old → KeepsFolder name old new
+keeps_same name {old} {new} e =
+    subst (KeepsFolder name old) (sym e)
+    (record { here = inl (same_folder (old name)); elsewhere = λ other apart. refl })
+
+-- a name whose folder was made and taken back
+pub keeps_closed : (name : List ℕ) {old mid new : FolderNames} {first last : Option Places}
+    → mid ≡ old → first ≡ old name → IsFolderAt name last mid new
+    → IsOneFolderAlways first last → KeepsFolder name old new
+keeps_closed name {old} {mid} {new} {first} {last} e is closed moments = record {
+  here = subst (λ a. IsOneFolderAlways a (new name)) is
+      (subst (IsOneFolderAlways first) (sym closed.here) moments);
+  elsewhere = λ other apart. closed.elsewhere other apart ∙ ap (λ f. f other) e;
+}

@@ -1,6 +1,6 @@
 -- What is left where the output is a file with a name (specs/Worlds: Leaves, FailsToLeave).
-use Rattle.std.proofs.Common.{◌≡◌, ℕ, List, Option, Some, None, Result, Ok, Err, IfErr, inl, inr}
-use Rattle.std.proofs.Common.{refl, sym, ap, subst, ◌∙◌}
+use Rattle.std.proofs.Common.{◌≡◌, ◌≢◌, ◌⊎◌, ℕ, List, Option, Some, None, Result, Ok, Err}
+use Rattle.std.proofs.Common.{IfErr, inl, inr, refl, sym, ap, subst, ◌∙◌}
 use Rattle.std.specs.Prelude.{option_map, OnOk}
 use Rattle.flute_output.specs.Entries.{Entries, created}
 use Rattle.flute_output.specs.declared.place.Place.{Place}
@@ -12,12 +12,15 @@ use Rattle.flutejoin_commands.specs.Commands.{of_work, of_create, of_file, of_di
 use Rattle.flutejoin_commands.specs.Commands.{Devices, devices, with_beside}
 use Rattle.flutejoin_commands.specs.Deliveries.{FailsDelivered}
 use Rattle.flutejoin_commands.specs.Files.{Files}
-use Rattle.flutejoin_commands.specs.Outlets.{Outlets, PutsOut, FailsHeld}
+use Rattle.flutejoin_commands.specs.Outlets.{FailsHeld, FailsOut, Outlets, PutsOut}
+use Rattle.flutejoin_commands.specs.Outlets.{of_open, of_output}
+use Rattle.flutejoin_commands.specs.Outlets as outlet
 use Rattle.flutejoin_commands.specs.Worlds.{HasOut, IsStandard, IsFileName, Closes, KeepsFiles}
 use Rattle.flutejoin_commands.specs.Worlds.{IsPlaced}
 use Rattle.flutejoin_commands.specs.Worlds.{FileIs, FileBecomes, Leaves, in_file, in_device}
 use Rattle.flutejoin_commands.specs.Worlds.{in_output, FailsToLeave, as_before, in_place, Outside}
-use Rattle.flutejoin_commands.specs.Worlds.{beside_name, bytes_of, outside}
+use Rattle.flutejoin_commands.specs.Worlds.{IsKnownFile, IsReason, TellsNothing, beside_name}
+use Rattle.flutejoin_commands.specs.Worlds.{bytes_of, outside}
 use Rattle.flutejoin_commands.specs.declared.delivery.Delivery.{Delivery}
 use Rattle.flutejoin_commands.specs.declared.delivery.Delivery.TheVariants.{AtOnce, Whole}
 
@@ -139,9 +142,41 @@ held_too : {A : Type 0} {writes : A → Option (List ℕ) → Option (List ℕ) 
     {fails : CommandFault → Type 0} {name : List ℕ} {found left : Outside}
     {fault : CommandFault} → FailsToLeave writes fails name found left fault
     → FailsToLeave writes (FailsHeld fails) name found left fault
-held_too (as_before (inl f) k) = as_before (inl (inl f)) k
-held_too (as_before (inr is) k) = as_before (inr is) k
-held_too (in_place is answer beside f) = in_place is answer beside f
+held_too (as_before (inl f) k t) = as_before (inl (inl f)) k t
+held_too (as_before (inr is) k t) = as_before (inr is) k t
+held_too (in_place is answer beside f t) = in_place is answer beside f t
+
+-- ---- what was reported after a fault
+
+no_file : (files : Option Files) (name : List ℕ) → files ≡ None → IsKnownFile files name → ⊥
+no_file None name e known = known
+no_file (Some files) name e known = absurd (let h = e in cc)
+
+no_standard : (files : Option Files) (name : List ℕ) → IsStandard files name
+    → IsKnownFile files name → ⊥
+no_standard None name standard known = known
+no_standard (Some files) name standard known = known standard
+
+-- a report to standard output that is as before, or `cannot write`
+untold : {name : List ℕ} {old new : Option Files} {out out' errors : Option (List ℕ)}
+    {e : CommandFault} → (e ≡ fault.CannotWrite) ⊎ (out' ≡ out)
+    → TellsNothing name (outside old out errors) (outside new out' errors) e
+untold (inl is) = record { output = λ known not. absurd (not is); errors = λ why. refl }
+untold (inr same) = record { output = λ known not. same; errors = λ why. refl }
+
+by_either : {K N E : Type 0} → (K → ⊥) → (N → E) → K ⊎ N → E
+by_either none same (inl known) = absurd (none known)
+by_either none same (inr not) = same not
+
+-- a report to standard error that is as before, or `cannot write`, where OUT is no file
+untold_error : {name : List ℕ} {old new : Option Files} {out out' errors errors' : Option (List ℕ)}
+    {e : CommandFault} → (IsKnownFile old name → ⊥)
+    → (e ≢ fault.CannotWrite → errors' ≡ errors)
+    → TellsNothing name (outside old out errors) (outside new out' errors') e
+untold_error none same = record {
+  output = λ known not. absurd (none known);
+  errors = by_either none same;
+}
 
 -- Where the work failed, or the file, the disk or the report.
 module _ {A : Type 0} {writes : A → Option (List ℕ) → Option (List ℕ) → Type 0}
@@ -151,18 +186,19 @@ module _ {A : Type 0} {writes : A → Option (List ℕ) → Option (List ℕ) �
       → IsClosed name old new d.folder d'.folder → Fails writes fails lines before d d' fault
       → FailsToLeave writes fails name (outside old d.report errors)
       (outside new d'.report errors) fault
-  failed_file {d = d} {d' = d'} x (of_work f w kept clear untold) =
-      as_before (inl f) (kept_file old new d.folder d'.folder x kept)
-  failed_file {d = d} {d' = d'} x (of_create is b more kept untold) =
+  failed_file {d = d} {d' = d'} x (of_work f w kept clear quiet) =
+      as_before (inl f) (kept_file old new d.folder d'.folder x kept) (untold (inr quiet.report))
+  failed_file {d = d} {d' = d'} x (of_create is b more kept quiet) =
       as_before (inr (inl is)) (kept_file old new d.folder d'.folder x kept)
-  failed_file {d = d} {d' = d'} x (of_file is could failed kept clear untold) =
-      as_before (inr (inr (inl is))) (kept_file old new d.folder d'.folder x kept)
+      (untold (inr quiet.report))
+  failed_file {d = d} {d' = d'} x (of_file is could failed kept clear quiet) =
+      as_before (inr (inr (inl is))) (kept_file old new d.folder d'.folder x kept) (untold (inl is))
   failed_file {d = d} {d' = d'} x (of_disk is w) =
       let f = file_is _ (writes w.answer) old new d.folder d'.folder x w.out in
-      in_place (inl is) w.answer f.0 f.1
+      in_place (inl is) w.answer f.0 f.1 (untold (inr w.untold.report))
   failed_file {d = d} {d' = d'} x (of_report is w) =
       let f = file_is _ (writes w.answer) old new d.folder d'.folder x w.out in
-      in_place (inr is) w.answer f.0 f.1
+      in_place (inr is) w.answer f.0 f.1 (untold (inl is))
 
   pub failed_as : {lines : A → List ℕ} {before : Type 0} {d d' : Devices}
       {errors : Option (List ℕ)} {fault : CommandFault} (delivery : Delivery)
@@ -180,16 +216,45 @@ module _ {A : Type 0} {writes : A → Option (List ℕ) → Option (List ℕ) �
       {lines : A → List ℕ} → Leaves writes puts lines name old (outside files out errors)
       → FailsToLeave writes fails name old (outside files now errors) fault.CannotWrite
   unhanded (in_file answer n f t e) = in_place (inr refl) answer None f
+      (record { output = λ known not. absurd (not refl); errors = λ why. e })
   unhanded (in_device answer none none' t e) = as_before (inr (inr (inl refl)))
       (kept_same name old.files files (none' ∙ sym none))
+      (untold_error (no_file old.files name none) (λ not. absurd (not refl)))
   unhanded (in_output answer standard same p t) = as_before (inr (inr (inl refl)))
       (kept_same name old.files files same)
+      (untold_error (no_standard old.files name standard) (λ not. absurd (not refl)))
 
-  pub failed_still : {d : CommandFault}
+  pub failed_still : {d : CommandFault} → now ≡ out
       → FailsToLeave writes fails name old (outside files out errors) d
       → FailsToLeave writes fails name old (outside files now errors) d
-  failed_still (as_before is k) = as_before is k
-  failed_still (in_place is answer beside f) = in_place is answer beside f
+  failed_still {d} same f =
+      subst (λ (o : Option (List ℕ)). FailsToLeave writes fails name old (outside files o errors) d)
+      (sym same) f
+
+-- an output that takes its bytes itself, and failed
+module _ {A : Type 0} {writes : A → Option (List ℕ) → Option (List ℕ) → Type 0}
+    {fails : CommandFault → Type 0} {name : List ℕ} {old new : Option Files}
+    {out out' errors : Option (List ℕ)} {e : CommandFault} where
+  pub failed_device : old ≡ None → new ≡ old → IsReason fails e
+      → FailsToLeave writes fails name (outside old out errors) (outside new out' errors) e
+  failed_device none same why =
+      as_before why (kept_same name old new same) (untold_error (no_file old name none) (λ not. refl))
+
+  pub failed_output : {errors' : Option (List ℕ)} → IsStandard old name → new ≡ old
+      → IsReason fails e → (e ≢ fault.CannotWrite → errors' ≡ errors)
+      → FailsToLeave writes fails name (outside old out errors) (outside new out' errors') e
+  failed_output standard same why quiet =
+      as_before why (kept_same name old new same) (untold_error (no_standard old name standard) quiet)
+
+-- the report of an output that takes its bytes itself, and failed
+pub untold_out : {A : Type 0} {writes : A → Option (List ℕ) → Option (List ℕ) → Type 0}
+    {fails : CommandFault → Type 0} {lines : A → List ℕ} {before could : Type 0}
+    {d d' : Outlets} {e : CommandFault} → FailsOut writes fails lines before could d d' e
+    → e ≢ fault.CannotWrite → d'.report ≡ d.report
+untold_out (outlet.of_work f w quiet) not = quiet.report
+untold_out (of_open is b more same quiet) not = quiet.report
+untold_out (of_output is could more quiet) not = quiet.report
+untold_out (outlet.of_report is p) not = absurd (not is)
 
 -- a fault, once what was printed was to be handed on
 pub fails_after : {L : Type 0} {F G : CommandFault → Type 0}

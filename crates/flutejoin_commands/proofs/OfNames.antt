@@ -42,10 +42,10 @@ module _ {A : Type 0} (writes puts writes' puts' : A → Option (List ℕ) → O
   pub fails_told : (fails fails' : CommandFault → Type 0) (old new : Outside) (fault : CommandFault)
       → (fails fault → fails' fault) → FailsToLeave writes fails name old new fault
       → FailsToLeave writes' fails' name old new fault
-  fails_told fails fails' old new fault f (as_before (inl why) k) = as_before (inl (f why)) k
-  fails_told fails fails' old new fault f (as_before (inr why) k) = as_before (inr why) k
-  fails_told fails fails' old new fault f (in_place is x beside g) = in_place is x beside
-      (file_told x beside old.files new.files g)
+  fails_told fails fails' old new fault f (as_before (inl why) k t) = as_before (inl (f why)) k t
+  fails_told fails fails' old new fault f (as_before (inr why) k t) = as_before (inr why) k t
+  fails_told fails fails' old new fault f (in_place is x beside g t) = in_place is x beside
+      (file_told x beside old.files new.files g) t
 
 -- ---- the inputs of a join
 

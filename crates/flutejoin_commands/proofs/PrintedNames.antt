@@ -24,13 +24,6 @@ pub both : (P Q : CommandFault → Type 0) (r : Result (Unit {0}) CommandFault) 
 both P Q (Ok u) p q = tt
 both P Q (Err e) p q = (p, q)
 
--- a fault that depends on what a folder is
-pub of_place : {S : Type 0} (P : S → CommandFault → Type 0) (after : S)
-    (r : Result (Unit {0}) CommandFault) → IfErr r (P after)
-    → IfErr r (λ fault. (a : S) × P a fault)
-of_place P after (Ok u) p = tt
-of_place P after (Err e) p = (after, p)
-
 -- a fact of each fault that there may be
 pub by_fault : {P : CommandFault → Type 0} (r : Result (Unit {0}) CommandFault)
     → ((fault : CommandFault) → r ≡ Err fault → P fault) → IfErr r P

@@ -1,13 +1,13 @@
 -- What each command does, by its line.
-use Rattle.std.specs.Prelude.{ℕ, List, Option, Some, None, true, not}
+use Rattle.std.specs.Prelude.{◌≡◌, ℕ, List, Option, Some, None, true, not}
 use Rattle.std.specs.Borrow.{Bor}
-use Rattle.flute_output.specs.NewFolders.{Places}
 use Rattle.flute_streams.specs.Scopes.{is_all}
 use Rattle.flutejoin.specs.Lines.{entries_line}
 use Rattle.flutejoin.specs.declared.command_fault.CommandFault.{CommandFault}
 use Rattle.flutejoin.specs.declared.forget.ForgetCounts.{ForgetCounts}
 use Rattle.flutejoin.specs.declared.join.join_counts.JoinCounts.{JoinCounts}
 use Rattle.flutejoin_commands.specs.Files.{Files}
+use Rattle.flutejoin_commands.specs.Folders.{FolderNames, KeepsFolder}
 use Rattle.flutejoin_commands.specs.Named.{AddListOfNamesFails, AddToNameFails}
 use Rattle.flutejoin_commands.specs.Named.{AddsListOfNames, AddsToName, ExtractOfNameFails}
 use Rattle.flutejoin_commands.specs.Named.{FillOfNamesFails, FillsOfNames}
@@ -155,52 +155,58 @@ sends line = plain {A = ℕ} (λ files. SendsName files line.file.now line.key l
 -- ---- what is printed alone
 
 -- What a command prints, from what standard output had taken to what it has, where the names lead
--- to these new folders and files; and why it fails.
+-- to these files, and names of new folders led, and lead now, to these places; why it fails; and
+-- how names of new folders change in either case.
 pub record Printing : Type 1 where
-  pub done : (List ℕ → Option Places) → Option Files → Option (List ℕ) → Option (List ℕ) → Type 0
-  pub fails : (List ℕ → Option Places) → Option Files → Option (List ℕ) → Option (List ℕ)
+  pub done : FolderNames → FolderNames → Option Files → Option (List ℕ) → Option (List ℕ) → Type 0
+  pub fails : FolderNames → FolderNames → Option Files → Option (List ℕ) → Option (List ℕ)
       → CommandFault → Type 0
+  pub keeps : FolderNames → FolderNames → Type 0
+
+-- one that leaves no folder
+abbrev pub prints_only : (Option Files → Option (List ℕ) → Option (List ℕ) → Type 0)
+    → (Option Files → Option (List ℕ) → Option (List ℕ) → CommandFault → Type 0) → Printing
+prints_only done fails = record {
+  done = λ folders after. done;
+  fails = λ folders after. fails;
+  keeps = λ folders after. after ≡ folders;
+}
 
 -- what `packet` prints
 abbrev pub prints_packet : PacketLine → Printing
-prints_packet line = record {
-  done = λ folders files. PrintsPacket line.hex.now line.form;
-  fails = λ folders files. PacketFails line.hex.now line.form;
-}
+prints_packet line = prints_only (λ files. PrintsPacket line.hex.now line.form)
+    (λ files. PacketFails line.hex.now line.form)
 
 -- what `show` prints
 abbrev pub shows : ShowLine → Printing
-shows line = record {
-  done = λ folders files. ShowsName files line.inputs.journal.now (list_of line.inputs) line.style
-      line.selection;
-  fails = λ folders files. ShowNameFails files line.inputs.journal.now (list_of line.inputs)
-      line.style line.selection;
-}
+shows line = prints_only
+    (λ files. ShowsName files line.inputs.journal.now (list_of line.inputs) line.style
+    line.selection)
+    (λ files. ShowNameFails files line.inputs.journal.now (list_of line.inputs) line.style
+    line.selection)
 
 -- what `gaps` prints
 abbrev pub lists : GapsLine → Printing
-lists line = record {
-  done = λ folders files. ListsName files line.inputs.journal.now (list_of line.inputs)
-      (most_of line.limit) line.selection line.style;
-  fails = λ folders files. ListNameFails files line.inputs.journal.now (list_of line.inputs)
-      (most_of line.limit) line.selection line.style;
-}
+lists line = prints_only
+    (λ files. ListsName files line.inputs.journal.now (list_of line.inputs) (most_of line.limit)
+    line.selection line.style)
+    (λ files. ListNameFails files line.inputs.journal.now (list_of line.inputs)
+    (most_of line.limit) line.selection line.style)
 
 -- what `compare` prints
 abbrev pub compares : CompareLine → Printing
-compares line = record {
-  done = λ folders files. ComparesNames files line.first.now line.second.now line.selection
-      line.style;
-  fails = λ folders files. CompareNamesFail files line.first.now line.second.now line.selection
-      line.style;
-}
+compares line = prints_only
+    (λ files. ComparesNames files line.first.now line.second.now line.selection line.style)
+    (λ files. CompareNamesFail files line.first.now line.second.now line.selection line.style)
 
 -- and leaves a new folder
 abbrev pub extracts_all : ExtractAllLine → Printing
 extracts_all line = record {
-  done = λ folders files. LeavesFolderOfName files line.inputs.journal.now (list_of line.inputs)
-      (most_of line.limit) line.picked (folders line.out.now);
-  fails = λ folders files old new. FolderOfNameFails files line.inputs.journal.now
-      (list_of line.inputs)
-      (most_of line.limit) line.picked (folders line.out.now);
+  done = λ folders after files. LeavesFolderOfName files line.inputs.journal.now
+      (list_of line.inputs) (most_of line.limit) line.picked (folders line.out.now)
+      (after line.out.now);
+  fails = λ folders after files old new. FolderOfNameFails files line.inputs.journal.now
+      (list_of line.inputs) (most_of line.limit) line.picked (folders line.out.now)
+      (after line.out.now);
+  keeps = KeepsFolder line.out.now;
 }

@@ -1,5 +1,5 @@
 -- What the command `extract --all` leaves.
-use Rattle.std.specs.Prelude.{◌≡◌, ◌⊎◌, ℕ, ◌++◌, Bool, List, length, Option, None, IfSome, codes}
+use Rattle.std.specs.Prelude.{◌≡◌, ◌≢◌, ◌⊎◌, ℕ, ◌++◌, Bool, List, length, Option, None, IfSome, codes}
 use Rattle.std.specs.Prelude.{filter}
 use Rattle.std.specs.Io.KnownBytes.{Appends}
 use Rattle.flute_parts.specs.declared.fact.Fact.{Fact}
@@ -80,3 +80,19 @@ IsOneFolderAlways old new =
     LeadsTo FolderStays old new
     ⊎ LeadsTo (λ before after. (files : List NamedFile)
     × IsWholeOrNothing (folder_of files) before after) old new
+
+-- The places that names of new folders lead to.
+abbrev pub FolderNames : Type 0
+FolderNames = List ℕ → Option Places
+
+-- this name leads to these places now, and each other name to what it led to
+pub record IsFolderAt (name : List ℕ) (places : Option Places) (old new : FolderNames) : Type 0
+  where
+    pub here : new name ≡ places
+    pub elsewhere : (other : List ℕ) → other ≢ name → new other ≡ old other
+
+-- at any moment there was one folder at this name, whole, or none; and each other name leads to
+-- what it led to
+pub record KeepsFolder (name : List ℕ) (old new : FolderNames) : Type 0 where
+  pub here : IsOneFolderAlways (old name) (new name)
+  pub elsewhere : (other : List ℕ) → other ≢ name → new other ≡ old other

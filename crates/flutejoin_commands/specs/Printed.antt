@@ -90,19 +90,20 @@ module _ (files : Option Files) (name : List ℕ) (list : Option (List ℕ)) whe
       × (fault ≢ CannotWrite → new ≡ old))
 
   -- the folder, which is new, has a file for each whole object of the journal that is picked
-  abbrev pub LeavesFolderOfName : Limits → Picked → Option Places → Option (List ℕ)
-      → Option (List ℕ) → Type 0
-  LeavesFolderOfName most picked folder old new = OfListed files list (λ listed.
-      IfFiles files (λ f. (after : Option Places) × LeavesFolder most (f name)
+  abbrev pub LeavesFolderOfName : Limits → Picked → Option Places → Option Places
+      → Option (List ℕ) → Option (List ℕ) → Type 0
+  LeavesFolderOfName most picked folder after old new = OfListed files list (λ listed.
+      IfFiles files (λ f. LeavesFolder most (f name)
       (picks_listed listed (picks_fact picked)) folder after old new))
 
-  -- why not
-  abbrev pub FolderOfNameFails : Limits → Picked → Option Places → CommandFault → Type 0
-  FolderOfNameFails most picked folder fault =
-      (IsUnread files name list fault ⊎ IsNotMade fault)
+  -- why not, and what became of the folder
+  abbrev pub FolderOfNameFails : Limits → Picked → Option Places → Option Places
+      → CommandFault → Type 0
+  FolderOfNameFails most picked folder after fault =
+      ((IsUnread files name list fault ⊎ IsNotMade fault) × (after ≡ folder))
       ⊎ OfListed files list (λ listed. IfFiles files (λ f. (left : Option (List ℕ))
-      × ((after : Option Places) × FolderFails most (f name) left
-      (picks_listed listed (picks_fact picked)) folder after fault)))
+      × FolderFails most (f name) left
+      (picks_listed listed (picks_fact picked)) folder after fault))
 
 module _ (files : Option Files) (first second : List ℕ) where
   -- how the journals of two names differ in the selected objects was printed, and they passed

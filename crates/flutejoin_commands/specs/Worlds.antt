@@ -146,13 +146,24 @@ IsReason fails fault =
     fails fault ⊎ ((fault ≡ CannotCreate)
     ⊎ ((fault ≡ CannotWrite) ⊎ (fault ≡ OutOfMemory)))
 
+-- the name is that of a file, and the files are known
+abbrev pub IsKnownFile : Option Files → List ℕ → Type 0
+IsKnownFile None name = ⊥
+IsKnownFile (Some files) name = name ≢ codes "-"
+
+-- After a fault other than `cannot write` no line was reported: standard error is as before, and so
+-- is standard output if OUT is a file. Then standard error is as before in any case.
+pub record TellsNothing (name : List ℕ) (old new : Outside) (fault : CommandFault) : Type 0 where
+  pub output : IsKnownFile old.files name → fault ≢ CannotWrite → new.output ≡ old.output
+  pub errors : IsKnownFile old.files name ⊎ (fault ≢ CannotWrite) → new.errors ≡ old.errors
+
 module _ {A : Type 0} (writes : A → Option (List ℕ) → Option (List ℕ) → Type 0)
     (fails : CommandFault → Type 0) (name : List ℕ) where
   -- The files are as before, for some reason; or OUT is the file of what the work writes, and its
   -- name could not be brought to the disk, or the lines could not be printed.
   pub data FailsToLeave (old new : Outside) (fault : CommandFault) : Type 0 where
     as_before : IsReason fails fault → KeepsFiles name old.files new.files
-        → FailsToLeave old new fault
+        → TellsNothing name old new fault → FailsToLeave old new fault
     in_place : (fault ≡ NotOnDisk) ⊎ (fault ≡ CannotWrite) → (answer : A)
         → (beside : Option (List ℕ)) → FileIs (writes answer) name beside old.files new.files
-        → FailsToLeave old new fault
+        → TellsNothing name old new fault → FailsToLeave old new fault

@@ -29,6 +29,7 @@ pub fn begin<W: World>(
         (MayOverwrite (W.files world.old) target.entry.overwrites target.entry.out.now) }
     ensures failed { IfErr result (IsBefore (W.files world.old) (path.now ∷ [])) }
     ensures same_files { W.files world.new ≡ W.files world.old }
+    ensures same_folders { W.folders world.new ≡ W.folders world.old }
     ensures same_closed { W.closed world.new ≡ W.closed world.old }
 {
     world.look(target.out);
@@ -55,6 +56,7 @@ pub fn begin_with_two<W: World>(
         (MayOverwrite (W.files world.old) target.entry.overwrites target.entry.out.now) }
     ensures failed { IfErr result (IsBefore (W.files world.old) (first.now ∷ second.now ∷ [])) }
     ensures same_files { W.files world.new ≡ W.files world.old }
+    ensures same_folders { W.folders world.new ≡ W.folders world.old }
     ensures same_closed { W.closed world.new ≡ W.closed world.old }
 {
     world.look(target.out);
@@ -82,6 +84,7 @@ pub fn begin_with_list<W: World>(
         (MayOverwrite (W.files world.old) target.entry.overwrites target.entry.out.now) }
     ensures failed { IfErr result (IsBefore (W.files world.old) (journal.now ∷ list.now ∷ [])) }
     ensures same_files { W.files world.new ≡ W.files world.old }
+    ensures same_folders { W.folders world.new ≡ W.folders world.old }
     ensures same_closed { W.closed world.new ≡ W.closed world.old }
 {
     let both = begin_with_two(world, target, journal, list)?;
@@ -93,6 +96,7 @@ pub fn begin_with_list<W: World>(
 fn spare_list<W: World>(world: &mut W, target: Target<'_>) -> Result<(), CommandFault>
     ensures kept { IfErr result (λ fault. fault ≡ OutputIsInput) }
     ensures same_files { W.files world.new ≡ W.files world.old }
+    ensures same_folders { W.folders world.new ≡ W.folders world.old }
     ensures same_closed { W.closed world.new ≡ W.closed world.old }
 {
     if target.overwrites.spares_inputs() {
@@ -127,6 +131,7 @@ pub fn begin_join<W: World>(
     ensures failed { IfErr result (IsBefore (W.files world.old)
         (names_with (map (λ path. path.now) paths.now) list.entry)) }
     ensures same_files { W.files world.new ≡ W.files world.old }
+    ensures same_folders { W.folders world.new ≡ W.folders world.old }
     ensures same_closed { W.closed world.new ≡ W.closed world.old }
     ensures count { IfOk result (λ opened. length opened.0.items ≡ length paths.now) }
 {
@@ -149,6 +154,7 @@ fn open_list<W: World>(
     ensures opened { IfOk result (IsListOpened (W.files world.old) W.Input.unread list.entry) }
     ensures failed { IfErr result (IsListUnopened (W.files world.old) number list.entry) }
     ensures same_files { W.files world.new ≡ W.files world.old }
+    ensures same_folders { W.folders world.new ≡ W.folders world.old }
     ensures same_closed { W.closed world.new ≡ W.closed world.old }
 {
     match list {

@@ -49,6 +49,7 @@ pub fn merge<W: World, O: Outlet, E: Sink>(
         (W.files world.old) (W.files world.new) }
     ensures any_moment { ClosesWhole line.entry.target.out.now (W.files world.old)
         (W.closed world.old) (W.closed world.new) }
+    ensures same_folders { W.folders world.new ≡ W.folders world.old }
     ensures failed { IfErr result (IsNotDone (merges line.entry) line.entry.target
         (outside (W.files world.old) (O.written output.old) (E.written errors.old))
         (outside (W.files world.new) (O.written output.new) (E.written errors.new))) }
@@ -91,6 +92,7 @@ pub fn info<W: World, O: Outlet, E: Sink>(
         (W.files world.old) (W.files world.new) }
     ensures any_moment { ClosesWhole line.entry.target.out.now (W.files world.old)
         (W.closed world.old) (W.closed world.new) }
+    ensures same_folders { W.folders world.new ≡ W.folders world.old }
     ensures failed { IfErr result (IsNotDone (adds line.entry) line.entry.target
         (outside (W.files world.old) (O.written output.old) (E.written errors.old))
         (outside (W.files world.new) (O.written output.new) (E.written errors.new))) }
@@ -137,6 +139,7 @@ pub fn info_list<W: World, O: Outlet, E: Sink>(
         (W.files world.old) (W.files world.new) }
     ensures any_moment { ClosesWhole line.entry.target.out.now (W.files world.old)
         (W.closed world.old) (W.closed world.new) }
+    ensures same_folders { W.folders world.new ≡ W.folders world.old }
     ensures failed { IfErr result (IsNotDone (adds_list line.entry) line.entry.target
         (outside (W.files world.old) (O.written output.old) (E.written errors.old))
         (outside (W.files world.new) (O.written output.new) (E.written errors.new))) }
@@ -185,6 +188,7 @@ pub fn forget<W: World, O: Outlet, E: Sink>(
         (W.files world.old) (W.files world.new) }
     ensures any_moment { ClosesWhole target.entry.out.now (W.files world.old)
         (W.closed world.old) (W.closed world.new) }
+    ensures same_folders { W.folders world.new ≡ W.folders world.old }
     ensures failed { IfErr result (FailsToLeave
         (ForgetsInName (W.files world.old) journal.now selection)
         (ForgetInNameFails (W.files world.old) journal.now) target.entry.out.now
@@ -234,6 +238,7 @@ pub fn forget_list<W: World, O: Outlet, E: Sink>(
         (W.files world.old) (W.files world.new) }
     ensures any_moment { ClosesWhole target.entry.out.now (W.files world.old)
         (W.closed world.old) (W.closed world.new) }
+    ensures same_folders { W.folders world.new ≡ W.folders world.old }
     ensures failed { IfErr result (FailsToLeave
         (ForgetsListOfNames (W.files world.old) inputs.entry.journal.now inputs.entry.list.now
         selection)
@@ -277,6 +282,7 @@ pub fn extract<W: World, O: Outlet, E: Sink>(
         (W.files world.old) (W.files world.new) }
     ensures any_moment { ClosesWhole line.entry.target.out.now (W.files world.old)
         (W.closed world.old) (W.closed world.new) }
+    ensures same_folders { W.folders world.new ≡ W.folders world.old }
     ensures failed { IfErr result (IsNotDone (extracts line.entry) line.entry.target
         (outside (W.files world.old) (O.written output.old) (E.written errors.old))
         (outside (W.files world.new) (O.written output.new) (E.written errors.new))) }
@@ -316,6 +322,7 @@ pub fn carousel<W: World, O: Outlet, E: Sink>(
         (W.files world.old) (W.files world.new) }
     ensures any_moment { ClosesWhole line.entry.target.out.now (W.files world.old)
         (W.closed world.old) (W.closed world.new) }
+    ensures same_folders { W.folders world.new ≡ W.folders world.old }
     ensures failed { IfErr result (IsNotDone (sends line.entry) line.entry.target
         (outside (W.files world.old) (O.written output.old) (E.written errors.old))
         (outside (W.files world.new) (O.written output.new) (E.written errors.new))) }
@@ -347,6 +354,7 @@ fn measured<W: World>(world: &mut W, mut source: W::Input) -> Result<(W::Input, 
         (λ m. IsAgain (W.files world.old) (W.Input.unread source) (W.Input.unread m.0)) }
     ensures failed { IfErr result (MeasureFails (W.Input.unread source)) }
     ensures same_files { W.files world.new ≡ W.files world.old }
+    ensures same_folders { W.folders world.new ≡ W.folders world.old }
     ensures same_closed { W.closed world.new ≡ W.closed world.old }
 {
     match world.size(&source) {

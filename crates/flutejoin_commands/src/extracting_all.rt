@@ -1,8 +1,9 @@
 //! `extract_all_into`: the command `extract --all`, over an open journal and a new folder.
-ghost use Rattle.std.specs.Prelude.{◌≡◌, ◌+◌, ◌≤◌, ◌⊎◌, ℕ, List, Option};
-ghost use Rattle.std.specs.Prelude.{IfOk, IfErr, IfSome, OnOk, Err, codes};
+ghost use Rattle.std.specs.Prelude.{◌≡◌, ◌+◌, ◌≤◌, ◌<◌, ◌⊎◌, ℕ, List, Option};
+ghost use Rattle.std.specs.Prelude.{IfOk, IfErr, IfSome, OnOk, OnErr, Err, codes};
 ghost use Rattle.std.specs.Io.KnownBytes.{Appends};
 ghost use Rattle.flute_output.specs.NewFolders.{Places, LeadsTo, FolderStays, IsReady};
+ghost use Rattle.flute_output.specs.NewFolders.{NoneBeside};
 ghost use Rattle.flutejoin.specs.declared.command_fault.CommandFault.TheVariants.{CannotWrite};
 ghost use Rattle.flutejoin.specs.ExtractAll.{ExtractsAll, ExtractAllFails};
 ghost use Rattle.flutejoin.specs.Lines.{count_line};
@@ -46,6 +47,16 @@ pub fn extract_all_into<D: NewFolder, R: Source, C: Picks, P: Outlet>(
         (R.unread source.old) (R.unread source.new)
         (C.picks picks.now) (D.places folder.old) (D.places folder.new)) }
     ensures any_moment { IsOneFolderAlways (D.places folder.old) (D.places folder.new) }
+
+    // A device is at fault only if one failed; and only then something may be left beside OUT.
+    ensures quiet { OnOk result (D.failures folder.new + P.failures report.new
+        ≡ D.failures folder.old + P.failures report.old) }
+    ensures cause { IfErr result (λ fault. fault ≡ CannotWrite
+        → D.failures folder.old + P.failures report.old
+        < D.failures folder.new + P.failures report.new) }
+    ensures gone { OnErr result (D.failures folder.new + P.failures report.new
+        ≡ D.failures folder.old + P.failures report.old
+        → LeadsTo NoneBeside (D.places folder.old) (D.places folder.new)) }
 {
     let Ok(()) = folder.create() else {
         return Err(CommandFault::CannotCreate);
@@ -86,6 +97,13 @@ fn fill<D: NewFolder, R: Source, C: Picks, P: Outlet>(
         ExtractAllFails (most_of limit) (R.unread source.old) (R.unread source.new) fault
         ⊎ (fault ≡ CannotWrite)) }
     ensures stays { LeadsTo FolderStays (D.places folder.old) (D.places folder.new) }
+    ensures quiet { OnOk result (D.failures folder.new + P.failures report.new
+        ≡ D.failures folder.old + P.failures report.old) }
+    ensures cause { IfErr result (λ fault. fault ≡ CannotWrite
+        → D.failures folder.old + P.failures report.old
+        < D.failures folder.new + P.failures report.new) }
+    ensures counted { D.failures folder.old + P.failures report.old
+        ≤ D.failures folder.new + P.failures report.new }
 {
     let extracted = match limit {
         Limit::AnySize => extract_all_to::<ANY_SESSIONS, ANY_OBJECTS, ANY_SYMBOLS, _, _, _, _>(
@@ -109,6 +127,8 @@ fn tell<P: Outlet>(report: &mut P, count: u64) -> Result<(), CommandFault>
         (count_line (codes "written") count)) }
     ensures handed_on { OnOk result (P.handed_on report.new ≡ P.written report.new) }
     ensures failed { IfErr result (λ fault. fault ≡ CannotWrite) }
+    ensures quiet { OnOk result (P.failures report.new ≡ P.failures report.old) }
+    ensures cause { OnErr result (P.failures report.old < P.failures report.new) }
 {
     count_to("written", count, report)?;
     match report.flush() {

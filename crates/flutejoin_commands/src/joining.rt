@@ -168,6 +168,7 @@ pub fn join<W: World, O: Outlet, E: Sink>(
         (W.files world.old) (W.files world.new) }
     ensures any_moment { ClosesWhole line.entry.target.out.now (W.files world.old)
         (W.closed world.old) (W.closed world.new) }
+    ensures same_folders { W.folders world.new ≡ W.folders world.old }
     ensures failed { IfErr result (IsNotDone (joins line.entry) line.entry.target
         (outside (W.files world.old) (O.written output.old) (E.written errors.old))
         (outside (W.files world.new) (O.written output.new) (E.written errors.new))) }

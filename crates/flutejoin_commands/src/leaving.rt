@@ -1,5 +1,6 @@
 //! `leave`: does a work into what the output's name leads to, a file, a device or standard output.
-ghost use Rattle.std.specs.Prelude.{◌≡◌, OnOk, IfErr};
+ghost use Rattle.std.specs.Prelude.{◌≡◌, ◌≢◌, OnOk, IfErr};
+ghost use Rattle.flutejoin.specs.declared.command_fault.CommandFault.TheVariants.{CannotWrite};
 ghost use Rattle.flutejoin_commands.specs.Closings.{ClosesWhole};
 ghost use Rattle.flutejoin_commands.specs.Deliveries.{FailsDelivered, delivered};
 ghost use Rattle.flutejoin_commands.specs.Outlets.{PutsOut, outlets};
@@ -44,6 +45,7 @@ pub fn leave<W: World, K: Work + Drop, O: Outlet, E: Sink>(
         (outside (W.files world.new) (O.written output.new) (E.written errors.new))) }
     ensures any_moment { ClosesWhole target.entry.out.now (W.files world.old)
         (W.closed world.old) (W.closed world.new) }
+    ensures same_folders { W.folders world.new ≡ W.folders world.old }
 {
     let done = put(world, target, work, delivery, output, errors);
     hand_on(output, done)
@@ -68,6 +70,7 @@ fn put<W: World, K: Work + Drop, O: Outlet, E: Sink>(
         (outside (W.files world.new) (O.written output.new) (E.written errors.new))) }
     ensures any_moment { ClosesWhole target.entry.out.now (W.files world.old)
         (W.closed world.old) (W.closed world.new) }
+    ensures same_folders { W.folders world.new ≡ W.folders world.old }
 {
     match world.place(target.out) {
         Ok(Place::File(folder)) => {
@@ -94,6 +97,8 @@ fn deliver<O: Outlet, K: Work + Drop, P: Sink>(
         (outlets (O.written output.new) (O.failures output.new)
         (P.written report.new) (P.failures report.new))) }
     ensures failed { IfErr result (IsReason (FailsDelivered delivery (K.fails work))) }
+    ensures untold { IfErr result (λ fault. fault ≢ CannotWrite
+        → P.written report.new ≡ P.written report.old) }
 {
     match delivery {
         Delivery::AtOnce(if_none) => write_through(output, work, if_none, report),

@@ -1,11 +1,11 @@
 //! The inputs of a command, opened by their names.
 ghost use Rattle.std.specs.Prelude.{◌≡◌, ◌≤◌, ◌⊎◌, ◌+◌, ℕ, List, Option, Err, length, map};
 ghost use Rattle.std.specs.Prelude.{OnOk, IfOk, IfErr};
-ghost use Rattle.flute_output.specs.NewFolders.{Places};
 ghost use Rattle.flutejoin.specs.declared.command_fault.CommandFault.TheVariants.{OutOfMemory};
 ghost use Rattle.flutejoin.specs.declared.command_fault.CommandFault.TheVariants.{CannotOpen};
 ghost use Rattle.flutejoin_commands.specs.Closings.{Closing};
 ghost use Rattle.flutejoin_commands.specs.Files.{Files, HasBytes, IsNoFile};
+ghost use Rattle.flutejoin_commands.specs.Folders.{FolderNames};
 ghost use Rattle.flutejoin_commands.specs.Opened.{AreOpened, IsOpened, IsNotOpened, FirstNotOpened};
 
 use flute_journal::ReadFault;
@@ -21,7 +21,7 @@ pub trait Inputs {
     ghost files: { Self → Option Files };
 
     // What the name of a new folder leads to, if that is known.
-    ghost folders: { Self → List ℕ → Option Places };
+    ghost folders: { Self → FolderNames };
 
     // How often an input was to be opened so far.
     ghost asked: { Self → ℕ };
@@ -66,6 +66,7 @@ pub fn open_two<I: Inputs>(
         × ((source : I.Input) × HasBytes (I.files inputs.old) first.now (I.Input.unread source)))
         ⊎ (fault ≡ OutOfMemory))) }
     ensures same_files { I.files inputs.new ≡ I.files inputs.old }
+    ensures same_folders { I.folders inputs.new ≡ I.folders inputs.old }
     ensures same_closed { I.closed inputs.new ≡ I.closed inputs.old }
     ensures each_once { OnOk result (I.asked inputs.new ≡ I.asked inputs.old + 2) }
     ensures at_most { I.asked inputs.new ≤ I.asked inputs.old + 2 }
@@ -95,6 +96,7 @@ pub fn open_inputs<I: Inputs>(
         (I.asked inputs.old) (I.asked inputs.new) fault
         ⊎ (fault ≡ OutOfMemory)) }
     ensures same_files { I.files inputs.new ≡ I.files inputs.old }
+    ensures same_folders { I.folders inputs.new ≡ I.folders inputs.old }
     ensures same_closed { I.closed inputs.new ≡ I.closed inputs.old }
     ensures count { IfOk result (λ opened. length opened.items ≡ length paths.now) }
     ensures each_once { OnOk result
@@ -122,6 +124,7 @@ fn open_one<I: Inputs>(
     ensures failed { IfErr result (IsNotOpened (I.files inputs.old) I.Input.unread
         number path.now) }
     ensures same_files { I.files inputs.new ≡ I.files inputs.old }
+    ensures same_folders { I.folders inputs.new ≡ I.folders inputs.old }
     ensures same_closed { I.closed inputs.new ≡ I.closed inputs.old }
     ensures asked { I.asked inputs.new ≡ I.asked inputs.old + 1 }
 {

@@ -1,6 +1,7 @@
 //! The commands that leave no file at a name, from the names of their files to what they print.
 ghost use Rattle.std.specs.Prelude.{◌≡◌, ◌⊎◌, ◌<◌, OnOk, IfErr};
 ghost use Rattle.flutejoin.specs.declared.command_fault.CommandFault.TheVariants.{CannotWrite};
+ghost use Rattle.flutejoin_commands.specs.Folders.{KeepsFolder};
 ghost use Rattle.flutejoin_commands.specs.Printed.{CompareNamesFail, ComparesNames};
 ghost use Rattle.flutejoin_commands.specs.Printed.{FolderOfNameFails, LeavesFolderOfName};
 ghost use Rattle.flutejoin_commands.specs.Printed.{ListNameFails, ListsName, PacketFails};
@@ -78,6 +79,7 @@ pub fn show<W: World, P: Outlet>(
     ensures cause { IfErr result (λ fault. fault ≡ CannotWrite
         → P.failures output.old < P.failures output.new) }
     ensures same_files { W.files world.new ≡ W.files world.old }
+    ensures same_folders { W.folders world.new ≡ W.folders world.old }
     ensures same_closed { W.closed world.new ≡ W.closed world.old }
 {
     let (mut source, listed) = open_listed(world, alloc, inputs)?;
@@ -112,6 +114,7 @@ pub fn gaps<W: World, P: Outlet>(
         (list_of inputs.entry) (most_of listing.limit) selection.now listing.style
         (P.written output.old) (P.written output.new)) }
     ensures same_files { W.files world.new ≡ W.files world.old }
+    ensures same_folders { W.folders world.new ≡ W.folders world.old }
     ensures same_closed { W.closed world.new ≡ W.closed world.old }
 {
     let (mut source, listed) = open_listed(world, alloc, inputs)?;
@@ -154,6 +157,7 @@ pub fn compare<W: World, P: Outlet>(
     ensures failed { IfErr result (CompareNamesFail (W.files world.old) first.now
         second.now selection.now style (P.written output.old) (P.written output.new)) }
     ensures same_files { W.files world.new ≡ W.files world.old }
+    ensures same_folders { W.folders world.new ≡ W.folders world.old }
     ensures same_closed { W.closed world.new ≡ W.closed world.old }
 {
     let (first, second) = open_two(world, first, second)?;
@@ -182,11 +186,13 @@ pub fn extract_all<W: World, P: Outlet>(
 ) -> Result<(), CommandFault>
     ensures extracted { OnOk result (LeavesFolderOfName (W.files world.old) inputs.entry.journal.now
         (list_of inputs.entry) (most_of limit) picked (W.folders world.old out.now)
-        (P.written output.old) (P.written output.new)) }
+        (W.folders world.new out.now) (P.written output.old) (P.written output.new)) }
     ensures handed_on { OnOk result (P.handed_on output.new ≡ P.written output.new) }
     ensures failed { IfErr result (FolderOfNameFails (W.files world.old) inputs.entry.journal.now
-        (list_of inputs.entry) (most_of limit) picked (W.folders world.old out.now)) }
+        (list_of inputs.entry) (most_of limit) picked (W.folders world.old out.now)
+        (W.folders world.new out.now)) }
     ensures same_files { W.files world.new ≡ W.files world.old }
+    ensures any_moment { KeepsFolder out.now (W.folders world.old) (W.folders world.new) }
     ensures same_closed { W.closed world.new ≡ W.closed world.old }
 {
     let (mut source, listed) = open_listed(world, alloc, inputs)?;
@@ -195,5 +201,7 @@ pub fn extract_all<W: World, P: Outlet>(
         picks: picked,
     };
     let mut folder = world.new_folder(out)?;
-    extract_all_into(alloc, limit, &mut folder, &mut source, &picks, output)
+    let done = extract_all_into(alloc, limit, &mut folder, &mut source, &picks, output);
+    world.close_folder(out, folder);
+    done
 }

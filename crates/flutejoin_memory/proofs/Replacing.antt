@@ -1,13 +1,16 @@
 -- MemoryWorld: what a closed output makes of the files of the names.
 use Rattle.std.proofs.Common.{◌≡◌, ◌≢◌, ℕ, List, ◌∷◌, ◌++◌, codes, length}
-use Rattle.std.proofs.Common.{true, false, if◌then◌else◌}
+use Rattle.std.proofs.Common.{true, false, Some, if◌then◌else◌}
 use Rattle.std.proofs.Common.{option_map, refl, sym, ap, subst, arith, length-append, ◌∙◌}
 use Rattle.std.proofs.lemmas.Bool.{false_from_ne_true}
 use Rattle.std.proofs.lemmas.Slice.Eq.{bytes_eq-Decides}
 use Rattle.std.specs.Str.{bytes_eq}
 use Rattle.flute_output.specs.Entries.{Entries}
 use Rattle.flutejoin_commands.specs.Closings.{Closing, closing}
-use Rattle.flutejoin_memory.specs.MemoryFiles.{NamedFile, files_of, names_of, closed_as}
+use Rattle.flutejoin_memory.specs.MemoryFiles.{Changed, NamedFile, files_of, names_of, closed_as}
+use Rattle.flutejoin_memory.specs.MemoryFiles.{folders_of, with_folder}
+use Rattle.flute_output.specs.NewFolders.{Places}
+use Rattle.flutejoin_commands.specs.Folders.{IsFolderAt}
 use Rattle.flutejoin_commands.specs.Worlds.{Replaced, bytes_of, beside_name}
 
 same : (name : List ℕ) → bytes_eq name name ≡ true
@@ -52,3 +55,15 @@ closes name e old new rest is =
     Replaced name (option_map bytes_of e.out) (option_map bytes_of e.beside)
     (files_of (names_of old ++ rest)) (files_of (names_of all ++ rest))) (sym is)
     (replaced name e (names_of old ++ rest))
+
+-- a new folder that is closed is at its name, and each other name leads to what it led to
+pub is_folder_at : (name : List ℕ) (p : Places) (old new : Changed) → new ≡ with_folder name p old
+    → IsFolderAt name (Some p) (folders_of old.folders) (folders_of new.folders)
+is_folder_at name p old new is =
+    subst (λ (c : Changed). IsFolderAt name (Some p) (folders_of old.folders) (folders_of c.folders))
+    (sym is)
+    (record {
+      here = ap (λ b. if b then Some p else folders_of old.folders name) (same name);
+      elsewhere = λ other apart.
+          ap (λ b. if b then Some p else folders_of old.folders other) (differ name other apart);
+    })

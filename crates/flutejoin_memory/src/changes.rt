@@ -1,14 +1,15 @@
 //! What became of the files of names, as outputs were closed.
-ghost use Rattle.std.specs.Prelude.{◌≡◌, ◌++◌, string_bytes, List, [], ◌∷◌, IfOk};
+ghost use Rattle.std.specs.Prelude.{◌≡◌, ◌++◌, string_bytes, List, [], ◌∷◌, IfOk, false};
 ghost use Rattle.std.specs.Prelude.{MatchOption, map, option_map};
 ghost use Rattle.std.specs.Option.{ForSome};
 ghost use Rattle.flute_memory.specs.Memory.{memory_entries};
-ghost use Rattle.flutejoin_commands.specs.Closings.{closing};
+ghost use Rattle.flute_memory.specs.NewMemory.{memory_places};
 ghost use Rattle.flutejoin_memory.specs.NamedFiles.{changed};
 ghost use Rattle.flutejoin_memory.specs.MemoryFiles.{NamedFile, files_of, names_of, closed_as};
+ghost use Rattle.flutejoin_memory.specs.MemoryFiles.{unchanged, with_closed as closes, with_folder};
 
 use crate::told::Told;
-use flute_memory::MemoryFolder;
+use flute_memory::{MemoryFolder, MemoryNewFolder};
 use std::alloc::{AllocError, Global};
 
 /// A name, and the bytes that it has, if it has some.
@@ -32,26 +33,29 @@ impl Change {
 #[derive(Debug, Drop)]
 pub struct Changes {
     known: Option<Vec<Change>>,
+    has_folder: bool,
     told: Told,
     ghost agrees: { ForSome known
-        (λ changes. names_of told.closed ≡ map changed changes.items) },
+        (λ changes. names_of told.changed.closed ≡ map changed changes.items) },
+    ghost none_yet: { has_folder ≡ false → told.changed.folders ≡ [] },
 }
 
 impl Changes {
     /// Nothing has changed.
     pub fn none(alloc: Global) -> Changes
-        ensures { result.told.closed ≡ [] }
+        ensures { result.told.changed ≡ unchanged }
     {
         Changes {
             known: Some(Vec::new(alloc)),
+            has_folder: false,
             told: Told::none(),
         }
     }
 
     /// The name and that of the file beside it now have what this folder has.
     pub fn close(&mut self, alloc: Global, name: &str, folder: &MemoryFolder)
-        ensures { self.new.told.closed
-            ≡ closing name.now (memory_entries folder.now) ∷ self.old.told.closed }
+        ensures { self.new.told.changed
+            ≡ closes name.now (memory_entries folder.now) self.old.told.changed }
     {
         let told = self.told.and_closed(name, folder);
         let known = match self.known.take() {
@@ -62,6 +66,22 @@ impl Changes {
         self.known = known;
     }
 
+    /// The name of a new folder now leads to what this folder has.
+    pub fn close_folder(&mut self, name: &str, folder: &MemoryNewFolder)
+        ensures { self.new.told.changed
+            ≡ with_folder name.now (memory_places folder.now) self.old.told.changed }
+    {
+        self.told = self.told.and_folder(name, folder);
+        self.has_folder = true;
+    }
+
+    /// Whether a new folder was closed.
+    pub fn has_folder(&self) -> bool
+        ensures { result ≡ false → self.now.told.changed.folders ≡ [] }
+    {
+        self.has_folder
+    }
+
     /// The last change of this name, if it has one.
     ///
     /// # Errors
@@ -69,8 +89,8 @@ impl Changes {
     /// `AllocError` if that is not known, as there was no memory.
     pub fn of_name(&self, name: &str) -> Result<Option<&Change>, AllocError>
         ensures { IfOk result (λ found. (rest : List NamedFile) → MatchOption found
-            (files_of (names_of self.now.told.closed ++ rest) name.now ≡ files_of rest name.now)
-            (λ change. files_of (names_of self.now.told.closed ++ rest) name.now
+            (files_of (names_of self.now.told.changed.closed ++ rest) name.now ≡ files_of rest name.now)
+            (λ change. files_of (names_of self.now.told.changed.closed ++ rest) name.now
             ≡ (changed change.now).bytes)) }
     {
         match &self.known {

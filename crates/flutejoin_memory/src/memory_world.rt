@@ -95,7 +95,7 @@ impl<'a> MemoryWorld<'a> {
     fn note_opened(&mut self, name: &str) -> Result<(), AllocError>
         ensures files { memory_files self.new ≡ memory_files self.old }
         ensures asked { self.new.asked ≡ self.old.asked }
-        ensures closed { self.new.changes.told.closed ≡ self.old.changes.told.closed }
+        ensures changed { self.new.changes.told.changed ≡ self.old.changes.told.changed }
     {
         let name = String::from_str(self.alloc, name)?;
         match self.opened.push(name) {
@@ -117,17 +117,17 @@ impl<'a> MemoryWorld<'a> {
 }
 
 impl<'a> Inputs for MemoryWorld<'a> {
-    ghost use Rattle.flutejoin_memory.specs.MemoryWorlds.{memory_files, no_folders};
+    ghost use Rattle.flutejoin_memory.specs.MemoryWorlds.{memory_files, memory_folders};
 
     type Input = OwnedSource;
 
     ghost files = { λ w. Some (memory_files w) };
 
-    ghost folders = { no_folders };
+    ghost folders = { memory_folders };
 
     ghost asked = { λ w. w.asked.count };
 
-    ghost closed = { λ w. Some w.changes.told.closed };
+    ghost closed = { λ w. Some w.changes.told.changed.closed };
 
     fn open(
         &mut self,
@@ -178,9 +178,9 @@ impl<'a> World for MemoryWorld<'a> {
         }
     }
 
-    /// There is no folder of any name yet.
+    /// There is no folder of any name yet. Once one was closed, `CannotCreate`.
     fn new_folder(&mut self, out: &str) -> Result<MemoryNewFolder, CommandFault> {
-        if out == STANDARD {
+        if out == STANDARD || self.changes.has_folder() {
             return Err(CommandFault::CannotCreate);
         }
         Ok(MemoryNewFolder::new(self.alloc, None, self.good))
@@ -192,5 +192,9 @@ impl<'a> World for MemoryWorld<'a> {
 
     fn close(&mut self, out: &str, folder: MemoryFolder) {
         self.changes.close(self.alloc, out, &folder);
+    }
+
+    fn close_folder(&mut self, out: &str, folder: MemoryNewFolder) {
+        self.changes.close_folder(out, &folder);
     }
 }

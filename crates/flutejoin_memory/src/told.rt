@@ -1,17 +1,17 @@
-//! Which outputs were closed, for contracts alone. It has no size, and its calls do nothing at run
-//! time.
-ghost use Rattle.std.specs.Prelude.{◌≡◌, ◌∷◌, List, []};
+//! What became of a world, for contracts alone. It has no size, and its calls do nothing at run time.
+ghost use Rattle.std.specs.Prelude.{◌≡◌};
 ghost use Rattle.std.specs.Borrow.{ftrue};
 ghost use Rattle.flute_memory.specs.Memory.{memory_entries};
-ghost use Rattle.flutejoin_commands.specs.Closings.{Closing, closing};
+ghost use Rattle.flute_memory.specs.NewMemory.{memory_places};
+ghost use Rattle.flutejoin_memory.specs.MemoryFiles.{Changed, unchanged, with_closed, with_folder};
 
-use flute_memory::MemoryFolder;
+use flute_memory::{MemoryFolder, MemoryNewFolder};
 use std::marker::Model;
 
-/// The outputs that were closed, the last first.
+/// The outputs and the new folders that were closed.
 #[derive(Debug, Drop)]
 pub struct Told {
-    pub ghost closed: { List Closing },
+    pub ghost changed: { Changed },
 }
 
 impl Model for Told {
@@ -19,17 +19,25 @@ impl Model for Told {
 }
 
 impl Told {
-    /// None was.
+    /// Nothing was closed.
     pub fn none() -> Told
-        ensures { result.closed ≡ [] }
+        ensures { result.changed ≡ unchanged }
     {
         Told {}
     }
 
     /// The output of this name is closed too, with what this folder has.
     pub fn and_closed(&self, name: &str, folder: &MemoryFolder) -> Told
-        ensures { result.closed
-            ≡ closing name.now (memory_entries folder.now) ∷ self.now.closed }
+        ensures { result.changed
+            ≡ with_closed name.now (memory_entries folder.now) self.now.changed }
+    {
+        Told {}
+    }
+
+    /// The new folder of this name is closed too, with what it has.
+    pub fn and_folder(&self, name: &str, folder: &MemoryNewFolder) -> Told
+        ensures { result.changed
+            ≡ with_folder name.now (memory_places folder.now) self.now.changed }
     {
         Told {}
     }

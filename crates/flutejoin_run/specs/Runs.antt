@@ -1,6 +1,5 @@
 -- What a line of words does, and why it fails.
 use Rattle.std.specs.Prelude.{◌≡◌, ◌⊎◌, List, ℕ, Option, ⊤}
-use Rattle.flute_output.specs.NewFolders.{Places}
 use Rattle.flutejoin.specs.declared.command_fault.CommandFault.{CommandFault}
 use Rattle.flutejoin_commands.specs.Closings.{Closing, ClosesWhole}
 use Rattle.flutejoin_commands.specs.Deeds.{Deed, IsDone, IsNotDone, Printing, adds, adds_list}
@@ -8,6 +7,7 @@ use Rattle.flutejoin_commands.specs.Deeds.{compares, extracts, extracts_all, fil
 use Rattle.flutejoin_commands.specs.Deeds.{forgets_list, joins, lists, merges, prints_packet}
 use Rattle.flutejoin_commands.specs.Deeds.{sends, shows, subtracts}
 use Rattle.flutejoin_commands.specs.Files.{Files}
+use Rattle.flutejoin_commands.specs.Folders.{FolderNames}
 use Rattle.flutejoin_commands.specs.Worlds.{Outside, Spares}
 use Rattle.flutejoin_line.specs.LineFaults.{IsFaultIn, IsLineIn}
 use Rattle.flutejoin_line.specs.declared.line.Line.{Line}
@@ -44,18 +44,25 @@ task_of (Carousel line) = leaves line.target (sends line)
 abbrev pub OnlyPrints : Outside → Outside → Type 0 → Type 0
 OnlyPrints old new P = (new.files ≡ old.files) × (new.errors ≡ old.errors) × P
 
--- a task is done, and what is outside changes so
-abbrev pub Does : (List ℕ → Option Places) → Task → Outside → Outside → Type 0
-Does folders (leaves target deed) old new = IsDone deed target old new
-Does folders (prints p) old new =
-    OnlyPrints old new (p.done folders old.files old.output new.output)
+-- the places that names of new folders led to, and lead to now
+module _ (folders after : FolderNames) where
+  -- a task is done, and what is outside changes so
+  abbrev pub Does : Task → Outside → Outside → Type 0
+  Does (leaves target deed) old new = IsDone deed target old new
+  Does (prints p) old new =
+      OnlyPrints old new (p.done folders after old.files old.output new.output)
 
--- why a task is not done, and what changes all the same
-abbrev pub FailsToDo : (List ℕ → Option Places) → Task → Outside → Outside
-    → CommandFault → Type 0
-FailsToDo folders (leaves target deed) old new fault = IsNotDone deed target old new fault
-FailsToDo folders (prints p) old new fault =
-    OnlyPrints old new (p.fails folders old.files old.output new.output fault)
+  -- why a task is not done, and what changes all the same
+  abbrev pub FailsToDo : Task → Outside → Outside → CommandFault → Type 0
+  FailsToDo (leaves target deed) old new fault = IsNotDone deed target old new fault
+  FailsToDo (prints p) old new fault =
+      OnlyPrints old new (p.fails folders after old.files old.output new.output fault)
+
+  -- its new folder, if it leaves one, was whole or not there at any moment; each other name leads
+  -- to what it led to
+  abbrev pub KeepsFolders : Task → Type 0
+  KeepsFolders (leaves target deed) = after ≡ folders
+  KeepsFolders (prints p) = p.keeps folders after
 
 -- its output, if it leaves a file, is spared
 abbrev pub SparesOut : Task → Option Files → Option Files → Type 0
@@ -75,17 +82,22 @@ ClosesOutOfWords words files old new =
     (new ≡ old) ⊎ ((line : Line) × IsLineIn words line
     × ClosesOut (task_of line) files old new)
 
+-- the words are a line of such a folder, or no name of a folder changes
+abbrev pub KeepsFoldersOfWords : FolderNames → FolderNames → List (List ℕ) → Type 0
+KeepsFoldersOfWords folders after words =
+    (after ≡ folders) ⊎ ((line : Line) × IsLineIn words line
+    × KeepsFolders folders after (task_of line))
+
 -- the words are a line, and it is done; its output was one that may be overwritten
-abbrev pub DoesWords : (List ℕ → Option Places) → List (List ℕ) → Outside → Outside
-    → Type 0
-DoesWords folders words old new =
+abbrev pub DoesWords : FolderNames → FolderNames → List (List ℕ) → Outside → Outside → Type 0
+DoesWords folders after words old new =
     (line : Line) × IsLineIn words line × SparesOut (task_of line) old.files new.files
-    × Does folders (task_of line) old new
+    × Does folders after (task_of line) old new
 
 -- the words are no line, and nothing changes; or they are one, and it fails
-abbrev pub FailsToDoWords : (List ℕ → Option Places) → List (List ℕ) → Outside → Outside
+abbrev pub FailsToDoWords : FolderNames → FolderNames → List (List ℕ) → Outside → Outside
     → CommandFault → Type 0
-FailsToDoWords folders words old new fault =
+FailsToDoWords folders after words old new fault =
     (IsFaultIn words fault × (new ≡ old))
     ⊎ ((line : Line) × IsLineIn words line × SparesOut (task_of line) old.files new.files
-    × FailsToDo folders (task_of line) old new fault)
+    × FailsToDo folders after (task_of line) old new fault)

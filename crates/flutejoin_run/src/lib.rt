@@ -18,6 +18,7 @@
 
 ghost use Rattle.std.specs.Prelude.{◌≡◌, map, string_bytes, OnOk, IfErr};
 ghost use Rattle.flutejoin_run.specs.Runs.{ClosesOut, ClosesOutOfWords, Does, DoesWords, FailsToDo};
+ghost use Rattle.flutejoin_run.specs.Runs.{KeepsFolders, KeepsFoldersOfWords};
 ghost use Rattle.flutejoin_run.specs.Runs.{FailsToDoWords, SparesOut, task_of};
 ghost use Rattle.flutejoin_commands.specs.Worlds.{outside};
 
@@ -46,15 +47,19 @@ pub fn run<W: World, O: Outlet, E: Sink>(
     output: &mut O,
     errors: &mut E,
 ) -> Result<(), CommandFault>
-    ensures done { OnOk result (DoesWords (W.folders world.old) (map string_bytes words.now)
+    ensures done { OnOk result (DoesWords (W.folders world.old) (W.folders world.new)
+        (map string_bytes words.now)
         (outside (W.files world.old) (O.written output.old) (E.written errors.old))
         (outside (W.files world.new) (O.written output.new) (E.written errors.new))) }
     ensures handed_on { OnOk result (O.handed_on output.new ≡ O.written output.new) }
-    ensures failed { IfErr result (FailsToDoWords (W.folders world.old) (map string_bytes words.now)
+    ensures failed { IfErr result (FailsToDoWords (W.folders world.old) (W.folders world.new)
+        (map string_bytes words.now)
         (outside (W.files world.old) (O.written output.old) (E.written errors.old))
         (outside (W.files world.new) (O.written output.new) (E.written errors.new))) }
     ensures any_moment { ClosesOutOfWords (map string_bytes words.now) (W.files world.old)
         (W.closed world.old) (W.closed world.new) }
+    ensures folder_whole { KeepsFoldersOfWords (W.folders world.old) (W.folders world.new)
+        (map string_bytes words.now) }
 {
     let line = line_of(alloc, words)?;
     run_line(world, alloc, line, output, errors)
@@ -69,15 +74,19 @@ fn run_line<W: World, O: Outlet, E: Sink>(
     errors: &mut E,
 ) -> Result<(), CommandFault>
     ensures spared { SparesOut (task_of line.entry) (W.files world.old) (W.files world.new) }
-    ensures done { OnOk result (Does (W.folders world.old) (task_of line.entry)
+    ensures done { OnOk result (Does (W.folders world.old) (W.folders world.new)
+        (task_of line.entry)
         (outside (W.files world.old) (O.written output.old) (E.written errors.old))
         (outside (W.files world.new) (O.written output.new) (E.written errors.new))) }
     ensures handed_on { OnOk result (O.handed_on output.new ≡ O.written output.new) }
-    ensures failed { IfErr result (FailsToDo (W.folders world.old) (task_of line.entry)
+    ensures failed { IfErr result (FailsToDo (W.folders world.old) (W.folders world.new)
+        (task_of line.entry)
         (outside (W.files world.old) (O.written output.old) (E.written errors.old))
         (outside (W.files world.new) (O.written output.new) (E.written errors.new))) }
     ensures any_moment { ClosesOut (task_of line.entry) (W.files world.old)
         (W.closed world.old) (W.closed world.new) }
+    ensures folder_whole { KeepsFolders (W.folders world.old) (W.folders world.new)
+        (task_of line.entry) }
 {
     match line {
         Line::Packet(PacketLine { form, hex }) => packet(alloc, hex, form, output),

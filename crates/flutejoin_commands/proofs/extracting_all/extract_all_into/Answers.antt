@@ -1,5 +1,5 @@
 -- extract_all_into: the folder that was filled and ended, at any moment, or why not.
-use Rattle.std.proofs.Common.{Result, ℕ, inr, subst, sym}
+use Rattle.std.proofs.Common.{Result, ℕ, ◌+◌, arith, inr, subst, sym, ◌∙◌}
 use Rattle.std.specs.Prelude.{IfOk}
 use Rattle.flutejoin.specs.ExtractAll.{ExtractsAll}
 use Rattle.flutejoin.specs.declared.command_fault.CommandFault.{CommandFault}
@@ -8,7 +8,8 @@ use Rattle.flutejoin_commands.proofs.FolderSteps.{made_ready, made_nothing, fill
 use Rattle.flutejoin_commands.proofs.FolderSteps.{one_always, leaves_folder, there_failed, on_ok}
 use Rattle.flutejoin_commands.specs.Folders.{FolderFails}
 use Rattle.flutejoin_commands.proofs.FolderSteps.{Filling, Finishing, on_if_ok, if_err}
-use Rattle.flutejoin_commands.proofs.FolderSteps.{not_finished}
+use Rattle.flutejoin_commands.proofs.FolderSteps.{at_fault, fault_caused, gone_if_quiet}
+use Rattle.flutejoin_commands.proofs.FolderSteps.{none_beside, not_finished}
 use Rattle.flutejoin_commands.proofs.extracting_all.extract_all_into.Goals as goal
 
 pub fill-filled-requires : goal.fill-filled-requires
@@ -110,3 +111,36 @@ returns-in-Err-clause-any_moment g c =
     (g.D.NewFolder.places c.fill-filled.new.folder)
     (g.D.NewFolder.places c.finish_folder.new.folder) h c.fill-filled.ensures.stays
     c.finish_folder.ensures.any_moment)
+
+pub returns-in-Err-clause-cause : goal.returns-in-Err-clause-cause
+returns-in-Err-clause-cause g c =
+    λ is. let made = c.in-Ok.ensures.failures in
+    let caused = fault_caused (g.D.NewFolder.failures c.create.new.self + g.P.Sink.failures c.args.report.now)
+    (g.D.NewFolder.failures c.fill-filled.new.folder)
+    (g.P.Sink.failures c.fill-filled.new.report) (g.D.NewFolder.failures c.finish_folder.new.folder)
+    c.finish_folder.result c.in-Err.fault c.in-Err.is c.finish_folder.ensures.counted
+    c.fill-filled.ensures.counted c.fill-filled.result
+    c.finish_folder.ensures.fault c.fill-filled.ensures.cause c.finish_folder.ensures.cause
+    (sym c.fault_of.ensures ∙ is) in
+    omega (arith, made, caused)
+
+pub returns-in-Err-clause-gone : goal.returns-in-Err-clause-gone
+returns-in-Err-clause-gone g c =
+    λ same. none_beside (g.D.NewFolder.places c.args.folder.now)
+    (g.D.NewFolder.places c.create.new.self) (g.D.NewFolder.places c.fill-filled.new.folder)
+    (g.D.NewFolder.places c.finish_folder.new.folder) c.in-Ok.ensures.made
+    c.fill-filled.ensures.stays
+    (gone_if_quiet (g.D.NewFolder.failures c.create.new.self + g.P.Sink.failures c.args.report.now)
+    (g.D.NewFolder.failures c.fill-filled.new.folder)
+    (g.P.Sink.failures c.fill-filled.new.report) (g.D.NewFolder.failures c.finish_folder.new.folder)
+    c.finish_folder.result c.in-Err.fault c.in-Err.is c.finish_folder.ensures.counted
+    c.fill-filled.ensures.counted c.fill-filled.result
+    c.in-Err.ensures.gone c.finish_folder.ensures.cause
+    (let made = c.in-Ok.ensures.failures in omega (arith, made, same)))
+
+pub returns-in-Ok-finish_folder-clause-gone : goal.returns-in-Ok-finish_folder-clause-gone
+returns-in-Ok-finish_folder-clause-gone g c =
+    at_fault _ c.tell.result (none_beside (g.D.NewFolder.places c.args.folder.now)
+    (g.D.NewFolder.places c.create.new.self) (g.D.NewFolder.places c.fill-filled.new.folder)
+    (g.D.NewFolder.places c.finish_folder.new.folder) c.in-Ok.ensures.made
+    c.fill-filled.ensures.stays c.in-Ok-finish_folder.ensures.gone_ok)

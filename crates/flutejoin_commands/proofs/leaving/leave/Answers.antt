@@ -20,5 +20,5 @@ returns-clause-failed g c =
     fails_after {L = Leaves writes puts (g.K.Work.tells a.work) a.target.out.now old put}
     {F = FailsToLeave writes fails a.target.out.now old put}
     {G = FailsToLeave writes fails a.target.out.now old new}
-    d.result c.hand_on.result (λ l. unhanded l) (λ fault f. failed_still f)
+    d.result c.hand_on.result (λ l. unhanded l) (λ fault f. failed_still c.hand_on.ensures.same f)
     d.ensures.left d.ensures.failed c.hand_on.ensures.first c.hand_on.ensures.after

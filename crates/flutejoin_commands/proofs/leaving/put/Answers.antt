@@ -6,7 +6,8 @@ use Rattle.flutejoin_commands.specs.Worlds.{IsPlaced}
 use Rattle.flutejoin_commands.proofs.Closed.{closed_whole}
 use Rattle.flutejoin_commands.proofs.FolderSteps.{if_err, on_ok}
 use Rattle.flutejoin_commands.proofs.LeftFiles.{closed_file, left_file, left_device}
-use Rattle.flutejoin_commands.proofs.LeftFiles.{failed_as, left_output}
+use Rattle.flutejoin_commands.proofs.LeftFiles.{failed_as, failed_device, failed_output, left_output}
+use Rattle.flutejoin_commands.proofs.PrintedNames.{both}
 use Rattle.flutejoin_commands.proofs.leaving.put.Goals as goal
 
 pub returns-in-Ok-File-clause-left : goal.returns-in-Ok-File-clause-left
@@ -62,3 +63,17 @@ returns-in-Ok-File-clause-any_moment g c =
     {new = new} (entries c.in-Ok-File.folder)
     (entries c.write_into-done.result.1) closed.had c.write_into-done.ensures.any_moment
     c.close.ensures.noted)
+
+pub returns-in-Ok-Device-clause-failed : goal.returns-in-Ok-Device-clause-failed
+returns-in-Ok-Device-clause-failed g c =
+    if_err c.deliver.result (λ fault why. failed_device (subst (λ p. IsPlaced g.W.Folder.Folder.entries
+    (g.W.Inputs.files c.args.world.now) c.args.target.out.now p) c.in-Ok-Device.field-0-is
+    c.in-Ok-Device.ensures.placed) c.place.ensures.same_files why) c.deliver.ensures.failed
+
+pub returns-in-Ok-StandardOutput-clause-failed : goal.returns-in-Ok-StandardOutput-clause-failed
+returns-in-Ok-StandardOutput-clause-failed g c =
+    let t = c.deliver-in-Ok-StandardOutput in
+    if_err t.result (λ fault why. failed_output (subst (λ p. IsPlaced g.W.Folder.Folder.entries
+    (g.W.Inputs.files c.args.world.now) c.args.target.out.now p) c.in-Ok-StandardOutput.field-0-is
+    c.in-Ok-StandardOutput.ensures.placed) c.place.ensures.same_files why.0 why.1)
+    (both _ _ t.result t.ensures.failed t.ensures.untold)

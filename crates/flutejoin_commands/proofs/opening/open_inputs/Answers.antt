@@ -34,6 +34,7 @@ loop-k-preserved g c =
     let one = c.open_one.ensures.asked in
     record {
       same_files = c.open_one.ensures.same_files ∙ c.loop-k.invariant.same_files;
+      same_folders = c.open_one.ensures.same_folders ∙ c.loop-k.invariant.same_folders;
       same_closed = c.open_one.ensures.same_closed ∙ c.loop-k.invariant.same_closed;
       opened =
           one_opened files g.I.Input.Source.unread c.in_ok-input.input

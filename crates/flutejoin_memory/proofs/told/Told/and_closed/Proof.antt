@@ -29,7 +29,7 @@ use denote.Triple.Spec.{Meets, triple_of}
 use denote.Triple.Table.{entered}
 use denote.Triple.Walked.{says, Stays, stay_dropped, walk_of, ends_at, walk_Meets, Goes-dropped}
 use Rattle.flute_memory.specs.Memory.{memory_entries}
-use Rattle.flutejoin_commands.specs.Closings.{closing as noted}
+use Rattle.flutejoin_memory.specs.MemoryFiles.{with_closed}
 use Rattle.flutejoin_memory.proofs.Empty.{none, none_made}
 use Rattle.flutejoin_memory.specs.contracts.told.Told as Told
 use Rattle.flutejoin_memory.specs.contracts.told.Told.and_closed as F
@@ -66,7 +66,7 @@ module _ {M : Type 1} {𝓤 : Ura M} (𝓛 : Logic 𝓤) (at_mem : Memory → SP
         let a = z.0.3 in
         let vss = z.0.4 in
         let made : (Told.the_row).Denot =
-        record { closed = noted a.1.0.now (memory_entries a.1.1.0.now) ∷ a.0.now.closed } in
+        record { changed = with_closed a.1.0.now (memory_entries a.1.1.0.now) a.0.now.changed } in
         qed 𝓛 ((raw toks ⊛ ‵ (owns (types_at F.ended.signature.params z.0.0) a vss))
         ∷ raw ((held z.0.0 a).requires z.1) ∷ []) ∵
         keep ! (0 ∷ []) $ split ! $ move ! (1 ∷ []) $

@@ -1,4 +1,4 @@
--- `none` makes the empty struct, with the changes that its clause names.
+-- `none` makes the empty struct, with what its clause names.
 use Rattle.std.proofs.Common.{[], ◌∷◌, refl}
 use seplogic.Ra.Ura.{Ura}
 use mir.Val.{Val}
@@ -22,6 +22,7 @@ use denote.Triple.Entry.{alive}
 use denote.Triple.Spec.{Meets, triple_of}
 use denote.Triple.Table.{entered}
 use denote.Triple.Walked.{says, Stays, walk_of, ends_at, walk_Meets}
+use Rattle.flutejoin_memory.specs.MemoryFiles.{unchanged}
 use Rattle.flutejoin_memory.proofs.Empty.{none, none_made}
 use Rattle.flutejoin_memory.specs.contracts.told.Told as Told
 use Rattle.flutejoin_memory.specs.contracts.told.Told.none as F
@@ -51,7 +52,7 @@ module _ {M : Type 1} {𝓤 : Ura M} (𝓛 : Logic 𝓤) (at_mem : Memory → SP
     walks =
         let a = z.0.3 in
         let vss = z.0.4 in
-        let made : (Told.the_row).Denot = record { closed = [] } in
+        let made : (Told.the_row).Denot = record { changed = unchanged } in
         qed 𝓛 ((raw toks ⊛ ‵ (owns (types_at F.ended.signature.params z.0.0) a vss))
         ∷ raw ((held z.0.0 a).requires z.1) ∷ []) ∵
         keep ! (0 ∷ []) $ split ! $ keep ! (0 ∷ []) $
