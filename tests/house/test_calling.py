@@ -17,12 +17,13 @@ NEEDS_PROGRAM = False
 EMBEDDING = ROOT / "docs" / "EMBEDDING.md"
 LIBRARIES = (
     *("flute_join", "flute_parts", "flute_wire", "flute_store", "flute_journal", "flute_streams"),
-    *("flute_output", "flutejoin", "flutejoin_replicas"),
+    *("flute_calls", "flute_output", "flutejoin", "flutejoin_replicas", "flutejoin_c"),
 )
+OF_C = {"flutejoin_c"}  # no crate calls it
 LEFT_OUT = "// .."
 LONGEST_CALL = 10  # lines
 NAMED = re.compile(r"\(from `(\w+)`\):$")
-BEGINS = re.compile(r"(?:pub |final )*fn (\w+)")
+BEGINS = re.compile(r"(?:pub |final |extern \"C\" )*fn (\w+)")
 CLAUSE = re.compile(r"(?:requires|ensures)\*? ")
 BETWEEN = re.compile(rf"{CLAUSE.pattern}|//")
 # What a file's clauses may cite: words that it imports, and what its traits say of their types
@@ -159,7 +160,7 @@ class Calling(run.Case):
     def test_calls(self) -> None:
         for library in LIBRARIES:
             calls = [block for block in blocks(page_of(library)) if block.crate]
-            self.assertTrue(calls, f"{library}: its page calls nothing")
+            self.assertTrue(calls or library in OF_C, f"{library}: its page calls nothing")
             for call in calls:
                 is_short = len(call.lines) <= LONGEST_CALL
                 is_there = stands(Example(call.crate, call.lines))
