@@ -6,8 +6,9 @@
  * An input is a pointer and a length. NULL is allowed if the length is 0. A room for what a call
  * gives is a pointer and a capacity, and NULL is allowed if the capacity is 0. `needed` of the
  * answer is how much there was to give: if that is more than the capacity, the room has the first
- * of it, and the call can be made again with a larger one. The room and what else a call writes
- * must not overlap its inputs or one another. If `any_size` is not 0, it is the option --any-size.
+ * of it, and the call can be made again with a larger one. The room must not overlap an input. All
+ * else is written once the inputs are read, and the answer last, so that it may lie where they do.
+ * If `any_size` is not 0, it is the option --any-size.
  *
  * A call returns FLUTEJOIN_OK or the number of a fault. After a fault the room is as it was. The
  * answer, which may be NULL, has the same number, and the line that the program `flutejoin` prints.
@@ -25,7 +26,8 @@ extern "C" {
 /* The number of a fault stays what it is. */
 enum flutejoin_code {
     FLUTEJOIN_OK = 0,
-    FLUTEJOIN_BAD_ARGUMENT = 1, /* NULL where it is not allowed, or a room that overlaps an input */
+    FLUTEJOIN_BAD_ARGUMENT = 1, /* NULL where it is not allowed, a length above PTRDIFF_MAX, or a
+                                   room that overlaps an input or is not aligned */
     FLUTEJOIN_BAD_KEY = 2,      /* no object has such a name */
     FLUTEJOIN_REFUSED = 4,      /* the datagram is no packet */
     FLUTEJOIN_INPUT = 5,        /* an input is no journal, or a damaged datagram file */
@@ -147,7 +149,8 @@ typedef struct flutejoin_counts {
 uint32_t flutejoin_read(const uint8_t *datagram, size_t length, flutejoin_packet *packet,
                         flutejoin_answer *answer);
 
-/* Gives the journal of all that two journals contain: its length is at most that of both. */
+/* Gives the journal of all that two journals contain. Its length is at most that of both, or twice
+ * that if one of them is of version 1. */
 uint32_t flutejoin_merge(const uint8_t *first, size_t first_length, const uint8_t *second,
                          size_t second_length, uint8_t *room, size_t capacity,
                          flutejoin_answer *answer);

@@ -1,5 +1,5 @@
-/* The calls of flutejoin.h: each refuses pointers that the proved call behind it cannot take, and
- * makes that call. Nothing here is proved. */
+/* The calls of flutejoin.h: each refuses pointers that the proved call behind it cannot take, makes
+ * that call, and then hands over what it told. Nothing here is proved. */
 #include "flutejoin.h"
 
 #include <string.h>
@@ -39,7 +39,7 @@ static int is_right(const void *bytes, size_t length) {
 
 static int overlap(const void *room, size_t capacity, const void *bytes, size_t length) {
     uintptr_t first = (uintptr_t)room, second = (uintptr_t)bytes;
-    return capacity && length && first < second + length && second < first + capacity;
+    return capacity && length && (first - second < length || second - first < capacity);
 }
 
 /* Whether a room can be written to that is beside this input. */
@@ -48,55 +48,74 @@ static int is_room(const void *room, size_t capacity, const uint8_t *bytes, size
            && !overlap(room, capacity, bytes, length);
 }
 
-static uint32_t bad_argument(flutejoin_answer *answer) {
-    answer->code = FLUTEJOIN_BAD_ARGUMENT;
-    strcpy(answer->text, "bad argument");
-    return FLUTEJOIN_BAD_ARGUMENT;
+/* Whether this many entries can be put there, beside this input. */
+static int is_room_of_entries(const flutejoin_entry *room, size_t capacity, const uint8_t *bytes,
+                              size_t length) {
+    struct placed {
+        char byte;
+        flutejoin_entry entry;
+    };
+    return (uintptr_t)room % offsetof(struct placed, entry) == 0
+           && capacity <= PTRDIFF_MAX / sizeof *room
+           && is_room(room, capacity * sizeof *room, bytes, length);
 }
 
-/* The answer to be filled in, with nothing in it yet: that of the caller, or else this one. */
-static flutejoin_answer *begun(flutejoin_answer *answer, flutejoin_answer *own) {
-    flutejoin_answer *filled = answer ? answer : own;
-    memset(filled, 0, sizeof *filled);
-    return filled;
+/* An answer to be filled in, with nothing in it yet. */
+static flutejoin_answer *begun(flutejoin_answer *own) {
+    memset(own, 0, sizeof *own);
+    return own;
+}
+
+/* Hands an answer to the caller, who may want none, after all else: it may lie where an input or
+ * the room does. */
+static uint32_t answered(const flutejoin_answer *own, flutejoin_answer *answer) {
+    uint32_t code = own->code;
+    if (answer)
+        *answer = *own;
+    return code;
+}
+
+static uint32_t bad_argument(flutejoin_answer *answer) {
+    flutejoin_answer own;
+    begun(&own)->code = FLUTEJOIN_BAD_ARGUMENT;
+    strcpy(own.text, "bad argument");
+    return answered(&own, answer);
 }
 
 uint32_t flutejoin_read(const uint8_t *datagram, size_t length, flutejoin_packet *packet,
                         flutejoin_answer *answer) {
     flutejoin_answer own;
     flutejoin_packet read;
-    answer = begun(answer, &own);
     memset(&read, 0, sizeof read);
     if (!packet || !is_right(datagram, length))
         return bad_argument(answer);
-    uint32_t code = flutejoin_c_read(AT(datagram), length, &read, answer);
-    if (code == FLUTEJOIN_OK)
+    if (flutejoin_c_read(AT(datagram), length, &read, begun(&own)) == FLUTEJOIN_OK)
         *packet = read;
-    return code;
+    return answered(&own, answer);
 }
 
 uint32_t flutejoin_merge(const uint8_t *first, size_t first_length, const uint8_t *second,
                          size_t second_length, uint8_t *room, size_t capacity,
                          flutejoin_answer *answer) {
     flutejoin_answer own;
-    answer = begun(answer, &own);
     if (!is_room(room, capacity, first, first_length)
         || !is_room(room, capacity, second, second_length))
         return bad_argument(answer);
-    return flutejoin_c_merge(AT(first), first_length, AT(second), second_length, AT(room),
-                             capacity, answer);
+    flutejoin_c_merge(AT(first), first_length, AT(second), second_length, AT(room), capacity,
+                      begun(&own));
+    return answered(&own, answer);
 }
 
 uint32_t flutejoin_minus(const uint8_t *first, size_t first_length, const uint8_t *second,
                          size_t second_length, uint8_t *room, size_t capacity,
                          flutejoin_answer *answer) {
     flutejoin_answer own;
-    answer = begun(answer, &own);
     if (!is_room(room, capacity, first, first_length)
         || !is_room(room, capacity, second, second_length))
         return bad_argument(answer);
-    return flutejoin_c_minus(AT(first), first_length, AT(second), second_length, AT(room),
-                             capacity, answer);
+    flutejoin_c_minus(AT(first), first_length, AT(second), second_length, AT(room), capacity,
+                      begun(&own));
+    return answered(&own, answer);
 }
 
 uint32_t flutejoin_join(const uint8_t *first, size_t first_length, const uint8_t *second,
@@ -106,7 +125,6 @@ uint32_t flutejoin_join(const uint8_t *first, size_t first_length, const uint8_t
     flutejoin_answer own;
     flutejoin_options how;
     flutejoin_counts told;
-    answer = begun(answer, &own);
     memset(&how, 0, sizeof how);
     memset(&told, 0, sizeof told);
     if (!is_room(room, capacity, first, first_length)
@@ -115,52 +133,51 @@ uint32_t flutejoin_join(const uint8_t *first, size_t first_length, const uint8_t
     if (options)
         how = *options;
     uint32_t code = flutejoin_c_join(AT(first), first_length, AT(second), second_length, &how,
-                                     &told, AT(room), capacity, answer);
+                                     &told, AT(room), capacity, begun(&own));
     if (code == FLUTEJOIN_OK && counts)
         *counts = told;
-    return code;
+    return answered(&own, answer);
 }
 
 uint32_t flutejoin_entries(const uint8_t *journal, size_t length, flutejoin_entry *room,
                            size_t capacity, flutejoin_answer *answer) {
     flutejoin_answer own;
-    answer = begun(answer, &own);
-    if (capacity > PTRDIFF_MAX / sizeof *room
-        || !is_room(room, capacity * sizeof *room, journal, length))
+    if (!is_room_of_entries(room, capacity, journal, length))
         return bad_argument(answer);
-    return flutejoin_c_entries(AT(journal), length, room ? room : no_entries, capacity, answer);
+    flutejoin_c_entries(AT(journal), length, room ? room : no_entries, capacity, begun(&own));
+    return answered(&own, answer);
 }
 
 uint32_t flutejoin_gaps(const uint8_t *journal, size_t length, uint32_t any_size, uint32_t json,
                         uint8_t *room, size_t capacity, flutejoin_answer *answer) {
     flutejoin_answer own;
-    answer = begun(answer, &own);
     if (!is_room(room, capacity, journal, length))
         return bad_argument(answer);
-    return flutejoin_c_gaps(AT(journal), length, any_size, json, AT(room), capacity, answer);
+    flutejoin_c_gaps(AT(journal), length, any_size, json, AT(room), capacity, begun(&own));
+    return answered(&own, answer);
 }
 
 uint32_t flutejoin_fill(const uint8_t *journal, size_t length, const uint8_t *lines,
                         size_t lines_length, uint32_t only, uint8_t *room, size_t capacity,
                         flutejoin_answer *answer) {
     flutejoin_answer own;
-    answer = begun(answer, &own);
     if (!is_room(room, capacity, journal, length) || !is_room(room, capacity, lines, lines_length))
         return bad_argument(answer);
-    return flutejoin_c_fill(AT(journal), length, AT(lines), lines_length, only, AT(room), capacity,
-                            answer);
+    flutejoin_c_fill(AT(journal), length, AT(lines), lines_length, only, AT(room), capacity,
+                     begun(&own));
+    return answered(&own, answer);
 }
 
 uint32_t flutejoin_compare(const uint8_t *first, size_t first_length, const uint8_t *second,
                            size_t second_length, uint32_t json, uint8_t *room, size_t capacity,
                            flutejoin_answer *answer) {
     flutejoin_answer own;
-    answer = begun(answer, &own);
     if (!is_room(room, capacity, first, first_length)
         || !is_room(room, capacity, second, second_length))
         return bad_argument(answer);
-    return flutejoin_c_compare(AT(first), first_length, AT(second), second_length, json, AT(room),
-                               capacity, answer);
+    flutejoin_c_compare(AT(first), first_length, AT(second), second_length, json, AT(room),
+                        capacity, begun(&own));
+    return answered(&own, answer);
 }
 
 uint32_t flutejoin_extract(const uint8_t *journal, size_t length, const flutejoin_object *object,
@@ -168,11 +185,11 @@ uint32_t flutejoin_extract(const uint8_t *journal, size_t length, const flutejoi
                            flutejoin_answer *answer) {
     flutejoin_answer own;
     flutejoin_object named;
-    answer = begun(answer, &own);
     if (!object || !is_room(room, capacity, journal, length))
         return bad_argument(answer);
     named = *object;
-    return flutejoin_c_extract(AT(journal), length, &named, any_size, AT(room), capacity, answer);
+    flutejoin_c_extract(AT(journal), length, &named, any_size, AT(room), capacity, begun(&own));
+    return answered(&own, answer);
 }
 
 uint32_t flutejoin_status(const uint8_t *journal, size_t length, const flutejoin_object *object,
@@ -180,13 +197,12 @@ uint32_t flutejoin_status(const uint8_t *journal, size_t length, const flutejoin
     flutejoin_answer own;
     flutejoin_object named;
     flutejoin_held told;
-    answer = begun(answer, &own);
     memset(&told, 0, sizeof told);
     if (!object || !held || !is_right(journal, length))
         return bad_argument(answer);
     named = *object;
-    uint32_t code = flutejoin_c_status(AT(journal), length, &named, any_size, &told, answer);
-    if (code == FLUTEJOIN_OK)
+    if (flutejoin_c_status(AT(journal), length, &named, any_size, &told, begun(&own))
+        == FLUTEJOIN_OK)
         *held = told;
-    return code;
+    return answered(&own, answer);
 }
