@@ -42,8 +42,13 @@ def items_given(call: Call, arguments: Sequence[object], room: int, size: int) -
 
 def words(data: Bytes) -> tuple[bytes, int]:
     """A pointer to the bytes, and how many there are."""
-    held = data if isinstance(data, bytes) else bytes(data)
-    return held, len(held)
+    kept = constant(data)
+    return kept, len(kept)
+
+
+def constant(data: Bytes) -> bytes:
+    """The bytes, which nobody changes. Raises TypeError if it has none, as a number."""
+    return data if type(data) is bytes else memoryview(data).tobytes()
 
 
 def fields_of(object: Object) -> ObjectFields:

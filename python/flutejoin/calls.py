@@ -10,7 +10,7 @@ from typing import Iterator, Optional
 
 from flutejoin.calling import LEAST_ROOM, Bytes, check, given, wide, words
 from flutejoin.faults import BadArgument
-from flutejoin.journal import AnyJournal, Joined, Journal, taken
+from flutejoin.journal import AnyJournal, Joined, Journal, taken, words_of
 from flutejoin.library import Answer, CountFields, OptionFields, PacketFields, library
 from flutejoin.values import Compared, Entry, Held, Information, Object, Packet, Status, Symbol
 
@@ -48,7 +48,7 @@ def join(
         raise BadArgument("bad argument", 1) from error
     counts = CountFields()
     two = (b"", first) if second is None else (first, second)
-    inputs = *words(bytes(two[0])), *words(bytes(two[1]))
+    inputs = *words_of(two[0]), *words_of(two[1])
     arguments = *inputs, byref(options), byref(counts)
     journal = given(library().flutejoin_join, arguments, LEAST_ROOM + 2 * (inputs[1] + inputs[3]))
     return Joined(taken(journal), counts.datagrams, counts.refused, counts.entries)

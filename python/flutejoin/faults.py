@@ -10,6 +10,10 @@ class Fault(Exception):
         self.code = code
         self.number = number  # see each kind
 
+    def __reduce__(self) -> tuple[type[Fault], tuple[str, int, int]]:
+        """It can be pickled: a process tells another of it."""
+        return type(self), (str(self), self.code, self.number)
+
 
 class BadArgument(Fault, ValueError):
     """An argument that the library does not take."""

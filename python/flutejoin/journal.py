@@ -7,8 +7,8 @@ import struct
 from ctypes import byref
 from typing import Iterator, NamedTuple, Optional, Union
 
-from flutejoin.calling import LEAST_ROOM, Bytes, Call, check, fields_of, given, items_given
-from flutejoin.calling import words
+from flutejoin.calling import LEAST_ROOM, Bytes, Call, check, constant, fields_of, given
+from flutejoin.calling import items_given, words
 from flutejoin.library import Answer, HeldFields, library
 from flutejoin.lines import compared_in, held_in
 from flutejoin.values import Compared, Entry, Held, Information, Object, Status, Symbol
@@ -39,7 +39,8 @@ class Journal:
         1, if they are none or have more than 16,777,216 entries."""
         held, size = words(data)
         answer = Answer()
-        check(library().flutejoin_entries(held, size, None, 0, byref(answer)), answer)
+        # What nobody asks for is read to its end, and not held
+        check(library().flutejoin_fill(held, size, None, 0, 1, None, 0, byref(answer)), answer)
         object.__setattr__(self, "_data", held)
 
     @classmethod
@@ -117,7 +118,7 @@ class Journal:
     def compare_lines(self, other: AnyJournal, *, as_json: bool = False) -> bytes:
         """The lines that the command `compare` prints of both. Raises InputFault with the number
         2."""
-        arguments = *words(self._data), *words(bytes(other)), int(as_json)
+        arguments = *words(self._data), *words_of(other), int(as_json)
         return given(library().flutejoin_compare, arguments, LEAST_ROOM)
 
     def compare(self, other: AnyJournal) -> list[Compared]:
@@ -170,10 +171,15 @@ def taken(data: AnyJournal) -> Journal:
     if isinstance(data, Journal):
         return data
     journal = object.__new__(Journal)
-    object.__setattr__(journal, "_data", bytes(data))
+    object.__setattr__(journal, "_data", constant(data))
     return journal
 
 
+def words_of(data: AnyJournal) -> tuple[bytes, int]:
+    """The words for a journal, or for bytes."""
+    return words(bytes(data) if isinstance(data, Journal) else data)
+
+
 def of_two(call: Call, first: Journal, second: AnyJournal) -> Journal:
-    arguments = *words(bytes(first)), *words(bytes(second))
+    arguments = *words_of(first), *words_of(second)
     return taken(given(call, arguments, LEAST_ROOM + 2 * (arguments[1] + arguments[3])))

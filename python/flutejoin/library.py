@@ -14,7 +14,7 @@ NAME = "libflutejoin.so.0"
 
 
 class NoLibrary(ImportError):
-    """There is no libflutejoin, or it could not be loaded."""
+    """There is no libflutejoin, or it could not be loaded, or it is older than this package."""
 
 
 class Wide(Structure):
@@ -112,12 +112,15 @@ CALLS: dict[str, tuple[object, ...]] = {
 
 @functools.lru_cache(maxsize=None)
 def library() -> ctypes.CDLL:
-    """The library, loaded once."""
+    """The library, loaded once. Raises NoLibrary."""
     try:
-        loaded = ctypes.CDLL(os.environ.get("FLUTEJOIN_LIBRARY", NAME))
+        loaded = ctypes.CDLL(os.environ.get("FLUTEJOIN_LIBRARY") or NAME)
     except OSError as error:
         raise NoLibrary(f"libflutejoin is not there: {error}") from error
     for name, types in CALLS.items():
-        call = getattr(loaded, f"flutejoin_{name}")
+        try:
+            call = getattr(loaded, f"flutejoin_{name}")
+        except AttributeError as error:
+            raise NoLibrary(f"libflutejoin lacks a call: {error}") from error
         call.argtypes, call.restype = types, c_uint32
     return loaded

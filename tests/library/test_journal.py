@@ -1,6 +1,8 @@
 """Journals as the package for Python has them, worked out by hand."""
 from __future__ import annotations
 
+import concurrent.futures
+import copy
 import dataclasses
 import pickle
 from typing import Callable
@@ -10,7 +12,7 @@ from tests.library.case import EMPTY, NUMBER, SENDER, Case
 from tests.support.run import version2
 
 import flutejoin
-from flutejoin import Entry, Fault, Information, Journal, Object, Symbol
+from flutejoin import Entry, Fault, Information, Journal, Object, Symbol, faults
 
 # Entries of version 1, behind their kind: the TSI, the tag and the number of a file, and of an
 # FDT Instance; a journal of both
@@ -31,6 +33,13 @@ SAID = [
     Entry(A_FILE, "symbol conflict", None, Symbol(65535, 0, b"")),
     Entry(A_FILE, "symbol", None, Symbol(65535, 65534, b"hi")),
 ]
+
+# Functions that take a journal, or bytes
+OF_JOURNALS = "read", "join", "entries", "merge", "minus", "fill", "gaps", "gap_lines", "compare"
+
+
+class OfBytes(bytes):
+    """A kind of bytes."""
 
 
 class Journals(Case):
@@ -62,7 +71,13 @@ class Journals(Case):
         self.holds("of nothing", Journal() == Journal(EMPTY) and not [*Journal().entries()])
         self.holds("not equal", self.first != self.second and self.first != other)
         self.holds("a key", {self.first: 1, self.second: 2}[Journal(data)] == 1)
-        self.holds("pickled", pickle.loads(pickle.dumps(self.first)) == self.first)
+        again = pickle.loads(pickle.dumps(self.first)), copy.copy(self.first)
+        for journal in *again, copy.deepcopy(self.first):
+            is_it = journal == self.first and hash(journal) == hash(self.first)
+            self.holds("pickled or copied", is_it, journal)
+        every_other = memoryview(b"".join(bytes([byte, 0]) for byte in data))[::2]
+        self.holds("of a view with steps", Journal(every_other) == self.first)
+        self.holds("of a kind of bytes", type(bytes(Journal(OfBytes(data)))) is bytes)
         self.holds("shown", repr(self.first) == f"<Journal of {len(data)} bytes>", self.first)
 
     def test_constant(self) -> None:
@@ -89,6 +104,47 @@ class Journals(Case):
                 self.holds(f"the other: {fault}", told == f"input 2: {fault}", told)
         told = self.raises(OSError, Journal.read, self.path("missing"))
         self.holds("no such file", "No such file" in told, told)
+
+    def test_no_bytes(self) -> None:
+        """A number or a text is no bytes, also where `bytes` makes some of it."""
+        calls = {name: getattr(flutejoin, name) for name in OF_JOURNALS}
+        for other in 3, "FLJN", None, [70, 76]:
+            for name, call in calls.items():
+                is_second = name in ("merge", "minus", "compare", "fill")
+                given = (self.first, other) if is_second else (other,)
+                told = self.raises(TypeError, call, *given)
+                self.holds(f"{name} {other!r}", "bytes-like" in told, told)
+
+    def test_faults(self) -> None:
+        """Another process can be told of them."""
+        for number, kind in faults.KINDS.items():
+            fault = kind("a text", number, 65537)
+            for found in pickle.loads(pickle.dumps(fault)), copy.copy(fault):
+                is_it = type(found) is kind and str(found) == "a text"
+                is_it = is_it and (found.code, found.number) == (number, 65537)
+                self.holds(f"{kind.__name__}", is_it, found)
+        with concurrent.futures.ProcessPoolExecutor(1) as processes:
+            told = self.raises(flutejoin.InputFault, processes.submit(Journal, b"FLJN").result)
+        self.holds("of another process", told == "input 1: Cut", told)
+
+    def test_threads(self) -> None:
+        """Several call at once, and each gets its own answer."""
+        both, wrong = self.first | self.second, self.read("first")[:-1]
+
+        def found(turn: int) -> object:
+            first, second = (self.first, self.second) if turn % 2 else (self.second, self.first)
+            if turn % 5 == 0:
+                return self.raises(flutejoin.InputFault, first.merge, wrong)
+            return first | second, (first | second).gaps(), [*second.entries()]
+
+        gaps = both.gaps()
+        with concurrent.futures.ThreadPoolExecutor(8) as threads:
+            for turn, told in enumerate(threads.map(found, range(2000))):
+                entries = [*(self.second if turn % 2 else self.first).entries()]
+                wanted = (both, gaps, entries) if turn % 5 else "input 2: Cut"
+                if told != wanted:
+                    self.holds(f"call {turn}", False, told)
+        self.holds("all called", turn == 1999)
 
     def test_entries(self) -> None:
         self.file("old", OLD)
