@@ -16,7 +16,8 @@
 # make uninstall     takes away what `make install` copies
 # make deb           makes bin/flutejoin_VERSION_ARCHITECTURE.deb of it, for Debian
 # make library       proves and builds the library for C and Python, at bin/library
-# make install-library  copies it, its header and its file for pkg-config to $(PREFIX)
+# make install-library  copies it, its header and its file for pkg-config to $(PREFIX);
+#                    `make uninstall-library` takes them away
 # make deb-library   makes libflutejoin0 and python3-flutejoin of it at bin, for Debian
 # make test-library  builds it, and compares it and the package for Python with the program
 # make soak          runs stations, and the month of a centre, for longer than the gate does
@@ -25,9 +26,11 @@
 # make scale         runs what docs/SCALE.md has for several machines, where its engines are here
 #
 # PROGRAM=PATH       a program that is built already, in the place of bin/flutejoin
+# LIBRARY=PATH       where the library is, or will be: a folder, in the place of bin/library
 
 PREFIX ?= /usr/local
 PROGRAM ?= bin/flutejoin
+LIBRARY ?= bin/library
 # They find the package of their modules beside themselves, so bin has links to them.
 TOOLS := flutejoin-capture flutejoin-centre flutejoin-files flutejoin-gather flutejoin-map \
 	flutejoin-mend flutejoin-receive flutejoin-repair flutejoin-station flutejoin-values
@@ -48,6 +51,8 @@ SCRIPTS := $(addprefix examples/,tree_steps.sh stations.py levels.sh push.sh red
 	join_on_dask.py)
 UNITS = $(DESTDIR)$(PREFIX)/lib/systemd/system
 STARTED := flutejoin-station@.service flutejoin-centre.service
+
+INSTALLED := libflutejoin.a libflutejoin.so libflutejoin.so.0
 
 SOURCES := crates.txt $(shell find crates -name out -prune -o -name README.md -o -type f -print)
 
@@ -153,28 +158,35 @@ uninstall:
 	rm -rf "$(LIB)" "$(DESTDIR)$(PREFIX)/share/flutejoin"
 
 library:
-	@env -u STATIC library/build.sh bin/library
+	@env -u STATIC library/build.sh "$(LIBRARY)"
 
 test-library: $(PROGRAM) library
 	FLUTEJOIN="$(abspath $(PROGRAM))" STATIC="$(abspath $(STATIC))" tests/run library
 
 install-library: library
 	install -d "$(DESTDIR)$(PREFIX)/lib/pkgconfig" "$(DESTDIR)$(PREFIX)/include"
-	install -m 644 bin/library/libflutejoin.a bin/library/libflutejoin.so.0 \
+	install -m 644 "$(LIBRARY)/libflutejoin.a" "$(LIBRARY)/libflutejoin.so.0" \
 		"$(DESTDIR)$(PREFIX)/lib"
 	ln -sf libflutejoin.so.0 "$(DESTDIR)$(PREFIX)/lib/libflutejoin.so"
 	install -m 644 include/flutejoin.h "$(DESTDIR)$(PREFIX)/include"
-	sed 's|^prefix=.*|prefix=$(PREFIX)|' bin/library/flutejoin.pc \
+	sed 's|^prefix=.*|prefix=$(PREFIX)|' "$(LIBRARY)/flutejoin.pc" \
 		> "$(DESTDIR)$(PREFIX)/lib/pkgconfig/flutejoin.pc"
+	chmod 644 "$(DESTDIR)$(PREFIX)/lib/pkgconfig/flutejoin.pc"
+
+uninstall-library:
+	rm -f "$(DESTDIR)$(PREFIX)/lib/pkgconfig/flutejoin.pc"
+	rm -f "$(DESTDIR)$(PREFIX)/include/flutejoin.h"
+	rm -f $(INSTALLED:%="$(DESTDIR)$(PREFIX)/lib/%")
 
 deb: $(PROGRAM)
 	packaging/deb.sh "$(PROGRAM)" bin
 
 deb-library: library
-	packaging/deb_library.sh bin/library bin
+	packaging/deb_library.sh "$(LIBRARY)" bin
 
 clean:
 	rm -rf bin crates/*/out
 
 .PHONY: test test-program test-tools test-stations test-exports wrong-bodies soak fuzz scale try \
-	example install uninstall library install-library test-library deb deb-library clean
+	example install uninstall library install-library uninstall-library test-library deb \
+	deb-library clean

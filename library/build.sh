@@ -2,7 +2,8 @@
 # Proves what changed, and builds the library for C: build.sh FOLDER gets libflutejoin.a,
 # libflutejoin.so and flutejoin.pc. The output of the tools goes to FOLDER/build.log.
 #
-# STATIC=FILE is the proved static library: if it is there, nothing is proved.
+# STATIC=FILE is the proved static library: if it is there, nothing is proved. CC is the compiler,
+# and CFLAGS are more options of it.
 set -eu
 mkdir -p "$1"
 out=$(cd "$1" && pwd)
@@ -28,7 +29,8 @@ memory=$(dirname "$(rt doc)")/c/liblibc_c.a
 compiler=${CC:-cc}
 work=$(mktemp -d)
 trap 'rm -rf "$work"' EXIT
-"$compiler" -std=c99 -Wall -Wextra -pedantic -Werror -O2 -fPIC -Iinclude \
+# shellcheck disable=SC2086 # they are several words
+"$compiler" -std=c99 -Wall -Wextra -pedantic -Werror -O2 -fPIC ${CFLAGS:-} -Iinclude \
     -c library/flutejoin.c -o "$work/calls.o"
 
 # One object, of which others see what flutejoin.h declares alone
@@ -39,7 +41,8 @@ objcopy --keep-global-symbols="$work/names" "$work/flutejoin.o"
 
 rm -f "$out/libflutejoin.a"
 ar rcs "$out/libflutejoin.a" "$work/flutejoin.o"
-"$compiler" -shared -Wl,-soname,libflutejoin.so.0 -Wl,-z,defs -Wl,-z,relro -Wl,-z,now \
+# shellcheck disable=SC2086
+"$compiler" ${CFLAGS:-} -shared -Wl,-soname,libflutejoin.so.0 -Wl,-z,defs -Wl,-z,relro -Wl,-z,now \
     -o "$out/libflutejoin.so.0" "$work/flutejoin.o"
 ln -sf libflutejoin.so.0 "$out/libflutejoin.so"
 version=$(sed -n 's/^version = "\(.*\)"$/\1/p' python/pyproject.toml)

@@ -7,6 +7,7 @@ import pathlib
 import subprocess
 import sys
 import tempfile
+from typing import Optional
 
 from tests.support import run
 from tests.support.run import ROOT
@@ -38,11 +39,16 @@ def built() -> pathlib.Path:
 KEPT: list[tempfile.TemporaryDirectory[str]] = []
 
 
-def compiled(source: pathlib.Path, to: pathlib.Path, *words: str) -> None:
-    """Compiles a program in C that has the whole library in it."""
+def compiled(
+    source: pathlib.Path,
+    to: pathlib.Path,
+    *words: str,
+    library: Optional[pathlib.Path] = None,
+) -> None:
+    """Compiles a program in C that has the whole library in it, or another one of that folder."""
     command: list[str | pathlib.Path] = [os.environ.get("CC", "cc"), *STRICT, *words]
-    command += [f"-I{ROOT / 'include'}", "-o", to]
-    subprocess.run([*command, source, built() / "libflutejoin.a"], check=True)
+    command += [f"-I{ROOT / 'include'}", "-o", to, source]
+    subprocess.run([*command, (library or built()) / "libflutejoin.a"], check=True)
 
 
 class Case(run.Case):

@@ -3,7 +3,7 @@ faults of the program, on inputs that are drawn; and each call with each argumen
 a program in C, also under valgrind where that is installed.
 
 STATIC in the environment is the static library that was proved: without it that is built first.
-DRAWN (400) is how many inputs are drawn.
+DRAWN (400) is how many inputs are drawn, and SEED (7) chooses which.
 """
 from __future__ import annotations
 
@@ -14,10 +14,11 @@ import random
 import shutil
 import subprocess
 import sys
-from typing import Callable, Union
+from typing import Callable, Optional, Union
 
 import datagram_files
 from tests.library.case import EMPTY, NUMBER, SENDER, Case, built, compiled
+from tests.support.drawn_journals import drawn_journal
 from tests.support.run import ROOT
 
 import flutejoin
@@ -25,12 +26,14 @@ import pathlib
 from flutejoin import Entry, Fault, Journal, Object, Status
 
 DRAWN = int(os.environ.get("DRAWN", "400"))
+SEED = int(os.environ.get("SEED", "7"))
 Answer = Union[bytes, str]
 ALL_RIGHT = "all right"  # the last line of library_edges.c
 # Two that are sent, others that are not, and what names none
 OBJECTS = (
     *(Object(NUMBER, 7, toi) for toi in (1, 2, 3, 0)),
     *(Object(0, 7, 1), Object(NUMBER, 8, 1), Object(NUMBER, 7, 0, 4), Object(NUMBER, 7, 1, 4)),
+    *(Object(0, 1, 1), Object(NUMBER, 1, 0, 1), Object(2**128 - 1, 2, 0, 2)),
 )
 
 
@@ -56,7 +59,7 @@ class Drawn(Case):
 
     def setUp(self) -> None:
         super().setUp()
-        self.draw = random.Random(7)
+        self.draw = random.Random(SEED)
         self.datagrams = self.sent()
 
     def sent(self) -> list[bytes]:
@@ -86,8 +89,10 @@ class Drawn(Case):
         return datagram[:-1] + self.draw.randbytes(1)
 
     def drawn_journal(self) -> bytes:
-        """A journal of drawn datagrams, of which some have wrong bytes; it may be spoiled
-        itself."""
+        """A journal that the program made of drawn datagrams, of which some have wrong bytes, and
+        perhaps spoiled itself; or a journal of any kind."""
+        if self.draw.randrange(2):
+            return drawn_journal(self.draw)
         count = self.draw.randrange(len(self.datagrams))
         kept = [self.changed(each) for each in self.draw.sample(self.datagrams, count)]
         self.write("station", datagram_files.content(kept))
@@ -259,8 +264,9 @@ def lines_of(packet: flutejoin.Packet) -> bytes:
 class InC(Case):
     """Programs in C."""
 
-    def compiled(self, name: str) -> None:
-        compiled(ROOT / "tests" / "library" / f"{name}.c", self.path(name), "-g")
+    def compiled(self, name: str, *words: str, library: Optional[pathlib.Path] = None) -> None:
+        source = ROOT / "tests" / "library" / f"{name}.c"
+        compiled(source, self.path(name), "-g", *words, library=library)
 
     def test_joins(self) -> None:
         self.compiled("library")
@@ -287,6 +293,31 @@ class InC(Case):
             self.skipTest("valgrind is not installed")
         checked = "valgrind --quiet --leak-check=full --error-exitcode=90 ./library_edges"
         self.check("under valgrind", self.command(checked), 0, ALL_RIGHT)
+
+    def test_sanitized(self) -> None:
+        """With AddressSanitizer and UndefinedBehaviorSanitizer in what is in C. It also sees what
+        the proved calls copy and give back."""
+        flags = "-fsanitize=address,undefined", "-fno-sanitize-recover=all"
+        self.write("empty.c", "int main(void) { return 0; }\n")
+        if self.command([os.environ.get("CC", "cc"), *flags, "empty.c"]).status:
+            self.skipTest("the compiler has no sanitizers")
+        env = {"CFLAGS": " ".join(flags), "STATIC": os.environ.get("STATIC", "")}
+        done = self.command([ROOT / "library" / "build.sh", self.path("sanitized")], env=env)
+        # Clang links no shared library so, whose sanitizers are in the program.
+        self.holds("built", self.exists("sanitized/libflutejoin.a"), done)
+        self.compiled("library_edges", *flags, library=self.path("sanitized"))
+        self.check("edges", self.command("./library_edges"), 0, ALL_RIGHT)
+
+    def test_threads(self) -> None:
+        self.compiled("library_threads", "-pthread")
+        self.write("file", b"hello, all of you")
+        self.made("carousel -o sent --tsi 7 --toi 1 --symbol 4 --block 2 file")
+        told = "hello, all of you: 0"
+        self.check("as one alone", self.command("./library_threads sent"), 0, told)
+        if not shutil.which("valgrind"):
+            self.skipTest("valgrind is not installed")
+        checked = "valgrind --quiet --tool=helgrind --error-exitcode=90 ./library_threads sent"
+        self.check("without races", self.command(checked), 0, told)
 
     def test_names(self) -> None:
         """Others see what flutejoin.h declares, and nothing else."""
@@ -318,6 +349,7 @@ class Package(Case):
         done = self.command([sys.executable, "-c", script], env=env)
         self.check("and called", done, 0, "b''")
         self.holds("with its types", self.path("into/flutejoin/py.typed").exists())
-        env["FLUTEJOIN_LIBRARY"] = "/missing.so"
-        done = self.command([sys.executable, "-c", script], env=env)
-        self.holds("no library", b"libflutejoin is not there" in done.err, done)
+        for library, told in ("/missing.so", "is not there"), ("libc.so.6", "lacks a call"):
+            env["FLUTEJOIN_LIBRARY"] = library
+            done = self.command([sys.executable, "-c", script], env=env)
+            self.holds("no library", f"NoLibrary: libflutejoin {told}".encode() in done.err, done)

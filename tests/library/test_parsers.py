@@ -3,7 +3,7 @@ with the library: both take the same datagrams and journals, give the same of wh
 else name the same fault.
 
 DRAWN (20,000) is how many packets are drawn, of which most have wrong bytes, are cut or too long;
-of journals it is a twentieth of that.
+of journals it is a twentieth of that. SEED (11) chooses which.
 """
 from __future__ import annotations
 
@@ -13,7 +13,7 @@ import os
 import random
 import sys
 import unittest.mock
-from typing import Callable, Iterator, Optional, Sequence, Union
+from typing import Callable, Iterator, Optional, Union
 
 from flutejoin_tools.common.joining import session_of
 from flutejoin_tools.fdt.instances import may_be_of_instance
@@ -21,6 +21,7 @@ from flutejoin_tools.formats import entries, packets, reading
 from flutejoin_tools.formats.records import LENGTH, Cut, ReadFault
 from flutejoin_tools.journals import holdings
 from tests.library.case import EMPTY, Case
+from tests.support.drawn_journals import drawn_journal
 from tests.support.drawn_packets import mutated, packet
 from tests.support.run import ROOT
 
@@ -28,6 +29,7 @@ import flutejoin
 
 Reads = Callable[[entries.Entries], Iterator[entries.Entry]]
 DRAWN = int(os.environ.get("DRAWN", "20000"))
+SEED = int(os.environ.get("SEED", "11"))
 # Why datagrams are refused (docs/FORMATS.md): by their headers, by the lengths of extensions, and
 # by what these contain
 OF_HEADERS = {
@@ -44,19 +46,16 @@ OF_JOURNALS = {
     *(f"Information {it}" for it in ("SymbolLength", "BlockLength", "TooManyBlocks")),
     "Information BlockTooLong",
 }
-SENDERS = bytes(16), bytes(10) + b"\xff\xff\n\0\0\1", b"\xff" * 16
 KINDS = {
     **{"information": b"\1", "information conflict": b"\2"},
     **{"symbol": b"\3", "symbol conflict": b"\4"},
 }
-# Transmission information: two that are valid, and one for each fault of it
-NUMBERS = (90, 20, 64), (0, 0, 0), (9, 0, 1), (9, 1, 0), (1 << 40, 1, 1), (1 << 20, 1, 1 << 20)
 
 
 class Compared(Case):
     def setUp(self) -> None:
         super().setUp()
-        self.draw = random.Random(11)
+        self.draw = random.Random(SEED)
         self.differences: list[object] = []
 
     def agree(self, given: bytes, what: str, found: object, wanted: object) -> None:
@@ -212,43 +211,3 @@ def by_holdings(journal: bytes, *, leaves_out: bool = False) -> list[bytes]:
         bytes([kind]) + name + (b"" if leaves_out and kind == entries.INFORMATION else more)
         for kind, name, more in holdings.entries(io.BytesIO(journal))
     ]
-
-
-def drawn_journal(draw: random.Random) -> bytes:
-    """A journal of which every other one has a fault."""
-    version = draw.choice((1, 2))
-    senders = SENDERS if version == 2 else (b"",)
-    names = {drawn_name(draw, senders) for _ in range(draw.randrange(1, 4))}
-    held = [each for name in sorted(names) for each in drawn_entries(draw, name)]
-    count, how = len(held), draw.randrange(16)
-    if how == 0:
-        draw.shuffle(held)
-    elif how == 1:
-        count += 1
-    front, end = b"FLJN" + LENGTH.pack(version), b"\xff" + count.to_bytes(8, "big")
-    data = bytearray(front + b"".join(held) + end)
-    if how == 2:
-        data += b"\0"
-    elif how == 3:
-        del data[draw.randrange(len(data)) :]
-    elif how < 7:
-        data[draw.randrange(min(len(data), draw.choice((6, 8, 64, 999))))] = draw.randrange(256)
-    return bytes(data)
-
-
-def drawn_name(draw: random.Random, senders: Sequence[bytes]) -> bytes:
-    """The name of an object, which rarely is none."""
-    is_odd = draw.randrange(60) == 0
-    tag, number = draw.randrange(2), draw.choice((0, 1 << 20)) if is_odd else draw.randrange(1, 4)
-    session = draw.choice(senders) + draw.randrange(3).to_bytes(6, "big")
-    return session + bytes([tag]) + number.to_bytes(14, "big")
-
-
-def drawn_entries(draw: random.Random, name: bytes) -> Iterator[bytes]:
-    """Entries of an object, of which few are wrong."""
-    numbers = draw.choice(NUMBERS if draw.randrange(12) == 0 else NUMBERS[:2])
-    yield from draw.choice(((), (b"\1" + name + packets.packed(*numbers),), (b"\2" + name,)))
-    for symbol in sorted({draw.randrange(1 << 18) for _ in range(draw.randrange(5))}):
-        place = name + symbol.to_bytes(4, "big")
-        value = draw.randbytes(draw.randrange(1, 40) if draw.randrange(60) else 0)
-        yield draw.choice((b"\3" + place + LENGTH.pack(len(value)) + value, b"\4" + place))
