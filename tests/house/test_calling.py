@@ -196,3 +196,17 @@ class Calling(run.Case):
             self.holds(f"{library}: its README leads there", "](CALLING.md)" in readme)
             is_led = f"](../crates/{library}/CALLING.md)" in overview
             self.holds(f"{library}: EMBEDDING leads there", is_led)
+
+    def test_what_another_repository_takes(self) -> None:
+        """The crates that EMBEDDING names, up to each line, stand on one another alone."""
+        uses = {
+            line.partition(":")[0].split()[0]: set(line.partition(":")[2].split())
+            for line in (ROOT / "crates.txt").read_text().splitlines()
+        }
+        section = EMBEDDING.read_text().partition("\n## The crates\n")[2].partition("\n\nEach ")[0]
+        named = set[str]()
+        for group in section.split("\n- ")[1:]:
+            named |= set(re.findall(r"`(\w+)`", group))
+            others = set[str]().union(*(uses[name] for name in named)) & set(uses) - named
+            self.holds(f"after {group.splitlines()[0]}", not others, others)
+        self.holds("those with a page", named == set(LIBRARIES), named ^ set(LIBRARIES))
