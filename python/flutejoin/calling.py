@@ -30,9 +30,9 @@ def items_given(call: Call, arguments: Sequence[object], room: int, size: int) -
     """What a call gives: items of this size. It is made once more if there is room for too few."""
     answer = Answer()
     while True:
-        place = bytearray(room * size)
-        at = (ctypes.c_char * len(place)).from_buffer(place)
-        check(call(*arguments, at, room, byref(answer)), answer)
+        place = bytearray(max(room * size, 1))
+        at = ctypes.c_char.from_buffer(place)  # an array would be of a new type for each length
+        check(call(*arguments, byref(at), room, byref(answer)), answer)
         del at
         if answer.needed <= room:
             del place[answer.needed * size :]

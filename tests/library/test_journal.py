@@ -12,7 +12,8 @@ from tests.library.case import EMPTY, NUMBER, SENDER, Case
 from tests.support.run import version2
 
 import flutejoin
-from flutejoin import Entry, Fault, Information, Journal, Object, Symbol, faults
+from flutejoin import Entry, Fault, Information, Journal, Object, Symbol, calling, faults
+from flutejoin.library import library
 
 # Entries of version 1, behind their kind: the TSI, the tag and the number of a file, and of an
 # FDT Instance; a journal of both
@@ -165,6 +166,15 @@ class Journals(Case):
         journal = flutejoin.join(datagram_files.content(datagrams)).journal
         found = [each.symbol for each in journal.entries()]
         self.holds("all", found == [Symbol(0, esi, b"x") for esi in range(1000)], len(found))
+
+    def test_no_room(self) -> None:
+        """No bytes are a room too."""
+        named = Object(NUMBER, 7, 1)
+        told = self.raises(flutejoin.InputFault, flutejoin.extract, b"", named)
+        self.holds("extract", told == "input 1: Cut", told)
+        arguments = *calling.words(bytes(self.first)), 0, 0
+        found = calling.given(library().flutejoin_gaps, arguments, 0)
+        self.same("gaps", found, self.first.gap_lines())
 
     def test_two(self) -> None:
         both = self.first | self.second
