@@ -12,6 +12,7 @@ LEFT = (
     *("include/flutejoin.h", "lib/libflutejoin.a", "lib/libflutejoin.so.0"),
     *("lib/pkgconfig/flutejoin.pc", "lib/libflutejoin.so"),
 )
+ALONE = {"MAKEFLAGS": ""}  # not as a part of the make that runs the tests
 SOURCE = ROOT / "tests" / "library" / "library.c"
 
 
@@ -24,7 +25,7 @@ class Installed(Case):
         """Makes it of the library that is built already."""
         words = "make", "--no-print-directory", "-s", "-C", ROOT, "-o", "library", target
         given = f"LIBRARY={built()}", f"DESTDIR={self.folder}", "PREFIX=/opt/flutejoin"
-        return self.command([*words, *given])
+        return self.command([*words, *given], env=ALONE)
 
     def test_make(self) -> None:
         self.addCleanup(os.umask, os.umask(0o077))
@@ -62,7 +63,7 @@ class Installed(Case):
             found |= more
             more = set[str]().union(*(uses.get(name, set()) for name in found))
         self.holds("no library for C", "flute_store" in found and "flutejoin_c" not in found, found)
-        done = self.command(["make", "-n", "-s", "-C", ROOT, "-W", "crates.txt"])
+        done = self.command(["make", "-n", "-s", "-C", ROOT, "-W", "crates.txt"], env=ALONE)
         self.check("make", done, 0, "tools/dev/build.sh")
         script = (ROOT / "tools" / "dev" / "build.sh").read_text()
         self.holds("builds none", "flutejoin_c " not in script and "library/" not in script)
