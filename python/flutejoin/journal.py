@@ -103,7 +103,7 @@ class Journal:
         """The journal of what the lines that `gap_lines` gives of another ask for of this one; with
         `only` just what they name as missing. Raises BadLine if `gap_lines` gives no such lines."""
         arguments = *words(self._data), *words(lines), int(only)
-        return taken(given(library().flutejoin_fill, arguments, LEAST_ROOM + 2 * arguments[1]))
+        return taken(given(library().flutejoin_fill, arguments, LEAST_ROOM + arguments[1]))
 
     def gap_lines(self, *, any_size: bool = False, as_json: bool = False) -> bytes:
         """The lines that the command `gaps` prints of it. Raises Full if it has more sessions,
@@ -182,4 +182,5 @@ def words_of(data: AnyJournal) -> tuple[bytes, int]:
 
 def of_two(call: Call, first: Journal, second: AnyJournal) -> Journal:
     arguments = *words_of(first), *words_of(second)
-    return taken(given(call, arguments, LEAST_ROOM + 2 * (arguments[1] + arguments[3])))
+    # Only of version 1 may there be more
+    return taken(given(call, arguments, LEAST_ROOM + arguments[1] + arguments[3]))

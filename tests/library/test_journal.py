@@ -167,6 +167,18 @@ class Journals(Case):
         found = [each.symbol for each in journal.entries()]
         self.holds("all", found == [Symbol(0, esi, b"x") for esi in range(1000)], len(found))
 
+    def test_longer(self) -> None:
+        """Of version 1 comes a journal that is longer, since each entry has a sender then."""
+        names = [bytes(6) + b"\1" + toi.to_bytes(14, "big") for toi in range(1, 1001)]
+        end = b"\xff" + (1000).to_bytes(8, "big")
+        old = b"FLJN\0\1" + b"".join(b"\2" + name for name in names) + end
+        new = b"FLJN\0\2" + b"".join(b"\2" + bytes(16) + name for name in names) + end
+        calls: tuple[tuple[Callable[..., Journal], bytes], ...] = (
+            *((flutejoin.merge, EMPTY), (flutejoin.minus, EMPTY), (flutejoin.fill, b"")),
+        )
+        for call, other in calls:
+            self.same(f"{call.__name__}", bytes(call(old, other)), new)
+
     def test_no_room(self) -> None:
         """No bytes are a room too."""
         named = Object(NUMBER, 7, 1)
