@@ -349,6 +349,8 @@ static void objects(void) {
     holds("status",
           flutejoin_status(empty, 15, &object, 0, NULL, &answer) == FLUTEJOIN_BAD_ARGUMENT);
     holds("status", flutejoin_status(NULL, 1, &object, 0, &held, NULL) == FLUTEJOIN_BAD_ARGUMENT);
+    holds("status",
+          flutejoin_status(empty, SIZE_MAX, &object, 0, &held, NULL) == FLUTEJOIN_BAD_ARGUMENT);
     holds("status", flutejoin_status(NULL, 0, &object, 0, &held, NULL) == FLUTEJOIN_INPUT);
     holds("status", flutejoin_status(empty, 15, &object, 1, &held, &answer) == FLUTEJOIN_NO_OBJECT);
     other.instance.present = 1;
@@ -370,6 +372,14 @@ static void packets(void) {
     holds("read", !packet.info.present && !packet.instance.present);
     holds("read", packet.symbol.present == 1 && packet.symbol.start == 20);
     holds("read", packet.symbol.length == 2);
+    holds("read", flutejoin_read(datagram, SIZE_MAX, &packet, NULL) == FLUTEJOIN_BAD_ARGUMENT);
+    static uint8_t longest[65536];
+    memcpy(longest, datagram, sizeof datagram);
+    holds("read", flutejoin_read(longest, 65535, &packet, &answer) == FLUTEJOIN_OK);
+    holds("read", packet.symbol.start == 20 && packet.symbol.length == 65515);
+    holds("read", flutejoin_read(longest, 65536, &packet, &answer) == FLUTEJOIN_REFUSED);
+    holds("read", answer.number == 1 && !strcmp(answer.text, "refused: 1 TooLong"));
+    holds("read", packet.symbol.length == 65515);
 }
 
 int main(void) {
