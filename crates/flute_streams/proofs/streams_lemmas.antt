@@ -1,6 +1,7 @@
 -- Lemmas on the kinds of streams, in the order in which they cite each other.
 pub mod Eithers
 pub mod Chaining
+pub mod Besides
 pub mod Loans
 pub mod JournalReads
 pub mod OwnedReads

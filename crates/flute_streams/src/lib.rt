@@ -31,6 +31,7 @@ pub use merge::sides::{Row, Rows, Side, Sides};
 pub use merge::streams_fault::{InputFault, StreamsFault};
 pub use merge::two_streams::{MergeFault, merge_streams, merge_two};
 pub use streams::Streams;
+pub use streams::both::Both;
 pub use streams::chained::Chained;
 pub use streams::chosen::Chosen;
 pub use streams::either::Either;

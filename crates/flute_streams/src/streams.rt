@@ -3,6 +3,7 @@ ghost use Rattle.std.specs.Prelude.{◌≡◌, ◌<◌, List, Some, length, opti
 ghost use Rattle.std.specs.Borrow.{GName};
 ghost use Rattle.flute_streams.specs.Streams.{Advances, Behaviour, fact_in, address_of};
 
+pub(crate) mod both;
 pub(crate) mod chained;
 pub(crate) mod chosen;
 pub(crate) mod either;

@@ -19,7 +19,7 @@ use Rattle.flute_streams.specs.Chains.{chained, taken}
 abbrev seconds : (A B : Type 0) → List B → List (Either A B)
 seconds A B ys = map Second ys
 
-seconds_set : (A B : Type 0) (ys : List B) (k : ℕ) (y : B)
+pub seconds_set : (A B : Type 0) (ys : List B) (k : ℕ) (y : B)
     → seconds A B (slice_set ys k y) ≡ slice_set (seconds A B ys) k (Second y)
 seconds_set A B [] k y = refl
 seconds_set A B (z ∷ ys) zero y = refl
@@ -30,16 +30,16 @@ seconds_many A B ys = length-map ys _
 
 -- Of the others so many are taken.
 
-taken_many : {B : Type 0} (ys : List B) → length (taken ys) ≡ min 65535 (length ys)
+pub taken_many : {B : Type 0} (ys : List B) → length (taken ys) ≡ min 65535 (length ys)
 unfolding taken
 taken_many ys = length-take 65535 ys
 
-taken_at : {B : Type 0} (ys : List B) (k : ℕ) (y : B) → k < 65535
+pub taken_at : {B : Type 0} (ys : List B) (k : ℕ) (y : B) → k < 65535
     → get_or (taken ys) k y ≡ get_or ys k y
 unfolding taken
 taken_at ys k y within = get_or-take 65535 ys k y within
 
-taken_set : {B : Type 0} (ys : List B) (k : ℕ) (y : B) → k < 65535
+pub taken_set : {B : Type 0} (ys : List B) (k : ℕ) (y : B) → k < 65535
     → taken (slice_set ys k y) ≡ slice_set (taken ys) k y
 unfolding taken
 taken_set ys k y within = take-set-lt 65535 ys k y within

@@ -26,7 +26,7 @@ module _ {A B : Type 0} (a : Behaviour A) (b : Behaviour B) where
   second_stops x0 x1 x2 x3 x4 x5 x6 = search rules
 
   -- the stream at a place, of the one kind or of the other, was advanced
-  first_at : {x : A} (y : A) {n : ℕ} {old new : List (Either A B)} (r : Result (Unit {0}) LoadFault)
+  pub first_at : {x : A} (y : A) {n : ℕ} {old new : List (Either A B)} (r : Result (Unit {0}) LoadFault)
       → slice_get old n ≡ Some (First x) → new ≡ slice_set old n (First y) → OnOk r (GoesOn a x y) →
       IfErr r (StopsAt a x y) → Advances e n old new r
   first_at {x = x} y (Ok t) w m g s = search (rules, first_on)

@@ -1,6 +1,6 @@
 //! Merges any number of streams into one journal.
 ghost use Rattle.std.specs.Prelude.{◌≡◌, ◌≢◌, true, false, ◌+◌, ◌<◌, ◌≤◌};
-ghost use Rattle.std.specs.Prelude.{◌^◌, IfOk, IfErr};
+ghost use Rattle.std.specs.Prelude.{◌^◌, IfOk, IfErr, length};
 ghost use Rattle.flute_streams.specs.declared.merge.streams_fault.StreamsFault.TheVariants.{Write};
 ghost use Rattle.flute_parts.specs.Devices.{times_failed};
 ghost use Rattle.flute_streams.specs.Streams.{most_of};
@@ -119,6 +119,7 @@ pub fn join_streams<
     ensures sink_failures { IfOk result (λ joined. joined.within ≡ true
         → W.failures sink.new ≡ W.failures sink.old + times_failed joined.cut) }
     ensures sink_fails { W.failures sink.new ≤ W.failures sink.old + 1 }
+    ensures as_many { length (G.streams streams.new) ≡ length (G.streams streams.old) }
     ensures names { G.names streams.new ≡ G.names streams.old }
 {
     let mut writer = JournalWriter::new(&mut *sink);

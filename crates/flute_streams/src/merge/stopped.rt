@@ -22,6 +22,7 @@ pub fn first_fault<G: Streams>(alloc: Global, streams: &mut G, stopped: InputFau
     ensures first { (start : List G.Stream)
         → GaveBefore G.behaviour stopped.number start (G.streams streams.old)
         → TellBefore G.behaviour result.number start }
+    ensures as_many { length (G.streams streams.new) ≡ length (G.streams streams.old) }
     ensures names { G.names streams.new ≡ G.names streams.old }
 {
     for number in 0..stopped.number {

@@ -126,6 +126,26 @@ fn a_fact_and_a_journal_are_chained(rt: HostRuntime) -> Result<(), Fail> {
     Ok(())
 }
 
+/// Two facts, and a journal that is with its source.
+#[test]
+fn two_groups_of_streams_are_numbered(rt: HostRuntime) -> Result<(), Fail> {
+    let first = file().ok_or("a key")?;
+    let second = file().ok_or("a key")?;
+    let whole = bytes(rt.alloc(), WHOLE)?;
+    let mut journals = [OwnedJournalStream::new(MemorySource::new(&whole), MANY)];
+    let mut facts = [
+        FactStream::new(Fact::InfoConflict { key: first }),
+        FactStream::new(Fact::InfoConflict { key: second }),
+    ];
+    let mut group = &mut facts[..];
+    let all = Both {
+        first: &mut group,
+        second: &mut journals[..],
+    };
+    assert!(rt; all.count() == 3);
+    Ok(())
+}
+
 /// A fact twice.
 #[test]
 fn two_facts_are_joined(rt: HostRuntime) -> Result<(), Fail> {
