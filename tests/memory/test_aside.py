@@ -103,6 +103,89 @@ class Groups(Sent):
         self.same("the same journal", "apart", "whole")
 
 
+class Runs(Sent):
+    """As many journals are put aside as there are datagrams, before the last 63 are merged."""
+
+    def setUp(self) -> None:
+        super().setUp()
+        self.sent = self.records(os.urandom(3_000), 1, 16, 8)  # 189 datagrams
+        self.datagrams("all", self.sent)
+        self.made("join -o whole all")
+
+    def test_as_many_as_streams(self) -> None:
+        """Beside 63 further inputs, of which each has some of the same facts."""
+        further = []
+        for number in range(63):
+            further.append(f"further{number}")
+            self.datagrams(further[-1], self.sent[number : number + 2])
+            if number % 2:
+                self.made(f"join -f -o journal {further[-1]}")
+                self.path("journal").rename(self.path(further[-1]))
+        for count in 1, 2, 61, 62, 63, 64, 65, 125, 126, 127, 189:
+            self.datagrams("some", self.sent[:count])
+            for names in "some", f"{' '.join(further)} some":
+                in_memory = self.program(f"join -f -o whole {names}")
+                apart = self.program(f"join --memory 1 -f -o apart {names}")
+                told = f"{count} datagrams, {names[:8]}"
+                self.check(told, apart, 0, in_memory.out, in_memory.err)
+                self.same(f"{told}: its journal", "apart", "whole")
+
+    def test_fault_of_an_input(self) -> None:
+        """The fault of a journal has its number, however much was put aside."""
+        self.write("cut", self.read("whole")[:-1])
+        for count in 1, 62, 64, 130:
+            self.datagrams("some", self.sent[:count])
+            for names in "some cut", "cut some", "whole cut some", "some whole whole cut":
+                in_memory = self.program(f"join -o out {names}")
+                apart = self.program(f"join --memory 1 -o out {names}")
+                self.check(f"{count}, {names}", apart, 1, in_memory.out, in_memory.err)
+                self.absent(f"{count}, {names}: no output", "out", "out.partial")
+
+    def test_few_files(self) -> None:
+        """Where a process may have few files open, it says so, and leaves nothing."""
+        self.datagrams("large", self.records(os.urandom(2_000_000), 2, 1_400, 64))
+        self.made("join -f -o whole large")
+        words = "flutejoin join --memory 250K -f -o out large"
+        self.check("few files", self.shell(f"ulimit -n 8; exec {words}"), 3, "", FAULT)
+        self.holds("nothing is left", not [it for it in os.listdir(self.folder) if "out" in it])
+        self.check("a hundred", self.shell(f"ulimit -n 100; exec {words}"), 0, None)
+        self.same("its journal", "out", "whole")
+
+    def test_cut_while_they_wait(self) -> None:
+        """What was put aside is cut by another before it is read again."""
+        self.datagrams("large", self.records(os.urandom(2_000_000), 2, 1_400, 64))
+        content = self.read("large")
+        self.made("join -o before all")
+        for which in 0, -1:
+            self.made("join -f -o out all")
+            os.mkfifo(self.path("fifo"))
+            words = ["join", "--memory", "300K", "-o", "out", "fifo", "whole"]
+            child = self.start([run.PROGRAM, *words])
+            with self.path("fifo").open("wb") as pipe:
+                pipe.write(content[:-100])
+                pipe.flush()
+                aside = self.asides_of(child.pid)
+                with open(aside[which], "r+b") as file:
+                    file.truncate(os.fstat(file.fileno()).st_size // 2)
+                pipe.write(content[-100:])
+            self.check(f"run {which} of {len(aside)}", self.finish(child), 3, "", FAULT)
+            self.same(f"run {which}: the output is what it was", "out", "before")
+            self.path("fifo").unlink()
+
+    def asides_of(self, process: int) -> list[str]:
+        """Paths of the files without names that the process has written, oldest first."""
+        found: list[str] = []
+        end = time.monotonic() + run.LONGEST
+        while len(found) < 3 and time.monotonic() < end:
+            time.sleep(0.05)
+            folder = f"/proc/{process}/fd"
+            every = [f"{folder}/{name}" for name in sorted(os.listdir(folder), key=int)]
+            deleted = [it for it in every if os.readlink(it).endswith(" (deleted)")]
+            found = [it for it in deleted if os.stat(it).st_size > 0]
+        self.assertGreaterEqual(len(found), 3)
+        return found
+
+
 class Hostile(Sent):
     """Datagrams of very many objects or sessions, which a few bytes each make."""
 
@@ -195,15 +278,16 @@ class Killed(Sent):
     def test_kills(self) -> None:
         env = {"TMPDIR": str(self.path("tmp"))}
         for number in range(KILLS):
+            size = ["100K", "200K"][number % 2]  # most in memory, or each in a file
             child = self.start(
-                [run.PROGRAM, *run.split("join --memory 100K -f -o out/all large")], env=env
+                [run.PROGRAM, *run.split(f"join --memory {size} -f -o out/all large")], env=env
             )
             time.sleep(0.005 * number)
             child.kill()
             self.finish(child)
             left = self.left_aside()
             self.holds(f"after {5 * number} ms no bytes are left aside", not any(left), left)
-        self.made("join --memory 100K -f -o out/all large")
+        self.made("join --memory 200K -f -o out/all large")
         self.made("join -o whole large")
         self.same("the run after them", "out/all", "whole")
         names = [*os.listdir(self.path("tmp")), *os.listdir(self.path("out"))]

@@ -1,6 +1,6 @@
 -- Bytes that are put aside, and runs: journals that are put aside.
-use Rattle.std.specs.Prelude.{◌≡◌, ◌⊎◌, ◌≤◌, ◌<◌, ◌++◌, ◌^◌, ℕ, List, [], ◌∷◌, Option, Some, None}
-use Rattle.std.specs.Prelude.{IfSome, Result, IfErr}
+use Rattle.std.specs.Prelude.{◌≡◌, ◌⊎◌, ◌≤◌, ◌<◌, ◌+◌, ◌++◌, ◌^◌, ℕ, List, [], ◌∷◌, length}
+use Rattle.std.specs.Prelude.{Option, Some, IfSome, Result, IfErr}
 use Rattle.flute_parts.specs.Facts.{Same}
 use Rattle.flute_parts.specs.declared.fact.Fact.{Fact}
 use Rattle.flute_journal.specs.Journal.{IsJournalWithin}
@@ -25,6 +25,10 @@ abbrev pub Makes : {T : Type 0} → ℕ → ℕ → Result T CommandFault → Ty
 Makes old new result =
     (old ≤ new) × IfErr result (λ fault. fault ≡ CannotPutAside → old < new)
 
+-- something was put aside for each run more
+abbrev pub PutsAside : {R : Type 0} → ℕ → ℕ → List R → List R → Type 0
+PutsAside old new before now = length now + old ≤ length before + new
+
 module _ {R : Type 0} (unread : R → Option (List ℕ)) (buffered : R → List ℕ) where
   -- a run reads the journal of these entries
   abbrev pub IsRunOf : OwnedJournalStream R → List Fact → Type 0
@@ -43,11 +47,9 @@ module _ {R : Type 0} (unread : R → Option (List ℕ)) (buffered : R → List 
   abbrev pub HoldTogether : List (OwnedJournalStream R) → List Fact → Type 0
   HoldTogether runs facts = (own : List Fact) × AreRunsOf runs own × Same own facts
 
-  -- the facts that are held: those of the run, a journal that was put aside, if there is one; else
-  -- those of the store
-  abbrev pub AreHeld : List Fact → Option (OwnedJournalStream R) → List Fact → Type 0
-  AreHeld store None facts = facts ≡ store
-  AreHeld store (Some run) facts = IsRunOf run facts
+  -- these facts are held: in a store, and in runs
+  abbrev pub AreHeld : List Fact → List (OwnedJournalStream R) → List Fact → Type 0
+  AreHeld store runs facts = (aside : List Fact) × AreRunsOf runs aside × (facts ≡ store ++ aside)
 
   -- nothing of a run was read yet, and it has at most so many entries
   abbrev pub IsNewRun : (R → ℕ) → OwnedJournalStream R → Type 0

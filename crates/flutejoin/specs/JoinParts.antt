@@ -9,8 +9,7 @@ use Rattle.flute_streams.specs.Objects.{is_taken}
 use Rattle.flute_journal.specs.Records.{IsFileWithin}
 use Rattle.flute_journal.specs.FileFraming.{file_framing}
 use Rattle.flute_journal.specs.Framing.{HasFault}
-use Rattle.flute_streams.specs.declared.streams.owned_journal_stream.OwnedJournalStream.{OwnedJournalStream}
-use Rattle.flutejoin.specs.Asides.{AreRunsOf, AreHeld, IsNewRun}
+use Rattle.flutejoin.specs.Asides.{AreRunsOf, IsNewRun}
 use Rattle.flutejoin.specs.Limits.{Limits, IsOver}
 use Rattle.flutejoin.specs.Refused.{AreReasons, all_counts, count_for, is_refused}
 use Rattle.flutejoin.specs.declared.limits.TheConstants.{MAX_ENTRIES}
@@ -25,9 +24,11 @@ use Rattle.flutejoin.specs.declared.command_fault.CommandFault.TheVariants.{Full
 use Rattle.flutejoin.specs.declared.command_fault.CommandFault.TheVariants.{CannotWrite}
 use Rattle.flutejoin.specs.declared.command_fault.CommandFault.TheVariants.{CannotPutAside}
 use Rattle.flute_journal.specs.JournalWriters.{PutsJournal}
-use Rattle.flute_streams.specs.StreamMerges.{IsWithinLimits}
-use Rattle.flute_streams.specs.Streams.{Behaviour, IsNew}
+use Rattle.flute_streams.specs.Advances.{AreNew}
+use Rattle.flute_streams.specs.StreamMerges.{all_of, EachSince, IsWithinLimits}
+use Rattle.flute_streams.specs.Streams.{Behaviour, IsNew, most_of}
 use Rattle.flute_journal.specs.declared.fault.LoadFault.{LoadFault}
+use Rattle.flute_journal.specs.declared.fault.ReadFault.TheVariants.{Read}
 use Rattle.flute_streams.specs.Eithers.{either_behaviour}
 use Rattle.flute_streams.specs.declared.streams.either.Either.{Either}
 use Rattle.flute_streams.specs.declared.merge.all_streams.MergedJournal.{MergedJournal}
@@ -37,8 +38,10 @@ use Rattle.flutejoin.specs.declared.join.join_input.JoinInput.TheVariants.{Unkno
 use Rattle.flute_journal.specs.declared.kind.Kind.TheVariants as kinds
 use Rattle.flutejoin.specs.Joined.{InputContent, Choice, facts_by, content_facts, content_datagrams}
 use Rattle.flutejoin.specs.Joined.{is_of_others, content_others, TellAll}
-use Rattle.flutejoin.specs.JoinFaults.{FirstInput, HasKnownKind}
+use Rattle.flutejoin.specs.JoinFaults.{FirstInput, HasKnownKind, JoinToFails, NamesOneOf}
+use Rattle.flutejoin.specs.JoinFaults.{WantsAside}
 use Rattle.flutejoin.specs.InputStreams.{input_behaviour, journal_behaviour, left_of_journal}
+use Rattle.flutejoin.specs.InputStreams.{OneFailed}
 
 -- facts are over the limits, or there is no memory for them
 abbrev pub StoreFails : Limits → List Fact → CommandFault → Type 0
@@ -90,20 +93,13 @@ module _ {s o y : ℕ} {R : Type 0} (unread : R → Option (List ℕ)) (buffered
       (before : List (List ℕ)) → HoldsDatagrams choice old before
       → HoldsDatagrams choice new (before ++ datagrams)
 
-  -- the facts of these datagrams are in the store, or in the run
-  abbrev pub HoldsRun : Choice → HeldFiles s o y R → Option (OwnedJournalStream R)
-      → List (List ℕ) → Type 0
-  HoldsRun choice held run datagrams =
-      (facts : List Fact) × AreHeld unread buffered held.told.store run facts
-      × Same facts (flat_map (facts_by choice) datagrams)
-
   -- no more datagrams are refused, or of others, than there are, each of them for a reason; and
   -- there are few runs, all new, and none without a datagram
   abbrev pub IsSound : (R → ℕ) → HeldFiles s o y R → Type 0
   IsSound failures held =
       (held.told.refused ≤ held.told.datagrams) × (held.others ≤ held.told.datagrams)
       × (all_counts held.reasons ≡ held.told.refused)
-      × (length held.runs.items ≤ 64) × (length held.runs.items ≤ 64 * held.told.datagrams)
+      × (length held.runs.items ≤ 63) × (length held.runs.items ≤ 64 * held.told.datagrams)
       × AllByRecursion (IsNewRun unread buffered failures) held.runs.items
 
   -- the numbers are sound, and there are at most so many datagrams more
@@ -180,23 +176,39 @@ module _ {R : Type 0} (unread : R → Option (List ℕ)) (buffered : R → List 
     IsReady (Datagrams source) = Unit {0}
     IsReady Unknown = Unit {0}
 
-    -- what is said of inputs as streams, with one before them
+    -- what is said of inputs as streams, with others before them
     abbrev pub joined_behaviour : {S : Type 0} → Behaviour S
         → Behaviour (Either S (JoinInput R))
     joined_behaviour b = either_behaviour b (input_behaviour unread buffered failures)
 
--- nothing was read of the stream of what is held, and its facts can be counted
-pub record IsHeld {S : Type 0} (b : Behaviour S) (held : S) : Type 0 where
-  pub new : IsNew b held
-  pub few : b.most held ≤ 2 ^ 63
+-- nothing was read of the streams of what is held, they are few, and their facts can be counted
+pub record AreNewlyHeld {S : Type 0} (b : Behaviour S) (held : List S) : Type 0 where
+  pub new : AreNew b held
+  pub many : length held ≤ 64
+  pub few : most_of b held + 2 ^ 57 ≤ 2 ^ 64
 
--- the stream gives these facts if it ends
-abbrev pub Ends : {S : Type 0} → Behaviour S → S → List Fact → Type 0
-Ends {S} b held facts = (now : S) (given : List Fact) → b.ends held now given → given ≡ facts
+-- the streams give these facts if they end
+abbrev pub End : {S : Type 0} → Behaviour S → List S → List Fact → Type 0
+End {S} b held facts =
+    (now : List S) (given : List (List Fact)) → EachSince b.ends held now given
+    → all_of given ≡ facts
 
--- the stream has no fault
-abbrev pub NeverStops : {S : Type 0} → Behaviour S → S → Type 0
-NeverStops b held = (fault : LoadFault) → b.stops held fault → ⊥
+-- none of the streams has a fault
+abbrev pub NeverStop : {S : Type 0} → Behaviour S → List S → Type 0
+NeverStop b held = AllByRecursion (λ s. (fault : LoadFault) → b.stops s fault → ⊥) held
+
+module _ {R : Type 0} (unread : R → Option (List ℕ)) (buffered : R → List ℕ)
+    (failures : R → ℕ) {S : Type 0} (b : Behaviour S) (held : List S) where
+  -- why the join of what is held with inputs stopped at one of these streams
+  pub record StopsJoin (old new : List (JoinInput R)) (fault : CommandFault) : Type 0 where
+    pub fails : (choice : Choice) (contents datagrams : List (List ℕ))
+        → AreInspected unread buffered choice old contents datagrams
+        → NeverStop b held ⊎ WantsAside contents → JoinToFails choice contents fault
+    pub names : NamesOneOf (length old) fault
+    pub no_memory : fault ≡ OutOfMemory → ⊥
+    pub no_sink : fault ≡ CannotWrite → ⊥
+    pub no_aside : NeverStop b held → fault ≡ CannotPutAside → ⊥
+    pub reads : (number : ℕ) → fault ≡ Input number Read → OneFailed failures number old new
 
 -- The journals among inputs that were inspected were joined with what is held, and so many entries
 -- of them were passed over; the others are datagram files with these datagrams.

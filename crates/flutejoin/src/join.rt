@@ -1,6 +1,6 @@
 //! The command `join`: inputs, joined as streams.
 ghost use Rattle.std.specs.Prelude.{◌≡◌, true, false, ◌≤◌, ◌<◌, ◌+◌, ◌-◌, ◌^◌, List, ℕ, length};
-ghost use Rattle.std.specs.Prelude.{min, sum_by, None, OnOk, IfOk, IfErr, IfSome, ◌⊎◌};
+ghost use Rattle.std.specs.Prelude.{min, sum_by, OnOk, IfOk, IfErr, MatchResult, Ok, Err, ◌⊎◌};
 ghost use Rattle.std.specs.List.{AllByRecursion};
 ghost use Rattle.flute_parts.specs.Devices.{times_failed};
 ghost use Rattle.flute_parts.specs.declared.fact.Fact.{Fact};
@@ -17,7 +17,8 @@ ghost use Rattle.flutejoin.specs.Joined.{Choice, choice_of};
 ghost use Rattle.flutejoin.specs.Joining.{JoinsTo};
 ghost use Rattle.flutejoin.specs.JoinFaults.{JoinToFails, NamesOneOf, WantsAside};
 ghost use Rattle.flutejoin.specs.JoinParts.{AreInspected, IsReady, JoinsInspected};
-ghost use Rattle.flutejoin.specs.JoinParts.{IsHeld, Ends, NeverStops};
+ghost use Rattle.flutejoin.specs.JoinParts.{AreNewlyHeld, End, StopsJoin};
+ghost use Rattle.flutejoin.specs.Status.{of_stop};
 ghost use Rattle.flutejoin.specs.Limits.{IsCountable, at_most};
 
 pub(crate) mod held_files;
@@ -41,7 +42,8 @@ use crate::nothing::Nothing;
 use flute_parts::{Sender, Sink, Source};
 use flute_store::Store;
 use flute_streams::{
-    Chained, MergedJournal, Objects, OwnedJournalStream, Stream, WalkStream, join_streams,
+    Both, Chained, InputFault, MergedJournal, Objects, OwnedJournalStream, Streams, WalkStream,
+    join_streams,
 };
 use std::alloc::Global;
 
@@ -117,11 +119,17 @@ pub fn join_to<
     )?;
     if !held.fits {
         // The fault of a journal comes before this.
-        join_inspected(alloc, inputs, &held.told.store, None, &mut Nothing)?;
+        held.runs.clear();
+        join_inspected(
+            alloc,
+            inputs,
+            &held.told.store,
+            &mut held.runs,
+            &mut Nothing,
+        )?;
         return Err(CommandFault::Full);
     }
-    let run = held.run(alloc, asides)?;
-    let joined = join_inspected(alloc, inputs, &held.told.store, run, sink)?;
+    let joined = join_inspected(alloc, inputs, &held.told.store, &mut held.runs, sink)?;
     if !joined.within {
         return Err(CommandFault::Full);
     }
@@ -150,8 +158,8 @@ fn others_of<R>(of_files: u64, inputs: &[JoinInput<R>]) -> u64
     others
 }
 
-// Joins the journals among inputs that were inspected, and what is held of the others: in a run, if
-// there is one, and else in a store.
+// Joins the journals among inputs that were inspected, and what is held of the others: in a store,
+// and in runs.
 fn join_inspected<
     const SESSIONS: u32,
     const OBJECTS: u32,
@@ -162,22 +170,23 @@ fn join_inspected<
     alloc: Global,
     inputs: &mut [JoinInput<R>],
     store: &Store<SESSIONS, OBJECTS, SYMBOLS>,
-    run: Option<OwnedJournalStream<R>>,
+    runs: &mut Vec<OwnedJournalStream<R>>,
     sink: &mut W,
 ) -> Result<MergedJournal, CommandFault>
     requires few { length inputs.old ≤ 64 }
     requires countable { IsCountable SESSIONS OBJECTS SYMBOLS }
     requires ready { AllByRecursion (IsReady R.unread R.buffered R.failures) inputs.old }
-    requires new { IfSome run (IsNewRun R.unread R.buffered R.failures) }
+    requires few_runs { length runs.old.items ≤ 63 }
+    requires new { AllByRecursion (IsNewRun R.unread R.buffered R.failures) runs.old.items }
     ensures joined { (choice : Choice) (contents datagrams : List (List ℕ)) (held : List Fact)
         → choice.most ≡ at_most SESSIONS OBJECTS SYMBOLS
         → AreInspected R.unread R.buffered choice inputs.old contents datagrams
-        → AreHeld R.unread R.buffered store.now run held
+        → AreHeld R.unread R.buffered store.now runs.old.items held
         → IfOk result (λ joined. JoinsInspected choice contents datagrams held
         (sum_by passed_over inputs.new) joined (W.written sink.old) (W.written sink.new)) }
     ensures failed { (choice : Choice) (contents datagrams : List (List ℕ))
         → AreInspected R.unread R.buffered choice inputs.old contents datagrams
-        → IfSome run (λ _. WantsAside contents)
+        → (length runs.old.items ≡ 0) ⊎ WantsAside contents
         → IfErr result (JoinToFails choice contents) }
     ensures cut { IfOk result (λ joined. joined.cut ≡ true
         → AppendsNoJournal (W.written sink.old) (W.written sink.new)) }
@@ -187,60 +196,7 @@ fn join_inspected<
     ensures names { IfErr result (NamesOneOf (length inputs.old)) }
     ensures no_memory { IfErr result (λ fault. fault ≡ OutOfMemory → ⊥) }
     ensures no_sink { IfErr result (λ fault. fault ≡ CannotWrite → ⊥) }
-    ensures no_aside { run ≡ None → IfErr result (λ fault. fault ≡ CannotPutAside → ⊥) }
-    ensures none_failed { OnOk result (NoneFailed R.failures inputs.old inputs.new) }
-    ensures read_failed { IfErr result (λ fault. (number : ℕ) → fault ≡ Input number Read
-        → OneFailed R.failures number inputs.old inputs.new) }
-    ensures sink_failures { IfOk result (λ joined. joined.within ≡ true
-        → W.failures sink.new ≡ W.failures sink.old + times_failed joined.cut) }
-{
-    match run {
-        Some(mut run) => {
-            join_held::<SESSIONS, OBJECTS, SYMBOLS, _, _, _>(alloc, &mut run, inputs, sink)
-        }
-        None => {
-            let mut walk = WalkStream::new(store.walk());
-            join_held::<SESSIONS, OBJECTS, SYMBOLS, _, _, _>(alloc, &mut walk, inputs, sink)
-        }
-    }
-}
-
-// Joins the stream of what is held, and the journals among inputs that were inspected.
-fn join_held<
-    const SESSIONS: u32,
-    const OBJECTS: u32,
-    const SYMBOLS: u32,
-    S: Stream,
-    R: Source,
-    W: Sink,
->(
-    alloc: Global,
-    held: &mut S,
-    inputs: &mut [JoinInput<R>],
-    sink: &mut W,
-) -> Result<MergedJournal, CommandFault>
-    requires few { length inputs.old ≤ 64 }
-    requires ready { AllByRecursion (IsReady R.unread R.buffered R.failures) inputs.old }
-    requires held { IsHeld S.behaviour held.old }
-    ensures joined { (choice : Choice) (contents datagrams : List (List ℕ)) (facts : List Fact)
-        → choice.most ≡ at_most SESSIONS OBJECTS SYMBOLS
-        → AreInspected R.unread R.buffered choice inputs.old contents datagrams
-        → Ends S.behaviour held.old facts
-        → IfOk result (λ joined. JoinsInspected choice contents datagrams facts
-        (sum_by passed_over inputs.new) joined (W.written sink.old) (W.written sink.new)) }
-    ensures failed { (choice : Choice) (contents datagrams : List (List ℕ))
-        → AreInspected R.unread R.buffered choice inputs.old contents datagrams
-        → NeverStops S.behaviour held.old ⊎ WantsAside contents
-        → IfErr result (JoinToFails choice contents) }
-    ensures cut { IfOk result (λ joined. joined.cut ≡ true
-        → AppendsNoJournal (W.written sink.old) (W.written sink.new)) }
-    ensures over { IfOk result (λ joined. joined.within ≡ false → joined.cut ≡ true) }
-    ensures short { IfErr result
-        (λ _. AppendsNoJournal (W.written sink.old) (W.written sink.new)) }
-    ensures names { IfErr result (NamesOneOf (length inputs.old)) }
-    ensures no_memory { IfErr result (λ fault. fault ≡ OutOfMemory → ⊥) }
-    ensures no_sink { IfErr result (λ fault. fault ≡ CannotWrite → ⊥) }
-    ensures no_aside { NeverStops S.behaviour held.old
+    ensures no_aside { length runs.old.items ≡ 0
         → IfErr result (λ fault. fault ≡ CannotPutAside → ⊥) }
     ensures none_failed { OnOk result (NoneFailed R.failures inputs.old inputs.new) }
     ensures read_failed { IfErr result (λ fault. (number : ℕ) → fault ≡ Input number Read
@@ -248,17 +204,81 @@ fn join_held<
     ensures sink_failures { IfOk result (λ joined. joined.within ≡ true
         → W.failures sink.new ≡ W.failures sink.old + times_failed joined.cut) }
 {
-    let mut streams = Chained {
-        first: &mut *held,
-        others: &mut *inputs,
+    let mut walk = WalkStream::new(store.walk());
+    if runs.is_empty() {
+        let mut held = &mut walk;
+        return at_stop(join_held::<SESSIONS, OBJECTS, SYMBOLS, _, _, _>(
+            alloc, &mut held, inputs, sink,
+        ));
+    }
+    let mut held = Chained {
+        first: &mut walk,
+        others: &mut runs[..],
     };
-    match join_streams::<SESSIONS, OBJECTS, SYMBOLS, _, _>(alloc, &mut streams, sink) {
+    at_stop(join_held::<SESSIONS, OBJECTS, SYMBOLS, _, _, _>(alloc, &mut held, inputs, sink))
+}
+
+// The fault of a join that stopped at a stream: 0 is what is held, and the others are inputs.
+fn at_stop(joined: Result<MergedJournal, InputFault>) -> Result<MergedJournal, CommandFault>
+    ensures { MatchResult joined (λ journal. result ≡ Ok journal)
+        (λ fault. result ≡ Err (of_stop fault.number fault.fault)) }
+{
+    match joined {
         Ok(joined) => Ok(joined),
-        // the first stream is that of what is held
         Err(fault) => Err(if fault.number == 0 {
             CommandFault::CannotPutAside
         } else {
             load_fault(fault.number, fault.fault)
+        }),
+    }
+}
+
+// Joins the streams of what is held, and the journals among inputs that were inspected. If it stops
+// at one of them, its number is 0 if it is held, and else that of the input.
+fn join_held<
+    const SESSIONS: u32,
+    const OBJECTS: u32,
+    const SYMBOLS: u32,
+    G: Streams,
+    R: Source,
+    W: Sink,
+>(
+    alloc: Global,
+    held: &mut G,
+    inputs: &mut [JoinInput<R>],
+    sink: &mut W,
+) -> Result<MergedJournal, InputFault>
+    requires few { length inputs.old ≤ 64 }
+    requires ready { AllByRecursion (IsReady R.unread R.buffered R.failures) inputs.old }
+    requires held { AreNewlyHeld G.behaviour (G.streams held.old) }
+    ensures joined { (choice : Choice) (contents datagrams : List (List ℕ)) (facts : List Fact)
+        → choice.most ≡ at_most SESSIONS OBJECTS SYMBOLS
+        → AreInspected R.unread R.buffered choice inputs.old contents datagrams
+        → End G.behaviour (G.streams held.old) facts
+        → IfOk result (λ joined. JoinsInspected choice contents datagrams facts
+        (sum_by passed_over inputs.new) joined (W.written sink.old) (W.written sink.new)) }
+    ensures stopped { IfErr result (λ fault. StopsJoin R.unread R.buffered R.failures
+        G.behaviour (G.streams held.old) inputs.old inputs.new
+        (of_stop fault.number fault.fault)) }
+    ensures cut { IfOk result (λ joined. joined.cut ≡ true
+        → AppendsNoJournal (W.written sink.old) (W.written sink.new)) }
+    ensures over { IfOk result (λ joined. joined.within ≡ false → joined.cut ≡ true) }
+    ensures short { IfErr result
+        (λ _. AppendsNoJournal (W.written sink.old) (W.written sink.new)) }
+    ensures none_failed { OnOk result (NoneFailed R.failures inputs.old inputs.new) }
+    ensures sink_failures { IfOk result (λ joined. joined.within ≡ true
+        → W.failures sink.new ≡ W.failures sink.old + times_failed joined.cut) }
+{
+    let of_held = held.count();
+    let mut streams = Both {
+        first: &mut *held,
+        second: &mut *inputs,
+    };
+    match join_streams::<SESSIONS, OBJECTS, SYMBOLS, _, _>(alloc, &mut streams, sink) {
+        Ok(joined) => Ok(joined),
+        Err(fault) => Err(InputFault {
+            number: (fault.number + 1).saturating_sub(of_held),
+            fault: fault.fault,
         }),
     }
 }

@@ -1,10 +1,9 @@
 -- HeldFiles: the store holds just the facts of the datagrams that were read (specs/JoinParts).
 use Rattle.std.proofs.Common.{rules}
 use Rattle.std.proofs.Common.{◌≡◌, ℕ, ◌+◌, Bool, true, false, cond, List, [], ◌∷◌, ◌++◌}
-use Rattle.std.proofs.Common.{Result, Ok, Err, inl, inr, sym, ap, subst, ◌∙◌, arith}
+use Rattle.std.proofs.Common.{Result, Ok, Err, inl, inr, refl, sym, ap, subst, ◌∙◌, arith}
 use Rattle.std.proofs.Common.{append-nil, append_assoc}
-use Rattle.std.specs.Prelude.{Option, Some, None, IsSome, MatchResult, length}
-use Rattle.std.specs.Prelude.{option_to_list, ◌<◌, ◌≤◌}
+use Rattle.std.specs.Prelude.{Option, Some, MatchResult}
 use Rattle.flute_journal.specs.declared.fault.ReadFault.{ReadFault}
 use Rattle.flute_journal.specs.Input.{FailsIf}
 use Rattle.std.specs.List.{flat_map}
@@ -18,7 +17,6 @@ use Rattle.flute_parts.proofs.Public.{Below-from_Same, Over-below, Same-append, 
 use Rattle.flute_parts.proofs.Public.{Same-swap, Same-trans}
 use Rattle.flutejoin.specs.declared.command_fault.CommandFault.{CommandFault}
 use Rattle.flutejoin.specs.declared.command_fault.CommandFault.TheVariants.{Full, Input}
-use Rattle.flute_streams.specs.declared.streams.owned_journal_stream.OwnedJournalStream.{OwnedJournalStream}
 use Rattle.flutejoin.specs.Asides.{AreHeld, AreRunsOf, HoldTogether}
 use Rattle.flutejoin.specs.declared.join.held_files.HeldFiles.{HeldFiles}
 use Rattle.flutejoin.specs.Joined.{Choice, facts_by, is_of_others}
@@ -39,13 +37,6 @@ pub record IsPassed (choice : Choice) (d : List ℕ) : Type 0 where
   pub none : facts_by choice d ≡ []
   pub kept : is_refused d ≡ false
   pub other : is_of_others choice d ≡ true
-
--- the last run was taken from those that there were, of which there was at most one
-pub record IsPopped {R : Type 0} (runs rest : List (OwnedJournalStream R))
-    (popped : Option (OwnedJournalStream R)) : Type 0 where
-  pub few : length runs ≤ 1
-  pub split : runs ≡ rest ++ option_to_list popped
-  pub some : 0 < length runs → IsSome popped
 
 -- nothing but what does not count was changed
 pub record IsUnchanged {R : Type 0} {s o y : ℕ} (old new : HeldFiles s o y R) : Type 0 where
@@ -217,38 +208,14 @@ module _ {R : Type 0} {unread : R → Option (List ℕ)} {buffered : R → List 
         });
       })
 
-  -- all was put aside, in one run
-  pub holds_run : {s o y : ℕ} {old : HeldFiles s o y R} {popped : Option (OwnedJournalStream R)}
-      {rest runs : List (OwnedJournalStream R)} {ds : List (List ℕ)} → old.fits ≡ true →
-      old.told.store ≡ [] → ((facts : List Fact) → AreRunsOf unread buffered old.runs.items facts →
-      HoldTogether unread buffered runs facts) → IsPopped runs rest popped → HoldsDatagrams unread
-      buffered choice old ds → (facts : List Fact) × AreHeld unread buffered old.told.store popped
-      facts × Same facts (flat_map (facts_by choice) ds)
-  holds_run {old} {popped} {rest} {ds} fits empty merged last h =
+  -- so the store and the runs have these facts
+  pub held_together : {s o y : ℕ} {held : HeldFiles s o y R} {ds : List (List ℕ)} → held.fits ≡ true
+      → HoldsDatagrams unread buffered choice held ds → (facts : List Fact)
+      × AreHeld unread buffered held.told.store held.runs.items facts
+      × Same facts (flat_map (facts_by choice) ds)
+  held_together {held = held} fits h =
       let all = all_held h fits in
-      let files = flat_map (facts_by choice) ds in
-      let in_runs =
-      subst (λ l. Same (l ++ all.aside) files) empty all.content in
-      let one = merged all.aside all.runs in
-      let told = Same-trans _ _ _ one.2 in_runs in
-      let held =
-      held_in _ _ _ (subst (λ l. length l ≤ 1) last.split last.few)
-      (rw last.split at last.some)
-      (rw last.split at one.1) in
-      (one.0, subst (λ l. AreHeld unread buffered l popped one.0) (sym empty) held, told)
-    where
-      held_in : (popped : Option (OwnedJournalStream R)) (rest : List (OwnedJournalStream R))
-          (facts : List Fact) → length (rest ++ option_to_list popped) ≤ 1
-          → (0 < length (rest ++ option_to_list popped) → IsSome popped)
-          → AreRunsOf unread buffered (rest ++ option_to_list popped) facts
-          → AreHeld unread buffered [] popped facts
-      held_in None [] _ _ _ holds = holds
-      held_in (Some run) [] _ _ _ holds =
-          rw (holds.3 ∙ ap (λ l. holds.0 ++ l) holds.4 ∙ append-nil holds.0) holds.2
-      held_in None (first ∷ rest) facts few some holds =
-          let e = some (omega arith) in absurd cc
-      held_in (Some run) (first ∷ rest) facts few some holds =
-          let more = length-append rest (run ∷ []) in absurd (omega arith)
+      (held.told.store ++ all.aside, (all.aside, all.runs, refl), all.content)
 
   pub holds_still : {s o y : ℕ} {old new : HeldFiles s o y R} → IsUnchanged old new
       → (ds : List (List ℕ)) → HoldsDatagrams unread buffered choice old ds

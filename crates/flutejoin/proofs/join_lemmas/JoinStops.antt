@@ -1,6 +1,6 @@
 -- join_to: which input stops the join, which devices failed, and what the join returns.
 use Rattle.std.proofs.Common.{rules}
-use Rattle.std.proofs.Common.{◌≡◌, ℕ, zero, suc, ◌+◌, ◌-◌, ◌*◌, ◌^◌, ◌≤◌, Bool, true, false}
+use Rattle.std.proofs.Common.{◌≡◌, ℕ, zero, suc, ◌+◌, ◌-◌, ◌*◌, ◌^◌, ◌<◌, ◌≤◌, Bool, true, false}
 use Rattle.std.proofs.Common.{List, [], ◌∷◌, ◌++◌, length, count_by, Option, Some}
 use Rattle.std.proofs.Common.{None, Result, inl, inr, refl, sym, ap, ◌∙◌, subst, arith}
 use Rattle.std.specs.Prelude.{min, not, sum_by, slice_get, ◌⊎◌, IfErr}
@@ -10,12 +10,12 @@ use Rattle.std.proofs.lemmas.Option.{slice_get_within}
 use Rattle.flute_parts.specs.Facts.{Same}
 use Rattle.flute_parts.specs.declared.fact.Fact.{Fact}
 use Rattle.flute_parts.proofs.Public.{Over-below, Same-append, Same-itself, Same-sym, Same-trans}
-use Rattle.flute_streams.specs.Chains.{chained, taken}
+use Rattle.flute_streams.specs.Chains.{beside, taken}
 use Rattle.flute_journal.specs.JournalFraming.{journal_framing}
 use Rattle.flute_journal.specs.Kinds.{HasKind, IsNeither}
 use Rattle.flute_streams.specs.Scopes.{is_chosen}
 use Rattle.flute_streams.specs.Streams.{Behaviour}
-use Rattle.flute_streams.specs.FirstFaults.{FirstFault, IsStopOf, TellBefore}
+use Rattle.flute_streams.specs.FirstFaults.{FirstFault, TellBefore}
 use Rattle.flute_streams.specs.StreamMerges.{IsWithinLimits, NoneFails, AppendsNoJournal}
 use Rattle.flute_streams.specs.StreamMerges.{AppendsPartOf}
 use Rattle.flute_journal.specs.Framing.{HasFault}
@@ -35,7 +35,6 @@ use Rattle.flutejoin.specs.declared.command_fault.CommandFault.TheVariants.{Cann
 use Rattle.flutejoin.specs.declared.command_fault.CommandFault.TheVariants.{CannotPutAside}
 use Rattle.flutejoin.specs.declared.join.join_counts.JoinCounts.{JoinCounts}
 use Rattle.flutejoin.specs.declared.join.join_input.JoinInput.{JoinInput}
-use Rattle.flutejoin.specs.declared.join.join_input.JoinInput.TheVariants.{Journal, Datagrams}
 use Rattle.flutejoin.specs.InputStreams.{failures_of, NoneFailed, OneFailed}
 use Rattle.flutejoin.specs.Joined.{Choice, facts_by, InputContent, of_journal, of_file}
 use Rattle.flutejoin.specs.Joined.{content_facts, content_others, is_of_others, Tells, TellAll}
@@ -48,10 +47,10 @@ use Rattle.flutejoin.specs.JoinFaults.{NamesOneOf, WantsAside}
 use Rattle.flutejoin.specs.JoinParts.{InspectionFails, of_kind, of_file as of_a_file}
 use Rattle.flutejoin.specs.JoinParts.{of_journal as of_a_journal}
 use Rattle.flutejoin.specs.JoinParts.{SomeInspectionFails, IsInspected, AreInspected, IsReady}
-use Rattle.flutejoin.specs.JoinParts.{JoinsInspected, NeverStops}
+use Rattle.flutejoin.specs.JoinParts.{JoinsInspected, NeverStop}
 use Rattle.flutejoin.specs.Refused.{AreReasons, all_counts, is_refused}
 use Rattle.flutejoin.specs.Limits.{IsOver}
-use Rattle.flutejoin.specs.Status.{of_load, of_stop}
+use Rattle.flutejoin.specs.Status.{of_load}
 use Rattle.flutejoin.proofs.Firsts.{at_place, first_at, first_with}
 use Rattle.flutejoin.proofs.join_lemmas.Inspections.{all_known}
 use Rattle.flutejoin.proofs.join_lemmas.JoinStreams.{all_taken, joins, are_ready, as_streams}
@@ -101,59 +100,80 @@ module _ {R : Type 0} (unread : R → Option (List ℕ)) (buffered : R → List 
   one_at (x ∷ xs) (suc n) s e = search (rules, one_at xs n s e)
 
   -- an input, with its place, that has this fault, while those before it contain facts
-  pub record StopsIn (xs : List (JoinInput R)) (number : ℕ) (fault : LoadFault) : Type 0 where
-    pub place : ℕ
-    pub number_is : number ≡ suc place
+  pub record StopsIn (xs : List (JoinInput R)) (place : ℕ) (fault : LoadFault) : Type 0 where
     pub input : JoinInput R
     pub own : slice_get xs place ≡ Some input
     pub stops : all.stops (Second input) fault
     pub before : TellBefore all place (streams xs)
 
-  -- what is held has this fault, or an input
-  abbrev pub Stops : S → List (JoinInput R) → ℕ → LoadFault → Type 0
-  Stops w xs zero fault = b.stops w fault
-  Stops w xs (suc n) fault = StopsIn xs (suc n) fault
+  -- the stream of something that is held, by its place
+  held_at : (ws : List S) (xs : List (JoinInput R)) (k : ℕ) (s : Either S (JoinInput R))
+      → k < length ws → slice_get (beside ws xs) k ≡ Some s
+      → (w : S) × (slice_get ws k ≡ Some w) × (s ≡ First w)
+  held_at [] xs k s near e = absurd (omega (arith, near))
+  held_at (w ∷ ws) xs zero s near e = (w, refl, cc)
+  held_at (w ∷ ws) xs (suc k) s near e = held_at ws xs k s (omega (arith, near)) e
 
-  module _ (w : S) where
-    -- the stream that stops is what is held, or an input with those before it
-    stops_at : (xs : List (JoinInput R)) (number : ℕ) (s : Either S (JoinInput R))
-        (fault : LoadFault) → slice_get (chained w xs) number ≡ Some s → all.stops s fault
-        → TellBefore all number (chained w xs) → Stops w xs number fault
-    stops_at xs zero s fault e h t =
-        let is : First w ≡ s = cc in rw (← is) at h
-    stops_at xs (suc n) s fault e h t =
-        let o = one_at xs n s e in record {
-          place = n;
-          number_is = refl;
+  -- behind these are the inputs
+  input_at : (ws : List S) (xs : List (JoinInput R)) (k n : ℕ) (s : Either S (JoinInput R))
+      → k ≡ length ws + n → slice_get (beside ws xs) k ≡ Some s → OneAt xs n s
+  input_at [] xs k n s at e =
+      let same : k ≡ n = omega (arith, at) in
+      one_at xs n s (subst (λ m. slice_get (streams xs) m ≡ Some s) same e)
+  input_at (w ∷ ws) xs zero n s at e = absurd (omega (arith, at))
+  input_at (w ∷ ws) xs (suc k) n s at e = input_at ws xs k n s (omega (arith, at)) e
+
+  before_input : (ws : List S) (xs : List (JoinInput R)) (k n : ℕ) → k ≡ length ws + n
+      → TellBefore all k (beside ws xs) → TellBefore all n (streams xs)
+  before_input [] xs k n at t =
+      let same : k ≡ n = omega (arith, at) in
+      subst (λ m. TellBefore all m (streams xs)) same t
+  before_input (w ∷ ws) xs zero n at t = absurd (omega (arith, at))
+  before_input (w ∷ ws) xs (suc k) n at t = before_input ws xs k n (omega (arith, at)) t.1
+
+  module _ (ws : List S) (xs : List (JoinInput R)) (few : length ws ≤ 64) (many : length xs ≤ 64)
+      {now : List (Either S (JoinInput R))} (first : InputFault)
+      (f : FirstFault all (beside (taken ws) (taken xs)) now first) where
+    here : FirstFault all (beside ws xs) now first
+    here = subst (λ l. FirstFault all (beside ws l) now first) (all_taken xs many)
+        (subst (λ l. FirstFault all (beside l (taken xs)) now first) (all_taken ws few) f)
+
+    -- what is held has this fault
+    stops_held : first.number < length ws → (NeverStop b ws → ⊥)
+    stops_held near never =
+        let w = held_at ws xs first.number here.stopped.new near here.stopped.was in
+        one_of (λ s. (fault : LoadFault) → b.stops s fault → ⊥) first.number ws w.0 never w.1
+        first.fault (subst (λ s. all.stops s first.fault) w.2 here.stopped.stop.stops)
+
+    -- or an input
+    stops_in : (place : ℕ) → first.number ≡ length ws + place → StopsIn xs place first.fault
+    stops_in place at =
+        let o = input_at ws xs first.number place here.stopped.new at here.stopped.was in
+        record {
           input = o.input;
           own = o.own;
-          stops = rw o.is at h;
-          before = t.1;
+          stops = subst (λ s. all.stops s first.fault) o.is here.stopped.stop.stops;
+          before = before_input ws xs first.number place at here.before;
         }
-
-    stops_in : (xs : List (JoinInput R)) → length xs ≤ 64 → (now : List (Either S (JoinInput R)))
-        (first : InputFault) → FirstFault all (chained w (taken xs)) now first → Stops w xs
-        first.number first.fault
-    stops_in xs many now first f = search (rules, all_taken, stops_at)
 
   -- the fault is one of reading (LoadFault: Read)
   reads : (x : JoinInput R) (fault : LoadFault) → all.stops (Second x) fault
       → (f : ReadFault) × (fault ≡ load.Read f)
   reads x0 x1 x2 = search rules
 
-  module _ {xs : List (JoinInput R)} {number : ℕ} {fault : LoadFault}
-      (h : StopsIn xs number fault) where
+  module _ {xs : List (JoinInput R)} {place : ℕ} {fault : LoadFault}
+      (h : StopsIn xs place fault) where
     -- so it is not `OutOfMemory`, `CannotWrite` or `CannotPutAside`, and names an input
-    no_memory : of_load number fault ≡ OutOfMemory → ⊥
+    no_memory : of_load (place + 1) fault ≡ OutOfMemory → ⊥
     no_memory e = search rules
 
-    no_sink : of_load number fault ≡ CannotWrite → ⊥
+    no_sink : of_load (place + 1) fault ≡ CannotWrite → ⊥
     no_sink e = search rules
 
-    names_one : NamesOneOf (length xs) (of_load number fault)
+    names_one : NamesOneOf (length xs) (of_load (place + 1) fault)
     names_one = search (rules, slice_get_within)
 
-    no_aside : of_load number fault ≡ CannotPutAside → ⊥
+    no_aside : of_load (place + 1) fault ≡ CannotPutAside → ⊥
     no_aside e = search rules
 
     module _ (choice : Choice) (contents datagrams : List (List ℕ))
@@ -177,58 +197,81 @@ module _ {R : Type 0} (unread : R → Option (List ℕ)) (buffered : R → List 
       stops_one other bytes own f r i s = search rules
 
       -- the join fails with the first input's fault (specs/JoinFaults)
-      first_fails : JoinToFails choice contents (of_load number fault)
+      first_fails : JoinToFails choice contents (of_load (place + 1) fault)
       first_fails =
           let f = reads h.input fault h.stops in
-          let own = own_bytes xs contents datagrams h.place h.input inspected h.own in
+          let own = own_bytes xs contents datagrams place h.input inspected h.own in
           let one =
           stops_one h.input own.0 own.2.0 f.0
-          (one_of (IsReady unread buffered failures) h.place xs h.input ready h.own) own.2.1
+          (one_of (IsReady unread buffered failures) place xs h.input ready h.own) own.2.1
           (rw (← f.1) h.stops) in
           let known = all_known choice unread buffered xs contents datagrams inspected in
           let before =
-          valid_before unread buffered failures b choice h.place xs contents datagrams ready
+          valid_before unread buffered failures b choice place xs contents datagrams ready
           inspected
           h.before in
-          let at : number ≡ h.place + 1 = omega arith in
-          let told : JoinToFails choice contents (Input (h.place + 1) f.0) =
+          let told : JoinToFails choice contents (Input (place + 1) f.0) =
           elim (read_or_not f.0) [
-            | inl is ↦ of_source (h.place + 1) (cc)
+            | inl is ↦ of_source (place + 1) (cc)
                 (inr (
                   known,
-                  first_at IsValid (HasKind kinds.Journal) contents h.place own.0 own.1 before
+                  first_at IsValid (HasKind kinds.Journal) contents place own.0 own.1 before
                       one.0,
                 ))
             | inr other ↦ of_inputs
                 (inr (
                   known,
-                  first_at IsValid (IsJournalAt f.0) contents h.place own.0 own.1 before
+                  first_at IsValid (IsJournalAt f.0) contents place own.0 own.1 before
                       (one.0, one.1, other),
                 ))
           ] in
-          rw at (subst (λ g. JoinToFails choice contents (of_load (h.place + 1) g)) (sym f.1) told)
+          subst (λ g. JoinToFails choice contents (of_load (place + 1) g)) (sym f.1) told
 
   -- what a fault is with which a join stopped, whatever stream it was
-  pub record StopFault (w : S) (xs : List (JoinInput R)) (fault : CommandFault) : Type 0 where
-    pub no_memory : fault ≡ OutOfMemory → ⊥
-    pub no_sink : fault ≡ CannotWrite → ⊥
-    pub no_aside : NeverStops b w → fault ≡ CannotPutAside → ⊥
-    pub names : NamesOneOf (length xs) fault
-    pub fails : (choice : Choice) (contents datagrams : List (List ℕ))
-        → are_ready unread buffered failures b xs
-        → AreInspected unread buffered choice xs contents datagrams
-        → NeverStops b w ⊎ WantsAside contents → JoinToFails choice contents fault
+  pub record StopFault (ws : List S) (xs : List (JoinInput R)) (fault : CommandFault) : Type 0
+    where
+      pub no_memory : fault ≡ OutOfMemory → ⊥
+      pub no_sink : fault ≡ CannotWrite → ⊥
+      pub no_aside : NeverStop b ws → fault ≡ CannotPutAside → ⊥
+      pub names : NamesOneOf (length xs) fault
+      pub fails : (choice : Choice) (contents datagrams : List (List ℕ))
+          → are_ready unread buffered failures b xs
+          → AreInspected unread buffered choice xs contents datagrams
+          → NeverStop b ws ⊎ WantsAside contents → JoinToFails choice contents fault
 
-  stop_fault : (w : S) (xs : List (JoinInput R)) (number : ℕ) (fault : LoadFault)
-      → Stops w xs number fault → StopFault w xs (of_stop number fault)
-  stop_fault w xs zero fault h = search (rules, no_memory, no_sink, no_aside)
-  stop_fault w xs (suc n) fault h = search
-      (rules, no_memory, no_sink, no_aside, names_one, first_fails)
+  held_fault : (ws : List S) (xs : List (JoinInput R)) → (NeverStop b ws → ⊥)
+      → StopFault ws xs CannotPutAside
+  held_fault ws xs stops = record {
+    no_memory = λ e. absurd cc;
+    no_sink = λ e. absurd cc;
+    no_aside = λ never _. stops never;
+    names = tt;
+    fails = λ choice contents datagrams _ _ why. elim why [
+      | inl never ↦ absurd (stops never)
+      | inr wants ↦ of_aside refl wants
+    ];
+  }
 
-  pub stopped : {w : S} (xs : List (JoinInput R)) → length xs ≤ 64 →
-      {now : List (Either S (JoinInput R))} (first : InputFault) → FirstFault all
-      (chained w (taken xs)) now first → StopFault w xs (of_stop first.number first.fault)
-  stopped {w} xs many {now} first f = search (rules, stop_fault, stops_in)
+  input_fault : (ws : List S) (xs : List (JoinInput R)) {place : ℕ} {fault : LoadFault}
+      → StopsIn xs place fault → StopFault ws xs (of_load (place + 1) fault)
+  input_fault ws xs h = record {
+    no_memory = no_memory h;
+    no_sink = no_sink h;
+    no_aside = λ _. no_aside h;
+    names = names_one h;
+    fails = λ choice contents datagrams ready inspected _.
+        first_fails h choice contents datagrams ready inspected;
+  }
+
+  module _ (ws : List S) (xs : List (JoinInput R)) (few : length ws ≤ 64) (many : length xs ≤ 64)
+      {now : List (Either S (JoinInput R))} (first : InputFault)
+      (f : FirstFault all (beside (taken ws) (taken xs)) now first) where
+    pub stopped_held : first.number < length ws → StopFault ws xs CannotPutAside
+    stopped_held near = held_fault ws xs (stops_held ws xs few many first f near)
+
+    pub stopped_in : (place : ℕ) → first.number ≡ length ws + place
+        → StopFault ws xs (of_load (place + 1) first.fault)
+    stopped_in place at = input_fault ws xs (stops_in ws xs few many first f place at)
 
   -- Which sources have failed, from which streams have.
 
@@ -249,49 +292,60 @@ module _ {R : Type 0} (unread : R → Option (List ℕ)) (buffered : R → List 
   none_at (z ∷ xs) (v ∷ ys) h zero x y was is = search rules
   none_at (z ∷ xs) (v ∷ ys) h (suc k) x y was is = none_at xs ys h.1 k x y was is
 
-  pub none_failed : (w now : S) {xs ys : List (JoinInput R)} → length xs ≤ 64 → length ys ≡ length
-      xs → NoneFails all (chained w (taken xs)) (chained now (taken ys)) → NoneFailed failures xs ys
-  none_failed w now {xs = xs} {ys = ys} many same f = search (rules, all_taken, none_at) steps
-      400000
+  none_fails : (ws nows : List S) (xs ys : List (JoinInput R)) → length ys ≡ length xs
+      → NoneFails all (beside ws xs) (beside nows ys) → NoneFails all (streams xs) (streams ys)
+  none_fails [] [] xs ys same h = h
+  none_fails (w ∷ ws) (v ∷ nows) xs ys same h = none_fails ws nows xs ys same h.1
+  none_fails (w ∷ ws) [] xs [] same h = absurd h
+  none_fails (w ∷ ws) [] xs (y ∷ ys) same h = absurd h.0
+  none_fails [] (v ∷ nows) [] ys same h = absurd h
+  none_fails [] (v ∷ nows) (x ∷ xs) ys same h = absurd h.0
+
+  pub none_failed : (ws nows : List S) {xs ys : List (JoinInput R)} → length ws ≤ 64
+      → length xs ≤ 64 → length ys ≡ length xs
+      → NoneFails all (beside (taken ws) (taken xs)) (beside nows (taken ys))
+      → NoneFailed failures xs ys
+  none_failed ws nows {xs = xs} {ys = ys} few many same f =
+      let all_ys = all_taken ys (omega (arith, many, same)) in
+      let here = subst (λ l. NoneFails all (beside ws xs) (beside nows l)) all_ys
+      (subst (λ l. NoneFails all (beside ws l) (beside nows (taken ys))) (all_taken xs many)
+      (subst (λ l. NoneFails all (beside l (taken xs)) (beside nows (taken ys)))
+      (all_taken ws few) f)) in
+      record { as_many = same; each = none_at xs ys (none_fails ws nows xs ys same here) }
 
   -- one stream failed: only the source of that input did
-  module _ {w now : S} {xs ys : List (JoinInput R)} (many : length xs ≤ 64)
-      (same : length ys ≡ length xs) {first : InputFault} where
-    pub read_failed : FirstFault all (chained w (taken xs)) (chained now (taken ys)) first
-        → (number : ℕ) → of_stop first.number first.fault ≡ Input number Read
-        → OneFailed failures number xs ys
-    read_failed f number e =
-        let h =
-        rw (all_taken xs many) at (subst (λ l. FirstFault all (chained w (taken xs)) (chained now l) first)
+  module _ (ws nows : List S) {xs ys : List (JoinInput R)} (few : length ws ≤ 64)
+      (many : length xs ≤ 64) (same : length ys ≡ length xs) {first : InputFault}
+      (held : length nows ≡ length ws) where
+    pub read_failed : FirstFault all (beside (taken ws) (taken xs)) (beside nows (taken ys)) first
+        → (place : ℕ) → first.number ≡ length ws + place → (number : ℕ)
+        → of_load (place + 1) first.fault ≡ Input number Read → OneFailed failures number xs ys
+    read_failed f place at number e =
+        let h = here ws xs few many first
+        (subst (λ l. FirstFault all (beside (taken ws) (taken xs)) (beside nows l) first)
         (all_taken ys (omega (arith, many, same))) f) in
-        at_number first.number first.fault h.stopped.new h.stopped.was h.stopped.stop e
+        let stop = h.stopped.stop in
+        let x = input_at ws xs first.number place h.stopped.new at h.stopped.was in
+        let y = input_at nows ys first.number place stop.stream (omega (arith, at, held)) stop.is in
+        let f = told_read first.fault (place + 1) e in
+        record {
+          place = place;
+          number_is = f.1;
+          before = x.input;
+          after = y.input;
+          was = x.own;
+          is = y.own;
+          failed =
+              fails_once x.input y.input
+              (rw (← f.0) (subst (λ z. all.fails (Second x.input) z (Some first.fault)) y.is
+              (subst (λ z. all.fails z stop.stream (Some first.fault)) x.is stop.fails)));
+        }
       where
         told_read : (f : LoadFault) (m : ℕ) → of_load m f ≡ Input number Read
             → (f ≡ load.Read Read) × (number ≡ m)
         told_read (load.Read f) m d = (let same : f ≡ Read = cc in ap load.Read same, cc)
         told_read load.Full m d = absurd cc
         told_read load.OutOfMemory m d = absurd cc
-
-        at_number : (n : ℕ) (fault : LoadFault) (s : Either S (JoinInput R))
-            → slice_get (chained w xs) n ≡ Some s → IsStopOf all s n (chained now ys) fault
-            → of_stop n fault ≡ Input number Read → OneFailed failures number xs ys
-        at_number zero fault s was stop d = absurd cc
-        at_number (suc n) fault s was stop d =
-            let x = one_at xs n s was in
-            let y = one_at ys n stop.stream stop.is in
-            let f = told_read fault (suc n) d in
-            record {
-              place = n;
-              number_is = omega arith;
-              before = x.input;
-              after = y.input;
-              was = x.own;
-              is = y.own;
-              failed =
-                  fails_once x.input y.input
-                  (rw (← f.0) (subst (λ z. all.fails (Second x.input) z (Some fault)) y.is
-                  (subst (λ z. all.fails z stop.stream (Some fault)) x.is stop.fails)));
-            }
 
 -- Two passes, one after the other.
 

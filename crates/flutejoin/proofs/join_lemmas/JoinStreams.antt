@@ -14,7 +14,7 @@ use Rattle.flute_parts.proofs.Public.{Below-from_Same, Over-below, Same-append, 
 use Rattle.flute_parts.proofs.Public.{Same-swap, Same-trans}
 use Rattle.flute_streams.proofs.Public.{taken_all}
 use Rattle.flute_streams.specs.Advances.{AreNew}
-use Rattle.flute_streams.specs.Chains.{chained, taken}
+use Rattle.flute_streams.specs.Chains.{beside, taken}
 use Rattle.flute_streams.specs.FirstFaults.{TellBefore}
 use Rattle.flute_journal.specs.Journal.{IsJournalWithin}
 use Rattle.flute_journal.specs.JournalWriters.{PutsJournal}
@@ -24,7 +24,7 @@ use Rattle.flute_streams.specs.StreamMerges.{all_of, EachSince, EndsMerged, IsWi
 use Rattle.flute_streams.specs.Streams.{Behaviour, IsNew, most_of}
 use Rattle.flute_streams.specs.declared.merge.all_streams.MergedJournal.{MergedJournal}
 use Rattle.flute_streams.specs.declared.streams.either.Either.{Either}
-use Rattle.flute_streams.specs.declared.streams.either.Either.TheVariants.{Second}
+use Rattle.flute_streams.specs.declared.streams.either.Either.TheVariants.{First, Second}
 use Rattle.flutejoin.specs.declared.join.join_input.JoinInput.{JoinInput}
 use Rattle.flutejoin.specs.declared.join.join_input.JoinInput.TheVariants.{Journal, Datagrams}
 use Rattle.flutejoin.specs.declared.join.join_input.JoinInput.TheVariants.{Unknown}
@@ -34,7 +34,7 @@ use Rattle.flutejoin.specs.Joined.{of_file, content_facts, content_datagrams, co
 use Rattle.flutejoin.specs.Joined.{TellAll}
 use Rattle.flutejoin.specs.JoinFaults.{IsValid}
 use Rattle.flutejoin.specs.JoinParts.{IsInspected, AreInspected, IsReady, JoinsInspected}
-use Rattle.flutejoin.specs.JoinParts.{joined_behaviour, IsHeld, Ends}
+use Rattle.flutejoin.specs.JoinParts.{joined_behaviour, AreNewlyHeld, End}
 use Rattle.flutejoin.specs.Limits.{Limits, at_most, IsOver}
 
 pub over_same : (most : Limits) (F G : List Fact) → Same F G → IsOver most F → IsOver most G
@@ -83,13 +83,76 @@ module _ {R : Type 0} (unread : R → Option (List ℕ)) (buffered : R → List 
   inputs_few [] h = omega arith
   inputs_few (x ∷ xs) h = omega (arith, few_input x h.0, inputs_few xs h.1)
 
-  module _ {w : S} (xs : List (JoinInput R)) (held : IsHeld b w)
-      (many : length xs ≤ 64) (h : are_ready xs) where
-    pub all_new : AreNew joins (chained w (taken xs))
-    all_new = search (rules, all_taken, inputs_new)
+  -- those of what is held are new, and hold few facts
 
-    pub all_few : most_of joins (chained w (taken xs)) < 2 ^ 64
-    all_few = search (rules, all_taken, inputs_few)
+  held_new : (ws : List S) (ys : List (Either S (JoinInput R))) → AreNew b ws → AreNew joins ys
+      → AreNew joins (map First ws ++ ys)
+  held_new [] ys h k = k
+  held_new (w ∷ ws) ys h k = (one_new w h.0, held_new ws ys h.1 k)
+    where
+      one_new : (w : S) → IsNew b w → IsNew joins (First w)
+      one_new w h = record {
+        held = h.held;
+        passes = h.passes;
+        reads = h.reads;
+        fails = h.fails;
+      }
+
+  held_few : (ws : List S) (ys : List (Either S (JoinInput R)))
+      → most_of joins (map First ws ++ ys) ≡ most_of b ws + most_of joins ys
+  held_few [] ys = omega arith
+  held_few (w ∷ ws) ys = omega (arith, held_few ws ys)
+
+  module _ (ws : List S) (xs : List (JoinInput R)) (held : AreNewlyHeld b ws)
+      (many : length xs ≤ 64) (h : are_ready xs) where
+    together : beside (taken ws) (taken xs) ≡ beside ws xs
+    together = ap (λ l. beside l (taken xs)) (all_taken ws held.many)
+        ∙ ap (beside ws) (all_taken xs many)
+
+    pub all_new : AreNew joins (beside (taken ws) (taken xs))
+    all_new = subst (AreNew joins) (sym together)
+        (held_new ws (as_streams xs) held.new (inputs_new xs h))
+
+    pub all_few : most_of joins (beside (taken ws) (taken xs)) < 2 ^ 64
+    all_few = subst (λ l. most_of joins l < 2 ^ 64) (sym together)
+        (omega (arith, held_few ws (as_streams xs), inputs_few xs h, held.few))
+
+  -- what was given of streams is what was given of those of what is held, and of the inputs
+  record Given (ws nows : List S) (xs ys : List (JoinInput R)) (told : List (List Fact))
+      : Type 0 where
+    pub held : List (List Fact)
+    pub others : List (List Fact)
+    pub is : told ≡ held ++ others
+    pub of_held : EachSince b.ends ws nows held
+    pub of_inputs : EachSince joins.ends (as_streams xs) (as_streams ys) others
+
+  given_of : (ws nows : List S) (xs ys : List (JoinInput R)) (told : List (List Fact))
+      → EachSince joins.ends (beside ws xs) (beside nows ys) told → Given ws nows xs ys told
+  given_of [] [] xs ys told h =
+      record { held = []; others = told; is = refl; of_held = tt; of_inputs = h }
+  given_of (w ∷ ws) (v ∷ nows) xs ys (F ∷ told) h =
+      let rest = given_of ws nows xs ys told h.1 in
+      record {
+        held = F ∷ rest.held;
+        others = rest.others;
+        is = ap (λ l. F ∷ l) rest.is;
+        of_held = (h.0, rest.of_held);
+        of_inputs = rest.of_inputs;
+      }
+  given_of (w ∷ ws) (v ∷ nows) xs ys [] h = absurd h
+  given_of (w ∷ ws) [] xs (y ∷ ys) (F ∷ told) h = absurd h.0
+  given_of (w ∷ ws) [] xs (y ∷ ys) [] h = absurd h
+  given_of (w ∷ ws) [] xs [] told h = absurd h
+  given_of [] (v ∷ nows) (x ∷ xs) ys (F ∷ told) h = absurd h.0
+  given_of [] (v ∷ nows) (x ∷ xs) ys [] h = absurd h
+  given_of [] (v ∷ nows) [] ys told h = absurd h
+
+  all_together : (held others : List (List Fact))
+      → all_of (held ++ others) ≡ all_of held ++ all_of others
+  all_together [] others = refl
+  all_together (F ∷ held) others =
+      ap (λ l. F ++ l) (all_together held others) ∙ sym
+      (append_assoc F (all_of held) (all_of others))
 
   -- The facts that the inputs contain.
 
@@ -210,24 +273,47 @@ module _ {R : Type 0} (unread : R → Option (List ℕ)) (buffered : R → List 
     valid_before (suc n) (x ∷ xs) [] _ r h t = absurd h
 
     -- What the join of the streams wrote (specs/JoinParts: JoinsInspected).
-    module _ (xs ys : List (JoinInput R)) {contents datagrams : List (List ℕ)}
+    module _ (ws : List S) (xs ys : List (JoinInput R)) {contents datagrams : List (List ℕ)}
         (ready : are_ready xs) (inspected : AreInspected unread buffered choice xs contents
         datagrams)
-        {w : S} {store : List Fact} (held : Ends b w store) {joined : MergedJournal}
+        {store : List Fact} (held : End b ws store) {joined : MergedJournal}
         {u v : Option (List ℕ)} where
-      of_told : (now : S) (told : List (List Fact)) → EachSince joins.ends (chained w xs)
-          (chained now ys) told → PutsJournal joined.cut u v (all_of told) joined.entries →
+      of_told : (nows : List S) (told : List (List Fact)) → EachSince joins.ends (beside ws xs)
+          (beside nows ys) told → PutsJournal joined.cut u v (all_of told) joined.entries →
           IsWithinLimits choice.most.sessions choice.most.objects choice.most.symbols (all_of told)
           joined.within → JoinsInspected choice contents datagrams store (sum_by passed_over ys)
           joined u v
-      of_told = search (rules, tells_each, all_of)
+      of_told nows told ends puts limits =
+          let given = given_of ws nows xs ys told ends in
+          let each = tells_each xs ys contents datagrams given.others ready inspected
+          given.of_inputs in
+          let all : all_of told ≡ store ++ all_of given.others =
+          ap all_of given.is ∙ all_together given.held given.others
+          ∙ ap (λ l. l ++ all_of given.others) (held nows given.held given.of_held) in
+          record {
+            told = each.told;
+            tell = each.tell;
+            datagrams_are = each.datagrams_are;
+            entries = all_of given.others;
+            same = each.same;
+            puts = subst (λ l. PutsJournal joined.cut u v l joined.entries) all puts;
+            limits =
+                subst (λ l. IsWithinLimits choice.most.sessions choice.most.objects
+                choice.most.symbols l joined.within) all limits;
+            others = each.others;
+          }
 
-      pub joins_inspected : {now : S} → length xs ≤ 64 → length ys ≡ length xs
-          → {s o y : ℕ} → choice.most ≡ at_most s o y
-          → EndsMerged joins (chained w (taken xs)) (chained now (taken ys)) s o y joined u v
+      pub joins_inspected : (nows : List S) → length ws ≤ 64 → length xs ≤ 64
+          → length ys ≡ length xs → {s o y : ℕ} → choice.most ≡ at_most s o y
+          → EndsMerged joins (beside (taken ws) (taken xs)) (beside nows (taken ys)) s o y
+          joined u v
           → JoinsInspected choice contents datagrams store (sum_by passed_over ys) joined u v
-      joins_inspected {now} many same e h = of_told _ _ (subst
-          (λ l. EachSince joins.ends (chained w l) (chained now ys) h.merged.told)
-          (all_taken _ many) (subst
-          (λ l. EachSince joins.ends (chained w (taken xs)) (chained now l) h.merged.told)
-          (all_taken _ (omega (arith, many, same))) h.ends)) h.merged.puts (rw e h.merged.limits)
+      joins_inspected nows few many same e h =
+          let P = λ (l : List (Either S (JoinInput R))) (m : List (Either S (JoinInput R))).
+          EachSince joins.ends l m h.merged.told in
+          of_told nows h.merged.told
+          (subst (λ l. P (beside ws xs) (beside nows l))
+          (all_taken ys (omega (arith, many, same)))
+          (subst (λ l. P (beside ws l) (beside nows (taken ys))) (all_taken xs many)
+          (subst (λ l. P (beside l (taken xs)) (beside nows (taken ys))) (all_taken ws few)
+          h.ends))) h.merged.puts (rw e h.merged.limits)

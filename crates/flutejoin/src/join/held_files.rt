@@ -1,12 +1,12 @@
 //! The facts of datagram files, held in a store or put aside.
 ghost use Rattle.std.specs.Prelude.{◌≡◌, true, false, ◌<◌, ◌+◌, ◌^◌, List, ℕ, ◌∷◌, []};
-ghost use Rattle.std.specs.Prelude.{OnOk, OnErr, IfOk, IfErr, IfSome};
+ghost use Rattle.std.specs.Prelude.{OnOk, IfErr, IfSome};
 ghost use Rattle.flute_journal.specs.Records.{IsFileWithin};
 ghost use Rattle.flutejoin.specs.declared.limits.TheConstants.{MAX_ENTRIES};
 ghost use Rattle.flutejoin.specs.declared.command_fault.CommandFault.TheVariants as faults;
 ghost use Rattle.flutejoin.specs.Joined.{Choice, choice_of};
-ghost use Rattle.flutejoin.specs.Asides.{IsNewRun, Makes};
-ghost use Rattle.flutejoin.specs.JoinParts.{HoldsDatagrams, HoldsMore, HoldsRun, IsSound};
+ghost use Rattle.flutejoin.specs.Asides.{Makes, PutsAside};
+ghost use Rattle.flutejoin.specs.JoinParts.{HoldsDatagrams, HoldsMore, IsSound};
 ghost use Rattle.flutejoin.specs.JoinParts.{CountsUpTo, FileFails};
 ghost use Rattle.flutejoin.specs.Limits.{IsCountable, at_most};
 ghost use Rattle.flutejoin.specs.Show.{FailsToRead};
@@ -90,6 +90,7 @@ impl<const SESSIONS: u32, const OBJECTS: u32, const SYMBOLS: u32, R: Source + Dr
             (datagram.now ∷ [])) }
         ensures few { OnOk result (CountsUpTo R.unread R.buffered R.failures 1 self.old self.new) }
         ensures some { OnOk result (self.new.fits ≡ true → 0 < self.new.told.datagrams) }
+        ensures runs { self.new.runs ≡ self.old.runs }
         ensures memory { IfErr result (λ fault. fault ≡ faults.OutOfMemory) }
     {
         if !self.fits {
@@ -135,6 +136,8 @@ impl<const SESSIONS: u32, const OBJECTS: u32, const SYMBOLS: u32, R: Source + Dr
         ensures failed { IfErr result (λ fault. fault ≡ faults.CannotPutAside) }
         ensures same_tells { A.tells asides.new ≡ A.tells asides.old }
         ensures made { Makes (A.made asides.old) (A.made asides.new) result }
+        ensures put { OnOk result (PutsAside (A.made asides.old) (A.made asides.new)
+            self.old.runs.items self.new.runs.items) }
     {
         if self.size.bytes <= self.memory || !self.fits {
             return Ok(());
@@ -168,6 +171,8 @@ impl<const SESSIONS: u32, const OBJECTS: u32, const SYMBOLS: u32, R: Source + Dr
         ensures failed { IfErr result (λ fault. fault ≡ faults.CannotPutAside) }
         ensures same_tells { A.tells asides.new ≡ A.tells asides.old }
         ensures made { A.made asides.old < A.made asides.new }
+        ensures put { OnOk result (PutsAside (A.made asides.old) (A.made asides.new)
+            self.old.runs.items self.new.runs.items) }
     {
         merge_beyond(alloc, asides, MAX_RUNS - 1, &mut self.runs)?;
         let Ok(mut aside) = asides.aside() else {
@@ -215,6 +220,8 @@ impl<const SESSIONS: u32, const OBJECTS: u32, const SYMBOLS: u32, R: Source + Dr
         ensures failures { FailsToRead (S.failures source.old) (S.failures source.new) result }
         ensures same_tells { A.tells asides.new ≡ A.tells asides.old }
         ensures made { Makes (A.made asides.old) (A.made asides.new) result }
+        ensures put { OnOk result (PutsAside (A.made asides.old) (A.made asides.new)
+            self.old.runs.items self.new.runs.items) }
     {
         // By this the proof knows what the records so far are of the file.
         a_file_is_read_record_by_record();
@@ -226,40 +233,5 @@ impl<const SESSIONS: u32, const OBJECTS: u32, const SYMBOLS: u32, R: Source + Dr
             self.make_room(alloc, asides)?;
         }
         Ok(())
-    }
-
-    /// If something was put aside, all of it, as one journal. The rest is put aside before that.
-    ///
-    /// # Errors
-    ///
-    /// `CannotPutAside`.
-    pub(crate) fn run<A: Asides<Input = R>>(
-        &mut self,
-        alloc: Global,
-        asides: &mut A,
-    ) -> Result<Option<OwnedJournalStream<R>>, CommandFault>
-        requires countable { IsCountable SESSIONS OBJECTS SYMBOLS }
-        requires sound { IsSound R.unread R.buffered R.failures self.old }
-        requires fits { self.old.fits ≡ true }
-        ensures held { A.tells asides.old ≡ true
-            → (choice : Choice) (datagrams : List (List ℕ))
-            → HoldsDatagrams R.unread R.buffered choice self.old datagrams
-            → IfOk result (λ run. HoldsRun R.unread R.buffered choice self.new run datagrams) }
-        ensures new { IfOk result (λ run. IfSome run (IsNewRun R.unread R.buffered R.failures)) }
-        ensures counts { OnOk result ((self.new.told.datagrams ≡ self.old.told.datagrams)
-            × (self.new.told.refused ≡ self.old.told.refused)
-            × (self.new.reasons ≡ self.old.reasons) × (self.new.others ≡ self.old.others)) }
-        ensures failed { IfErr result (λ fault. fault ≡ faults.CannotPutAside) }
-        ensures some { OnErr result (0 < self.old.told.datagrams) }
-        ensures made { Makes (A.made asides.old) (A.made asides.new) result }
-        ensures put { IfOk result (λ run. IfSome run (λ _.
-            (A.made asides.old < A.made asides.new) × (0 < self.old.told.datagrams))) }
-    {
-        if self.runs.is_empty() {
-            return Ok(None);
-        }
-        self.put_aside(alloc, asides)?;
-        merge_beyond(alloc, asides, 1, &mut self.runs)?;
-        Ok(self.runs.pop())
     }
 }

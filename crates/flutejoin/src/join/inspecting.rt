@@ -1,6 +1,6 @@
 //! The inputs of a join, inspected before they are joined.
 ghost use Rattle.std.specs.Prelude.{◌≡◌, true, ◌≤◌, ◌<◌, ◌^◌, List, ℕ, length};
-ghost use Rattle.std.specs.Prelude.{OnOk, IfOk, IfErr};
+ghost use Rattle.std.specs.Prelude.{OnOk, IfOk, IfErr, []};
 ghost use Rattle.std.specs.List.{AllByRecursion};
 ghost use Rattle.flute_journal.specs.declared.fault.ReadFault.TheVariants.{Read};
 ghost use Rattle.flutejoin.specs.declared.command_fault.CommandFault.TheVariants.{Input};
@@ -10,7 +10,7 @@ ghost use Rattle.flutejoin.specs.JoinInputs.{IsInput, AreInputs};
 ghost use Rattle.flutejoin.specs.InputStreams.{failures_of, NoneFailed};
 ghost use Rattle.flutejoin.specs.InputStreams.{OneFailed};
 ghost use Rattle.flutejoin.specs.Joined.{choice_of};
-ghost use Rattle.flutejoin.specs.Asides.{Makes};
+ghost use Rattle.flutejoin.specs.Asides.{Makes, PutsAside};
 ghost use Rattle.flutejoin.specs.JoinParts.{HoldsMore, IsSound, CountsUpTo};
 ghost use Rattle.flutejoin.specs.JoinParts.{NamesOnly, InspectionFails, SomeInspectionFails};
 ghost use Rattle.flutejoin.specs.JoinParts.{IsInspected, Finds, IsReady};
@@ -69,6 +69,8 @@ pub(crate) fn inspect_all<
         → OneFailed R.failures number inputs.old inputs.new) }
     ensures same_tells { A.tells asides.new ≡ A.tells asides.old }
     ensures made { Makes (A.made asides.old) (A.made asides.new) result }
+    ensures put { IfOk result (λ held. PutsAside (A.made asides.old) (A.made asides.new) []
+        held.runs.items) }
 {
     let mut held = HeldFiles::new(alloc, memory);
     for k in 0..inputs.len() {
@@ -124,6 +126,8 @@ fn inspect<
         (failures_of R.failures input.new) result }
     ensures same_tells { A.tells asides.new ≡ A.tells asides.old }
     ensures made { Makes (A.made asides.old) (A.made asides.new) result }
+    ensures put { OnOk result (PutsAside (A.made asides.old) (A.made asides.new)
+        held.old.runs.items held.new.runs.items) }
 {
     match input {
         JoinInput::Journal(journal) => {

@@ -5,7 +5,7 @@ ghost use Rattle.std.specs.List.{AllByRecursion};
 ghost use Rattle.flute_parts.specs.declared.fact.Fact.{Fact};
 ghost use Rattle.flute_journal.specs.Journal.{Journal};
 ghost use Rattle.flutejoin.specs.declared.command_fault.CommandFault.TheVariants.{CannotPutAside};
-ghost use Rattle.flutejoin.specs.Asides.{AreRunsOf, HoldTogether, IsNewRun, Makes};
+ghost use Rattle.flutejoin.specs.Asides.{AreRunsOf, HoldTogether, IsNewRun, Makes, PutsAside};
 
 use crate::aside::Asides;
 use crate::command_fault::CommandFault;
@@ -13,8 +13,9 @@ use flute_parts::Source;
 use flute_streams::{OwnedJournalStream, merge_all};
 use std::alloc::Global;
 
-/// How many runs there may be. Before there are more, they are merged into one.
-pub(crate) const MAX_RUNS: usize = 64;
+/// How many runs there may be: with what is in memory and 64 inputs they are 128 streams, which a
+/// join reads fast. Before there are more, they are merged into one.
+pub(crate) const MAX_RUNS: usize = 63;
 
 /// The greatest number of entries of a run: 2^57.
 const MAX_RUN: u64 = 144_115_188_075_855_872;
@@ -42,6 +43,8 @@ pub(crate) fn merge_beyond<R: Source + Drop, A: Asides<Input = R>>(
     ensures failed { IfErr result (λ fault. fault ≡ CannotPutAside) }
     ensures same_tells { A.tells asides.new ≡ A.tells asides.old }
     ensures made { Makes (A.made asides.old) (A.made asides.new) result }
+    ensures put { OnOk result (PutsAside (A.made asides.old) (A.made asides.new) runs.old.items
+        runs.new.items) }
 {
     if runs.len() <= most {
         return Ok(());

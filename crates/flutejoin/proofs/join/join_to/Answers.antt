@@ -1,13 +1,11 @@
 -- join_to: first one pass, and then the other.
-use Rattle.std.proofs.lemmas.Grind.{common_steps}
 use Rattle.std.proofs.Common.{rules}
-use Rattle.std.proofs.Common.{◌≡◌, ◌≤◌, ◌+◌, ◌∙◌, Bool, true, false, not, Option, Some, None}
-use Rattle.std.proofs.Common.{refl, subst, arith}
-use Rattle.std.specs.Prelude.{IfSome}
+use Rattle.std.proofs.Common.{◌≡◌, ◌<◌, ◌≤◌, ◌⊎◌, ◌+◌, ℕ, zero, suc, Bool, true, false, not}
+use Rattle.std.proofs.Common.{[], ◌++◌, ap, inl, inr, length, refl, subst, sym, arith}
+use Rattle.flutejoin.specs.Asides.{AreRunsOf}
 use Rattle.flute_parts.specs.Devices.{times_failed}
 use Rattle.std.proofs.lemmas.Result.{err_from_is_err_and}
-use Rattle.flutejoin.specs.JoinFaults.{of_aside}
-use Rattle.flutejoin.proofs.join_lemmas.Held.{all_held, all_over}
+use Rattle.flutejoin.proofs.join_lemmas.Held.{all_held, all_over, held_together}
 use Rattle.flutejoin.proofs.join_lemmas.Inspections.{finds_wants}
 use Rattle.flutejoin.proofs.join_lemmas.JoinStops.{nothing_appended, not_inspected, one_failed_more}
 use Rattle.flutejoin.proofs.join_lemmas.JoinStops.{none_failed_more, full_together, not_written}
@@ -20,15 +18,15 @@ not_true x0 x1 = search rules
 not_false : (b : Bool) → not b ≡ false → b ≡ true
 not_false x0 x1 = search rules
 
--- what is aside was put there
-made_run : {R M P : Type 0} (K : Type 0) (run : Option R) → IfSome run (λ r. M × K)
-    → (run ≡ None → P → ⊥) → P → M
-made_run x0 x1 x2 x3 x4 = search rules
+-- there is none, or P holds
+none_or : {P : Type 0} (n : ℕ) → (0 < n → P) → (n ≡ 0) ⊎ P
+none_or zero some = inl refl
+none_or (suc n) some = inr (some (omega arith))
 
--- it is of datagrams
-wants_run : {R K P : Type 0} (M : Type 0) (run : Option R) → IfSome run (λ r. M × K)
-    → (K → P) → IfSome run (λ r. P)
-wants_run x0 x1 x2 x3 = search rules
+-- something was put aside for each run
+some_made : (n old new : ℕ) → n + old ≤ 0 + new → (n ≡ 0 → ⊥) → old < new
+some_made zero old new put some = absurd (some refl)
+some_made (suc n) old new put some = omega (arith, put)
 
 pub returns-in_err-held-clause-failed : goal.returns-in_err-held-clause-failed
 returns-in_err-held-clause-failed g c = λ told contents inputs. let e = err_from_is_err_and
@@ -40,7 +38,8 @@ returns-in_err-join_inspected-clause-failed g c = λ told contents inputs. let e
     err_from_is_err_and c.from_residual-in_err-join_inspected.result
     c.from_residual-in_err-join_inspected.ensures.1 in
     let found = c.in_ok-held.ensures.inspected told contents inputs in
-    rw (e.1, e.2) (c.in_err-join_inspected.ensures.failed _ contents found.0 found.1 tt)
+    rw (e.1, e.2) (c.in_err-join_inspected.ensures.failed _ contents found.0 found.1
+    (inl (ap length c.clear.ensures.items)))
 
 pub returns-in_err-join_inspected-clause-short : goal.returns-in_err-join_inspected-clause-short
 returns-in_err-join_inspected-clause-short g c =
@@ -60,26 +59,21 @@ returns-in_err-join_inspected-clause-read_failed g c =
 pub returns-then-not-held-clause-failed : goal.returns-then-not-held-clause-failed
 returns-then-not-held-clause-failed g c = λ told contents inputs.
     let found = c.in_ok-held.ensures.inspected told contents inputs in
+    let none = subst (λ l. AreRunsOf g.R.Source.unread g.R.Source.buffered l [])
+    (sym c.clear.ensures.items) refl in
     full_of_files
-    (c.in_ok-join_inspected.ensures.joined _ contents found.0 c.in_ok-held.held.told.store refl
-    found.1 refl)
+    (c.in_ok-join_inspected.ensures.joined _ contents found.0 (c.in_ok-held.held.told.store ++ [])
+    refl found.1 ([], none, refl))
     (all_over found.2 c.if-not-held.true)
-
-pub returns-in_err-run-clause-failed : goal.returns-in_err-run-clause-failed
-returns-in_err-run-clause-failed g c = λ told contents inputs. let e = err_from_is_err_and
-    c.from_residual-in_err-run.result c.from_residual-in_err-run.ensures.1 in
-    let found = c.in_ok-held.ensures.inspected told contents inputs in
-    rw (e.1, e.2) (of_aside c.in_err-run.ensures.failed (finds_wants _ g.R.Source.unread
-    g.R.Source.buffered c.in_ok-held.held c.inspect_all.new.inputs contents found
-    c.if-not-held.false c.in_err-run.ensures.some))
 
 pub returns-in_err-joined-clause-failed : goal.returns-in_err-joined-clause-failed
 returns-in_err-joined-clause-failed g c = λ told contents inputs. let e = err_from_is_err_and
     c.from_residual-in_err-joined.result c.from_residual-in_err-joined.ensures.1 in
     let found = c.in_ok-held.ensures.inspected told contents inputs in
-    rw (e.1, e.2) (c.in_err-joined.ensures.failed _ contents found.0 found.1 (wants_run _
-    c.in_ok-run.run' c.in_ok-run.ensures.put (finds_wants _ g.R.Source.unread g.R.Source.buffered
-    c.in_ok-held.held c.inspect_all.new.inputs contents found c.if-not-held.false)))
+    rw (e.1, e.2) (c.in_err-joined.ensures.failed _ contents found.0 found.1 (none_or
+    (length c.in_ok-held.held.runs.items) (λ some. finds_wants _ g.R.Source.unread
+    g.R.Source.buffered c.in_ok-held.held c.inspect_all.new.inputs contents found
+    c.if-not-held.false (omega (arith, some, c.in_ok-held.ensures.sound.4)))))
 
 pub returns-in_err-joined-clause-read_failed : goal.returns-in_err-joined-clause-read_failed
 returns-in_err-joined-clause-read_failed g c =
@@ -92,35 +86,34 @@ returns-in_err-joined-clause-read_failed g c =
 pub returns-then-not-joined-clause-failed : goal.returns-then-not-joined-clause-failed
 returns-then-not-joined-clause-failed g c = λ told contents inputs. let found =
     c.in_ok-held.ensures.inspected told contents inputs in
-    let run = c.in_ok-run.ensures.held (c.inspect_all.ensures.same_tells ∙ told) _ found.0 found.2
+    let run = held_together c.if-not-held.false found.2
     in full_together (c.in_ok-joined.ensures.joined _ contents found.0 run.0 refl found.1 run.1)
     run.2 (not_true c.in_ok-joined.joined.within c.if-not-joined.true)
 
 pub returns-then-joined-clause-failed : goal.returns-then-joined-clause-failed
 returns-then-joined-clause-failed g c = λ told contents inputs. let found =
     c.in_ok-held.ensures.inspected told contents inputs in
-    let run = c.in_ok-run.ensures.held (c.inspect_all.ensures.same_tells ∙ told) _ found.0 found.2
+    let run = held_together c.if-not-held.false found.2
     in not_written (c.in_ok-joined.ensures.joined _ contents found.0 run.0 refl found.1 run.1) run.2
     (not_false c.in_ok-joined.joined.within c.if-not-joined.false)
 
 pub returns-clause-joined : goal.returns-clause-joined
 returns-clause-joined g c = λ told contents inputs. let found = c.in_ok-held.ensures.inspected told
     contents inputs in
-    let run = c.in_ok-run.ensures.held (c.inspect_all.ensures.same_tells ∙ told) _ found.0 found.2
+    let run = held_together c.if-not-held.false found.2
     in
     let fits = c.if-not-held.false in
     let all = all_held found.2 fits in
-    let counts = c.in_ok-run.ensures.counts in
     joins_to (c.in_ok-joined.ensures.joined _ contents found.0 run.0 refl found.1 run.1) run.2
     (subst (λ n. n ≤ 64) inputs.as_many c.requires.few)
     (not_false c.in_ok-joined.joined.within c.if-not-joined.false) c.if-joined.false (record {
       entries = refl;
-      datagrams_are = counts.0 ∙ all.count;
-      refused = counts.1 ∙ all.refused;
-      reasons = rw counts.2 all.reasons;
-      for_all = rw (counts.1, counts.2) c.in_ok-held.ensures.sound.2;
+      datagrams_are = all.count;
+      refused = all.refused;
+      reasons = all.reasons;
+      for_all = c.in_ok-held.ensures.sound.2;
       of_files = _;
-      of_files_are = counts.3 ∙ found.2.others fits;
+      of_files_are = found.2.others fits;
       others = c.others_of.ensures;
     })
 
@@ -146,10 +139,9 @@ returns-in_err-joined-clause-made g c =
     let e = err_from_is_err_and c.from_residual-in_err-joined.result
     c.from_residual-in_err-joined.ensures.1 in
     let before = c.inspect_all.ensures.made.0 in (
-      omega (arith, before, c.run.ensures.made.0),
-      rw (e.1, e.2) (λ is. let more = made_run _
-          c.in_ok-run.run' c.in_ok-run.ensures.put c.in_err-joined.ensures.no_aside is in omega
-          (arith, before, more)),
+      before,
+      rw (e.1, e.2) (λ is. some_made (length c.in_ok-held.held.runs.items) _ _
+          c.in_ok-held.ensures.put (λ none. c.in_err-joined.ensures.no_aside none is)),
     )
 
 pub returns-then-joined-clause-write_failed : goal.returns-then-joined-clause-write_failed

@@ -1,6 +1,6 @@
 -- inspect_all: inputs inspected in turn.
 use Rattle.std.proofs.Common.{rules}
-use Rattle.std.proofs.Common.{◌<◌, ◌∙◌, length, refl, arith}
+use Rattle.std.proofs.Common.{◌<◌, ◌∙◌, length, arith}
 use Rattle.std.proofs.lemmas.Option.{slice_get-get_or}
 use Rattle.std.proofs.lemmas.Result.{err_from_is_err_and}
 use Rattle.flutejoin.proofs.join_lemmas.Inspections.{inspected_none, inspected_more, finds_all}
@@ -55,6 +55,7 @@ loop-k-preserved g c =
           c.in_ok-inspect.ensures.few c.in_ok-inspect.ensures.failures;
       same_tells = c.inspect.ensures.same_tells ∙ c.loop-k.invariant.same_tells;
       made = omega (arith, c.inspect.ensures.made.0, c.loop-k.invariant.made);
+      put = omega (arith, c.in_ok-inspect.ensures.put, c.loop-k.invariant.put);
     }
 
 pub returns-clause-inspected : goal.returns-clause-inspected

@@ -1,5 +1,6 @@
 -- inspect_all: the inputs so far were inspected.
-use Rattle.std.proofs.Common.{◌≡◌, ◌≤◌}
+use Rattle.std.proofs.Common.{◌≡◌, ◌≤◌, []}
+use Rattle.flutejoin.specs.Asides.{PutsAside}
 use Rattle.flutejoin.specs.Joined.{choice_of}
 use Rattle.flutejoin.specs.Limits.{at_most}
 use Rattle.flutejoin.proofs.join_lemmas.Inspections.{InspectedSoFar}
@@ -13,4 +14,5 @@ invariant-loop-k g l = record {
       l.fn.inputs l.inputs l.held l.k;
   same_tells : g.A.Asides.tells l.asides ≡ g.A.Asides.tells l.fn.asides;
   made : g.A.Asides.made l.fn.asides ≤ g.A.Asides.made l.asides;
+  put : PutsAside (g.A.Asides.made l.fn.asides) (g.A.Asides.made l.asides) [] l.held.runs.items;
 }

@@ -1,5 +1,4 @@
 -- HeldFiles::make_room: only what the store may have grown to was counted before.
-use Rattle.std.proofs.Common.{rules}
 use Rattle.std.proofs.Common.{refl}
 use Rattle.flutejoin.proofs.walk_lemmas.Objects.{on_ok}
 use Rattle.flutejoin.proofs.join_lemmas.Held.{holds_after}

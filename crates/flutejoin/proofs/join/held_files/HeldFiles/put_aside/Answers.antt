@@ -1,5 +1,4 @@
 -- HeldFiles::put_aside: a store is the journal of its facts, which is a run.
-use Rattle.std.proofs.Common.{rules}
 use Rattle.std.proofs.Common.{◌≡◌, ◌∙◌, ◌++◌, Some, ap, length, refl, subst}
 use Rattle.std.specs.Io.KnownBytes.{Appends}
 use Rattle.flute_parts.proofs.Public.{rising_unique, Same-append, Same-itself, Same-trans}

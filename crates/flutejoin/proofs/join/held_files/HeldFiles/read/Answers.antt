@@ -1,7 +1,6 @@
 -- HeldFiles::read: records, one after the other.
-use Rattle.std.proofs.Common.{rules}
 use Rattle.std.proofs.Common.{refl, Some, Ok, ap, ◌∙◌, subst, ◌∷◌, [], ◌++◌, append-nil}
-use Rattle.std.proofs.Common.{append_assoc, arith, sym}
+use Rattle.std.proofs.Common.{append_assoc, arith, length, sym}
 use Rattle.std.proofs.lemmas.List.{length-append}
 use Rattle.std.proofs.lemmas.Result.{err_from_is_err_and}
 use Rattle.flute_journal.specs.Framing.{Gives, HasFault}
@@ -32,6 +31,7 @@ loop-datagram-init g c =
       sound = c.requires.sound;
       same_tells = refl;
       made = omega arith;
+      put = omega arith;
       limit = c.new-reader.ensures.limit;
       same_source = refl;
       failures = ap g.S.Source.failures c.new-reader.ensures.unread;
@@ -98,6 +98,13 @@ loop-datagram-preserved g c =
       same_tells = c.make_room.ensures.same_tells ∙ c.loop-datagram.invariant.same_tells;
       made =
           omega (arith, c.make_room.ensures.made.0, c.loop-datagram.invariant.made);
+      put =
+          omega (
+            arith,
+            c.in_ok-make_room.ensures.put,
+            c.loop-datagram.invariant.put,
+            ap (λ r. length r.items) c.in_ok-take.ensures.runs,
+          );
       limit = c.next_with.ensures.limit ∙ c.loop-datagram.invariant.limit;
       same_source = c.next_with.ensures.source ∙ c.loop-datagram.invariant.same_source;
       failures =

@@ -2,6 +2,7 @@
 use Rattle.std.proofs.Common.{◌≡◌, ℕ, ◌+◌, ◌-◌, ◌≤◌, true, List, length}
 use Rattle.flute_journal.specs.Framing.{Sofar, count_at}
 use Rattle.flute_journal.specs.FileFraming.{file_framing}
+use Rattle.flutejoin.specs.Asides.{PutsAside}
 use Rattle.flutejoin.specs.Joined.{choice_of}
 use Rattle.flutejoin.specs.JoinParts.{HoldsMore, IsSound}
 use Rattle.flutejoin.specs.Limits.{at_most}
@@ -19,6 +20,8 @@ invariant-loop-datagram g l = record {
   sound : IsSound g.R.Source.unread g.R.Source.buffered g.R.Source.failures l.self;
   same_tells : g.A.Asides.tells l.asides ≡ g.A.Asides.tells l.fn.asides;
   made : g.A.Asides.made l.fn.asides ≤ g.A.Asides.made l.asides;
+  put : PutsAside (g.A.Asides.made l.fn.asides) (g.A.Asides.made l.asides) l.fn.self.runs.items
+      l.self.runs.items;
   limit : l.reader.max_records ≡ 16777216;
   same_source : l.reader.source.ghost_name ≡ l.initial.reader.source.ghost_name;
   failures : g.S.Source.failures l.reader.source.now ≡ g.S.Source.failures l.fn.source;
