@@ -1,7 +1,7 @@
 -- What the counts of a comparison say (specs/Compared, src/laws.rt).
 use Rattle.std.proofs.Common.{◌≡◌, ℕ, true, false, cond, Bool, not, ◌&&◌, ◌||◌, ◌==◌, List, []}
 use Rattle.std.proofs.Common.{◌∷◌, ◌++◌, refl, sym, ap, ◌∙◌, subst, inl, inr, ◌⊎◌, Option, Some}
-use Rattle.std.proofs.Common.{None, arith, zero, suc, ◌+◌}
+use Rattle.std.proofs.Common.{None, arith, ◌+◌}
 use Rattle.std.specs.Prelude.{map}
 use Rattle.std.specs.List.{count_by, list_any}
 use Rattle.std.proofs.lemmas.Bool.{cases_Bool, eqb-true, false≢true}
@@ -11,10 +11,10 @@ use Rattle.flute_parts.specs.declared.address.Part.TheVariants.{Info as InfoPart
 use Rattle.flute_parts.specs.declared.address.Part.TheVariants.{Symbol as SymbolPart}
 use Rattle.flute_parts.specs.declared.fact.Fact.{Fact}
 use Rattle.flute_parts.specs.declared.key.Key.{Key}
-use Rattle.flute_parts.specs.Addresses.{address, info_address}
+use Rattle.flute_parts.specs.Addresses.{address}
 use Rattle.flute_parts.specs.Equality.{address_same, fact_same, key_itself, key_same}
 use Rattle.flute_parts.specs.Facts.{IsRising, fact_at, same_fact}
-use Rattle.flute_parts.specs.Order.{same_address, same_key}
+use Rattle.flute_parts.specs.Order.{same_address}
 use Rattle.flute_parts.proofs.Public.{fact_at-append, fact_at-elsewhere, fact_at-after}
 use Rattle.flute_parts.proofs.Public.{fact_at-here, fact_at-nil, joined, joined-same}
 use Rattle.flute_streams.specs.Selections.{is_info}
@@ -47,13 +47,13 @@ adds_up q [] others = refl
 adds_up q (f ∷ facts) others =
     let e = one_of (q (address f)) (fact_at others (address f)) f in
     let i = adds_up q facts others in
-    three (cond (q (address f) && is_alike (fact_at others (address f)) f) 1 0)
-    (cond (q (address f) && is_other (fact_at others (address f)) f) 1 0)
-    (cond (q (address f) && is_lone (fact_at others (address f)) f) 1 0)
-    (tally q is_alike facts others) (tally q is_other facts others) (tally q is_lone facts others)
-    (cond (q (address f)) 1 0) (count_by (λ f. q (address f)) facts) e i
+    three _
+    _
+    _
+    _ _ _
+    _ _ e i
     (count_first (λ f. q (address f) && is_alike (fact_at others (address f)) f) f facts)
-    (count_first (λ f. q (address f) && is_other (fact_at others (address f)) f) f facts)
+    (count_first (λ f. q (address f) && is_other _ f) f facts)
     (count_first (λ f. q (address f) && is_lone (fact_at others (address f)) f) f facts)
     (count_first (λ f. q (address f)) f facts)
 
@@ -66,20 +66,20 @@ one_zero n e h = omega arith
 
 none_head : (p : Fact → Bool) (f : Fact) (F : List Fact) → count_by p (f ∷ F) ≡ 0 → p f ≡ false
 none_head p f F e = elim (cases_Bool (p f)) [
-  | inl t ↦ absurd (one_zero (cond (p f) 1 0) (rw t refl)
-      (both_zero (cond (p f) 1 0) (count_by p F) (sym (count_first p f F) ∙ e)).0)
+  | inl t ↦ absurd (one_zero (cond _ 1 0) (rw t refl)
+      (both_zero _ _ (sym (count_first p f F) ∙ e)).0)
   | inr n ↦ n
 ]
 
 none_tail : (p : Fact → Bool) (f : Fact) (F : List Fact) → count_by p (f ∷ F) ≡ 0
     → count_by p F ≡ 0
 none_tail p f F e =
-    (both_zero (cond (p f) 1 0) (count_by p F) (sym (count_first p f F) ∙ e)).1
+    (both_zero _ _ (sym (count_first p f F) ∙ e)).1
 
 one_value : (a : Address) (f : Fact) (y : Option Fact) → is_other y f ≡ false
     → joined a (Some f) y ≡ Some f
 one_value a f None h = refl
-one_value a f (Some g) h = elim (cases_Bool (same_fact f g)) [
+one_value a f (Some g) h = elim (cases_Bool _) [
   | inl t ↦ ap Some (joined-same a f g (fact_same f g t))
   | inr n ↦ absurd (false≢true (sym h ∙ ap not n))
 ]
@@ -117,13 +117,13 @@ same_information_there : (a : Address) (x y : Option Fact) → is_apart (side_at
     → (joined a x y ≡ x) ⊎ (joined a x y ≡ y)
 same_information_there a None y h = inr refl
 same_information_there a (Some f) None h = inl refl
-same_information_there a (Some f) (Some g) h = elim (cases_Bool (same_fact f g)) [
+same_information_there a (Some f) (Some g) h = elim (cases_Bool _) [
   | inl t ↦ inl (ap Some (joined-same a f g (fact_same f g t)))
   | inr n ↦ absurd (false≢true (sym (rw n at h)))
 ]
 
 zero_is : (n : ℕ) → not (n == 0) ≡ false → n ≡ 0
-zero_is n h = elim (cases_Bool (n == 0)) [
+zero_is n h = elim (cases_Bool _) [
   | inl t ↦ eqb-true n 0 t
   | inr u ↦ absurd (false≢true (sym (ap not (sym u) ∙ h)))
 ]
@@ -134,9 +134,9 @@ not_apart : (facts others : List Fact) (key : Key) (keys : List Key) → is_list
     → differs (row_of facts others key) ≡ false
 not_apart facts others key [] l h = absurd (false≢true l)
 not_apart facts others key (k ∷ keys) l h =
-    let n = or_none (differs (row_of facts others k)) (list_any differs (map (row_of facts others) keys)) h in
-    elim (cases_Bool (same_key key k)) [
-      | inl t ↦ subst (λ z. differs (row_of facts others z) ≡ false) (sym (key_same key k t)) n.0
+    let n = or_none _ _ h in
+    elim (cases_Bool _) [
+      | inl t ↦ rw (key_same key k t) n.0
       | inr u ↦ not_apart facts others key keys (subst (λ b. (b || is_listed key keys) ≡ true) u l) n.1
     ]
 
@@ -144,38 +144,37 @@ module _ (facts others : List Fact) (rises : IsRising facts) where
   of_key : (a : Address) → differs (row_of facts others a.key) ≡ false
       → (joined a (fact_at facts a) (fact_at others a) ≡ fact_at facts a)
       ⊎ (joined a (fact_at facts a) (fact_at others a) ≡ fact_at others a)
-  of_key a h = by a.part refl
+  of_key a h = by _ refl
     where
       row : Row
       row = row_of facts others a.key
 
       none : (is_apart row.information ≡ false) × (not (row.symbols.differ == 0) ≡ false)
-      none = or_none (is_apart row.information) (not (row.symbols.differ == 0)) h
+      none = or_none _ _ h
 
       by : (part : Part) → a.part ≡ part
           → (joined a (fact_at facts a) (fact_at others a) ≡ fact_at facts a)
           ⊎ (joined a (fact_at facts a) (fact_at others a) ≡ fact_at others a)
       by InfoPart i =
-          subst (λ x. (joined x (fact_at facts x) (fact_at others x) ≡ fact_at facts x)
-          ⊎ (joined x (fact_at facts x) (fact_at others x) ≡ fact_at others x))
-          (sym (at_information a i))
-          (same_information_there (info_address a.key) (fact_at facts (info_address a.key))
-          (fact_at others (info_address a.key)) none.0)
+          rw
+          (at_information a i)
+          (same_information_there _ _
+          _ none.0)
       by (SymbolPart id) i =
-          same_symbols (is_symbol_of a.key) facts others rises (zero_is row.symbols.differ none.1) a
+          same_symbols (is_symbol_of a.key) _ _ rises (zero_is _ none.1) a
           (ap (λ b. b && not (is_info a.part)) (key_itself a.key) ∙ ap (λ x. not (is_info x)) i)
 
   pub in_peace : (rows : List Row) → AreRows facts others rows → list_any differs rows ≡ false
       → (a : Address) → (fact_at (facts ++ others) a ≡ fact_at facts a)
       ⊎ (fact_at (facts ++ others) a ≡ fact_at others a)
   in_peace rows are none a = elim (cases_Bool (is_listed a.key are.keys)) [
-    | inl l ↦ elim (of_key a (not_apart facts others a.key are.keys l
+    | inl l ↦ elim (of_key a (not_apart _ _ _ _ l
         (ap (λ r. list_any differs r) (sym are.are) ∙ none))) [
-          | inl p ↦ inl (fact_at-append facts others a ∙ p)
-          | inr p ↦ inr (fact_at-append facts others a ∙ p)
+          | inl p ↦ inl (fact_at-append _ _ a ∙ p)
+          | inr p ↦ inr (fact_at-append _ _ a ∙ p)
         ]
     | inr n ↦
         let m = or_none (is_named a.key facts) (is_named a.key others) (sym (are.all a.key) ∙ n) in
         inr (fact_at-append facts others a
-        ∙ ap (λ x. joined a x (fact_at others a)) (none_there a facts m.0))
+        ∙ ap (λ x. joined a x (fact_at others a)) (none_there a _ m.0))
   ]

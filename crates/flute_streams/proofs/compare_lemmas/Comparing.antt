@@ -1,39 +1,31 @@
 -- Two streams are compared, one address after another (specs/Compares).
-use Rattle.std.proofs.Common.{◌≡◌, ℕ, true, false, cond, Bool, ◌||◌, List, [], ◌∷◌, ◌++◌, refl}
+use Rattle.std.proofs.Common.{◌≡◌, ℕ, true, false, cond, Bool, List, [], ◌∷◌, ◌++◌, refl}
 use Rattle.std.proofs.Common.{sym, ap, ◌∙◌, subst, inl, inr, ◌⊎◌, Option, Some, None, append-nil}
-use Rattle.std.proofs.Common.{append_assoc, is_eq, length, length-append, arith, zero, suc}
+use Rattle.std.proofs.Common.{append_assoc, length, length-append, arith, zero, suc}
 use Rattle.std.proofs.Common.{◌+◌, ◌<◌, ◌≤◌, ◌^◌}
 use Rattle.std.specs.Prelude.{map}
-use Rattle.std.proofs.lemmas.Bool.{cases_Bool, false≢true}
-use Rattle.std.proofs.lemmas.Option.{none-some, same_Some}
+use Rattle.std.proofs.lemmas.Option.{none-some}
 use Rattle.std.proofs.lemmas.List.{map-append}
-use Rattle.std.proofs.lemmas.List.Folds.{list_any-append}
 use Rattle.std.specs.declared.cmp.Ordering.{Ordering}
 use Rattle.std.specs.declared.cmp.Ordering.TheVariants.{Less, Equal, Greater}
-use Rattle.std.specs.Ordering.{ordering_reverse, ordering_then}
 use Rattle.flute_parts.specs.declared.address.Address.{Address}
 use Rattle.flute_parts.specs.declared.fact.Fact.{Fact}
 use Rattle.flute_parts.specs.declared.key.Key.{Key}
-use Rattle.flute_parts.specs.Addresses.{address}
-use Rattle.flute_parts.specs.Equality.{address_same, key_itself, key_same}
-use Rattle.flute_parts.specs.Facts.{IsRising, StandAfter, same_fact}
-use Rattle.flute_parts.specs.Order.{address_cmp, key_cmp, part_cmp, same_key}
-use Rattle.flute_parts.specs.Totality.{address_total, key_total}
+use Rattle.flute_parts.specs.Facts.{IsRising, StandAfter}
 use Rattle.flute_streams.specs.Streams.{Behaviour, Gave, GoesOn, IsNew, option_list}
 use Rattle.flute_streams.specs.Behind.{Behind, StandBefore}
-use Rattle.flute_streams.specs.Compared.{is_listed, is_named, KeysAfter, KeysRise, row_of}
+use Rattle.flute_streams.specs.Compared.{row_of}
 use Rattle.flute_streams.specs.Compares.{Counts, ComparedAs, GoesIf, GoesOnBoth, Past, first_goes}
 use Rattle.flute_streams.specs.Compares.{second_goes, keys_at, row_at}
 use Rattle.flute_streams.specs.Compares.{StopAs, StopIn, StopsOne, StopsComparing, TellsBefore}
 use Rattle.flute_streams.specs.Counting.{counted, counted_at, meeting_of, meeting_at, lowest_at}
-use Rattle.flute_streams.specs.Counting.{new_row, row_for, side_of, to_tell, told_of, told_row}
+use Rattle.flute_streams.specs.Counting.{row_for, to_tell, told_of}
 use Rattle.flute_streams.specs.Counting.{option_row}
 use Rattle.flute_streams.specs.declared.merge.sides.Meeting.{Meeting}
 use Rattle.flute_streams.specs.declared.merge.sides.Row.{Row}
 use Rattle.flute_streams.specs.declared.merge.sides.Side.{Side}
 use Rattle.flute_streams.specs.declared.merge.sides.Side.TheVariants.{Same, Differ, First, Second}
 use Rattle.flute_streams.proofs.streams_lemmas.Before.{before_later, behind_new, rising_after}
-use Rattle.flute_streams.proofs.streams_lemmas.Before.{rising_before, turned}
 use Rattle.flute_streams.specs.declared.merge.streams_fault.StreamsFault.{StreamsFault}
 use Rattle.flute_streams.specs.declared.merge.streams_fault.StreamsFault.TheVariants.{Input, Write}
 use Rattle.flute_streams.proofs.streams_lemmas.Before.{before_more}
@@ -46,10 +38,10 @@ behind_all : (p : Address) (F : List Fact) (f held : Option Fact) → StandBefor
     → StandAfter p (option_list held) → Behind held (F ++ option_list f)
 behind_all p F f None s d l = tt
 behind_all p F None (Some x) s d l =
-    subst (λ l. StandBefore (address x) l) (sym (append-nil F)) (before_later p (address x) F l.0 s)
+    rw (append-nil F) (before_later p _ F l.0 s)
 behind_all p F (Some f) (Some x) s d l =
-    before_more (address x) f F (subst (λ a. address_cmp a (address x) ≡ Less) (sym d) l.0)
-    (before_later p (address x) F l.0 s)
+    before_more _ f F (rw d l.0)
+    (before_later p _ F l.0 s)
 
 -- one stream goes on, or stays
 
@@ -57,29 +49,29 @@ module _ {S : Type 0} (b : Behaviour S) (start s t : S) (F : List Fact) (f : Opt
   gave_on : (c : Bool) → Gave b start s F → GoesIf b c s t → f ≡ cond c (b.held s) None
       → Gave b start t (F ++ option_list f)
   gave_on true v g e =
-      subst (λ x. Gave b start t (F ++ option_list x)) (sym e) (g.gave start F v.passes)
+      rw e (g.gave _ F v.passes)
   gave_on false v g e =
-      subst (λ x. Gave b start t (F ++ option_list x)) (sym e)
-      (subst (λ l. Gave b start t l) (sym (append-nil F)) (subst (λ s. Gave b start s F) (sym g) v))
+      rw e
+      (rw (append-nil F) (rw g v))
 
 after_given : (p : Address) (F : List Fact) (f y : Option Fact) → At p f → (f ≡ None → ⊥)
     → IsRising ((F ++ option_list f) ++ option_list y) → StandAfter p (option_list y)
 after_given p F None y d n r = absurd (n refl)
 after_given p F (Some f) y d n r =
-    subst (λ a. StandAfter a (option_list y)) d (rising_after F f (option_list y) r)
+    rw (← d) (rising_after F f _ r)
 
 module _ {S : Type 0} (b : Behaviour S) (start s t : S) (F : List Fact) (f : Option Fact) where
   after_on : (p : Address) (c : Bool) → GoesIf b c s t → At p f → (c ≡ true → f ≡ None → ⊥)
       → (c ≡ false → StandAfter p (option_list (b.held s))) → Gave b start t (F ++ option_list f)
       → StandAfter p (option_list (b.held t))
-  after_on p true g d n l v = after_given p F f (b.held t) d (n refl) v.rising
-  after_on p false g d n l v = subst (λ s. StandAfter p (option_list (b.held s))) (sym g) (l refl)
+  after_on p true g d n l v = after_given p F f _ d (n refl) v.rising
+  after_on p false g d n l v = rw g (l refl)
 
 meeting_none : (h k : Option Fact) → meeting_of h k ≡ None → (h ≡ None) × (k ≡ None)
 meeting_none None None e = (refl, refl)
 meeting_none (Some f) None e = absurd (none-some _ (sym e))
 meeting_none None (Some g) e = absurd (none-some _ (sym e))
-meeting_none (Some f) (Some g) e = absurd (by (address_cmp (address f) (address g)) e)
+meeting_none (Some f) (Some g) e = absurd (by _ e)
   where
     by : (o : Ordering) → meeting_at (lowest_at o f g).0 (lowest_at o f g).1 ≡ None → ⊥
     by Less e = none-some _ (sym e)
@@ -113,21 +105,21 @@ module _ {S T : Type 0} (a : Behaviour S) (b : Behaviour T) where
       subst (λ h. Gave c s t ([] ++ option_list h)) n.held (g.gave s [] n.passes)
 
   new_few : {A : Type 0} (c : Behaviour A) (s t : A) → GoesOn c s t → 0 + c.most t ≤ c.most s
-  new_few c s t g = omega (arith, g.fewer)
+  new_few c s t g = omega (arith)
 
   pub counts_first : {s s' : S} {t t' : T} (old : List Row) → IsNew a s → IsNew b t
       → GoesOnBoth a b Same s t s' t' → Counts a b s t s' t' old old None
-  counts_first {s = s} {s' = s'} {t = t} {t' = t'} old m n g = record {
+  counts_first {s} {s'} {t} {t'} old m n g = record {
     all = [];
     others = [];
     first = new_gave a s s' m g.0;
     second = new_gave b t t' n g.1;
-    first_behind = behind_new (b.held t');
-    second_behind = behind_new (a.held s');
+    first_behind = behind_new _;
+    second_behind = behind_new _;
     before = [];
     last = None;
     first_met = λ e. refl;
-    told_is = sym (append-nil old);
+    told_is = sym (append-nil _);
     row_is = refl;
     rise = tt;
     named = λ key. refl;
@@ -141,12 +133,12 @@ module _ {S T : Type 0} (a : Behaviour S) (b : Behaviour T) where
       → StopsOne a b Same s t s' t' fault → StopsComparing a b s t s' t' fault
   first_stops s s' t t' Write v n h = absurd h
   first_stops s s' t t' (Input fault) v n h =
-      by fault.number h
+      by _ h
     where
       by : (k : ℕ) → StopAs a b Same k fault.fault s t s' t' → StopIn a b k fault.fault s t s' t'
       by zero h =
           let r = h.0 s [] v.passes in
-          (r.stops, r.fails, subst (λ z. b.fails t z None) (sym h.1) n.fails)
+          (r.stops, r.fails, rw h.1 n.fails)
       by (suc (suc k)) h = absurd h
       by (suc zero) h =
           let r = h.1 t [] n.passes in (r.stops, r.fails, (new_gave a s s' v h.0).fails)
@@ -164,9 +156,9 @@ module _ {S T : Type 0} (a : Behaviour S) (b : Behaviour T) where
     counts_more s' t' {told' = told'} {row' = row'} g is r =
         let v = gave_on a s0 s s' c.all M.f (first_goes m.side) c.first g.0 M.takes_f in
         let w = gave_on b t0 t t' c.others M.g (second_goes m.side) c.second g.1 M.takes_g in
-        let x = after_on a s0 s s' c.all M.f m.at (first_goes m.side) g.0 M.at_f M.some_f M.stays_f v in
-        let y = after_on b t0 t t' c.others M.g m.at (second_goes m.side) g.1 M.at_g M.some_g M.stays_g w in
-        let rows = rows_met m.at c.all c.others M.f M.g M.early_all M.early_others M.at_f M.at_g M.some
+        let x = after_on a s0 s s' c.all M.f m.at (first_goes m.side) g.0 M.next.at M.some_f M.stays_f v in
+        let y = after_on b t0 t t' c.others M.g m.at (second_goes m.side) g.1 M.next.at_others M.some_g M.stays_g w in
+        let rows = rows_met M.next M.some
         old told told' row' c.before c.last c.first_met
         (λ z i. M.after z (subst (λ l. Past l (a.held s)) i c.first_past)
         (subst (λ l. Past l (b.held t)) i c.second_past))
@@ -177,8 +169,8 @@ module _ {S T : Type 0} (a : Behaviour S) (b : Behaviour T) where
           others = c.others ++ option_list M.g;
           first = v;
           second = w;
-          first_behind = behind_all m.at c.all M.f (b.held t') M.early_all M.at_f y;
-          second_behind = behind_all m.at c.others M.g (a.held s') M.early_others M.at_g x;
+          first_behind = behind_all m.at c.all M.f (b.held t') M.next.early M.next.at y;
+          second_behind = behind_all m.at c.others M.g (a.held s') M.next.early_others M.next.at_others x;
           before = rows.before;
           last = Some m.at;
           first_met = λ i. absurd (none-some m.at (sym i));
@@ -196,22 +188,22 @@ module _ {S T : Type 0} (a : Behaviour S) (b : Behaviour T) where
     pub counts_stop : (s' : S) (t' : T) (fault : StreamsFault) → StopsOne a b m.side s t s' t' fault
         → StopsComparing a b s0 t0 s' t' fault
     counts_stop s' t' Write h = absurd h
-    counts_stop s' t' (Input fault) h = by fault.number h
+    counts_stop s' t' (Input fault) h = by _ h
       where
         by : (k : ℕ) → StopAs a b m.side k fault.fault s t s' t' → StopIn a b k fault.fault s0 t0 s' t'
         by zero h =
-            let r = h.0 s0 c.all c.first.passes in
-            (r.stops, r.fails, subst (λ z. b.fails t0 z None) (sym h.1) c.second.fails)
+            let r = h.0 s0 _ c.first.passes in
+            (r.stops, r.fails, rw h.1 c.second.fails)
         by (suc (suc k)) h = absurd h
         by (suc zero) h =
-            let r = h.1 t0 c.others c.second.passes in
-            (r.stops, r.fails, (gave_on a s0 s s' c.all M.f (first_goes m.side) c.first h.0 M.takes_f).fails)
+            let r = h.1 t0 _ c.second.passes in
+            (r.stops, r.fails, (gave_on a s0 s s' _ _ _ c.first h.0 M.takes_f).fails)
 
   pub counts_end : {s0 s : S} {t0 t : T} {old told told' : List Row} {row : Option Row}
       → a.most s0 < 2 ^ 64 → b.most t0 < 2 ^ 64
       → Counts a b s0 t0 s t old told row → meeting_of (a.held s) (b.held t) ≡ None
       → told' ≡ told ++ option_row row → ComparedAs a b s0 t0 s t old told'
-  counts_end {s = s} {t = t} {old = old} {told = told} {row = row} few few_others c e is =
+  counts_end {s} {t} {old} {told} {row} few few_others c e is =
       let n = meeting_none (a.held s) (b.held t) e in
       let R = told_of c.all c.others in
       record {
@@ -223,9 +215,9 @@ module _ {S T : Type 0} (a : Behaviour S) (b : Behaviour T) where
         second_ends = c.second.ends n.1;
         first_quiet = c.first.fails;
         second_quiet = c.second.fails;
-        first_few = omega (arith, c.first_few);
-        second_few = omega (arith, c.second_few);
-        rows = map (row_of c.all c.others) (c.before ++ keys_at c.last);
+        first_few = omega (arith);
+        second_few = omega (arith);
+        rows = map _ _;
         are = record {
           keys = c.before ++ keys_at c.last;
           rise = c.rise;
@@ -233,12 +225,12 @@ module _ {S T : Type 0} (a : Behaviour S) (b : Behaviour T) where
           are = refl;
         };
         told = is ∙ ap (λ l. l ++ option_row row) c.told_is
-            ∙ append_assoc old (map R c.before) (option_row row)
+            ∙ append_assoc old (map R _) (option_row row)
             ∙ ap (λ l. old ++ l) (ap (λ r. map R c.before ++ option_row r) c.row_is
             ∙ ap (λ l. map R c.before ++ l) (row_keys c.all c.others c.last)
             ∙ sym (map-append R c.before (keys_at c.last))
-            ∙ told_rows c.all c.others (c.before ++ keys_at c.last)
-            (omega (arith, c.first_few, few)) (omega (arith, c.second_few, few_others)));
+            ∙ told_rows _ _ _
+            (omega (arith)) (omega (arith)));
       }
     where
       row_keys : (F G : List Fact) (last : Option Address)
@@ -248,8 +240,8 @@ module _ {S T : Type 0} (a : Behaviour S) (b : Behaviour T) where
 
   goes_less : {A : Type 0} (c : Behaviour A) (s t : A) (g : Bool) → GoesIf c g s t
       → (g ≡ true → c.held s ≡ None → ⊥) → c.most t + cond g 1 0 ≤ c.most s
-  goes_less c s t true v n = let l = some_length (c.held s) (n refl) in omega (arith, l, v.fewer)
-  goes_less c s t false v n = let l = ap (λ z. c.most z) v in omega (arith, l)
+  goes_less c s t true v n = let l = some_length _ (n refl) in omega (arith)
+  goes_less c s t false v n = let l = ap (λ z. c.most z) v in omega (arith)
 
   one_goes : (side : Side) → (first_goes side ≡ true) ⊎ (second_goes side ≡ true)
   one_goes Same = inl refl

@@ -1,11 +1,10 @@
 -- Rows, as one address more is counted (specs/Counting).
 use Rattle.std.proofs.Common.{◌≡◌, ℕ, true, false, cond, Bool, not, ◌&&◌, ◌||◌, List, [], ◌∷◌}
 use Rattle.std.proofs.Common.{◌++◌, refl, sym, ap, ◌∙◌, subst, inl, inr, Option, Some, None, arith}
-use Rattle.std.proofs.Common.{◌+◌, ◌≤◌, ◌<◌, ◌^◌, is_eq, length}
+use Rattle.std.proofs.Common.{◌+◌, ◌≤◌, ◌<◌, ◌^◌, length}
 use Rattle.std.specs.List.{count_by}
 use Rattle.std.proofs.lemmas.Bool.{cases_Bool, false≢true}
 use Rattle.std.proofs.lemmas.List.Sums.{count_by-le-length, sum_by-append}
-use Rattle.std.specs.declared.cmp.Ordering.TheVariants.{Less}
 use Rattle.flute_parts.specs.declared.address.Address.{Address}
 use Rattle.flute_parts.specs.declared.address.Part.{Part}
 use Rattle.flute_parts.specs.declared.address.Part.TheVariants.{Info as InfoPart}
@@ -16,7 +15,7 @@ use Rattle.flute_parts.specs.declared.symbol_id.SymbolId.{SymbolId}
 use Rattle.flute_parts.specs.Addresses.{address, info_address}
 use Rattle.flute_parts.specs.Equality.{address_same, key_itself}
 use Rattle.flute_parts.specs.Facts.{fact_at, same_fact}
-use Rattle.flute_parts.specs.Order.{address_cmp, same_address, same_key}
+use Rattle.flute_parts.specs.Order.{same_address, same_key}
 use Rattle.flute_parts.proofs.Public.{alone-at, alone-elsewhere, fact_at-append}
 use Rattle.flute_parts.proofs.Public.{fact_at-elsewhere, fact_at-nil, joined-none, joined}
 use Rattle.flute_streams.specs.Behind.{StandBefore}
@@ -27,8 +26,6 @@ use Rattle.flute_streams.specs.Compared.{is_symbol_of, row_of, side_at, sides_of
 use Rattle.flute_streams.specs.Counting.{capped, capped_sides, more, counted, counted_at, new_row}
 use Rattle.flute_streams.specs.Counting.{side_of, told_of}
 use Rattle.flute_streams.specs.declared.merge.sides.Row.{Row}
-use Rattle.flute_streams.specs.declared.merge.sides.Side.{Side}
-use Rattle.flute_streams.specs.declared.merge.sides.Side.TheVariants.{Same, Differ, First, Second}
 use Rattle.flute_streams.specs.declared.merge.sides.Sides.{Sides}
 use Rattle.flute_streams.proofs.streams_lemmas.Before.{back, before_value}
 
@@ -74,17 +71,26 @@ abbrev pub one : (Address → Bool) → (Option Fact → Fact → Bool) → Opti
 one q r None g = 0
 one q r (Some f) g = cond (q (address f) && r g f) 1 0
 
+-- one address more: the facts of both stand before it, and there both have these
+pub record IsNext (p : Address) (F G : List Fact) (f g : Option Fact) : Type 0 where
+  pub early : StandBefore p F
+  pub early_others : StandBefore p G
+  pub at : At p f
+  pub at_others : At p g
+
+swapped : {p : Address} {F G : List Fact} {f g : Option Fact} → IsNext p F G f g → IsNext p G F g f
+swapped w =
+    record { early = w.early_others; early_others = w.early; at = w.at_others; at_others = w.at }
+
 module _ (q : Address → Bool) (r : Option Fact → Fact → Bool) where
   tally_before : (p : Address) (F G : List Fact) (g : Option Fact) → StandBefore p F → At p g
       → tally q r F (G ++ option_list g) ≡ tally q r F G
   tally_before p [] G g s e = refl
   tally_before p (f ∷ F) G g s e =
-      count_first (λ f. q (address f) && r (fact_at (G ++ option_list g) (address f)) f) f F
-      ∙ ap (λ v. cond (q (address f) && r v f) 1 0 + tally q r F (G ++ option_list g))
-      (value_off p (address f) G g e (back (address f) p s.0))
+      count_first _ f F ∙ ap (λ v. cond (q (address f) && r v f) 1 0 + tally q r F (G ++ option_list g))
+      (value_off p _ G g e (back _ p s.0))
       ∙ ap (λ n. cond (q (address f) && r (fact_at G (address f)) f) 1 0 + n)
-      (tally_before p F G g s.1 e)
-      ∙ sym (count_first (λ f. q (address f) && r (fact_at G (address f)) f) f F)
+      (tally_before p F G g s.1 e) ∙ sym (count_first _ f F)
 
   plus_zero : (n : ℕ) → n + 0 ≡ n
   plus_zero n = omega arith
@@ -94,19 +100,18 @@ module _ (q : Address → Bool) (r : Option Fact → Fact → Bool) where
   tally_held p G None g s d e = refl
   tally_held p G (Some f) g s d e =
       count_first (λ f. q (address f) && r (fact_at (G ++ option_list g) (address f)) f) f []
-      ∙ plus_zero (cond (q (address f) && r (fact_at (G ++ option_list g) (address f)) f) 1 0)
-      ∙ ap (λ v. cond (q (address f) && r v f) 1 0)
-      (subst (λ x. fact_at (G ++ option_list g) x ≡ g) (sym d) (value_here p G g s e))
+      ∙ plus_zero _ ∙ ap (λ v. cond (q (address f) && r v f) 1 0)
+      (rw (← d) at (value_here p G g s e))
 
-  module _ (p : Address) (F G : List Fact) where
-    pub tally_step : (f g : Option Fact) → StandBefore p F → StandBefore p G → At p f → At p g
-        → tally q r (F ++ option_list f) (G ++ option_list g) ≡ tally q r F G + one q r f g
-    tally_step f g s t d e =
-        let C = G ++ option_list g in
-        let p' : Fact → ℕ = λ f. cond (q (address f) && r (fact_at C (address f)) f) 1 0 in
-        sum_by-append p' F (option_list f)
-        ∙ ap (λ n. n + tally q r (option_list f) C) (tally_before p F G g s e)
-        ∙ ap (λ n. tally q r F G + n) (tally_held p G f g t d e)
+  module _ {p : Address} {F G : List Fact} {f g : Option Fact} (w : IsNext p F G f g) where
+    pub tally_step : tally q r (F ++ option_list f) (G ++ option_list g)
+        ≡ tally q r F G + one q r f g
+    tally_step =
+        sum_by-append (λ f. cond (q (address f) && r (fact_at (G ++ option_list g) (address f)) f) 1 0)
+        F (option_list f)
+        ∙ ap (λ n. n + tally q r (option_list f) (G ++ option_list g))
+        (tally_before p F G g w.early w.at_others)
+        ∙ ap (λ n. tally q r F G + n) (tally_held p G f g w.early_others w.at w.at_others)
 
   -- nothing is counted of other addresses
   pub one_off : (p : Address) (f g : Option Fact) → At p f → q p ≡ false → one q r f g ≡ 0
@@ -129,92 +134,56 @@ next n m e = omega arith
 still : (n m : ℕ) → m ≡ 0 → capped (n + m) ≡ capped n
 still n m e = omega arith
 
-module _ (q : Address → Bool) (p : Address) (F G : List Fact) (f g : Option Fact)
-    (s : StandBefore p F) (t : StandBefore p G) (d : At p f) (e : At p g) where
-  abbrev all : List Fact
-  all = F ++ option_list f
+-- a count there stays, or is one more
+module _ (q : Address → Bool) (r : Option Fact → Fact → Bool) {p : Address} {F G : List Fact}
+    {f g : Option Fact} (w : IsNext p F G f g) where
+  stays : one q r f g ≡ 0
+      → capped (tally q r (F ++ option_list f) (G ++ option_list g)) ≡ capped (tally q r F G)
+  stays e = ap capped (tally_step q r w) ∙ still _ _ e
 
-  abbrev others : List Fact
-  others = G ++ option_list g
+  grows : one q r f g ≡ 1 → capped (tally q r (F ++ option_list f) (G ++ option_list g))
+      ≡ capped (capped (tally q r F G) + 1)
+  grows e = ap capped (tally_step q r w) ∙ next _ _ e
 
-  step : (r : Option Fact → Fact → Bool) → tally q r all others ≡ tally q r F G + one q r f g
-  step r = tally_step q r p F G f g s t d e
+module _ (q : Address → Bool) where
+  pub sides_off : {p : Address} {F G : List Fact} {f g : Option Fact} → IsNext p F G f g
+      → q p ≡ false → capped_sides (sides_of q (F ++ option_list f) (G ++ option_list g))
+      ≡ capped_sides (sides_of q F G)
+  sides_off {p} {F} {G} {f} {g} w n = sides _ _ (off is_alike) (off is_other) (off is_lone)
+      (stays q is_lone (swapped w) (one_off q is_lone p g f w.at_others n))
+    where
+      off : (r : Option Fact → Fact → Bool)
+          → capped (tally q r (F ++ option_list f) (G ++ option_list g)) ≡ capped (tally q r F G)
+      off r = stays q r w (one_off q r p f g w.at n)
 
-  step_back : (r : Option Fact → Fact → Bool) → tally q r others all ≡ tally q r G F + one q r g f
-  step_back r = tally_step q r p G F g f t s e d
-
-  pub sides_off : q p ≡ false → capped_sides (sides_of q all others) ≡ capped_sides (sides_of q F G)
-  sides_off n =
-      sides (capped_sides (sides_of q all others)) (capped_sides (sides_of q F G))
-      (ap capped (step is_alike) ∙ still (tally q is_alike F G) (one q is_alike f g) (one_off q is_alike p f g d n))
-      (ap capped (step is_other) ∙ still (tally q is_other F G) (one q is_other f g) (one_off q is_other p f g d n))
-      (ap capped (step is_lone) ∙ still (tally q is_lone F G) (one q is_lone f g) (one_off q is_lone p f g d n))
-      (ap capped (step_back is_lone) ∙ still (tally q is_lone G F) (one q is_lone g f) (one_off q is_lone p g f e n))
-
--- at the address one side more is counted
-module _ (q : Address → Bool) (p : Address) (F G : List Fact) where
-  pub sides_on : (f g : Option Fact) → StandBefore p F → StandBefore p G → At p f → At p g
+  -- at the address one side more is counted
+  pub sides_on : {p : Address} {F G : List Fact} (f g : Option Fact) → IsNext p F G f g
       → q p ≡ true → (f ≡ None → g ≡ None → ⊥)
       → capped_sides (sides_of q (F ++ option_list f) (G ++ option_list g))
       ≡ more (capped_sides (sides_of q F G)) (side_of f g)
-  sides_on None None s t d e y n = absurd (n refl refl)
-  sides_on (Some f) None s t d e y n =
-      sides (capped_sides (sides_of q (F ++ f ∷ []) (G ++ [])))
-      (more (capped_sides (sides_of q F G)) First)
-      (ap capped (tally_step q is_alike p F G (Some f) None s t d e)
-      ∙ still (tally q is_alike F G) (one q is_alike (Some f) None) (one_on q is_alike p f None d y))
-      (ap capped (tally_step q is_other p F G (Some f) None s t d e)
-      ∙ still (tally q is_other F G) (one q is_other (Some f) None) (one_on q is_other p f None d y))
-      (ap capped (tally_step q is_lone p F G (Some f) None s t d e)
-      ∙ next (tally q is_lone F G) (one q is_lone (Some f) None) (one_on q is_lone p f None d y))
-      (ap capped (tally_step q is_lone p G F None (Some f) t s e d)
-      ∙ still (tally q is_lone G F) (one q is_lone None (Some f)) refl)
-  sides_on None (Some g) s t d e y n =
-      sides (capped_sides (sides_of q (F ++ []) (G ++ g ∷ [])))
-      (more (capped_sides (sides_of q F G)) Second)
-      (ap capped (tally_step q is_alike p F G None (Some g) s t d e)
-      ∙ still (tally q is_alike F G) (one q is_alike None (Some g)) refl)
-      (ap capped (tally_step q is_other p F G None (Some g) s t d e)
-      ∙ still (tally q is_other F G) (one q is_other None (Some g)) refl)
-      (ap capped (tally_step q is_lone p F G None (Some g) s t d e)
-      ∙ still (tally q is_lone F G) (one q is_lone None (Some g)) refl)
-      (ap capped (tally_step q is_lone p G F (Some g) None t s e d)
-      ∙ next (tally q is_lone G F) (one q is_lone (Some g) None) (one_on q is_lone p g None e y))
-  sides_on (Some f) (Some g) s t d e y n =
-      elim (cases_Bool (same_fact f g)) [
-        | inl u ↦ subst (λ b. capped_sides (sides_of q (F ++ f ∷ []) (G ++ g ∷ []))
-            ≡ more (capped_sides (sides_of q F G)) (cond b Same Differ)) (sym u)
-            (sides (capped_sides (sides_of q (F ++ f ∷ []) (G ++ g ∷ [])))
-            (more (capped_sides (sides_of q F G)) Same)
-            (ap capped (tally_step q is_alike p F G (Some f) (Some g) s t d e)
-            ∙ next (tally q is_alike F G) (one q is_alike (Some f) (Some g))
-            (one_on q is_alike p f (Some g) d y ∙ ap (λ b. cond b 1 0) u))
-            (ap capped (tally_step q is_other p F G (Some f) (Some g) s t d e)
-            ∙ still (tally q is_other F G) (one q is_other (Some f) (Some g))
-            (one_on q is_other p f (Some g) d y ∙ ap (λ b. cond (not b) 1 0) u))
-            lone lone_back)
-        | inr u ↦ subst (λ b. capped_sides (sides_of q (F ++ f ∷ []) (G ++ g ∷ []))
-            ≡ more (capped_sides (sides_of q F G)) (cond b Same Differ)) (sym u)
-            (sides (capped_sides (sides_of q (F ++ f ∷ []) (G ++ g ∷ [])))
-            (more (capped_sides (sides_of q F G)) Differ)
-            (ap capped (tally_step q is_alike p F G (Some f) (Some g) s t d e)
-            ∙ still (tally q is_alike F G) (one q is_alike (Some f) (Some g))
-            (one_on q is_alike p f (Some g) d y ∙ ap (λ b. cond b 1 0) u))
-            (ap capped (tally_step q is_other p F G (Some f) (Some g) s t d e)
-            ∙ next (tally q is_other F G) (one q is_other (Some f) (Some g))
-            (one_on q is_other p f (Some g) d y ∙ ap (λ b. cond (not b) 1 0) u))
-            lone lone_back)
-      ]
+  sides_on None None w y n = absurd (n refl refl)
+  sides_on {p} (Some f) None w y n = sides _ _ (stays q is_alike w (one_on q is_alike p f None w.at y))
+      (stays q is_other w (one_on q is_other p f None w.at y))
+      (grows q is_lone w (one_on q is_lone p f None w.at y)) (stays q is_lone (swapped w) refl)
+  sides_on {p} None (Some g) w y n = sides _ _ (stays q is_alike w refl) (stays q is_other w refl)
+      (stays q is_lone w refl)
+      (grows q is_lone (swapped w) (one_on q is_lone p g None w.at_others y))
+  sides_on {p} {F} {G} (Some f) (Some g) w y n = elim (cases_Bool (same_fact f g)) [
+    | inl u ↦ rw u (sides _ _
+        (grows q is_alike w (one_on q is_alike p f (Some g) w.at y ∙ ap (λ b. cond b 1 0) u))
+        (stays q is_other w (one_on q is_other p f (Some g) w.at y ∙ ap (λ b. cond (not b) 1 0) u))
+        lone lone_back)
+    | inr u ↦ rw u (sides _ _
+        (stays q is_alike w (one_on q is_alike p f (Some g) w.at y ∙ ap (λ b. cond b 1 0) u))
+        (grows q is_other w (one_on q is_other p f (Some g) w.at y ∙ ap (λ b. cond (not b) 1 0) u))
+        lone lone_back)
+  ]
     where
       lone : capped (tally q is_lone (F ++ f ∷ []) (G ++ g ∷ [])) ≡ capped (tally q is_lone F G)
-      lone = ap capped (tally_step q is_lone p F G (Some f) (Some g) s t d e)
-          ∙ still (tally q is_lone F G) (one q is_lone (Some f) (Some g))
-          (one_on q is_lone p f (Some g) d y)
+      lone = stays q is_lone w (one_on q is_lone p f (Some g) w.at y)
 
       lone_back : capped (tally q is_lone (G ++ g ∷ []) (F ++ f ∷ [])) ≡ capped (tally q is_lone G F)
-      lone_back = ap capped (tally_step q is_lone p G F (Some g) (Some f) t s e d)
-          ∙ still (tally q is_lone G F) (one q is_lone (Some g) (Some f))
-          (one_on q is_lone p g (Some f) e y)
+      lone_back = stays q is_lone (swapped w) (one_on q is_lone p g (Some f) w.at_others y)
 
 -- the row of an object, by what both have at the address of its information
 rows_same : (r v : Row) → r.key ≡ v.key → r.information ≡ v.information → r.symbols ≡ v.symbols
@@ -252,31 +221,24 @@ part_apart p id i = elim (cases_Bool (same_address p (info_address p.key))) [
 pub at_information : (p : Address) → p.part ≡ InfoPart → p ≡ info_address p.key
 at_information p i = λ j. record { key = p.key; part = i j }
 
-module _ (p : Address) (F G : List Fact) (f g : Option Fact)
-    (s : StandBefore p F) (t : StandBefore p G) (d : At p f) (e : At p g) where
+module _ {p : Address} {F G : List Fact} {f g : Option Fact} (w : IsNext p F G f g) where
   -- what both have at other addresses stays
   side_off : (a : Address) → same_address p a ≡ false
       → side_at (fact_at (F ++ option_list f) a) (fact_at (G ++ option_list g) a)
       ≡ side_at (fact_at F a) (fact_at G a)
-  side_off a n =
-      ap (λ x. side_at x (fact_at (G ++ option_list g) a)) (value_off p a F f d n)
-      ∙ ap (λ x. side_at (fact_at F a) x) (value_off p a G g e n)
+  side_off a n = rw (value_off p a F f w.at n, value_off p a G g w.at_others n)
 
   side_here : (f ≡ None → g ≡ None → ⊥)
       → side_at (fact_at (F ++ option_list f) p) (fact_at (G ++ option_list g) p)
       ≡ Some (side_of f g)
-  side_here n =
-      ap (λ x. side_at x (fact_at (G ++ option_list g) p)) (value_here p F f s d)
-      ∙ ap (λ x. side_at f x) (value_here p G g t e) ∙ side_is f g n
+  side_here n = rw (value_here p F f w.early w.at, value_here p G g w.early_others w.at_others)
+      (side_is f g n)
 
   -- the rows of other objects stay
   pub told_off : (k : Key) → same_key k p.key ≡ false
       → told_of (F ++ option_list f) (G ++ option_list g) k ≡ told_of F G k
-  told_off k n =
-      rows_same (told_of (F ++ option_list f) (G ++ option_list g) k) (told_of F G k) refl
-      (side_off (info_address k) (key_apart p (info_address k) n))
-      (sides_off (is_symbol_of k) p F G f g s t d e
-      (off (same_key k p.key) (not (is_info p.part)) n))
+  told_off k n = rows_same _ _ refl (side_off (info_address k) (key_apart p _ n))
+      (sides_off (is_symbol_of k) w (off (same_key k p.key) (not (is_info p.part)) n))
 
   -- the row of this object counts one more
   pub told_here : (f ≡ None → g ≡ None → ⊥)
@@ -284,26 +246,19 @@ module _ (p : Address) (F G : List Fact) (f g : Option Fact)
       ≡ counted (told_of F G p.key) record { at = p; side = side_of f g }
   told_here n = by_part p.part refl
     where
+      on : {x : Part} → p.part ≡ x → is_symbol_of p.key p ≡ not (is_info x)
+      on i = ap (λ b. b && not (is_info p.part)) (key_itself p.key) ∙ ap (λ x. not (is_info x)) i
+
       by_part : (x : Part) → p.part ≡ x
           → told_of (F ++ option_list f) (G ++ option_list g) p.key
           ≡ counted_at (told_of F G p.key) p.part (side_of f g)
-      by_part InfoPart i =
-          subst (λ x. told_of (F ++ option_list f) (G ++ option_list g) p.key
-          ≡ counted_at (told_of F G p.key) x (side_of f g)) (sym i)
-          (rows_same (told_of (F ++ option_list f) (G ++ option_list g) p.key)
-          (counted_at (told_of F G p.key) InfoPart (side_of f g)) refl
+      by_part InfoPart i = rw i (rows_same _ _ refl
           (subst (λ a. side_at (fact_at (F ++ option_list f) a) (fact_at (G ++ option_list g) a)
           ≡ Some (side_of f g)) (at_information p i) (side_here n))
-          (sides_off (is_symbol_of p.key) p F G f g s t d e
-          (ap (λ b. b && not (is_info p.part)) (key_itself p.key) ∙ ap (λ x. not (is_info x)) i)))
-      by_part (SymbolPart id) i =
-          subst (λ x. told_of (F ++ option_list f) (G ++ option_list g) p.key
-          ≡ counted_at (told_of F G p.key) x (side_of f g)) (sym i)
-          (rows_same (told_of (F ++ option_list f) (G ++ option_list g) p.key)
-          (counted_at (told_of F G p.key) (SymbolPart id) (side_of f g)) refl
+          (sides_off (is_symbol_of p.key) w (on i)))
+      by_part (SymbolPart id) i = rw i (rows_same _ _ refl
           (side_off (info_address p.key) (part_apart p id i))
-          (sides_on (is_symbol_of p.key) p F G f g s t d e
-          (ap (λ b. b && not (is_info p.part)) (key_itself p.key) ∙ ap (λ x. not (is_info x)) i) n))
+          (sides_on (is_symbol_of p.key) f g w (on i) n))
 
 -- of an object that is not named nothing is counted
 pub or_none : (a b : Bool) → (a || b) ≡ false → (a ≡ false) × (b ≡ false)
@@ -315,8 +270,7 @@ none_counted : (k : Key) (r : Option Fact → Fact → Bool) (F G : List Fact)
 none_counted k r [] G n = refl
 none_counted k r (f ∷ F) G n =
     let h = or_none (same_key k (address f).key) (is_named k F) n in
-    count_first (λ f. is_symbol_of k (address f) && r (fact_at G (address f)) f) f F
-    ∙ ap (λ b. cond ((b && not (is_info (address f).part)) && r (fact_at G (address f)) f) 1 0
+    count_first _ f F ∙ ap (λ b. cond ((b && not (is_info (address f).part)) && r (fact_at G (address f)) f) 1 0
     + tally (is_symbol_of k) r F G) h.0
     ∙ zero_plus (tally (is_symbol_of k) r F G)
     ∙ none_counted k r F G h.1
@@ -333,14 +287,12 @@ zero_capped n e = omega arith
 pub told_new : (k : Key) (F G : List Fact) → is_named k F ≡ false → is_named k G ≡ false
     → told_of F G k ≡ new_row k
 told_new k F G m n =
-    rows_same (told_of F G k) (new_row k) refl
-    (ap (λ x. side_at x (fact_at G (info_address k))) (none_there (info_address k) F m)
-    ∙ ap (λ x. side_at None x) (none_there (info_address k) G n))
-    (sides (capped_sides (sides_of (is_symbol_of k) F G)) (new_row k).symbols
-    (zero_capped (tally (is_symbol_of k) is_alike F G) (none_counted k is_alike F G m))
-    (zero_capped (tally (is_symbol_of k) is_other F G) (none_counted k is_other F G m))
-    (zero_capped (tally (is_symbol_of k) is_lone F G) (none_counted k is_lone F G m))
-    (zero_capped (tally (is_symbol_of k) is_lone G F) (none_counted k is_lone G F n)))
+    rows_same _ _ refl (rw (none_there (info_address k) F m, none_there (info_address k) G n))
+    (sides _ _ (zero is_alike F G m) (zero is_other F G m) (zero is_lone F G m) (zero is_lone G F n))
+  where
+    zero : (r : Option Fact → Fact → Bool) (F G : List Fact) → is_named k F ≡ false
+        → capped (tally (is_symbol_of k) r F G) ≡ 0
+    zero r F G n = zero_capped _ (none_counted k r F G n)
 
 -- counts of few facts are told as they are
 small : (n m : ℕ) → n ≤ m → m < 2 ^ 64 → capped n ≡ n
@@ -349,14 +301,12 @@ small n m l h = omega arith
 small_tally : (q : Address → Bool) (r : Option Fact → Fact → Bool) (F G : List Fact)
     → length F < 2 ^ 64 → capped (tally q r F G) ≡ tally q r F G
 small_tally q r F G h =
-    small (tally q r F G) (length F)
-    (count_by-le-length (λ f. q (address f) && r (fact_at G (address f)) f) F) h
+    small _ _ (count_by-le-length _ F) h
 
 pub told_few : (F G : List Fact) (k : Key) → length F < 2 ^ 64 → length G < 2 ^ 64
     → told_of F G k ≡ row_of F G k
 told_few F G k m n =
     let q = is_symbol_of k in
-    rows_same (told_of F G k) (row_of F G k) refl refl
-    (sides (capped_sides (sides_of q F G)) (sides_of q F G)
+    rows_same _ _ refl refl (sides _ _
     (small_tally q is_alike F G m) (small_tally q is_other F G m) (small_tally q is_lone F G m)
     (small_tally q is_lone G F n))

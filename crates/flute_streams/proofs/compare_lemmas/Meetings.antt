@@ -1,39 +1,27 @@
 -- Where two streams meet (specs/Compares).
-use Rattle.std.proofs.Common.{◌≡◌, ℕ, true, false, cond, Bool, ◌||◌, List, [], ◌∷◌, ◌++◌, refl}
-use Rattle.std.proofs.Common.{sym, ap, ◌∙◌, subst, inl, inr, ◌⊎◌, Option, Some, None, append-nil}
-use Rattle.std.proofs.Common.{append_assoc, is_eq, length, arith, zero, suc, ◌+◌, ◌<◌, ◌≤◌}
-use Rattle.std.specs.Prelude.{map}
-use Rattle.std.proofs.lemmas.Bool.{cases_Bool, false≢true}
+use Rattle.std.proofs.Common.{◌≡◌, true, false, cond, Bool, List, ◌++◌, refl}
+use Rattle.std.proofs.Common.{sym, ap, ◌∙◌, Option, Some, None}
+use Rattle.std.proofs.Common.{is_eq}
+use Rattle.std.proofs.lemmas.Bool.{false≢true}
 use Rattle.std.proofs.lemmas.Option.{none-some, same_Some}
-use Rattle.std.proofs.lemmas.List.{map-append}
-use Rattle.std.proofs.lemmas.List.Folds.{list_any-append}
 use Rattle.std.specs.declared.cmp.Ordering.{Ordering}
 use Rattle.std.specs.declared.cmp.Ordering.TheVariants.{Less, Equal, Greater}
-use Rattle.std.specs.Ordering.{ordering_reverse, ordering_then}
 use Rattle.flute_parts.specs.declared.address.Address.{Address}
 use Rattle.flute_parts.specs.declared.fact.Fact.{Fact}
-use Rattle.flute_parts.specs.declared.key.Key.{Key}
 use Rattle.flute_parts.specs.Addresses.{address}
-use Rattle.flute_parts.specs.Equality.{address_same, key_itself, key_same}
+use Rattle.flute_parts.specs.Equality.{address_same}
 use Rattle.flute_parts.specs.Facts.{IsRising, StandAfter, same_fact}
-use Rattle.flute_parts.specs.Order.{address_cmp, key_cmp, part_cmp, same_key}
-use Rattle.flute_parts.specs.Totality.{address_total, key_total}
-use Rattle.flute_streams.specs.Streams.{Behaviour, Gave, GoesOn, IsNew, option_list}
+use Rattle.flute_parts.specs.Order.{address_cmp}
+use Rattle.flute_streams.specs.Streams.{option_list}
 use Rattle.flute_streams.specs.Behind.{Behind, StandBefore}
-use Rattle.flute_streams.specs.Compared.{is_listed, is_named, KeysAfter, KeysRise, row_of}
-use Rattle.flute_streams.specs.Compares.{Counts, ComparedAs, GoesIf, GoesOnBoth, Past, first_goes}
-use Rattle.flute_streams.specs.Compares.{second_goes, keys_at, row_at}
-use Rattle.flute_streams.specs.Compares.{StopAs, StopIn, StopsOne, StopsComparing}
-use Rattle.flute_streams.specs.Counting.{counted, counted_at, meeting_of, meeting_at, lowest_at}
-use Rattle.flute_streams.specs.Counting.{new_row, row_for, side_of, to_tell, told_of, told_row}
-use Rattle.flute_streams.specs.Counting.{option_row}
+use Rattle.flute_streams.specs.Compares.{first_goes}
+use Rattle.flute_streams.specs.Compares.{second_goes}
+use Rattle.flute_streams.specs.Counting.{meeting_of, meeting_at, lowest_at}
+use Rattle.flute_streams.specs.Counting.{side_of}
 use Rattle.flute_streams.specs.declared.merge.sides.Meeting.{Meeting}
-use Rattle.flute_streams.specs.declared.merge.sides.Row.{Row}
-use Rattle.flute_streams.specs.declared.merge.sides.Side.{Side}
 use Rattle.flute_streams.specs.declared.merge.sides.Side.TheVariants.{Same, Differ, First, Second}
-use Rattle.flute_streams.proofs.streams_lemmas.Before.{before_later, behind_new, rising_after}
 use Rattle.flute_streams.proofs.streams_lemmas.Before.{rising_before, turned}
-use Rattle.flute_streams.proofs.compare_lemmas.CountedRows.{At}
+use Rattle.flute_streams.proofs.compare_lemmas.CountedRows.{IsNext}
 
 -- where two sides meet, of which the one gave these facts and holds h, and the other those and k
 pub record Met (h k : Option Fact) (m : Meeting) (all others : List Fact) : Type 0 where
@@ -41,16 +29,13 @@ pub record Met (h k : Option Fact) (m : Meeting) (all others : List Fact) : Type
   pub g : Option Fact
   pub side : m.side ≡ side_of f g
   pub some : f ≡ None → g ≡ None → ⊥
-  pub at_f : At m.at f
-  pub at_g : At m.at g
   pub takes_f : f ≡ cond (first_goes m.side) h None
   pub takes_g : g ≡ cond (second_goes m.side) k None
   pub some_f : first_goes m.side ≡ true → f ≡ None → ⊥
   pub some_g : second_goes m.side ≡ true → g ≡ None → ⊥
   pub stays_f : first_goes m.side ≡ false → StandAfter m.at (option_list h)
   pub stays_g : second_goes m.side ≡ false → StandAfter m.at (option_list k)
-  pub early_all : StandBefore m.at all
-  pub early_others : StandBefore m.at others
+  pub next : IsNext m.at all others f g
   pub after : (x : Address) → StandAfter x (option_list h) → StandAfter x (option_list k) → address_cmp x m.at ≡ Less
 
 true_false : {X : Type 0} → true ≡ false → X
@@ -59,52 +44,31 @@ true_false e = absurd (false≢true (sym e))
 pub no_some : (f : Fact) → Some f ≡ None → ⊥
 no_some f e = none-some f (sym e)
 
-module _ (f g : Fact) (all others : List Fact) where
-  of_both : (b : Bool) → same_fact f g ≡ b → address f ≡ address g → StandBefore (address f) all
-      → StandBefore (address g) others
-      → Met (Some f) (Some g) (record { at = address f; side = side_of (Some f) (Some g) }) all others
-  of_both true u e s t =
-      subst (λ d. Met (Some f) (Some g) (record { at = address f; side = d }) all others) (sym is) (record {
-        f = Some f;
-        g = Some g;
-        side = sym is;
-        some = λ x y. no_some f x;
-        at_f = refl;
-        at_g = sym e;
-        takes_f = refl;
-        takes_g = refl;
-        some_f = λ x y. no_some f y;
-        some_g = λ x y. no_some g y;
-        stays_f = λ x. true_false x;
-        stays_g = λ x. true_false x;
-        early_all = s;
-        early_others = subst (λ a. StandBefore a others) (sym e) t;
-        after = λ x y z. y.0;
-      })
-    where
-      is : side_of (Some f) (Some g) ≡ Same
-      is = ap (λ b. cond b Same Differ) u
-  of_both false u e s t =
-      subst (λ d. Met (Some f) (Some g) (record { at = address f; side = d }) all others) (sym is) (record {
-        f = Some f;
-        g = Some g;
-        side = sym is;
-        some = λ x y. no_some f x;
-        at_f = refl;
-        at_g = sym e;
-        takes_f = refl;
-        takes_g = refl;
-        some_f = λ x y. no_some f y;
-        some_g = λ x y. no_some g y;
-        stays_f = λ x. true_false x;
-        stays_g = λ x. true_false x;
-        early_all = s;
-        early_others = subst (λ a. StandBefore a others) (sym e) t;
-        after = λ x y z. y.0;
-      })
-    where
-      is : side_of (Some f) (Some g) ≡ Differ
-      is = ap (λ b. cond b Same Differ) u
+-- both go on, whether they hold the same value or not
+both_go : (b : Bool) → (first_goes (cond b Same Differ) ≡ true)
+    × (second_goes (cond b Same Differ) ≡ true)
+both_go true = (refl, refl)
+both_go false = (refl, refl)
+
+of_both : (f g : Fact) (all others : List Fact) → address f ≡ address g
+    → StandBefore (address f) all → StandBefore (address g) others
+    → Met (Some f) (Some g) (record { at = address f; side = side_of (Some f) (Some g) }) all others
+of_both f g all others e s t =
+    let go = both_go (same_fact f g) in
+    record {
+      f = Some f;
+      g = Some g;
+      side = refl;
+      some = λ x y. no_some f x;
+      takes_f = rw go.0;
+      takes_g = rw go.1;
+      some_f = λ x y. no_some f y;
+      some_g = λ x y. no_some g y;
+      stays_f = λ x. true_false (sym go.0 ∙ x);
+      stays_g = λ x. true_false (sym go.1 ∙ x);
+      next = record { early = s; early_others = rw e t; at = refl; at_others = sym e };
+      after = λ x y z. y.0;
+    }
 
 of_first : (f : Fact) (k : Option Fact) (all others : List Fact) → StandAfter (address f) (option_list k)
     → StandBefore (address f) all → StandBefore (address f) others
@@ -114,16 +78,13 @@ of_first f k all others l s t = record {
   g = None;
   side = refl;
   some = λ x y. no_some f x;
-  at_f = refl;
-  at_g = tt;
   takes_f = refl;
   takes_g = refl;
   some_f = λ x y. no_some f y;
   some_g = λ x y. true_false (sym x);
   stays_f = λ x. true_false x;
   stays_g = λ x. l;
-  early_all = s;
-  early_others = t;
+  next = record { early = s; early_others = t; at = refl; at_others = tt };
   after = λ x y z. y.0;
 }
 
@@ -135,16 +96,13 @@ of_second h g all others l s t = record {
   g = Some g;
   side = refl;
   some = λ x y. no_some g y;
-  at_f = tt;
-  at_g = refl;
   takes_f = refl;
   takes_g = refl;
   some_f = λ x y. true_false (sym x);
   some_g = λ x y. no_some g y;
   stays_f = λ x. l;
   stays_g = λ x. true_false x;
-  early_all = s;
-  early_others = t;
+  next = record { early = s; early_others = t; at = tt; at_others = refl };
   after = λ x y z. z.0;
 }
 
@@ -154,13 +112,13 @@ module _ (f g : Fact) (m : Meeting) (all others : List Fact) where
       → StandBefore (address f) others → StandBefore (address f) all
       → StandBefore (address g) others → Met (Some f) (Some g) m all others
   by_order Less l e a b c d =
-      subst (λ m. Met (Some f) (Some g) m all others) (same_Some _ m e)
+      rw (← same_Some _ m e)
       (of_first f (Some g) all others (l, tt) c b)
   by_order Equal l e a b c d =
-      subst (λ m. Met (Some f) (Some g) m all others) (same_Some _ m e)
-      (of_both f g all others (same_fact f g) refl (address_same (address f) (address g) (ap is_eq l)) c d)
+      rw (← same_Some _ m e)
+      (of_both f g all others (address_same (address f) (address g) (ap is_eq l)) c d)
   by_order Greater l e a b c d =
-      subst (λ m. Met (Some f) (Some g) m all others) (same_Some _ m e)
+      rw (← same_Some _ m e)
       (of_second (Some f) g all others
       (turned (address f) (address g) l, tt) a d)
 
@@ -169,10 +127,10 @@ module _ (m : Meeting) (all others : List Fact) where
       → IsRising (all ++ option_list h) → IsRising (others ++ option_list k) → Met h k m all others
   met_of None None e b c r t = absurd (none-some m e)
   met_of (Some f) None e b c r t =
-      subst (λ m. Met (Some f) None m all others) (same_Some _ m e)
+      rw (← same_Some _ m e)
       (of_first f None all others tt (rising_before all f r) c)
   met_of None (Some g) e b c r t =
-      subst (λ m. Met None (Some g) m all others) (same_Some _ m e)
+      rw (← same_Some _ m e)
       (of_second None g all others tt b (rising_before others g t))
   met_of (Some f) (Some g) e b c r t =
       by_order f g m all others (address_cmp (address f) (address g)) refl e b

@@ -1,11 +1,8 @@
 -- The keys of rows, as one address more is counted (specs/Compared).
-use Rattle.std.proofs.Common.{◌≡◌, ℕ, true, false, cond, Bool, ◌||◌, List, [], ◌∷◌, ◌++◌, refl}
-use Rattle.std.proofs.Common.{sym, ap, ◌∙◌, subst, inl, inr, ◌⊎◌, Option, Some, None, append-nil}
-use Rattle.std.proofs.Common.{append_assoc, is_eq, length, arith, zero, suc, ◌+◌, ◌<◌, ◌≤◌}
-use Rattle.std.specs.Prelude.{map}
-use Rattle.std.proofs.lemmas.Bool.{cases_Bool, false≢true}
-use Rattle.std.proofs.lemmas.Option.{none-some, same_Some}
-use Rattle.std.proofs.lemmas.List.{map-append}
+use Rattle.std.proofs.Common.{◌≡◌, true, false, Bool, ◌||◌, List, [], ◌∷◌, ◌++◌, refl}
+use Rattle.std.proofs.Common.{sym, ap, ◌∙◌, Option, Some, None}
+use Rattle.std.proofs.Common.{is_eq}
+use Rattle.std.proofs.lemmas.Bool.{false≢true}
 use Rattle.std.proofs.lemmas.List.Folds.{list_any-append}
 use Rattle.std.specs.declared.cmp.Ordering.{Ordering}
 use Rattle.std.specs.declared.cmp.Ordering.TheVariants.{Less, Equal, Greater}
@@ -13,27 +10,11 @@ use Rattle.std.specs.Ordering.{ordering_reverse, ordering_then}
 use Rattle.flute_parts.specs.declared.address.Address.{Address}
 use Rattle.flute_parts.specs.declared.fact.Fact.{Fact}
 use Rattle.flute_parts.specs.declared.key.Key.{Key}
-use Rattle.flute_parts.specs.Addresses.{address}
-use Rattle.flute_parts.specs.Equality.{address_same, key_itself, key_same}
-use Rattle.flute_parts.specs.Facts.{IsRising, StandAfter, same_fact}
-use Rattle.flute_parts.specs.Order.{address_cmp, key_cmp, part_cmp, same_key}
-use Rattle.flute_parts.specs.Totality.{address_total, key_total}
-use Rattle.flute_streams.specs.Streams.{Behaviour, Gave, GoesOn, IsNew, option_list}
-use Rattle.flute_streams.specs.Behind.{Behind, StandBefore}
-use Rattle.flute_streams.specs.Compared.{is_listed, is_named, KeysAfter, KeysRise, row_of}
-use Rattle.flute_streams.specs.Compares.{Counts, ComparedAs, GoesIf, GoesOnBoth, Past, first_goes}
-use Rattle.flute_streams.specs.Compares.{second_goes, keys_at, row_at}
-use Rattle.flute_streams.specs.Compares.{StopAs, StopIn, StopsOne, StopsComparing}
-use Rattle.flute_streams.specs.Counting.{counted, counted_at, meeting_of, meeting_at, lowest_at}
-use Rattle.flute_streams.specs.Counting.{new_row, row_for, side_of, to_tell, told_of, told_row}
-use Rattle.flute_streams.specs.Counting.{option_row}
-use Rattle.flute_streams.specs.declared.merge.sides.Meeting.{Meeting}
-use Rattle.flute_streams.specs.declared.merge.sides.Row.{Row}
-use Rattle.flute_streams.specs.declared.merge.sides.Side.{Side}
-use Rattle.flute_streams.specs.declared.merge.sides.Side.TheVariants.{Same, Differ, First, Second}
-use Rattle.flute_streams.proofs.streams_lemmas.Before.{before_later, behind_new, rising_after}
-use Rattle.flute_streams.proofs.streams_lemmas.Before.{rising_before, turned}
-use Rattle.flute_streams.proofs.compare_lemmas.CountedRows.{At, or_none}
+use Rattle.flute_parts.specs.Order.{address_cmp, key_cmp, same_key}
+use Rattle.flute_parts.specs.Totality.{key_total}
+use Rattle.flute_streams.specs.Streams.{option_list}
+use Rattle.flute_streams.specs.Compared.{is_listed, is_named, KeysAfter, KeysRise}
+use Rattle.flute_streams.proofs.compare_lemmas.CountedRows.{At}
 use Rattle.flute_streams.proofs.compare_lemmas.Meetings.{no_some}
 
 keys_apart : (x k : Key) → key_cmp x k ≡ Less → same_key k x ≡ false
@@ -41,7 +22,7 @@ keys_apart x k l = ap is_eq (key_total.antisymm k x ∙ ap ordering_reverse l)
 
 pub key_of : (x p : Address) → address_cmp x p ≡ Less → same_key x.key p.key ≡ false
     → key_cmp x.key p.key ≡ Less
-key_of x p l n = by (key_cmp x.key p.key) (part_cmp x.part p.part) l n
+key_of x p l n = by _ _ l n
   where
     by : (o q : Ordering) → ordering_then o q ≡ Less → is_eq o ≡ false → o ≡ Less
     by Less q l n = refl
@@ -61,7 +42,7 @@ pub rise_more : (x k : Key) (ks : List Key) → KeysRise (ks ++ x ∷ []) → ke
     → KeysRise ((ks ++ x ∷ []) ++ k ∷ [])
 rise_more x k [] r l = ((l, tt), (tt, tt))
 rise_more x k (y ∷ ks) r l = (
-  after_more y k (ks ++ x ∷ []) r.0
+  after_more y k _ r.0
       (key_total.trans y x k (after_last y x ks r.0) l),
   rise_more x k ks r.1 l,
 )
@@ -88,7 +69,7 @@ held_named : (key : Key) (p : Address) (f : Option Fact) → At p f → (f ≡ N
     → is_named key (option_list f) ≡ same_key key p.key
 held_named key p None d n = absurd (n refl)
 held_named key p (Some f) d n =
-    or_nil (same_key key (address f).key) ∙ ap (λ a. same_key key a.key) d
+    or_nil _ ∙ ap (λ a. same_key key a.key) d
 
 none_named : (key : Key) (f : Option Fact) → f ≡ None → is_named key (option_list f) ≡ false
 none_named key f e = ap (λ f. is_named key (option_list f)) e
@@ -100,9 +81,9 @@ module _ (key : Key) (p : Address) where
       ≡ ((is_named key F || is_named key G) || same_key key p.key)
   named_step F G f g d e n =
       ap (λ b. b || is_named key (G ++ option_list g))
-      (list_any-append (λ f. same_key key (address f).key) F (option_list f))
+      (list_any-append _ F _)
       ∙ ap (λ b. (is_named key F || is_named key (option_list f)) || b)
-      (list_any-append (λ f. same_key key (address f).key) G (option_list g))
+      (list_any-append _ G _)
       ∙ crossed (is_named key F) (is_named key G) (is_named key (option_list f))
       (is_named key (option_list g)) (same_key key p.key) (one f g d e n)
     where
@@ -118,13 +99,13 @@ module _ (key : Key) (p : Address) where
       one : (f g : Option Fact) → At p f → At p g → (f ≡ None → g ≡ None → ⊥)
           → (is_named key (option_list f) || is_named key (option_list g)) ≡ same_key key p.key
       one None None d e n = absurd (n refl refl)
-      one None (Some g) d e n = held_named key p (Some g) e (no_some g)
+      one None (Some g) d e n = held_named _ p _ e (no_some g)
       one (Some f) None d e n =
-          or_nil (is_named key (f ∷ [])) ∙ held_named key p (Some f) d (no_some f)
+          or_nil _ ∙ held_named _ p _ d (no_some f)
       one (Some f) (Some g) d e n =
-          ap (λ b. b || is_named key (g ∷ [])) (held_named key p (Some f) d (no_some f))
-          ∙ ap (λ b. same_key key p.key || b) (held_named key p (Some g) e (no_some g))
-          ∙ twice (same_key key p.key)
+          ap (λ b. b || is_named key (g ∷ [])) (held_named _ p _ d (no_some f))
+          ∙ ap (λ b. same_key key p.key || b) (held_named _ p _ e (no_some g))
+          ∙ twice _
         where
           twice : (b : Bool) → (b || b) ≡ b
           twice true = refl
@@ -133,5 +114,5 @@ module _ (key : Key) (p : Address) where
 pub listed_more : (key k : Key) (ks : List Key)
     → is_listed key (ks ++ k ∷ []) ≡ (is_listed key ks || same_key key k)
 listed_more key k ks =
-    list_any-append (λ x. same_key key x) ks (k ∷ [])
-    ∙ ap (λ b. is_listed key ks || b) (or_nil (same_key key k))
+    list_any-append _ ks _
+    ∙ ap (λ b. is_listed key ks || b) (or_nil _)

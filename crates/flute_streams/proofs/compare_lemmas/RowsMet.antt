@@ -1,46 +1,31 @@
 -- The rows so far, as one address more is counted (specs/Counting).
-use Rattle.std.proofs.Common.{◌≡◌, ℕ, true, false, cond, Bool, ◌||◌, List, [], ◌∷◌, ◌++◌, refl}
+use Rattle.std.proofs.Common.{◌≡◌, true, false, cond, Bool, ◌||◌, List, [], ◌∷◌, ◌++◌, refl}
 use Rattle.std.proofs.Common.{sym, ap, ◌∙◌, subst, inl, inr, ◌⊎◌, Option, Some, None, append-nil}
-use Rattle.std.proofs.Common.{append_assoc, is_eq, length, arith, zero, suc, ◌+◌, ◌<◌, ◌≤◌}
+use Rattle.std.proofs.Common.{append_assoc, is_eq}
 use Rattle.std.specs.Prelude.{map}
 use Rattle.std.proofs.lemmas.Bool.{cases_Bool, false≢true}
-use Rattle.std.proofs.lemmas.Option.{none-some, same_Some}
 use Rattle.std.proofs.lemmas.List.{map-append}
-use Rattle.std.proofs.lemmas.List.Folds.{list_any-append}
-use Rattle.std.specs.declared.cmp.Ordering.{Ordering}
-use Rattle.std.specs.declared.cmp.Ordering.TheVariants.{Less, Equal, Greater}
-use Rattle.std.specs.Ordering.{ordering_reverse, ordering_then}
+use Rattle.std.specs.declared.cmp.Ordering.TheVariants.{Less}
 use Rattle.flute_parts.specs.declared.address.Address.{Address}
 use Rattle.flute_parts.specs.declared.fact.Fact.{Fact}
 use Rattle.flute_parts.specs.declared.key.Key.{Key}
-use Rattle.flute_parts.specs.Addresses.{address}
-use Rattle.flute_parts.specs.Equality.{address_same, key_itself, key_same}
-use Rattle.flute_parts.specs.Facts.{IsRising, StandAfter, same_fact}
-use Rattle.flute_parts.specs.Order.{address_cmp, key_cmp, part_cmp, same_key}
-use Rattle.flute_parts.specs.Totality.{address_total, key_total}
-use Rattle.flute_streams.specs.Streams.{Behaviour, Gave, GoesOn, IsNew, option_list}
-use Rattle.flute_streams.specs.Behind.{Behind, StandBefore}
-use Rattle.flute_streams.specs.Compared.{is_listed, is_named, KeysAfter, KeysRise, row_of}
-use Rattle.flute_streams.specs.Compares.{Counts, ComparedAs, GoesIf, GoesOnBoth, Past, first_goes}
-use Rattle.flute_streams.specs.Compares.{second_goes, keys_at, row_at}
-use Rattle.flute_streams.specs.Compares.{StopAs, StopIn, StopsOne, StopsComparing}
-use Rattle.flute_streams.specs.Counting.{counted, counted_at, meeting_of, meeting_at, lowest_at}
-use Rattle.flute_streams.specs.Counting.{new_row, row_for, side_of, to_tell, told_of, told_row}
-use Rattle.flute_streams.specs.Counting.{option_row}
+use Rattle.flute_parts.specs.Equality.{key_itself, key_same}
+use Rattle.flute_parts.specs.Order.{address_cmp, key_cmp, same_key}
+use Rattle.flute_parts.specs.Totality.{key_total}
+use Rattle.flute_streams.specs.Streams.{option_list}
+use Rattle.flute_streams.specs.Compared.{is_listed, is_named, KeysRise}
+use Rattle.flute_streams.specs.Compares.{keys_at, row_at}
+use Rattle.flute_streams.specs.Counting.{counted}
+use Rattle.flute_streams.specs.Counting.{new_row, row_for, side_of, to_tell, told_of}
 use Rattle.flute_streams.specs.declared.merge.sides.Meeting.{Meeting}
 use Rattle.flute_streams.specs.declared.merge.sides.Row.{Row}
-use Rattle.flute_streams.specs.declared.merge.sides.Side.{Side}
-use Rattle.flute_streams.specs.declared.merge.sides.Side.TheVariants.{Same, Differ, First, Second}
-use Rattle.flute_streams.proofs.streams_lemmas.Before.{before_later, behind_new, rising_after}
-use Rattle.flute_streams.proofs.streams_lemmas.Before.{rising_before, turned}
-use Rattle.flute_streams.proofs.compare_lemmas.CountedRows.{At, or_none, told_here, told_new}
+use Rattle.flute_streams.proofs.compare_lemmas.CountedRows.{IsNext, or_none, told_here, told_new}
 use Rattle.flute_streams.proofs.compare_lemmas.CountedRows.{told_off}
 use Rattle.flute_streams.proofs.compare_lemmas.RowKeys.{after_last, key_of, listed_more, named_step}
 use Rattle.flute_streams.proofs.compare_lemmas.RowKeys.{not_listed, or_nil, rise_more}
 
 -- where the streams meet, the rows so far become those with what they held
-module _ (p : Address) (F G : List Fact) (f g : Option Fact)
-    (s : StandBefore p F) (t : StandBefore p G) (d : At p f) (e : At p g)
+module _ {p : Address} {F G : List Fact} {f g : Option Fact} (w : IsNext p F G f g)
     (n : f ≡ None → g ≡ None → ⊥) where
   abbrev rows_were : Key → Row
   rows_were = told_of F G
@@ -56,8 +41,8 @@ module _ (p : Address) (F G : List Fact) (f g : Option Fact)
   rows_stay [] h = refl
   rows_stay (k ∷ ks) h =
       ap (λ r. r ∷ map rows_were ks)
-      (sym (told_off p F G f g s t d e k (h k (ap (λ b. b || is_listed k ks) (key_itself k)))))
-      ∙ ap (λ l. rows_are k ∷ l) (rows_stay ks (λ x l. h x (or_more (same_key x k) (is_listed x ks) l)))
+      (sym (told_off w k (h k (ap (λ b. b || is_listed k ks) (key_itself k)))))
+      ∙ ap (λ l. rows_are k ∷ l) (rows_stay ks (λ x l. h x (or_more _ _ l)))
     where
       or_more : (a b : Bool) → b ≡ true → (a || b) ≡ true
       or_more true b e = refl
@@ -74,18 +59,18 @@ module _ (p : Address) (F G : List Fact) (f g : Option Fact)
         let less = after_last y x ks r.0 in
         let under : key_cmp y p.key ≡ Less = elim o [
           | inl v ↦ key_total.trans y x p.key less v
-          | inr v ↦ subst (λ z. key_cmp y z ≡ Less) v less
+          | inr v ↦ rw (← v) less
         ] in
-        subst (λ z. same_key z p.key ≡ false) (sym i) (ap is_eq under)
+        rw i (ap is_eq under)
     | inr u ↦ before_apart x ks r.1 o k
-        (subst (λ b. (b || is_listed k ks) ≡ true) u l)
+        (rw u at l)
   ]
 
   row_new : is_named p.key F ≡ false → is_named p.key G ≡ false → (row : Row)
       → row ≡ counted (new_row p.key) m → row ≡ rows_are p.key
   row_new a b row i =
       i ∙ ap (λ r. counted r m) (sym (told_new p.key F G a b))
-      ∙ sym (told_here p F G f g s t d e n)
+      ∙ sym (told_here w n)
 
   pub record RowsMet (old told : List Row) (row : Row) : Type 0 where
     pub before : List Key
@@ -110,10 +95,9 @@ module _ (p : Address) (F G : List Fact) (f g : Option Fact)
           rise = (tt, tt);
           named = λ key.
               or_nil (same_key key p.key)
-              ∙ sym (named_step key p F G f g d e n ∙ ap (λ b. b || same_key key p.key) (empty key));
+              ∙ sym (named_step key p F G f g w.at w.at_others n ∙ ap (λ b. b || same_key key p.key) (empty key));
         }
 
-  module _ (old told told' : List Row) (row : Row) (ks : List Key) where
     pub rows_same_key : (x : Key) → x ≡ p.key → told ≡ old ++ map rows_were ks → told' ≡ told ++ []
         → row ≡ counted (rows_were x) m → KeysRise (ks ++ x ∷ []) → ((key : Key)
         → is_listed key (ks ++ x ∷ []) ≡ (is_named key F || is_named key G)) → RowsMet old told' row
@@ -121,14 +105,13 @@ module _ (p : Address) (F G : List Fact) (f g : Option Fact)
       before = ks;
       told_is = is' ∙ append-nil told ∙ is
           ∙ ap (λ l. old ++ l) (rows_stay ks (before_apart x ks rise (inr same)));
-      row_is = r ∙ ap (λ z. counted (rows_were z) m) same ∙ sym (told_here p F G f g s t d e n);
-      rise = subst (λ z. KeysRise (ks ++ z ∷ [])) same rise;
+      row_is = r ∙ ap (λ z. counted (rows_were z) m) same ∙ sym (told_here w n);
+      rise = rw (← same) rise;
       named = λ key.
-          let now = subst (λ z. is_listed key (ks ++ z ∷ []) ≡ (is_named key F || is_named key G)) same
-          (named key) in
+          let now = rw same at (named key) in
           listed_more key p.key ks ∙ again (is_listed key ks) (same_key key p.key)
           ∙ ap (λ b. b || same_key key p.key) (sym (listed_more key p.key ks) ∙ now)
-          ∙ sym (named_step key p F G f g d e n);
+          ∙ sym (named_step key p F G f g w.at w.at_others n);
     }
       where
         again : (a b : Bool) → (a || b) ≡ ((a || b) || b)
@@ -136,7 +119,6 @@ module _ (p : Address) (F G : List Fact) (f g : Option Fact)
         again false true = refl
         again false false = refl
 
-  module _ (old told told' : List Row) (row : Row) (ks : List Key) where
     pub rows_next_key : (x : Key) → key_cmp x p.key ≡ Less → told ≡ old ++ map rows_were ks
         → told' ≡ told ++ rows_were x ∷ [] → row ≡ counted (new_row p.key) m
         → KeysRise (ks ++ x ∷ []) → ((key : Key)
@@ -159,7 +141,7 @@ module _ (p : Address) (F G : List Fact) (f g : Option Fact)
           named = λ key.
               listed_more key p.key (ks ++ x ∷ [])
               ∙ ap (λ b. b || same_key key p.key) (named key)
-              ∙ sym (named_step key p F G f g d e n);
+              ∙ sym (named_step key p F G f g w.at w.at_others n);
         }
 
   -- by the address of the last meeting

@@ -1,5 +1,4 @@
 -- Once a merge has stopped, the streams before are read to their ends (specs/FirstFaults).
-use Rattle.std.proofs.lemmas.Grind.{common_steps}
 use Rattle.std.proofs.Common.{rules}
 use Rattle.flute_streams.proofs.Common.{Advances, AppendsNoJournal, AppendsPart, Behaviour, Bool}
 use Rattle.flute_streams.proofs.Common.{CanGoOn, Err, Fact, FactRef, FailAs, Gave, GaveBefore}
@@ -16,10 +15,10 @@ use Rattle.flute_streams.specs.FirstFaults.{IsStopOf, HasStopped, TellBefore}
 
 pub some_held : (o : Option FactRef) (t : Bool) → t ≡ is_some o → t ≡ true
     → is_some (fact_in o) ≡ true
-some_held o t e h = grind (arith)
+some_held = grind (arith)
 
 pub none_held : (o : Option FactRef) (t : Bool) → t ≡ is_some o → t ≡ false → fact_in o ≡ None
-none_held o t e h = grind (arith)
+none_held = grind (arith)
 
 module _ {S : Type 0} (b : Behaviour S) where
   -- how many facts the stream with this number may still hold
@@ -46,7 +45,7 @@ module _ {S : Type 0} (b : Behaviour S) where
 
   pub others_on : (k j : ℕ) (now new : List S) (after : S) → new ≡ set now k after → j ≢ k
       → slice_get new j ≡ slice_get now j
-  others_on k j now new after e n = search (rules, set_elsewhere)
+  others_on = search (rules, set_elsewhere)
 
   pub read-more : {k : ℕ} {old now new : List S} → ReadOn k old now
       → Advances b k now new (Ok tt) → ReadOn k old new
@@ -67,18 +66,18 @@ module _ {S : Type 0} (b : Behaviour S) where
   pub read-falls : (k : ℕ) (now new : List S) (o : Option Fact)
       → ((s : S) → slice_get now k ≡ Some s → o ≡ b.held s) → is_some o ≡ true
       → Advances b k now new (Ok tt) → most_at new k < most_at now k
-  read-falls k now new o held some a = search (rules, set_here, is_some)
+  read-falls = search (rules, set_here)
 
   pub read_stops : {k : ℕ} {old now new : List S} {f : LoadFault} → ReadOn k old now → Advances b k
       now new (Err f) → (start s : S) (F : List Fact) → slice_get old k ≡ Some s → Gave b start s F
       → IsStopOf b start k new f
-  read_stops {k = k} {now = now} r a start s F e g =
-      let h = r.gave start s F e g in
-      let same = same_Some h.stream a.before (sym h.is ∙ a.was) in
-      let on = a.stops start h.given (subst (λ x. b.passes start x h.given) same h.gave.passes) in
+  read_stops {k} {now} r a start s F e g =
+      let h = r.gave _ s F e g in
+      let same = same_Some _ _ (sym h.is ∙ a.was) in
+      let on = a.stops _ h.given (rw (← same) h.gave.passes) in
       record {
         stream = a.after;
-        is = ap (λ l. slice_get l k) a.now ∙ set_here b now k a.before a.after a.was;
+        is = ap (λ l. slice_get l k) a.now ∙ set_here b _ k _ _ a.was;
         stops = on.stops;
         fails = on.fails;
       }
@@ -87,8 +86,8 @@ module _ {S : Type 0} (b : Behaviour S) where
       ((s : S) → slice_get now k ≡ Some s → o ≡ b.held s) → o ≡ None → (start s : S) (F : List Fact)
       → slice_get old k ≡ Some s → Gave b start s F → (told : List Fact) × b.tells start told
   read-told r held none start s F e g =
-      let h = r.gave start s F e g in
-      (h.given, h.gave.ended (sym (held h.stream h.is) ∙ none))
+      let h = r.gave _ s F e g in
+      (h.given, h.gave.ended (sym (held _ h.is) ∙ none))
 
   -- One stream after another is read to its end.
 
@@ -103,11 +102,11 @@ module _ {S : Type 0} (b : Behaviour S) where
 
   pub gave_at : (n k : ℕ) (start now : List S) → GaveBefore b n start now → k < n
       → GaveAt start now k
-  gave_at zero k start now g l = absurd (omega (arith, l))
+  gave_at zero k start now g l = absurd (omega (arith))
   gave_at (suc n) zero (s ∷ start) (t ∷ now) g l =
       record { new = s; stream = t; was = refl; is = refl; given = g.0.0; gave = g.0.1 }
   gave_at (suc n) (suc k) (s ∷ start) (t ∷ now) g l =
-      let r = gave_at n k start now g.1 (omega (arith, l)) in
+      let r = gave_at n k start now g.1 (omega (arith)) in
       record {
         new = r.new;
         stream = r.stream;
@@ -122,7 +121,7 @@ module _ {S : Type 0} (b : Behaviour S) where
       s → (F : List Fact) × b.tells s F → TellBefore b (suc k) start
   tell-more zero [] s h e t = absurd cc
   tell-more zero (x ∷ start) s h e t =
-      (subst (λ y. (F : List Fact) × b.tells y F) (sym (same_Some x s e)) t, tt)
+      (rw (same_Some x s e) t, tt)
   tell-more (suc k) [] s h e t = absurd h
   tell-more (suc k) (x ∷ start) s h e t = (h.0, tell-more k start s h.1 e t)
 
@@ -139,26 +138,26 @@ module _ {S : Type 0} (b : Behaviour S) where
       length now → ((j : ℕ) → j ≢ k → slice_get new j ≡ slice_get now j) → ((start s : S)
       (F : List Fact) → slice_get now k ≡ Some s → Gave b start s F → (told : List Fact) × b.tells
       start told) → Reached n (k + 1) old new
-  reached-more {n = n} {k = k} {old = old} l r len others told = record {
+  reached-more {n} {k} {old} l r len others told = record {
     as_many = len ∙ r.as_many;
     behind = search rules;
-    told = λ start g. let a = gave_at n k start old g l in subst (λ m. TellBefore b m start)
-        (one_more k) (tell-more k start a.new (r.told start g) a.was
-        (told a.new a.stream a.given (r.behind k (omega arith) ∙ a.is) a.gave));
+    told = λ start g. let a = gave_at n k _ _ g l in rw
+        (← one_more k) (tell-more k _ _ (r.told _ g) a.was
+        (told _ a.stream a.given (r.behind k (omega arith) ∙ a.is) a.gave));
   }
 
   pub reached-stop : {n k : ℕ} {old now new : List S} {f : LoadFault} → k < n → Reached n k old now
       → ((start s : S) (F : List Fact) → slice_get now k ≡ Some s → Gave b start s F → IsStopOf b
       start k new f) → (start : List S) → GaveBefore b n start old → HasStopped b start new
       (record { number = k; fault = f })
-  reached-stop {n = n} {k = k} {old = old} {new = new} l r stops start g =
-      let a = gave_at n k start old g l in
+  reached-stop {n} {k} {old} {new} l r stops start g =
+      let a = gave_at n k _ _ g l in
       record { new = a.new; was = a.was; stop = search rules }
 
   -- one that stopped in a merge
   pub has-stopped : (k : ℕ) (f : LoadFault) (old now : List S) (s : S) → slice_get old k ≡ Some s →
       b.stops s f → OneFails b k f old now → HasStopped b old now (record { number = k; fault = f })
-  has-stopped zero f (x ∷ old) (t ∷ now) s e h o = grind (arith, same_Some)
+  has-stopped zero f (x ∷ old) (t ∷ now) s e h o = grind (arith)
   has-stopped (suc k) f (x ∷ old) (t ∷ now) s e h o =
       let r = has-stopped k f old now s e h o.1 in
       record { new = r.new; was = r.was; stop = search rules }
@@ -167,11 +166,11 @@ module _ {S : Type 0} (b : Behaviour S) where
   pub stopped_of : (fault : StreamsFault) (i : InputFault) (old now : List S) → fault ≡ Input i
       → NamesInput b old fault → FailAs b {T = MergedJournal} (Err fault) old now
       → HasStopped b old now i
-  stopped_of fault i old now e n f = grind (arith, has-stopped)
+  stopped_of = grind (arith, has-stopped)
 
   pub gave_of : (fault : StreamsFault) (i : InputFault) (old now : List S) → fault ≡ Input i
       → CanGoOn b old now fault → GaveBefore b i.number old now
-  gave_of fault i old now e g = search rules
+  gave_of = search rules
 
 -- where the sink failed, what was appended is no journal
 pub cut_journal : (u v : Option (List ℕ)) (facts : List Fact) (count : ℕ) (cut : Bool)
@@ -181,7 +180,7 @@ cut_journal u v facts count cut e p =
     record {
       bytes = part.part;
       appended = part.appended;
-      no_journal = no_whole_end p.journal.0 part.part part.rest p.journal.1.valid part.cut
+      no_journal = no_whole_end _ _ _ p.journal.1.valid part.cut
           (sym part.whole ∙ p.journal.3);
     }
 

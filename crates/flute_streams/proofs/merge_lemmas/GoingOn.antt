@@ -1,12 +1,11 @@
 -- Advancing the streams that hold the lowest address, one after another (specs/Advances).
-use Rattle.std.proofs.lemmas.Grind.{common_steps}
 use Rattle.std.proofs.Common.{rules}
 use Rattle.flute_streams.proofs.Common.{◌≡◌, ℕ, suc, ◌+◌, ◌<◌, ◌≤◌, List, []}
 use Rattle.flute_streams.proofs.Common.{◌∷◌, ◌++◌, length, take, drop, get_or, Option}
 use Rattle.flute_streams.proofs.Common.{Some, Ok, Err, refl, sym, ap, ◌∙◌, subst, inl, inr}
 use Rattle.flute_streams.proofs.Common.{arith, drop-cons, add-one, zero, set, take_more}
 use Rattle.flute_streams.proofs.Common.{take_more_set, drop-set-lt, take_all, length-drop}
-use Rattle.flute_streams.proofs.Common.{take-append-drop, length-take-le, length-set}
+use Rattle.flute_streams.proofs.Common.{take-append-drop, length-take-le}
 use Rattle.flute_streams.proofs.Common.{slice_get_within, get_or_from_slice_get, ◌≢◌}
 use Rattle.flute_streams.proofs.Common.{slice_get, Address, LoadFault, Behaviour, StopsAt, Advances}
 use Rattle.flute_streams.proofs.Common.{address_of, GoesOnAt, GoOnAt, StopAt}
@@ -31,7 +30,7 @@ module _ {S : Type 0} (b : Behaviour S) (place : Option Address) where
       (b.held s) ≢ place
 
   pub none_went : (old : List S) → WentSoFar 0 old old
-  none_went old = search rules
+  none_went = search rules
 
   go_on_more : (xs ys : List S) (x y : S) → GoOnAt b place xs ys → GoesOnAt b place x y
       → GoOnAt b place (xs ++ x ∷ []) (ys ++ y ∷ [])
@@ -44,34 +43,34 @@ module _ {S : Type 0} (b : Behaviour S) (place : Option Address) where
 
   shorter : (k : ℕ) (old now : List S) → drop k now ≡ drop k old → k < length now → k < length old
   shorter k old now e h = let l =
-      ap length e in omega (arith, l, length-drop k now, length-drop k old)
+      ap length e in omega (arith, length-drop k now, length-drop k old)
 
   -- a stream that was not reached is unchanged, and so are all after it
   as_it_was : (k : ℕ) (old now : List S) (x : S) → drop k now ≡ drop k old → slice_get now k ≡ Some
       x → (get_or old k x ≡ x) × (drop (k + 1) now ≡ drop (k + 1) old)
   as_it_was k old now x e is =
-      let h : k < length now = slice_get_within now k x is in
-      let a : drop k now ≡ get_or now k x ∷ drop (suc k) now = drop-cons now k x h in
-      let c : drop k old ≡ get_or old k x ∷ drop (suc k) old = drop-cons old k x
-      (shorter k old now e h) in
-      let r = same_head (drop (suc k) now) (drop (suc k) old) (get_or now k x) (get_or old k x)
-      (sym a ∙ e ∙ c) in (sym r.0 ∙ get_or_from_slice_get now k x x is, rw add-one r.1)
+      let h = slice_get_within _ k x is in
+      let a = drop-cons _ k x h in
+      let c = drop-cons _ k x
+      (shorter k _ _ e h) in
+      let r = same_head _ _ _ _
+      (sym a ∙ e ∙ c) in (sym r.0 ∙ get_or_from_slice_get _ k x x is, rw add-one r.1)
 
   old_more : (k : ℕ) (old now : List S) (x : S) → drop k now ≡ drop k old
       → slice_get now k ≡ Some x → take (k + 1) old ≡ take k old ++ x ∷ []
   old_more k old now x e is = cc (
     take_more old k x
-        (shorter k old now e (slice_get_within now k x is)),
-    (as_it_was k old now x e is).0,
+        (shorter k _ _ e (slice_get_within _ k x is)),
+    (as_it_was k _ _ x e is).0,
   )
 
   -- a stream that was not reached is the same
   pub not_reached : {k : ℕ} {old now : List S} → WentSoFar k old now → k < length now
       → slice_get now k ≡ slice_get old k
-  not_reached {k = k} {old = old} {now = now} w within =
-      let x = item_at now k within in
-      x.1 ∙ sym (slice_get_read old (length old) k x.0 refl (shorter k old now w.rest within)
-      (sym (as_it_was k old now x.0 w.rest x.1).0))
+  not_reached {k} {old} {now} w within =
+      let x = item_at _ k within in
+      x.1 ∙ sym (slice_get_read _ _ k _ refl (shorter k _ now w.rest within)
+      (sym (as_it_was k _ now _ w.rest x.1).0))
 
   -- stream k holds another address: it stays
   pub one_stays : {k : ℕ} {old now : List S} {x : S} → WentSoFar k old now → slice_get now k ≡ Some
@@ -89,32 +88,31 @@ module _ {S : Type 0} (b : Behaviour S) (place : Option Address) where
   -- none of those up to m stands there
   pub more_stay : (n : ℕ) {k m : ℕ} {old now : List S} → m ≡ k + n → m ≤ length now
       → NoneAt k m now → WentSoFar k old now → WentSoFar m old now
-  more_stay zero {k = k} {m = m} {old = old} {now = now} e within apart w =
-      let same : k ≡ m = omega (arith, e) in
-      subst (λ j. WentSoFar j old now) same w
-  more_stay (suc n) {k = k} {m = m} {old = old} {now = now} e within apart w =
+  more_stay zero {k} {m} {old} {now} e within apart w =
+      let same : k ≡ m = omega (arith) in
+      rw (← same) w
+  more_stay (suc n) {k} {m} {old} {now} e within apart w =
       let j = k + n in
-      let l : j < m = omega (arith, e) in
-      let x = item_at now j (omega (arith, l, within)) in
-      let before = more_stay n refl (omega (arith, l, within))
-      (λ i s p q g. apart i s p (omega (arith, l, q)) g) w in
-      let same : j + 1 ≡ m = omega (arith, e) in
-      subst (λ i. WentSoFar i old now) same (one_stays before x.1 (apart j x.0 (omega arith) l x.1))
+      let l : j < m = omega (arith) in
+      let x = item_at now j (omega (arith)) in
+      let before = more_stay n refl (omega (arith))
+      (λ i s p q g. apart i s p (omega (arith)) g) w in
+      let same : j + 1 ≡ m = omega (arith) in
+      rw (← same) (one_stays before x.1 (apart j _ (omega arith) l x.1))
 
   -- stream k holds that address, and is advanced
   pub one_goes : {k : ℕ} {old now new : List S} → WentSoFar k old now
       → (a : Advances b k now new (Ok tt)) → address_of (b.held a.before) ≡ place
       → WentSoFar (k + 1) old new
-  one_goes {k = k} {old = old} {now = now} w a p =
+  one_goes {k} {old} {now} w a p =
       let x = a.before in
-      let h : k < length now = slice_get_within now k x a.was in
-      subst (WentSoFar (k + 1) old) (sym a.now) (record {
-        done = subst (λ l. GoOnAt b place l (take (k + 1) (set now k a.after)))
-            (sym (old_more k old now x w.rest a.was)) (subst
-            (λ l. GoOnAt b place (take k old ++ x ∷ []) l) (sym (take_more_set now k a.after h))
-            (go_on_more (take k old) (take k now) x a.after w.done (inl (p, a.goes_on))));
-        rest = drop-set-lt (k + 1) now k a.after (omega arith) ∙
-            (as_it_was k old now x w.rest a.was).1;
+      let h = slice_get_within _ k x a.was in
+      rw a.now (record {
+        done = rw
+            (old_more k _ _ x w.rest a.was) (rw (take_more_set _ k _ h)
+            (go_on_more _ _ x _ w.done (inl (p, a.goes_on))));
+        rest = drop-set-lt _ _ k _ (omega arith) ∙
+            (as_it_was k _ _ x w.rest a.was).1;
       })
 
   stop_at : (xs ys zs : List S) (x : S) {y : S} {f : LoadFault} → GoOnAt b place xs ys
@@ -151,13 +149,13 @@ module _ {S : Type 0} (b : Behaviour S) (place : Option Address) where
       → GoOnAt b place old now
   all_went k old now w h =
       let l = ap length w.rest in
-      let short : length old ≤ k = omega (arith, l, length-drop k now, length-drop k old) in
-      subst (λ l. GoOnAt b place l now) (take_all k old short)
-      (subst (λ l. GoOnAt b place (take k old) l) (take_all k now h) w.done)
+      let short : length old ≤ k = omega (arith, length-drop k now, length-drop k old) in
+      rw (← take_all k old short)
+      (rw (← take_all k now h) w.done)
 
 pub same_length : {S : Type 0} (b : Behaviour S) (k : ℕ) (old new : List S)
     → (a : Advances b k old new (Ok tt)) → length new ≡ length old
-same_length b k old new a = search rules
+same_length = search rules
 
 -- none was advanced, one stops, all were advanced
 pub ruleset goings = (none_went, one_stops, all_went)

@@ -1,5 +1,4 @@
 -- Lemmas on Leads (specs/Leads): the stream that holds a fact below those of all others.
-use Rattle.std.proofs.lemmas.Grind.{common_steps}
 use Rattle.std.proofs.Common.{rules}
 use Rattle.flute_streams.proofs.Common.{◌≡◌, ℕ, zero, suc, ◌+◌, ◌<◌, ◌≤◌}
 use Rattle.flute_streams.proofs.Common.{true, eqb, List, [], ◌∷◌}
@@ -79,18 +78,18 @@ module _ {S : Type 0} (b : Behaviour S) {number k : ℕ} {streams : List S}
       ((s : S) → slice_get streams number ≡ Some s → o ≡ address_of (b.held s)) → FirstsFrom b
       number k streams next → IsBelowNext o next → Leads b streams number next
   lead-new o within all held h below =
-      let x = item_at streams number within in
+      let x = item_at _ _ within in
       record {
         stream = x.0;
         is = x.1;
         below = search rules;
         others = λ j s i n. h.none_before j s
-            (let p = slice_get_within streams j s i in omega (arith, p, all)) i n;
+            (let p = slice_get_within _ j s i in omega (arith)) i n;
       }
 
   pub firsts_passed : k ≡ number → FirstsFrom b number k streams next
       → FirstsFrom b number (k + 1) streams next
-  firsts_passed e h = search rules
+  firsts_passed = search rules
 
 -- What lies above the fact that the leading stream holds.
 
@@ -104,12 +103,12 @@ over g None (Some f) l h = absurd h
 over g (Some a) (Some f) l h = search (rules, less_up_to)
 
 over_list : (g : Fact) (o : Option Fact) → IsOver g o → StandAfter (address g) (option_list o)
-over_list g o h = grind (arith)
+over_list = grind (arith)
 
 over_place : (g : Fact) (o : Option Fact) → IsOver g o → address_of o ≢ Some (address g)
 over_place g None h e = cc
 over_place g (Some f) h e =
-    let p : address f ≡ address g = same_Some (address f) (address g) e in
+    let p = same_Some _ _ e in
     up_not (subst (λ x. address_cmp (address g) x ≡ Less) p h)
   where
     up_not : address_cmp (address g) (address g) ≡ Less → ⊥
@@ -122,16 +121,16 @@ after-append a (f ∷ F) G s t = (s.0, after-append a F G s.1 t)
 
 not_before : (a : Address) (fs : List Fact) → StandAfter a fs → AllByRecursion (IsNotBefore a) fs
 not_before a [] h = tt
-not_before a (f ∷ fs) h = (up_to_less (address_cmp a (address f)) h.0, not_before a fs h.1)
+not_before a (f ∷ fs) h = (up_to_less _ h.0, not_before a fs h.1)
 
 suc_is : (j k : ℕ) → suc j ≡ suc k → j ≡ k
-suc_is j k e = omega (arith, e)
+suc_is j k e = omega (arith)
 
 zero_apart : (k : ℕ) → suc k ≢ zero
-zero_apart k e = absurd (omega (arith, e))
+zero_apart k e = absurd (omega (arith))
 
 apart_zero : (k : ℕ) → zero ≢ suc k
-apart_zero k e = absurd (omega (arith, e))
+apart_zero k e = absurd (omega (arith))
 
 module _ {S : Type 0} (b : Behaviour S) where
   -- all streams but one hold what is above g
@@ -144,17 +143,17 @@ module _ {S : Type 0} (b : Behaviour S) where
 
   behind_zero : (g : Fact) (s : S) (streams : List S) → OthersOver g zero (s ∷ streams)
       → AllOver g streams
-  behind_zero g s streams h j t e = h (suc j) t e (zero_apart j)
+  behind_zero g s streams h j t e = h _ t e (zero_apart j)
 
   behind_suc : (g : Fact) (k : ℕ) (s : S) (streams : List S)
       → OthersOver g (suc k) (s ∷ streams) → OthersOver g k streams
-  behind_suc g k s streams h j t e n = h (suc j) t e (λ q. n (suc_is j k q))
+  behind_suc g k s streams h j t e n = h _ t e (λ q. n (suc_is j k q))
 
   all_after : (g : Fact) (streams : List S) → AllOver g streams
       → StandAfter (address g) (heads b streams)
   all_after g [] h = tt
-  all_after g (s ∷ streams) h = after-append (address g) (option_list (b.held s)) (heads b streams)
-      (over_list g (b.held s) (h 0 s refl)) (all_after g streams (λ j t e. h (suc j) t e))
+  all_after g (s ∷ streams) h = after-append _ _ _
+      (over_list g _ (h 0 s refl)) (all_after g streams (λ j t e. h (suc j) t e))
 
   -- the fact that it holds is the lowest
   lowest_first : (g : Fact) (fs : List Fact) → StandAfter (address g) fs → Lowest (g ∷ fs) g
@@ -209,55 +208,53 @@ module _ {S : Type 0} (b : Behaviour S) where
       → slice_get streams k ≡ Some x → address_of (b.held x) ≡ a → GoesOn b x y
       → OthersElsewhere a k streams → GoOnAt b a streams (set streams k y)
   goes k [] e p g h = absurd cc
-  goes {a = a} zero (s ∷ streams) {x = x} {y = y} e p g h =
+  goes {a} zero (s ∷ streams) {x} {y} e p g h =
       let q = same_Some s x e in (
-        inl (ap (λ t. address_of (b.held t)) q ∙ p, subst (λ t. GoesOn b t y) (sym q) g),
+        inl (ap (λ t. address_of (b.held t)) q ∙ p, rw q g),
         all_stay a
-            streams (λ j t i. h (suc j) t i (zero_apart j)),
+            _ (λ j t i. h _ t i (zero_apart j)),
       )
   goes (suc k) (s ∷ streams) e p g h = (
     inr (h 0 s refl (apart_zero k), refl),
     goes k streams e p g
-        (λ j t i n. h (suc j) t i (λ q. n (suc_is j k q))),
+        (λ j t i n. h _ t i (λ q. n (suc_is j k q))),
   )
 
   stops : {a : Option Address} (k : ℕ) {f : LoadFault} (streams : List S) {x : S} (y : S) →
       slice_get streams k ≡ Some x → address_of (b.held x) ≡ a → StopsAt b x y f → OthersElsewhere a
       k streams → StopAt b a k f streams (set streams k y)
   stops k [] y e p g h = absurd cc
-  stops zero (s ∷ streams) y e p g h = grind (arith, same_Some)
+  stops zero (s ∷ streams) y e p g h = grind (arith)
   stops (suc k) (s ∷ streams) y e p g h = (
     inr (h 0 s refl (apart_zero k), refl),
     stops k streams y
-        e p g (λ j t i n. h (suc j) t i (λ q. n (suc_is j k q))),
+        e p g (λ j t i n. h _ t i (λ q. n (suc_is j k q))),
   )
 
   elsewhere : (streams : List S) (number : ℕ) (next : Option Address) (a : Address)
       → Leads b streams number next → StandsAt b (Some a) streams number
       → OthersElsewhere (Some a) number streams
-  elsewhere streams number next a l at = by_held (b.held l.stream) refl
+  elsewhere streams number next a l at = by_held _ refl
     where
       by_held : (o : Option Fact) → b.held l.stream ≡ o → OthersElsewhere (Some a) number streams
       by_held None e = absurd (subst (λ x. IsBelowNext (address_of x) next) e l.below)
       by_held (Some g) e = λ j s i n.
-          let p : Some (address g) ≡ Some a = ap address_of (sym e) ∙ at l.stream l.is in
-          subst (λ x. address_of (b.held s) ≢ x) p
-          (over_place g (b.held s) (over g next (b.held s)
+          let p = ap address_of (sym e) ∙ at l.stream l.is in
+          rw (← p)
+          (over_place g _ (over g _ _
           (subst (λ x. IsBelowNext (address_of x) next) e l.below) (l.others j s i n)))
 
   pub lead-goes : {streams new : List S} {number : ℕ} {next : Option Address} (a : Address)
       → Leads b streams number next → StandsAt b (Some a) streams number
       → Advances b number streams new (Ok tt) → GoOnAt b (Some a) streams new
-  lead-goes {streams = streams} {number = number} {next = next} a l at v = subst
-      (λ x. GoOnAt b (Some a) streams x) (sym v.now) (goes number streams v.was (at v.before v.was)
+  lead-goes {streams} {number} {next} a l at v = rw v.now (goes _ _ v.was (at v.before v.was)
       v.goes_on (elsewhere streams number next a l at))
 
   pub lead-stops : {streams new : List S} {number : ℕ} {next : Option Address} (a : Address)
       {f : LoadFault} → Leads b streams number next → StandsAt b (Some a) streams number → Advances
       b number streams new (Err f) → StopAt b (Some a) number f streams new
-  lead-stops {streams = streams} {number = number} {next = next} a {f = f} l at v = subst
-      (λ x. StopAt b (Some a) number f streams x) (sym v.now) (stops number streams v.after v.was
-      (at v.before v.was) v.stops (elsewhere streams number next a l at))
+  lead-stops {streams} {number} {next} a {f} l at v = rw v.now (stops _ _ _ v.was
+      (at v.before v.was) v.stops (elsewhere _ _ _ a l at))
 
   pub set_here : (streams : List S) (k : ℕ) (x y : S) → slice_get streams k ≡ Some x
       → slice_get (set streams k y) k ≡ Some y
@@ -277,7 +274,7 @@ module _ {S : Type 0} (b : Behaviour S) where
       → Leads b streams number next → Advances b number streams new (Ok tt) →
       ((s : S) → slice_get new number ≡ Some s → o ≡ address_of (b.held s)) → IsBelowNext o next →
       Leads b new number next
-  still-leads l v held below = grind (arith, set_here, set_elsewhere)
+  still-leads = grind (arith, set_here, set_elsewhere)
 
 -- one stream more was looked at, or the one that leads was passed over
 pub ruleset firsts = (firsts_more, firsts_passed)

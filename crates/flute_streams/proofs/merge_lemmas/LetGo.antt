@@ -3,10 +3,8 @@ use Rattle.std.proofs.Common.{arith}
 use Rattle.std.proofs.lemmas.Grind.{common_steps}
 use Rattle.std.proofs.Common.{rules}
 use Rattle.flute_streams.proofs.Common.{Fact, List, None, Option}
-use Rattle.flute_streams.proofs.Common.{ReadsEntries, Some, ap, ◌∙◌, ◌++◌, ◌≡◌, ℕ}
-use Rattle.std.proofs.Math.Seq.{drop-append_seam}
+use Rattle.flute_streams.proofs.Common.{ReadsEntries, ◌≡◌, ℕ}
 use Rattle.std.specs.Io.KnownBytes.{Consumes}
-use Rattle.std.specs.Prelude.{drop, length}
 use Rattle.flute_journal.proofs.Public.{left_all}
 use Rattle.flute_journal.specs.HeldEntries.{fact_held, left_behind, spelled_in}
 use Rattle.flute_journal.specs.declared.readers.held_entry.HeldEntry.{HeldEntry}
@@ -22,11 +20,11 @@ nothing_held b (held.Entry place v) u none = absurd cc
 
 consumes : (input u v : Option (List ℕ)) (held bytes : List ℕ) → Consumes u v held
     → Consumes input (left_behind held u) bytes → Consumes input v bytes
-consumes x0 x1 x2 x3 x4 x5 x6 = grind (arith, common_steps)
+consumes = grind (arith, common_steps)
 
 reads : {input : Option (List ℕ)} (u v : Option (List ℕ)) (held : List ℕ) {F : List Fact}
     → Consumes u v held → ReadsEntries input (left_behind held u) F → ReadsEntries input v F
-reads {input = input} u v held c r = search (rules, consumes)
+reads u v held c r = search (rules, consumes)
 
 -- what was held of two sources was let go of
 pub record LetGo (u v x y : Option (List ℕ)) : Type 0 where
@@ -38,7 +36,7 @@ pub record LetGo (u v x y : Option (List ℕ)) : Type 0 where
 pub lets_go : {limit : ℕ} {first second u v x y old new : Option (List ℕ)} {fault : MergeFault} →
     (l : LetGo u v x y) → Stopped limit first (left_behind l.first_held u) second
     (left_behind l.second_held x) old new fault → Stopped limit first v second y old new fault
-lets_go {u = u} {v = v} {x = x} {y = y} l h = record {
+lets_go {u} {v} {x} {y} l h = record {
   short = h.short;
   keeps_up = record {
     first_entries = h.keeps_up.first_entries;

@@ -1,13 +1,12 @@
 -- Lemmas on Lowest (specs/Lowest): the lowest address of facts and its value, fact by fact.
-use Rattle.std.proofs.lemmas.Grind.{common_steps}
-use Rattle.flute_streams.proofs.Common.{Bool, Info, InfoConflict, Symbol, SymbolConflict, SymbolId}
-use Rattle.flute_streams.proofs.Common.{bytes_eq, ◌&&◌, Address, AllByRecursion, Behaviour}
+use Rattle.flute_streams.proofs.Common.{Bool, Info, InfoConflict, Symbol, SymbolConflict}
+use Rattle.flute_streams.proofs.Common.{bytes_eq, Address, AllByRecursion, Behaviour}
 use Rattle.flute_streams.proofs.Common.{Equal}
-use Rattle.flute_streams.proofs.Common.{Fact, Greater, IsNotBefore, Key, Less, List, Lowest}
-use Rattle.flute_streams.proofs.Common.{Ordering, Part, Some, StandAfter, [], address, address_cmp}
-use Rattle.flute_streams.proofs.Common.{address_itself, address_same, address_total, alone-at}
-use Rattle.flute_streams.proofs.Common.{alone-elsewhere, ap, append-nil, append_assoc, arith}
-use Rattle.flute_streams.proofs.Common.{conflict_at, conflict_in, fact_at, fact_at-after}
+use Rattle.flute_streams.proofs.Common.{Fact, Greater, IsNotBefore, Less, List, Lowest}
+use Rattle.flute_streams.proofs.Common.{Ordering, Some, StandAfter, [], address, address_cmp}
+use Rattle.flute_streams.proofs.Common.{address_same, address_total, alone-at}
+use Rattle.flute_streams.proofs.Common.{alone-elsewhere, ap, append-nil, arith}
+use Rattle.flute_streams.proofs.Common.{conflict_at, fact_at, fact_at-after}
 use Rattle.flute_streams.proofs.Common.{fact_at-append, fact_same, false, get_or}
 use Rattle.flute_streams.proofs.Common.{get_or_from_slice_get, heads, is_eq, is_lt, joined}
 use Rattle.flute_streams.proofs.Common.{joined-apart, joined-none, joined-same, length, option_list}
@@ -17,13 +16,7 @@ use Rattle.flute_streams.proofs.Common.{◌∷◌, ◌≡◌, ◌≢◌}
 use Rattle.flute_journal.proofs.Public.{all_append, all_map}
 use Rattle.flute_streams.proofs.merge_lemmas.GoingOn.{item_at}
 use Rattle.flute_streams.specs.Lowest.{held_at, held_in}
-use Rattle.flute_parts.specs.{
-  Equality.{key_itself, symbol_id_itself},
-  Facts.{same_information},
-  Order.{same_key, same_symbol_id},
-}
-use Rattle.flute_parts.specs.declared.address.Part.TheVariants.{Info as InfoPart}
-use Rattle.flute_parts.specs.declared.address.Part.TheVariants.{Symbol as SymbolPart}
+use Rattle.flute_parts.specs.{Facts.{same_information}, Order.{same_key}}
 
 -- The order of addresses.
 
@@ -46,7 +39,7 @@ up_to-trans a b c {o = Less} {p = Greater} e f h k = absurd (k refl)
 up_to-trans a b c {o = Greater} e f h k = absurd (h refl)
 
 pub up_to_itself : (a : Address) → IsUpTo (address_cmp a a)
-up_to_itself a e = search rules
+up_to_itself = search rules
 
 -- the second is not above the first, where the first isn't below it
 pub up_to_turned : (a b : Address) (o : Ordering) → address_cmp a b ≡ o → is_lt o ≡ false
@@ -75,7 +68,7 @@ heads-more b xs k within =
 pub less_up_to : (a b c : Address) (o : Ordering) → address_cmp a b ≡ Less
     → address_cmp b c ≡ o → IsUpTo o → address_cmp a c ≡ Less
 less_up_to a b c Less l e h = address_total.trans a b c l e
-less_up_to a b c Equal l e h = subst (λ x. address_cmp a x ≡ Less) (address_same b c (ap is_eq e)) l
+less_up_to a b c Equal l e h = rw (← address_same b c (ap is_eq e)) l
 less_up_to a b c Greater l e h = absurd (h refl)
 
 stand_after : (a b : Address) (facts : List Fact) → address_cmp a b ≡ Less
@@ -84,13 +77,13 @@ stand_after a b [] less h = tt
 stand_after a b (f ∷ facts) less h = search (rules, less_up_to, stand_after a b facts less h.1)
 
 pub conflict-place : (a : Address) → address (conflict_at a) ≡ a
-conflict-place a = search rules
+conflict-place = search rules
 
 -- the value at the lowest address, with one more fact
 
 -- the fact alone is the lowest
 pub lowest_alone : (facts : List Fact) (f : Fact) → facts ≡ [] → Lowest (facts ++ f ∷ []) f
-lowest_alone facts f none = search (rules, alone-at, up_to_itself)
+lowest_alone = search (rules, alone-at, up_to_itself)
 
 -- that fact is below the others, and becomes the lowest
 pub lowest_turns : (facts : List Fact) (f g : Fact) → Lowest facts g
@@ -114,20 +107,20 @@ pub lowest_stays : (facts : List Fact) (f g : Fact) → Lowest facts g
 lowest_stays facts f g h greater =
     let a = address g in
     record {
-      comes = fact_at-append facts (f ∷ []) a ∙ ap (joined a (fact_at facts a))
-          (alone-elsewhere f a (ap is_eq greater)) ∙ joined-none a (fact_at facts a) ∙ h.comes;
-      first = all_append (IsNotBefore a) facts (f ∷ []) h.first
-          (up_to_turned (address f) a Greater greater refl, tt);
+      comes = fact_at-append _ _ a ∙ ap (joined a _)
+          (alone-elsewhere f a (ap is_eq greater)) ∙ joined-none a _ ∙ h.comes;
+      first = all_append _ _ _ h.first
+          (up_to_turned _ a _ greater refl, tt);
     }
 
 -- a fact at the lowest address is joined with its value
 with_more : (facts : List Fact) (f g : Fact) → Lowest facts g → address f ≡ address g
     → fact_at (facts ++ f ∷ []) (address g) ≡ joined (address g) (Some g) (Some f)
-with_more facts f g h e = grind (arith, fact_at-append, joined, alone-at)
+with_more = grind (arith, fact_at-append, joined, alone-at)
 
 first_more : (facts : List Fact) (f g : Fact) → Lowest facts g → address f ≡ address g
     → AllByRecursion (IsNotBefore (address g)) (facts ++ f ∷ [])
-first_more facts f g h e = search (rules, all_append, up_to_itself)
+first_more = search (rules, all_append, up_to_itself)
 
 -- that fact has the same value, which remains
 pub lowest_same : (facts : List Fact) (f g : Fact) → Lowest facts g → address_cmp (address f)
@@ -135,8 +128,8 @@ pub lowest_same : (facts : List Fact) (f g : Fact) → Lowest facts g → addres
 lowest_same facts f g h equal same =
     let e = address_same (address f) (address g) (ap is_eq equal) in
     record {
-      comes = with_more facts f g h e ∙ ap Some (joined-same (address g) g f (fact_same g f same));
-      first = first_more facts f g h e;
+      comes = with_more _ f g h e ∙ ap Some (joined-same _ g f (fact_same g f same));
+      first = first_more _ f g h e;
     }
 
 -- that fact has another value: the result is a conflict
@@ -144,12 +137,12 @@ pub lowest_apart : (facts : List Fact) (f g : Fact) → Lowest facts g → addre
     (address g) ≡ Equal → same_fact g f ≡ false → Lowest (facts ++ f ∷ []) (conflict_at (address f))
 lowest_apart facts f g h equal apart =
     let e = address_same (address f) (address g) (ap is_eq equal) in
-    let is : address (conflict_at (address f)) ≡ address g = conflict-place (address f) ∙ e in
+    let is = conflict-place _ ∙ e in
     record {
-      comes = ap (fact_at (facts ++ f ∷ [])) is ∙ with_more facts f g h e
-          ∙ ap Some (joined-apart (address g) g f apart ∙ ap conflict_at (sym e));
-      first = subst (λ x. AllByRecursion (IsNotBefore x) (facts ++ f ∷ [])) (sym is)
-          (first_more facts f g h e);
+      comes = ap (fact_at (facts ++ f ∷ [])) is ∙ with_more _ f g h e
+          ∙ ap Some (joined-apart _ g f apart ∙ ap conflict_at (sym e));
+      first = rw is
+          (first_more _ f g h e);
     }
 
 -- the value of two facts at one address
@@ -163,7 +156,7 @@ same_value (SymbolConflict k i) (SymbolConflict l j) = true
 same_value _ _ = false
 
 same_keys : (f g : Fact) → address f ≡ address g → same_key (address f).key (address g).key ≡ true
-same_keys f g e = search rules
+same_keys = search rules
 
 pub same_at : (f g : Fact) → address f ≡ address g → same_fact f g ≡ same_value f g
 same_at (Info k i) (Info l j) e = search rules

@@ -1,5 +1,4 @@
 -- Lemmas on LowestValue (specs/Lowest): what the stream there holds, and one stream more.
-use Rattle.std.proofs.lemmas.Grind.{common_steps}
 use Rattle.std.proofs.Common.{rules}
 use Rattle.flute_streams.proofs.Common.{Address, AllByRecursion, AreNew, Behaviour, Bool, Equal}
 use Rattle.flute_streams.proofs.Common.{Fact}
@@ -20,7 +19,7 @@ use Rattle.flute_journal.specs.JournalWriters.{Puts}
 use Rattle.flute_journal.specs.declared.writers.journal_writer.JournalWriter.{JournalWriter}
 use Rattle.flute_streams.proofs.Common.{Ordering}
 use Rattle.flute_streams.proofs.merge_lemmas.GoingOn.{item_at}
-use Rattle.flute_streams.proofs.merge_lemmas.LowestFacts.{conflict-place, lowest_alone}
+use Rattle.flute_streams.proofs.merge_lemmas.LowestFacts.{lowest_alone}
 use Rattle.flute_streams.proofs.merge_lemmas.LowestFacts.{lowest_apart, lowest_same, lowest_stays}
 use Rattle.flute_streams.proofs.merge_lemmas.LowestFacts.{lowest_turns, up_to_itself}
 use Rattle.flute_streams.proofs.merge_lemmas.RankFacts.{comes-apart, comes-first, comes-same}
@@ -40,7 +39,7 @@ read-at b streams k read within h =
 all_at : {X : Type 0} (P : X → Type 0) (xs : List X) (k : ℕ) {x : X} → AllByRecursion P xs
     → slice_get xs k ≡ Some x → P x
 all_at P [] k h e = absurd cc
-all_at P (y ∷ ys) zero h e = subst P (same_Some _ _ e) h.0
+all_at P (y ∷ ys) zero h e = rw (← same_Some _ _ e) h.0
 all_at P (y ∷ ys) (suc k) h e = all_at P ys k h.1 e
 
 -- the bytes that one stream has of what it holds
@@ -62,7 +61,7 @@ held-within b (s ∷ streams) (suc k) e = search (rules, held-within b streams k
 
 pub place-some : (o : Option Fact) (a : Address) → address_of o ≡ Some a
     → (f : Fact) × (o ≡ Some f) × (address f ≡ a)
-place-some x0 x1 x2 = search rules
+place-some = search rules
 
 -- the value where a stream stands
 pub record HasValue {S : Type 0} (b : Behaviour S) (streams : List S)
@@ -86,10 +85,10 @@ pub stands-within : {S : Type 0} (b : Behaviour S) (streams : List S) (l : Lowes
 stands-within b streams l stands = search (rules, held-within, place-some, held_at)
 
 pub place-none : (o : Option Fact) → address_of o ≡ None → o ≡ None
-place-none x0 x1 = search rules
+place-none = search rules
 
 pub not-empty : {bytes : List ℕ} {r : Bool} → r ≡ (length bytes == 0) → r ≡ false → bytes ≢ []
-not-empty h e n = search rules
+not-empty = search rules
 
 pub some-of : (P : Fact → Type 0) {o : Option Fact} {f : Fact} → o ≡ Some f → IfSome o P → P f
 some-of P e h = search rules
@@ -111,14 +110,14 @@ same_spelled g f one other p q = elim (cases_Bool (bytes_eq one other)) [
 
 spelled_some : (bytes : List ℕ) (f : Fact) → bytes ≢ [] → IsSpelling bytes (Some f)
     → IsFact f × (bytes ≡ entry f)
-spelled_some bytes f some h = search rules
+spelled_some = search rules
 
 pub spelled-same : {one other : List ℕ} {o p : Option Fact} (g f : Fact) → IsSpelling one o
     → IsSpelling other p → one ≢ [] → other ≢ [] → o ≡ Some g → p ≡ Some f
     → bytes_eq one other ≡ same_fact g f
-spelled-same {one = one} {other = other} g f h k some any e d =
-    same_spelled g f one other (spelled_some one g some (subst (IsSpelling one) e h))
-    (spelled_some other f any (subst (IsSpelling other) d k))
+spelled-same {one} {other} g f h k some any e d =
+    same_spelled g f _ _ (spelled_some _ g some (subst (IsSpelling one) e h))
+    (spelled_some _ f any (subst (IsSpelling other) d k))
 
 -- the order of the place of a stream, which holds a fact, and that of a value
 pub record Compared {S : Type 0} (b : Behaviour S) (streams : List S) (k : ℕ) (l : LowestValue)
@@ -135,9 +134,9 @@ pub compared : {S : Type 0} (b : Behaviour S) (streams : List S) (l : LowestValu
     ((s : S) → slice_get streams l.number ≡ Some s → q ≡ address_of (b.held s)) →
     ((a c : Address) → p ≡ Some a → q ≡ Some c → order ≡ address_cmp a c) → Compared b streams k l
     order
-compared b streams l {k = k} stands here first second is =
-    let f = place-some (held_at b streams k) here.0 here.1 in
-    let v = has_value b streams l stands in
+compared b streams l {k} stands here first second is =
+    let f = place-some _ _ here.1 in
+    let v = has_value b _ l stands in
     record { fact = f.0; here = f.1; value = v; is = search rules }
 
 -- the value at the lowest address
@@ -148,8 +147,8 @@ pub record AtLowest {S : Type 0} (b : Behaviour S) (streams : List S)
 
 pub at_lowest : {S : Type 0} (b : Behaviour S) (streams : List S) {l : LowestValue} → Stands b
     streams l → IsLowest (heads b streams) (value_at b streams l) → AtLowest b streams l
-at_lowest b streams {l = l} stands h =
-    let v = has_value b streams l stands in
+at_lowest b streams {l} stands h =
+    let v = has_value b _ l stands in
     record { value = v; lowest = subst (IsLowest (heads b streams)) v.is h }
 
 -- it was written
@@ -166,13 +165,13 @@ pub written_at : {S W : Type 0} (b : Behaviour S) (streams : List S) {l : Lowest
     streams l → IsLowest (heads b streams) (value_at b streams l) → IfSome (value_at b streams l)
     IsFact → IfSome (value_at b streams l) (λ f. Puts written failures (entry f) old new) →
     WrittenAt b streams l written failures old new
-written_at b streams {written = written} {failures = failures} {old = old} {new = new} stands h
+written_at b streams stands h
     valid puts =
-    let v = at_lowest b streams stands h in
+    let v = at_lowest b _ stands h in
     record {
       value = v.value;
       lowest = v.lowest;
-      valid = some-of IsFact v.value.is valid;
+      valid = some-of _ v.value.is valid;
       puts = search rules;
     }
 
@@ -181,7 +180,7 @@ pub placed : {S : Type 0} (b : Behaviour S) (streams : List S) {l : LowestValue}
     {o : Option Address} {a : Address} (v : HasValue b streams l) → Stands b streams l
     → ((s : S) → slice_get streams l.number ≡ Some s → o ≡ address_of (b.held s))
     → o ≡ Some a → address v.fact ≡ a
-placed b streams {l = l} {a = a} v stands h e = search rules
+placed b streams v stands h e = search rules
 
 -- the first of new streams holds nothing
 pub none-new : {S : Type 0} (b : Behaviour S) (streams : List S) → AreNew b streams
@@ -192,7 +191,7 @@ none-new b (s ∷ streams) new = ap address_of new.0.held
 module _ {S : Type 0} (b : Behaviour S) (streams : List S) where
   pub place-joined : (l : LowestValue) (k : ℕ) (r : LowestValue) → Joins b streams l k r
       → place_at b streams r ≡ place_at b streams l
-  place-joined l k r j = search rules
+  place-joined = search rules
 
   -- where values differ, the next value there changes nothing
   pub joins-conflict : (l : LowestValue) (k : ℕ) → Stands b streams l → place_at b streams
@@ -213,7 +212,7 @@ module _ {S : Type 0} (b : Behaviour S) (streams : List S) where
       (first_at k) ≡ place_at b streams l → ((g f : Fact) → held_at b streams l.number ≡ Some g →
       held_at b streams k ≡ Some f → same ≡ same_fact g f) → Joins b streams l k
       (record { number = l.number; conflict = not same })
-  joins-by l k same e here alike = search rules
+  joins-by = search rules
 
   -- One stream more, which holds the fact f.
   module _ (facts : List Fact) (k : ℕ) {f : Fact} (here : held_at b streams k ≡ Some f) where
@@ -261,8 +260,8 @@ module _ {S : Type 0} (b : Behaviour S) (streams : List S) where
 
     pub comes-alone : ComesTo a facts None
         → ComesTo a (facts ++ option_list (held_at b streams k)) (held_at b streams k)
-    comes-alone h = subst (λ o. ComesTo a (facts ++ option_list o) o) (sym held.1)
-        (comes-first a facts held.0 held.2 not_before h)
+    comes-alone h = rw held.1
+        (comes-first a _ _ held.2 not_before h)
 
     pub comes-joined : (l r : LowestValue) → StandsOn b a streams l → Joins b streams l k r
         → ComesTo a facts (value_at b streams l)

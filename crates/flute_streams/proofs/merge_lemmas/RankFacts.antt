@@ -4,21 +4,19 @@ use Rattle.std.proofs.Common.{rules}
 use Rattle.flute_streams.proofs.Common.{◌≡◌, ◌≢◌, ℕ, zero, suc, ◌+◌}
 use Rattle.flute_streams.proofs.Common.{◌*◌, ◌/◌, ◌%◌, ◌<◌, ◌≤◌, true}
 use Rattle.flute_streams.proofs.Common.{false, List, [], ◌∷◌, ◌++◌, Option, Some, None}
-use Rattle.flute_streams.proofs.Common.{inl, inr}
-use Rattle.flute_streams.proofs.Common.{◌⊎◌, refl, sym, ap, ◌∙◌, subst, append-nil}
-use Rattle.flute_streams.proofs.Common.{arith, cases_lt}
+use Rattle.flute_streams.proofs.Common.{◌⊎◌, refl, sym, ap, ◌∙◌}
+use Rattle.flute_streams.proofs.Common.{arith}
 use Rattle.flute_streams.proofs.Common.{is_eq, Ordering, Less, Equal, Greater, AllByRecursion}
 use Rattle.flute_streams.proofs.Common.{Address, Fact, address, address_cmp, address_total}
 use Rattle.flute_streams.proofs.Common.{alone-at, alone-elsewhere, conflict_at, fact_at}
 use Rattle.flute_streams.proofs.Common.{fact_at-append, fact_at-nil, fact_same, joined}
 use Rattle.flute_streams.proofs.Common.{joined-apart, joined-none, joined-same, same_fact}
-use Rattle.flute_streams.proofs.Common.{address_itself, option_list, address_of, same_Some}
+use Rattle.flute_streams.proofs.Common.{option_list, address_of, same_Some}
 use Rattle.flute_streams.proofs.Common.{IfSome, IsNotBefore, Lowest}
 use Rattle.flute_journal.proofs.Public.{all_append}
 use Rattle.flute_streams.proofs.merge_lemmas.LowestFacts.{conflict-place, up_to_itself, up_to_less}
-use Rattle.std.specs.{Ordering.{nat_cmp, ordering_then}, Cmp.{nat_cmp_is}}
-use Rattle.std.proofs.lemmas.Cmp.{tied_itself}
-use Rattle.flute_parts.specs.{Totality.{key_total}, Order.{key_cmp, part_cmp}}
+use Rattle.std.specs.{Ordering.{nat_cmp, ordering_then}}
+use Rattle.flute_parts.specs.{Order.{part_cmp}}
 use Rattle.flute_parts.specs.declared.{
   key.Key.{Key},
   address.Part.{Part},
@@ -49,23 +47,23 @@ rank-symbol sbn esi h =
     let n = sbn * 65536 + esi in
     let e : 1 + sbn * 65536 + esi ≡ suc n = omega arith in
     ap part_at e ∙ part_suc n
-    ∙ same_symbol (n / 65536) sbn (n % 65536) esi (omega (arith, h)) (omega (arith, h))
+    ∙ same_symbol _ _ _ _ (omega (arith)) (omega (arith))
 
 -- parts rise with their ranks
 
 less : (x y : ℕ) → x < y → nat_cmp x y ≡ Less
-less x y h = search rules
+less = search rules
 
 then_equal : (o p : Ordering) → o ≡ Equal → ordering_then o p ≡ p
-then_equal o p e = search rules
+then_equal = search rules
 
 then_rise : (a b c d : ℕ) → (a < b) ⊎ ((a ≡ b) × (c < d))
     → ordering_then (nat_cmp a b) (nat_cmp c d) ≡ Less
-then_rise a b c d h = search rules
+then_rise = search rules
 
 digits_rise : (m n : ℕ) → m < n
     → (m / 65536 < n / 65536) ⊎ ((m / 65536 ≡ n / 65536) × (m % 65536 < n % 65536))
-digits_rise m n h = search rules
+digits_rise = search rules
 
 parts_rise : (m n : ℕ) → m < n → part_cmp (part_at m) (part_at n) ≡ Less
 parts_rise m zero h = absurd (omega (arith, h))
@@ -87,7 +85,7 @@ at_part key part = record { key = key; part = part }
 
 pub same_place : (a : Address) (key : Key) (rank : ℕ) → a.key ≡ key
     → part_at rank ≡ a.part → a ≡ place_at_rank key rank
-same_place a key rank e p = search rules
+same_place = search rules
 
 -- what is held at a higher rank stands elsewhere
 
@@ -100,7 +98,7 @@ apart a f less =
 
 behind : (a : Address) (key : Key) (rank higher : ℕ) (f : Fact) → a ≡ place_at_rank key rank
     → rank < higher → IsFrom key higher (address f) → address_cmp a (address f) ≡ Less
-behind a key rank higher f e l from = search rules
+behind = search rules
 
 pub elsewhere : (a : Address) (key : Key) (rank higher : ℕ) (o : Option Fact) → a ≡ place_at_rank
     key rank → rank < higher → AllFrom key higher (address_of o) → address_of o ≢ Some a
@@ -129,7 +127,7 @@ comes_alone a facts f h e = grind (arith, fact_at-append, joined, alone-at)
 -- once all facts are joined, their value is the lowest
 pub comes-lowest : (a : Address) (facts : List Fact) (o : Option Fact) → ComesTo a facts o
     → IfSome o (Lowest facts)
-comes-lowest x0 x1 x2 x3 = search rules
+comes-lowest = search rules
 
 module _ (a : Address) (facts : List Fact) where
   first_more : (f : Fact) → IsNotBefore a f → AllByRecursion (IsNotBefore a) facts

@@ -2,7 +2,7 @@
 use Rattle.std.proofs.Common.{rules}
 use Rattle.flute_streams.proofs.Common.{◌≡◌, ◌≢◌, ℕ, zero, suc, ◌+◌, ◌-◌}
 use Rattle.flute_streams.proofs.Common.{◌<◌, ◌≤◌, ◌/◌, Bool, true}
-use Rattle.flute_streams.proofs.Common.{List, ◌++◌, length, take, Option, Some, Ok, IfSome}
+use Rattle.flute_streams.proofs.Common.{List, ◌++◌, length, take, Option, Some, Ok}
 use Rattle.flute_streams.proofs.Common.{inl, inr, ◌⊎◌, sym, ap, ◌∙◌}
 use Rattle.flute_streams.proofs.Common.{subst, arith, cases_Bool, eqb, eqb-false, eqb-true}
 use Rattle.flute_streams.proofs.Common.{slice_get, slice_get_within, Address, Fact}
@@ -26,7 +26,7 @@ OthersStay k ranks new = (j : ℕ) → j ≢ k → slice_index new j ≡ slice_i
 
 pub ranked_of : {S : Type 0} (b : Behaviour S) (streams : List S) (r : Ranks) (key : Key)
     → r.key ≡ Some key → IsRanking b streams r → AreRanked b streams key r.ranks r.lows
-ranked_of b streams r key e h = search rules
+ranked_of = search rules
 
 module _ {S : Type 0} (b : Behaviour S) (key : Key) where
   -- the streams before k are ranked
@@ -65,7 +65,7 @@ module _ {S : Type 0} (b : Behaviour S) (key : Key) where
 
   pub rest_from : (k n : ℕ) {known : Bool} {streams : List S} {ranks : List ℕ} → k ≤ n
       → AreRankedFrom k known streams ranks → AreRankedFrom n known streams ranks
-  rest_from k n p h = search rules
+  rest_from = search rules
 
   -- those that have higher ranks stand elsewhere
   pub passed_elsewhere : {a : Address} (rank k n : ℕ) {known : Bool} {streams : List S}
@@ -159,7 +159,7 @@ module _ {S : Type 0} (b : Behaviour S) (streams : List S) (a : Address) where
       → m ≤ length streams → a ≡ place_at_rank key rank → AreAbove rank k m ranks → AreRanked b
       streams key ranks lows → ComesTo a (heads b (take k streams)) v → ComesTo a
       (heads b (take m streams)) v
-  comes-up-to k m {v = v} p within at above ranked h =
-      let same : k + (m - k) ≡ m = omega (arith, p) in
-      subst (λ i. ComesTo a (heads b (take i streams)) v) same (comes_passed k (m - k)
-      (omega (arith, same, within)) at (λ i l q. above i l (omega (arith, same, q))) ranked h)
+  comes-up-to k m {v} p within at above ranked h =
+      let same : k + (m - k) ≡ m = omega (arith) in
+      rw (← same) (comes_passed k _
+      (omega (arith)) at (λ i l q. above i l (omega (arith))) ranked h)

@@ -12,10 +12,10 @@ use Rattle.std.proofs.Math.Bool.{and_assoc, and-true}
 pub same-append : (xs ys us vs : List ℕ) → length xs ≡ length ys
     → bytes_eq (xs ++ us) (ys ++ vs) ≡ (bytes_eq xs ys && bytes_eq us vs)
 same-append [] [] us vs e = refl
-same-append [] (y ∷ ys) us vs e = absurd (omega (arith, e))
-same-append (x ∷ xs) [] us vs e = absurd (omega (arith, e))
+same-append [] (y ∷ ys) us vs e = absurd (omega (arith))
+same-append (x ∷ xs) [] us vs e = absurd (omega (arith))
 same-append (x ∷ xs) (y ∷ ys) us vs e =
-    ap (λ (b : Bool). nat_eq x y && b) (same-append xs ys us vs (omega (arith, e)))
+    ap (λ b. nat_eq x y && b) (same-append xs ys us vs (omega (arith)))
     ∙ sym (and_assoc (nat_eq x y) (bytes_eq xs ys) (bytes_eq us vs))
 
 -- one byte more of each
@@ -55,7 +55,7 @@ pub record SameFront (xs ys us vs : List ℕ) : Type 0 where
   pub as_many : length us ≡ length vs
 
 same-behind : (front us vs : List ℕ) → bytes_eq (front ++ us) (front ++ vs) ≡ bytes_eq us vs
-same-behind front us vs = search (rules, same-append, bytes_eq-Decides)
+same-behind = search (rules, same-append, bytes_eq-Decides)
 
 module _ {xs ys us vs : List ℕ} (h : SameFront xs ys us vs) where
   pub same-left : bytes_eq xs ys ≡ bytes_eq us vs

@@ -1,5 +1,4 @@
 -- The state of a merge of streams between two turns, and how the merge ends (merge_into).
-use Rattle.std.proofs.lemmas.Grind.{common_steps}
 use Rattle.flute_streams.specs.Lowest.{AreSpelled}
 use Rattle.flute_streams.proofs.Common.{Address, AllByRecursion, Appends, Appends-nil}
 use Rattle.flute_streams.proofs.Common.{Appends-trans, AppendsPart, AppendsPartOf, AreNew}
@@ -8,14 +7,14 @@ use Rattle.flute_streams.proofs.Common.{EachSince, EndsMerged, Fact, GoOnAt, Inp
 use Rattle.flute_streams.proofs.Common.{IsCounted, IsCutAfter, IsFact, IsRising, IsSized, IsTrue}
 use Rattle.flute_streams.proofs.Common.{IsWithinLimits, Journal, List, Lowest, NamesInput, None}
 use Rattle.flute_streams.proofs.Common.{NoneFails, OneFails, Option, Over, Over-below, PutsBytes}
-use Rattle.flute_streams.proofs.Common.{ReadsAhead, Same, Same-append, Same-itself, Same-sym}
+use Rattle.flute_streams.proofs.Common.{ReadsAhead, Same, Same-append, Same-sym}
 use Rattle.flute_streams.proofs.Common.{Same-trans, Some, StopsIn, StreamsFault, Tally, Write}
 use Rattle.flute_streams.proofs.Common.{Written, [], address, address_same, all_of, ap}
 use Rattle.flute_streams.proofs.Common.{append_assoc, arith, cases_Bool, cut_end, cut_entry}
 use Rattle.flute_streams.proofs.Common.{cut_header, end, entry, fact_at, fact_at-elsewhere}
 use Rattle.flute_streams.proofs.Common.{fact_at-nil, false, without_end, header, heads, inl, inr}
 use Rattle.flute_streams.proofs.Common.{is_after, last_of, length, length-append, most_of}
-use Rattle.flute_streams.proofs.Common.{none-some, refl, rising_unique, rules, same_address}
+use Rattle.flute_streams.proofs.Common.{none-some, refl, rising_unique, rules}
 use Rattle.flute_streams.proofs.Common.{spelling, subst, sym, true, written_up_to, ℕ, ◌++◌}
 use Rattle.flute_streams.proofs.Common.{◌+◌}
 use Rattle.flute_streams.proofs.Common.{◌<◌, ◌^◌, ◌∙◌, ◌∷◌, ◌≡◌}
@@ -42,8 +41,8 @@ use Rattle.flute_streams.proofs.merge_lemmas.StreamStops.{told_whole}
 named_all : (P : Address → Type 0) (fs : List Fact) (a : Address) (g : Fact)
     → AllByRecursion (λ f. P (address f)) fs → fact_at fs a ≡ Some g → P a
 named_all P [] a g h e = absurd (none-some g (sym (fact_at-nil a) ∙ e))
-named_all P (f ∷ fs) a g h e = elim (cases_Bool (same_address (address f) a)) [
-  | inl s ↦ subst P (address_same (address f) a s) h.0
+named_all P (f ∷ fs) a g h e = elim (cases_Bool _) [
+  | inl s ↦ rw (← address_same (address f) a s) h.0
   | inr s ↦ named_all P fs a g h.1 (sym (fact_at-elsewhere f fs a s) ∙ e)
 ]
 
@@ -78,7 +77,7 @@ module _ {S : Type 0} (b : Behaviour S) where
       {entries : List Fact} {bytes : List ℕ} → AppendsPartOf b old w w' → EachSince b.reads old now
       read → Collects (all_of read) entries → Appends w w' bytes → IsCutAfter entries bytes →
       Stopping patient old now w w' Write
-  at_write read short reads c a begins = search rules
+  at_write = search rules
 
   -- an input stopped after these entries
   at_input : {patient : Bool} {p : Option Address} {runs : List (Run S)} {new : List S}
@@ -87,7 +86,7 @@ module _ {S : Type 0} (b : Behaviour S) where
       (all_of (givens_at b p runs)) entries →
       (patient ≡ false → Appends w w' (written_up_to entries)) → Stopping patient (starts runs) new
       w w' (Input fault) × OneFails b fault.number fault.fault (starts runs) new
-  at_input s short c a = grind (arith, givens_at)
+  at_input = grind (arith)
 
   none_collects : Collects [] []
   none_collects = search rules
@@ -128,9 +127,9 @@ module _ {S : Type 0} (b : Behaviour S) where
   pub state_start : {failed : Bool} {Also : List Fact → Type 0} {old now : List S}
       {w w' : Option (List ℕ)} → Also [] → AreNew b old → GoOnAt b None old now → Written failed w
       w' header → State failed Also old now w w' 0
-  state_start {old = old} {now = now} also n h a =
-      let t = first_turn old now n h in
-      let e : all_of (givens t.next) ≡ [] = ap all_of t.givens_are ∙ new_givens b old in
+  state_start {old} {now} also n h a =
+      let t = first_turn _ _ n h in
+      let e = ap all_of t.givens_are ∙ new_givens b old in
       record {
         runs = t.next;
         starts_are = t.starts_are ∙ new_starts b old;
@@ -196,7 +195,7 @@ module _ {S : Type 0} (b : Behaviour S) where
 
     -- all was written where the sink has not failed
     whole_yet : failed ≡ false → Appends w w' (without_end state.joined)
-    whole_yet good = search rules
+    whole_yet = search rules
 
     pub few-joined : count ≤ most_of b old
     few-joined = search (rules, most-given)
@@ -231,8 +230,8 @@ module _ {S : Type 0} (b : Behaviour S) where
 
       -- the entries that were written, and g after them, rise
       rising_next : IsRising (state.joined ++ g ∷ [])
-      rising_next = rises-rising (state.joined ++ g ∷ [])
-          (rises_more None state.joined g (rising-rises state.joined state.collects.rising) above)
+      rising_next = rises-rising _
+          (rises_more _ _ g (rising-rises _ state.collects.rising) above)
 
       from_next : HoldFrom b last (address g) state.runs
       from_next = search rules
@@ -257,8 +256,8 @@ module _ {S : Type 0} (b : Behaviour S) where
         next_bytes : (next : Bool) (w'' : Option (List ℕ)) → PutsBytes failed next w' w'' (entry g)
             → Written next w w'' (without_end (state.joined ++ g ∷ []))
         next_bytes next w'' a =
-            subst (Written next w w'') (without_end-snoc state.joined g)
-            (written-more failed next w w' w'' (without_end state.joined) (entry g)
+            rw (← without_end-snoc _ g)
+            (written-more _ _ w w' _ _ _
             (state.written, a))
 
         -- the state after this turn
@@ -352,8 +351,8 @@ module _ {S : Type 0} (b : Behaviour S) where
 
       whole : (next : Bool) (w'' : Option (List ℕ)) → PutsBytes failed next w' w'' (end count)
           → Written next w w'' (spelling state.joined)
-      whole next w'' a = subst (λ n. Written next w w'' (without_end state.joined ++ end n))
-          state.count_is (written-more failed next w w' w'' (without_end state.joined) (end count)
+      whole next w'' a = rw
+          (← state.count_is) (written-more _ _ w w' _ _ _
           (state.written, a))
 
       -- the journal of other facts with the same value at each address is the one that was written

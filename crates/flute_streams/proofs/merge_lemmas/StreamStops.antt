@@ -1,5 +1,4 @@
 -- A merge that stops: what was read of each stream, and what was appended.
-use Rattle.std.proofs.lemmas.Grind.{common_steps}
 use Rattle.std.proofs.Common.{rules}
 use Rattle.flute_streams.proofs.Common.{Address, AllByRecursion, Appends, AppendsPartOf, Behaviour}
 use Rattle.flute_streams.proofs.Common.{Collects, Continues, Each, EachSince, Fact, GaveBefore}
@@ -10,7 +9,7 @@ use Rattle.flute_streams.proofs.Common.{all_of, ap, append-nil, append_assoc, ar
 use Rattle.flute_streams.proofs.Common.{end, entry, fact_at, fact_at-append, false, flat_map}
 use Rattle.flute_streams.proofs.Common.{without_end, header, heads, inl, inr, is_after, joined}
 use Rattle.flute_streams.proofs.Common.{length, length-append, option_list, address_of, refl}
-use Rattle.flute_streams.proofs.Common.{rising_unique, same_Some, same_address, slice_get, spelling}
+use Rattle.flute_streams.proofs.Common.{rising_unique, same_address, slice_get, spelling}
 use Rattle.flute_streams.proofs.Common.{subst, suc, sym, zero, ℕ, ◌++◌, ◌∙◌, ◌∷◌}
 use Rattle.flute_streams.proofs.Common.{◌≡◌, ◌≢◌}
 use Rattle.flute_journal.proofs.Public.{all_split}
@@ -115,7 +114,7 @@ module _ {S : Type 0} (b : Behaviour S) where
   apart : (f : Fact) (a : Address) → same_address (address f) a ≡ false
       → Some (address f) ≡ Some a → ⊥
   apart f a e q =
-      absurd (let s = ap (same_address (address f)) (same_Some (address f) a q) in let t =
+      absurd (let t =
       address_itself (address f) in cc)
 
   above_held : (a : Address) (F K : List Fact) (held : Option Fact) → Continues K
@@ -170,7 +169,7 @@ module _ {S : Type 0} (b : Behaviour S) where
   only F K held e c = grind (arith, append-nil)
 
   none_held : (o : Option Fact) (fs : List Fact) → option_list o ++ fs ≡ [] → (o ≡ None) × (fs ≡ [])
-  none_held o fs e = grind (arith)
+  none_held = grind (arith)
 
   known_whole : (place : Option Address) (runs : List (Run S)) (known : List (List Fact)) →
       AllByRecursion (Went b place) runs → heads b (nows runs) ≡ [] → Each b.knows (starts runs)
@@ -188,7 +187,7 @@ module _ {S : Type 0} (b : Behaviour S) where
       runs → heads b (nows runs) ≡ [] → Each b.tells (starts runs) (givens runs)
   told_whole place [] w e = tt
   told_whole place (r ∷ runs) w e =
-      let n = none_held (b.held r.now) (heads b (nows runs)) e in
+      let n = none_held _ _ e in
       (w.0.gave.ended n.0, told_whole place runs w.1 n.1)
 
   -- and each ended after what it gave
@@ -196,7 +195,7 @@ module _ {S : Type 0} (b : Behaviour S) where
       runs → heads b (nows runs) ≡ [] → EachSince b.ends (starts runs) (nows runs) (givens runs)
   ended_whole place [] w e = tt
   ended_whole place (r ∷ runs) w e =
-      let n = none_held (b.held r.now) (heads b (nows runs)) e in
+      let n = none_held _ _ e in
       (w.0.gave.ends n.0, ended_whole place runs w.1 n.1)
 
   rest_some : (x y : List ℕ) (n : ℕ) → x ++ (y ++ end n) ≡ [] → ⊥
@@ -207,10 +206,10 @@ module _ {S : Type 0} (b : Behaviour S) where
   goes_on : (M rest : List Fact) (bs more : List ℕ) (n : ℕ) → bs ++ more ≡ without_end M
       → bs ++ (more ++ (flat_map entry rest ++ end n)) ≡ without_end (M ++ rest) ++ end n
   goes_on M rest bs more n e = cc (
-    append_assoc bs more (flat_map entry rest ++ end n),
+    append_assoc bs _ _,
     e,
-    append_assoc (without_end M) (flat_map entry rest) (end n),
-    without_end-append M rest,
+    append_assoc _ _ _,
+    without_end-append M _,
   )
 
   -- a part of the header and of entries that begin those of all facts
@@ -221,26 +220,26 @@ module _ {S : Type 0} (b : Behaviour S) where
   short bs more M v a e h = record {
     bytes = bs;
     appended = a;
-    no_journal = no_end M bs more v e;
-    prefix = λ known k whole j. let p = h known k j.0 j.1 in (
+    no_journal = no_end M bs _ v e;
+    prefix = λ known k whole j. let p = h _ k j.0 j.1 in (
       more ++
           (flat_map entry p.0 ++ end (length j.0)),
-      rest_some more (flat_map entry p.0)
-          (length j.0),
-      goes_on M p.0 bs more (length j.0) e ∙ ap
-          (λ (z : List Fact). without_end z ++ end (length j.0)) (sym p.1) ∙ sym j.3,
+      rest_some _ _
+          _,
+      goes_on M _ bs _ _ e ∙ ap
+          (λ z. without_end z ++ end (length j.0)) (sym p.1) ∙ sym j.3,
     );
   }
 
   pub short_header : {inputs : List S} {w w' : Option (List ℕ)} (bs more : List ℕ)
       → Appends w w' bs → bs ++ more ≡ header → AppendsPartOf b inputs w w'
-  short_header bs more a e = short bs more [] tt a e (λ known k E c. (E, refl))
+  short_header bs more a e = short bs _ [] tt a e (λ known k E c. (E, refl))
 
   pub short_entry : {place : Option Address} {runs : List (Run S)} (M : List Fact) (g : Fact)
       {w w' : Option (List ℕ)} (bs more : List ℕ) → HoldFrom place (address g) runs → Collects
       (all_of (givens_at b (Some (address g)) runs)) (M ++ g ∷ []) → Appends w w' bs → bs ++ more ≡
       without_end (M ++ g ∷ []) → AppendsPartOf b (starts runs) w w'
-  short_entry {runs = runs} M g bs more from c a e = short bs more (M ++ g ∷ []) c.valid a e (λ
+  short_entry {runs} M g bs more from c a e = short bs _ _ c.valid a e (λ
       known k E d. rising-prefix None (M ++ g ∷ []) E (rising-rises (M ++ g ∷ []) c.rising)
       (rising-rises E d.rising) (λ z h. sym (c.same.each z) ∙ sym
       (known_at z runs known from (subst (λ x. is_after x z ≡ false) (last_of-snoc None M g) h) k) ∙

@@ -1,18 +1,17 @@
 -- A turn of a merge: each stream that holds the lowest address is advanced.
-use Rattle.std.proofs.lemmas.Grind.{common_steps}
 use Rattle.std.proofs.Common.{rules}
 use Rattle.flute_streams.proofs.Common.{Address, AllByRecursion, AreNew, Behaviour, Bool, Equal}
 use Rattle.flute_streams.proofs.Common.{Fact, Gave, GoOnAt, GoesOnAt, Greater, IfSome, IsNotBefore}
 use Rattle.flute_streams.proofs.Common.{IsRising, IsSized, IsTrue, Key, Less, List, Lowest, None}
 use Rattle.flute_streams.proofs.Common.{Option, Ordering, Part, Same, Same-append, Same-itself}
-use Rattle.flute_streams.proofs.Common.{Same-trans, Some, [], address, address_cmp, address_itself}
-use Rattle.flute_streams.proofs.Common.{address_same, all_of, alone, alone-at, alone-elsewhere, ap}
+use Rattle.flute_streams.proofs.Common.{Same-trans, Some, [], address, address_cmp}
+use Rattle.flute_streams.proofs.Common.{address_same, all_of, alone-at, alone-elsewhere, ap}
 use Rattle.flute_streams.proofs.Common.{append-nil, arith, cases_Bool, conflict_in, fact_at}
 use Rattle.flute_streams.proofs.Common.{fact_at-cons, fact_at-elsewhere, fact_at-nil, fact_same}
 use Rattle.flute_streams.proofs.Common.{false, heads, inl, inr, is_after, is_eq, joined}
 use Rattle.flute_streams.proofs.Common.{joined-apart, joined-same, length, length-append, most_of}
 use Rattle.flute_streams.proofs.Common.{none-some, option_list, address_of, refl, same_address}
-use Rattle.flute_streams.proofs.Common.{same_fact, subst, sym, true, ◌++◌, ◌+◌, ◌∙◌}
+use Rattle.flute_streams.proofs.Common.{subst, sym, true, ◌++◌, ◌+◌, ◌∙◌}
 use Rattle.flute_streams.proofs.Common.{◌∷◌, ◌≡◌, ◌≢◌}
 use Rattle.flute_streams.proofs.Common.{◌≤◌}
 use Rattle.flute_journal.proofs.Public.{all_split}
@@ -22,32 +21,31 @@ use Rattle.flute_journal.proofs.Public.{Same-crossed, rising-rises}
 -- the value of sized facts is sized
 
 sized_conflict : (key : Key) (part : Part) → IsSized (conflict_in key part)
-sized_conflict key part = grind (arith)
+sized_conflict = grind (arith)
 
 sized_joined : (a : Address) (f : Fact) (o : Option Fact) → IsSized f
     → IfSome (joined a (Some f) o) IsSized
 sized_joined a f None v = v
-sized_joined a f (Some g) v = elim (cases_Bool (same_fact f g)) [
-  | inl s ↦ subst IsSized (sym (joined-same a f g (fact_same f g s))) v
-  | inr s ↦ subst IsSized (sym (joined-apart a f g s)) (sized_conflict a.key a.part)
+sized_joined a f (Some g) v = elim (cases_Bool _) [
+  | inl s ↦ rw (joined-same a f g (fact_same f g s)) v
+  | inr s ↦ rw (joined-apart a f g s) (sized_conflict _ _)
 ]
 
 fact_at-sized : (facts : List Fact) (a : Address) → AllByRecursion IsSized facts
     → IfSome (fact_at facts a) IsSized
-fact_at-sized [] a v = subst (λ (o : Option Fact). IfSome o IsSized) (sym (fact_at-nil a)) tt
-fact_at-sized (f ∷ fs) a v = elim (cases_Bool (same_address (address f) a)) [
-  | inl e ↦ let p = address_same (address f) a e in subst
-      (λ (o : Option Fact). IfSome o IsSized)
-      (sym (fact_at-cons f fs a ∙ ap (λ x. joined a x (fact_at fs a)) (alone-at f a p)))
-      (sized_joined a f (fact_at fs a) v.0)
-  | inr e ↦ subst (λ (o : Option Fact). IfSome o IsSized) (sym (fact_at-elsewhere f fs a e))
+fact_at-sized [] a v = rw (fact_at-nil a) tt
+fact_at-sized (f ∷ fs) a v = elim (cases_Bool _) [
+  | inl e ↦ let p = address_same (address f) a e in rw
+      (fact_at-cons f fs a ∙ ap (λ x. joined a x (fact_at fs a)) (alone-at f a p))
+      (sized_joined a f _ v.0)
+  | inr e ↦ rw (fact_at-elsewhere f fs a e)
       (fact_at-sized fs a v.1)
 ]
 
 pub lowest-sized : (facts : List Fact) (g : Fact) → AllByRecursion IsSized facts
     → Lowest facts g → IsSized g
 lowest-sized facts g v l =
-    subst (λ (o : Option Fact). IfSome o IsSized) l.comes (fact_at-sized facts (address g) v)
+    subst (λ (o : Option Fact). IfSome o IsSized) l.comes (fact_at-sized _ _ v)
 
 -- The facts that a turn takes.
 
@@ -62,9 +60,9 @@ taken_at a (f ∷ fs) = taken_by (same_address (address f) a) f ++ taken_at a fs
 
 taken_here : (a : Address) (fs : List Fact) → fact_at (taken_at a fs) a ≡ fact_at fs a
 taken_here a [] = refl
-taken_here a (f ∷ fs) = elim (cases_Bool (same_address (address f) a)) [
+taken_here a (f ∷ fs) = elim (cases_Bool _) [
   | inl e ↦ ap (λ b. fact_at (taken_by b f ++ taken_at a fs) a) e ∙ fact_at-cons f
-      (taken_at a fs) a ∙ ap (joined a (alone a f)) (taken_here a fs) ∙ sym
+      _ a ∙ ap (joined a _) (taken_here a fs) ∙ sym
       (fact_at-cons f fs a)
   | inr e ↦ ap (λ b. fact_at (taken_by b f ++ taken_at a fs) a) e ∙ taken_here a fs ∙ sym
       (fact_at-elsewhere f fs a e)
@@ -73,10 +71,10 @@ taken_here a (f ∷ fs) = elim (cases_Bool (same_address (address f) a)) [
 taken_elsewhere : (a b : Address) (fs : List Fact) → same_address a b ≡ false
     → fact_at (taken_at a fs) b ≡ None
 taken_elsewhere a b [] n = fact_at-nil b
-taken_elsewhere a b (f ∷ fs) n = elim (cases_Bool (same_address (address f) a)) [
+taken_elsewhere a b (f ∷ fs) n = elim (cases_Bool _) [
   | inl e ↦ ap (λ t. fact_at (taken_by t f ++ taken_at a fs) b) e ∙ fact_at-elsewhere f
-      (taken_at a fs) b
-      (subst (λ x. same_address x b ≡ false) (sym (address_same (address f) a e)) n) ∙
+      _ b
+      (rw (address_same (address f) a e) n) ∙
       taken_elsewhere a b fs n
   | inr e ↦ ap (λ t. fact_at (taken_by t f ++ taken_at a fs) b) e ∙ taken_elsewhere a b fs n
 ]
@@ -97,13 +95,13 @@ taken_same fs g h = record {
 -- and it holds one fact at least
 pub taken_some : (fs : List Fact) (g : Fact) → fact_at fs (address g) ≡ Some g
     → 1 ≤ length (taken_at (address g) fs)
-taken_some fs g h = some (taken_at (address g) fs) refl
+taken_some fs g h = some _ refl
   where
     some : (t : List Fact) → taken_at (address g) fs ≡ t → 1 ≤ length t
     some [] e = absurd
-        (none-some g (sym (fact_at-nil (address g))
-        ∙ sym (ap (λ (l : List Fact). fact_at l (address g)) e)
-        ∙ taken_here (address g) fs ∙ h))
+        (none-some g (sym (fact_at-nil _)
+        ∙ sym (ap (λ l. fact_at l (address g)) e)
+        ∙ taken_here _ fs ∙ h))
     some (f ∷ t) e = omega arith
 
 -- A stream that was merged up to some place.
@@ -145,7 +143,7 @@ given_here p (Some f) e = search rules
 pub given_elsewhere : (p : Option Address) (o : Option Fact) → address_of o ≢ p → given_at p o ≡ []
 given_elsewhere None o n = refl
 given_elsewhere (Some a) None n = refl
-given_elsewhere (Some a) (Some f) n = elim (cases_Bool (same_address (address f) a)) [
+given_elsewhere (Some a) (Some f) n = elim (cases_Bool _) [
   | inl e ↦ absurd (n (ap Some (address_same (address f) a e)))
   | inr e ↦ ap (λ b. taken_by b f) e
 ]
@@ -157,11 +155,11 @@ IsAbove place o = IfSome o (λ f. IsTrue (is_after place (address f)))
 pub above_other : (a : Address) (o : Option Fact) → address_of o ≢ Some a
     → AllByRecursion (IsNotBefore a) (option_list o) → IsAbove (Some a) o
 above_other a None n h = tt
-above_other a (Some f) n h = by_order (address_cmp a (address f)) refl
+above_other a (Some f) n h = by_order _ refl
   where
     by_order : (p : Ordering) → address_cmp a (address f) ≡ p
         → IsTrue (is_after (Some a) (address f))
-    by_order Less e = after a (address f) e
+    by_order Less e = after a _ e
     by_order Equal e = absurd (n (ap Some (sym (address_same a (address f) (ap is_eq e)))))
     by_order Greater e = absurd (h.0 e)
 
@@ -170,9 +168,9 @@ above_next : (F : List Fact) (held o : Option Fact) (p : Option Address) → add
     → IsRising ((F ++ option_list held) ++ option_list o) → IsAbove p o
 above_next F held o None e r = grind (arith)
 above_next F held None (Some a) e r = tt
-above_next F None (Some h) (Some a) e r = absurd (let q : None ≡ Some a = e in cc)
+above_next F None (Some h) (Some a) e r = absurd (let q = e in cc)
 above_next F (Some f) (Some h) (Some a) e r =
-    let s = Rises-second None (F ++ f ∷ []) (h ∷ []) (rising-rises ((F ++ f ∷ []) ++ h ∷ []) r) in
+    let s = Rises-second _ _ (h ∷ []) (rising-rises ((F ++ f ∷ []) ++ h ∷ []) r) in
     subst (λ x. IsTrue (is_after x (address h))) (last_of-snoc None F f ∙ e) s.0
 
 module _ {S : Type 0} (b : Behaviour S) where
@@ -191,13 +189,13 @@ module _ {S : Type 0} (b : Behaviour S) where
     pub above : IsAbove place (b.held r.now)
 
   pub ready : (place : Option Address) (r : Run S) → Went place r → Ready r
-  ready place r w = search rules
+  ready = search rules
 
   -- a stream is advanced if it holds that address
   pub went_on : (p : Option Address) (r : Run S) (u : S) → Ready r
       → (address_of (b.held r.now) ≢ p → Went p r) → GoesOnAt b p r.now u
       → Went p (record { start = r.start; now = u; given = r.given ++ given_at p (b.held r.now) })
-  went_on p r u w stays goes =
+  went_on =
       grind (arith, given_here, length-append, above_next, given_at, given_elsewhere, append-nil)
 
   -- what streams will have given
@@ -223,7 +221,7 @@ module _ {S : Type 0} (b : Behaviour S) where
   turn p (r ∷ runs) (u ∷ new) w h =
       let t = turn p runs new w.1 h.1 in
       record {
-        next = record { start = r.start; now = u; given = r.given ++ given_at p (b.held r.now) }
+        next = record { start = r.start; now = u; given = r.given ++ given_at p (b.held _) }
             ∷ t.next;
         starts_are = ap (λ l. r.start ∷ l) t.starts_are;
         nows_are = ap (λ l. u ∷ l) t.nows_are;
@@ -262,13 +260,13 @@ module _ {S : Type 0} (b : Behaviour S) where
       → AllByRecursion (Stays (Some a)) runs
   went_stays place a [] w n = tt
   went_stays place a (r ∷ runs) w n =
-      let both = all_split (IsNotBefore a) (option_list (b.held r.now)) (heads b (nows runs)) n in (
+      let both = all_split _ _ _ n in (
         (
           ready place r w.0,
           λ e. record {
             gave = w.0.gave;
             fewer = w.0.fewer;
-            above = above_other a (b.held r.now) e both.0;
+            above = above_other a _ e both.0;
           },
         ),
         went_stays place a runs w.1 both.1,
@@ -276,7 +274,7 @@ module _ {S : Type 0} (b : Behaviour S) where
 
   taken_split : (a : Address) (o : Option Fact) (fs : List Fact)
       → taken_at a (option_list o ++ fs) ≡ taken_from a o ++ taken_at a fs
-  taken_split a o fs = grind (arith)
+  taken_split = grind (arith)
 
   -- what they give together
   pub given_same : (a : Address) (runs : List (Run S)) → Same (all_of (givens_at (Some a) runs))
@@ -302,11 +300,11 @@ module _ {S : Type 0} (b : Behaviour S) where
 
   fewer_one : (a : Address) (t u : S) → GoesOnAt b (Some a) t u
       → b.most u + length (taken_from a (b.held t)) ≤ b.most t
-  fewer_one a t u (inl h) = subst (λ (l : List Fact). b.most u + length l ≤ b.most t)
-      (sym (given_here (Some a) (b.held t) h.0)) h.1.fewer
-  fewer_one a t u (inr h) = subst (λ (l : List Fact). b.most u + length l ≤ b.most t)
-      (sym (given_elsewhere (Some a) (b.held t) h.0))
-      (let e : b.most u ≡ b.most t = ap b.most h.1 in omega (arith, e))
+  fewer_one a t u (inl h) = rw
+      (given_here _ _ h.0) h.1.fewer
+  fewer_one a t u (inr h) = rw
+      (given_elsewhere _ _ h.0)
+      (let e = ap b.most h.1 in omega (arith))
 
   -- how many facts they may still hold
   pub fewer_all : (a : Address) (now new : List S) → GoOnAt b (Some a) now new

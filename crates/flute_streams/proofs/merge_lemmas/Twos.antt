@@ -1,16 +1,15 @@
 -- What a merge of two streams of journals gives, stated of the two journals (specs/Merges).
-use Rattle.std.proofs.lemmas.Grind.{common_steps}
-use Rattle.flute_streams.proofs.Common.{AppendsPartOf, BeginWith, Behaviour, Collects, Each}
+use Rattle.flute_streams.proofs.Common.{AppendsPartOf, Behaviour, Collects, Each}
 use Rattle.flute_streams.proofs.Common.{EachSince, Either, Err, Fact, FailAs, First, FirstFails}
 use Rattle.flute_streams.proofs.Common.{Input, MergedJournal, Journal, KeepsUp, LentStream, List}
 use Rattle.flute_streams.proofs.Common.{LoadFault, MergeGives, Merged, MergedAll, NamesFault}
-use Rattle.flute_streams.proofs.Common.{NamesInput, None, OneFails, Option, PutsJournal, Read}
+use Rattle.flute_streams.proofs.Common.{NamesInput, OneFails, Option, Read}
 use Rattle.flute_streams.proofs.Common.{ReadFault, ReadsAhead, Same, Same-append, Same-sym}
 use Rattle.flute_streams.proofs.Common.{Same-trans, Second, SecondFails, Some, StopsShort}
-use Rattle.flute_streams.proofs.Common.{StreamsFault, Write, WritesJournal, [], all_of, ap}
-use Rattle.flute_streams.proofs.Common.{append-nil, arith, either_behaviour, false, joined, lent}
+use Rattle.flute_streams.proofs.Common.{StreamsFault, [], all_of, ap}
+use Rattle.flute_streams.proofs.Common.{append-nil, arith, either_behaviour, false, lent}
 use Rattle.flute_streams.proofs.Common.{lent_behaviour, limit_of, rules, slice_get, source_of}
-use Rattle.flute_streams.proofs.Common.{subst, suc, sym, or_failed, unread_of, written_up_to, zero}
+use Rattle.flute_streams.proofs.Common.{subst, suc, unread_of, written_up_to, zero}
 use Rattle.flute_streams.proofs.Common.{ℕ, ◌++◌, ◌∙◌, ◌∷◌, ◌≡◌}
 use Rattle.flute_streams.specs.declared.merge.two_streams.MergeFault.{MergeFault}
 use Rattle.flute_streams.specs.Merges.{AppendedUpTo}
@@ -24,11 +23,11 @@ same_entries es fs ws F G p q r = search (rules, Same-trans, Same-append, Same-s
 
 begins_at : (k : ℕ) (f : ReadFault) (bytes : List ℕ) (entries : List Fact)
     → bytes ≡ written_up_to entries → AppendedUpTo (fault_at k f) bytes entries
-begins_at x0 x1 x2 x3 x4 = search rules
+begins_at = search rules
 
 begins : (k : ℕ) (f : LoadFault) (merge : MergeFault) (bytes : List ℕ) (entries : List Fact)
     → IsFaultAt k f merge → bytes ≡ written_up_to entries → AppendedUpTo merge bytes entries
-begins k f merge bytes entries is e = search rules
+begins = search rules
 
 module _ {A B : Type 0} (ua : A → Option (List ℕ)) (ba : A → List ℕ) (fa : A → ℕ)
     (ub : B → Option (List ℕ)) (bb : B → List ℕ) (fb : B → ℕ) where
@@ -59,26 +58,26 @@ module _ {A B : Type 0} (ua : A → Option (List ℕ)) (ba : A → List ℕ) (fa
     each_two : (P : Either (LentStream A) (LentStream B) → List Fact → Type 0)
         (or_failed : List (List Fact)) → Each P inputs or_failed
         → Two (P (First s)) (P (Second t)) or_failed
-    each_two x0 x1 x2 = search rules
+    each_two = search rules
 
     pub merged_two : {x o y : ℕ} {joined : MergedJournal} {w w' : Option (List ℕ)} → limit_of
         t.reader.now ≡ limit_of s.reader.now → joined.cut ≡ false → MergedAll both inputs x o y
         joined w w' → Merged (limit_of s.reader.now) joined.entries u v w w'
-    merged_two {joined = joined} {w = w} {w' = w'} same done m =
-        let t = each_two both.tells m.told m.tell in
+    merged_two {joined} {w} {w'} same done m =
+        let t = each_two both.tells _ m.tell in
         record {
           first_entries = t.first;
           second_entries = t.second;
           first_is = search rules;
           second_is = search rules;
-          writes = subst (λ F. WritesJournal w w' F joined.entries) t.all
-              (subst (λ c. PutsJournal c w w' (all_of m.told) joined.entries) done m.puts);
+          writes = rw (← t.all)
+              (rw (← done) m.puts);
         }
 
     since_two : (P : Either (LentStream A) (LentStream B) → Either (LentStream A) (LentStream B) →
         List Fact → Type 0) (or_failed : List (List Fact)) → EachSince P inputs after or_failed →
         Two (P (First s) (First s')) (P (Second t) (Second t')) or_failed
-    since_two x0 x1 x2 = search rules
+    since_two = search rules
 
     journal_of : (es fs : List Fact) (whole : List ℕ) (F G : List Fact) → Same F es
         → Same G fs → Journal whole (F ++ G) → Journal whole (es ++ (fs ++ []))
@@ -109,23 +108,23 @@ module _ {A B : Type 0} (ua : A → Option (List ℕ)) (ba : A → List ℕ) (fa
               },
               tt,
             ),
-          ) whole
-          (journal_of j.entries k.entries whole F G j.collects.same k.collects.same n);
+          ) _
+          (journal_of _ _ _ F G j.collects.same k.collects.same n);
     }
 
     -- what was read of both, and what was appended
     keeps_two : {w w' : Option (List ℕ)} {fault : StreamsFault} (merge : MergeFault)
         → IsFaultOfTwo fault merge → ReadsAhead both inputs after w w' fault
         → KeepsUp u (unread_of ua ba (lent s')) v (unread_of ub bb (lent t')) w w' merge
-    keeps_two {fault = fault} merge is r =
-        let two = since_two both.reads r.read r.reads in
+    keeps_two merge is r =
+        let two = since_two both.reads _ r.reads in
         record {
           first_entries = two.first;
           second_entries = two.second;
           first_read = two.of_first;
           second_read = two.of_second;
           entries = r.entries;
-          collects = subst (λ (l : List Fact). Collects l r.entries) two.all r.collects;
+          collects = subst (λ l. Collects l r.entries) two.all r.collects;
           bytes = r.bytes;
           appended = r.appended;
           begins = search rules;
@@ -136,30 +135,30 @@ module _ {A B : Type 0} (ua : A → Option (List ℕ)) (ba : A → List ℕ) (fa
     names_of : (k : ℕ) (f : LoadFault) (merge : MergeFault) → IsFaultAt k f merge → limit_of
         t.reader.now ≡ limit_of s.reader.now → (x : Either (LentStream A) (LentStream B)) →
         slice_get inputs k ≡ Some x → both.stops x f → NamesFault (limit_of s.reader.now) u v merge
-    names_of k f merge is same x e h = search rules
+    names_of = search rules
 
     names_two : (fault : StreamsFault) (merge : MergeFault) → IsFaultOfTwo fault merge
         → limit_of t.reader.now ≡ limit_of s.reader.now → NamesInput both inputs fault
         → NamesFault (limit_of s.reader.now) u v merge
-    names_two x0 x1 x2 x3 x4 = search rules
+    names_two = search rules
 
     -- an input stopped where it could not be read
     reading_of : (x : Either (LentStream A) (LentStream B)) (number : ℕ) (f : LoadFault)
         → both.stops x f → IsOfReading (Input (record { number = number; fault = f }))
-    reading_of x0 x1 x2 x3 = search rules
+    reading_of = search rules
 
     pub reading_two : (fault : StreamsFault) → NamesInput both inputs fault → IsOfReading fault
-    reading_two x0 x1 = search rules
+    reading_two = search rules
 
     pub stopped_two : {w w' : Option (List ℕ)} {fault : StreamsFault} {merge : MergeFault} →
         IsFaultOfTwo fault merge → limit_of t.reader.now ≡ limit_of s.reader.now → AppendsPartOf
         both inputs w w' → ReadsAhead both inputs after w w' fault → NamesInput both inputs fault →
         MergeGives (limit_of s.reader.now) u (unread_of ua ba (lent s')) v
         (unread_of ub bb (lent t')) w w' (Err merge)
-    stopped_two {fault = fault} {merge = merge} is same p r n = record {
+    stopped_two {fault} {merge} is same p r n = record {
       short = short_two p;
-      keeps_up = keeps_two merge is r;
-      names = names_two fault merge is same n;
+      keeps_up = keeps_two _ is r;
+      names = names_two _ _ is same n;
     }
 
     -- how often the sources failed
@@ -181,8 +180,8 @@ module _ {A B : Type 0} (ua : A → Option (List ℕ)) (ba : A → List ℕ) (fa
 
     fail_of : (k : ℕ) (f : LoadFault) (merge : MergeFault) → IsFaultAt k f merge
         → OneFails both k f inputs after → FailTwo merge
-    fail_of k f merge is h = search (rules, fail_at)
+    fail_of = search (rules, fail_at)
 
     pub fail_two : (fault : StreamsFault) (merge : MergeFault) → IsFaultOfTwo fault merge
         → FailAs both {T = MergedJournal} (Err fault) inputs after → FailTwo merge
-    fail_two x0 x1 x2 x3 = search (rules, fail_of)
+    fail_two = search (rules, fail_of)

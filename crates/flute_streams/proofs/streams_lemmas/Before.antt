@@ -1,5 +1,5 @@
 -- Facts that stand before an address (specs/Behind).
-use Rattle.flute_streams.proofs.Common.{◌≡◌, ◌⊎◌, false, List, [], ◌∷◌, ◌++◌, Option, Some, None}
+use Rattle.flute_streams.proofs.Common.{◌≡◌, false, List, [], ◌∷◌, ◌++◌, Option, Some, None}
 use Rattle.flute_streams.proofs.Common.{ap, sym, ◌∙◌, address, Address, Fact, address_of}
 use Rattle.flute_streams.proofs.Common.{address_same, address_total, Equal}
 use Rattle.flute_streams.proofs.Common.{fact_at, fact_at-append, fact_at-elsewhere, fact_at-nil}
@@ -30,7 +30,7 @@ pub before_later : (a b : Address) (F : List Fact) → address_cmp a b ≡ Less 
     → StandBefore b F
 before_later a b [] l s = tt
 before_later a b (f ∷ F) l s =
-    (address_total.trans (address f) a b s.0 l, before_later a b F l s.1)
+    (address_total.trans _ a b s.0 l, before_later a b F l s.1)
 
 pub before_more : (a : Address) (f : Fact) (F : List Fact) → address_cmp (address f) a ≡ Less
     → StandBefore a F → StandBefore a (F ++ f ∷ [])
@@ -55,10 +55,10 @@ last_after a (g ∷ F) f s = last_after a F f s.1
 pub rising_before : (F : List Fact) (f : Fact) → IsRising (F ++ f ∷ [])
     → StandBefore (address f) F
 rising_before [] f r = tt
-rising_before (g ∷ F) f r = (last_after (address g) F f r.0, rising_before F f r.1)
+rising_before (g ∷ F) f r = (last_after _ F f r.0, rising_before F f r.1)
 
 -- two places that compare equal are one
 pub same_place : {a p : Address} (held other : Option Fact) → Some a ≡ address_of held
     → Some p ≡ address_of other → address_cmp a p ≡ Equal → address_of held ≡ address_of other
-same_place {a = a} {p = p} held other e h o =
+same_place {a} {p} held other e h o =
     sym e ∙ ap Some (address_same a p (ap is_eq o)) ∙ h

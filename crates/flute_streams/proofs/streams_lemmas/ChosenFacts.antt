@@ -1,16 +1,14 @@
 -- Chosen: a stream is advanced to its next fact that the choice takes (specs/ChosenStreams).
-use Rattle.std.proofs.lemmas.Grind.{common_steps}
 use Rattle.std.proofs.Common.{rules}
-use Rattle.flute_streams.proofs.Common.{◌≡◌, ℕ, Bool, true, false, not, false≢true}
+use Rattle.flute_streams.proofs.Common.{◌≡◌, ℕ, Bool, true, false}
 use Rattle.flute_streams.proofs.Common.{append_assoc}
-use Rattle.flute_streams.proofs.Common.{List, [], ◌∷◌, ◌++◌, Option, Some, None, refl}
+use Rattle.flute_streams.proofs.Common.{List, [], ◌∷◌, ◌++◌, Option}
 use Rattle.flute_streams.proofs.Common.{sym, ap, ◌∙◌}
 use Rattle.flute_streams.proofs.Common.{subst, append-nil, length, arith, ◌+◌, ◌-◌, ◌^◌}
 use Rattle.flute_streams.proofs.Common.{◌≤◌, ◌<◌}
-use Rattle.flute_streams.proofs.Common.{cases_Bool, address, IsRising, StandAfter, Fact}
+use Rattle.flute_streams.proofs.Common.{IsRising, StandAfter, Fact}
 use Rattle.flute_streams.proofs.Common.{Behaviour, Continues, Gave, option_list, GoesOn}
-use Rattle.std.specs.Prelude.{cond, filter, min}
-use Rattle.std.proofs.Common.{inl, inr}
+use Rattle.std.specs.Prelude.{filter, min}
 use Rattle.std.proofs.lemmas.List.Elements.{filter-append}
 use Rattle.std.proofs.lemmas.List.Sums.{sum_by-append}
 use Rattle.std.proofs.Math.Nat.{min-eq_left}
@@ -27,39 +25,39 @@ module _ (p : Fact → Bool) where
 
   pub rising_filter : (facts : List Fact) → IsRising facts → IsRising (filter p facts)
   rising_filter [] r = tt
-  rising_filter (f ∷ facts) r = search (rules, cases_Bool, after_filter, rising_filter facts r.1)
+  rising_filter (f ∷ facts) r = search (rules, after_filter, rising_filter facts r.1)
 
 module _ {C : Type 0} (takes : C → Fact → Bool) (s : C) where
   -- what is held and not passed over is chosen, and else nothing of it is
   held_chosen : (held : Option Fact) → is_passed_over takes s held ≡ false
       → filter (takes s) (option_list held) ≡ option_list held
-  held_chosen x0 x1 = search rules
+  held_chosen = search rules
 
   held_other : (held : Option Fact) → is_passed_over takes s held ≡ true
       → filter (takes s) (option_list held) ≡ []
-  held_other x0 x1 = search rules
+  held_other = search rules
 
   -- what is held counts as passed over if it is not taken, and not if it is
   held_counts : (held : Option Fact) → is_passed_over takes s held ≡ false
       → others_of (takes s) (option_list held) ≡ 0
-  held_counts x0 x1 = search rules
+  held_counts = search rules
 
   other_counts : (held : Option Fact) → is_passed_over takes s held ≡ true
       → others_of (takes s) (option_list held) ≡ 1
-  other_counts x0 x1 = search rules
+  other_counts = search rules
 
   others_both : (xs ys : List Fact)
       → others_of (takes s) (xs ++ ys) ≡ others_of (takes s) xs + others_of (takes s) ys
-  others_both xs ys = search (rules, sum_by-append)
+  others_both = search (rules, sum_by-append)
 
   and_held : (all facts : List Fact) (held : Option Fact) → facts ≡ filter (takes s) all
       → is_passed_over takes s held ≡ false
       → facts ++ option_list held ≡ filter (takes s) (all ++ option_list held)
-  and_held all facts held e h = search (rules, held_chosen, filter-append)
+  and_held = search (rules, filter-append)
 
   and_other : (all facts : List Fact) (held : Option Fact) → facts ≡ filter (takes s) all
       → is_passed_over takes s held ≡ true → facts ≡ filter (takes s) (all ++ option_list held)
-  and_other all facts held e h = search (rules, held_other, filter-append)
+  and_other = search (rules, filter-append)
 
   module _ {S : Type 0} (b : Behaviour S) where
     -- what a stream gave, of which these are the chosen facts
@@ -87,15 +85,15 @@ module _ {C : Type 0} (takes : C → Fact → Bool) (s : C) where
     pub counts_other : {old now next : S} {before counted more : ℕ} → CountsPassed old now before
         counted → is_passed_over takes s (b.held now) ≡ true → GoesOn b now next → more ≡ min
         (counted + 1) (2 ^ 64 - 1) → CountsPassed old next before more
-    counts_other {old = old} {now = now} {next = next} {counted = counted} h o g m =
+    counts_other {old} {now} {next} {counted} h o g m =
         let passed = h.passes.passed in
-        let given : List Fact → List Fact = λ all. all ++ option_list (b.held old) in
+        let given : List Fact → List Fact = λ all. all ++ option_list (b.held _) in
         record {
           passes = record {
-            passed = passed ++ option_list (b.held now);
-            others = sym (and_other passed [] (b.held now) (sym h.passes.others) o);
-            gave = λ start all p. subst (Gave b start next)
-                (append_assoc (given all) passed (option_list (b.held now)))
+            passed = passed ++ option_list (b.held _);
+            others = sym (and_other _ [] _ (sym h.passes.others) o);
+            gave = λ start all p. rw
+                (← append_assoc _ _ (option_list (b.held now)))
                 (g.gave start (given all ++ passed) (h.passes.gave start all p).passes);
             fewer = omega (arith, h.passes.fewer, g.fewer);
           };
@@ -122,7 +120,7 @@ module _ {C : Type 0} (takes : C → Fact → Bool) (s : C) where
 
       not_over : (held : Option Fact) → is_passed_over takes s held ≡ false
           → is_passed_over takes start.choice held ≡ false
-      not_over held e = search rules
+      not_over = search rules
 
       was_held : is_passed_over takes s (b.held x.stream) ≡ false
       was_held = search rules
@@ -131,7 +129,7 @@ module _ {C : Type 0} (takes : C → Fact → Bool) (s : C) where
       given = F ++ option_list (b.held x.stream)
 
       given_is : given ≡ filter (takes s) (passed.0 ++ option_list (b.held x.stream))
-      given_is = search (rules, and_held, was_held)
+      given_is = search (rules, and_held)
 
       abbrev gave_given : (now : S) → PassesOthers b x.stream now → GaveOf b start.stream now given
       gave_given now h =
@@ -147,7 +145,7 @@ module _ {C : Type 0} (takes : C → Fact → Bool) (s : C) where
       counted_given : (h : CountsPassed b x.stream t.stream x.others t.others) → CountsOthers takes
           start t ((passed.0 ++ option_list (b.held x.stream)) ++ h.passes.passed)
       counted_given h =
-          let all = passed.0 ++ option_list (b.held x.stream) in
+          let all = passed.0 ++ option_list (b.held _) in
           let P : C → Type 0 = λ z. start.others + others_of (takes z) (all ++ h.passes.passed) < 2
           ^ 64 → t.others ≡ start.others + others_of (takes z) (all ++ h.passes.passed) in
           let Q : C → Type 0 = λ z. start.others + others_of (takes z) passed.0 < 2 ^ 64 → x.others
@@ -171,14 +169,14 @@ module _ {C : Type 0} (takes : C → Fact → Bool) (s : C) where
       goes h o =
           let q = gave_given t.stream h.passes in
           let counts = counted_given h in
-          let held = b.held t.stream in
-          let e = and_held q.0 given held q.2 o in
+          let held = b.held _ in
+          let e = and_held _ _ _ q.2 o in
           record {
             passes = search rules;
             reads = search rules;
             reads_held = search rules;
             fails = q.1.fails;
-            rising = subst IsRising (sym e)
+            rising = rw e
                 (rising_filter (takes s) (q.0 ++ option_list held) q.1.rising);
             sized = q.1.sized;
             spelled = q.1.spelled;
@@ -191,10 +189,10 @@ module _ {C : Type 0} (takes : C → Fact → Bool) (s : C) where
 
     pub chosen_goes_on : CountsPassed b x.stream t.stream x.others t.others
         → is_passed_over takes s (b.held t.stream) ≡ false → GoesOn w x t
-    chosen_goes_on h o = search (rules, goes)
+    chosen_goes_on = search (rules, goes)
 
 -- whether a stream's head is passed over is whether the fact that it holds is
 pub answered : {C : Type 0} (takes : C → Fact → Bool) {s z : C} (held : Option Fact)
     {result is : Bool} → result ≡ is_passed_over takes z held → z ≡ s → result ≡ is
     → is_passed_over takes s held ≡ is
-answered takes held {is = is} r e i = search rules
+answered takes held r e i = search rules

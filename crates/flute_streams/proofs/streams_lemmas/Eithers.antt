@@ -11,32 +11,32 @@ module _ {A B : Type 0} (a : Behaviour A) (b : Behaviour B) where
 
   first_on : (x y : A) → GoesOn a x y → (start : Either A B) (F : List Fact)
       → e.passes start (First x) F → Gave e start (First y) (F ++ option_list (a.held x))
-  first_on x0 x1 x2 x3 x4 x5 = search rules
+  first_on = search rules
 
   second_on : (x y : B) → GoesOn b x y → (start : Either A B) (F : List Fact)
       → e.passes start (Second x) F → Gave e start (Second y) (F ++ option_list (b.held x))
-  second_on x0 x1 x2 x3 x4 x5 = search rules
+  second_on = search rules
 
   first_stops : (x y : A) (f : LoadFault) → StopsAt a x y f → (start : Either A B) (F : List Fact)
       → e.passes start (First x) F → Stopped e start (First y) (F ++ option_list (a.held x)) f
-  first_stops x0 x1 x2 x3 x4 x5 x6 = search rules
+  first_stops = search rules
 
   second_stops : (x y : B) (f : LoadFault) → StopsAt b x y f → (start : Either A B) (F : List Fact)
       → e.passes start (Second x) F → Stopped e start (Second y) (F ++ option_list (b.held x)) f
-  second_stops x0 x1 x2 x3 x4 x5 x6 = search rules
+  second_stops = search rules
 
   -- the stream at a place, of the one kind or of the other, was advanced
   pub first_at : {x : A} (y : A) {n : ℕ} {old new : List (Either A B)} (r : Result (Unit {0}) LoadFault)
       → slice_get old n ≡ Some (First x) → new ≡ slice_set old n (First y) → OnOk r (GoesOn a x y) →
       IfErr r (StopsAt a x y) → Advances e n old new r
-  first_at {x = x} y (Ok t) w m g s = search (rules, first_on)
-  first_at {x = x} y (Err f) w m g s = search (rules, first_stops)
+  first_at y (Ok t) w m g s = search (rules, first_on)
+  first_at y (Err f) w m g s = search (rules, first_stops)
 
   pub second_at : {x : B} (y : B) {n : ℕ} {old new : List (Either A B)}
       (r : Result (Unit {0}) LoadFault) → slice_get old n ≡ Some (Second x) → new ≡ slice_set old n
       (Second y) → OnOk r (GoesOn b x y) → IfErr r (StopsAt b x y) → Advances e n old new r
-  second_at {x = x} y (Ok t) w m g s = search (rules, second_on)
-  second_at {x = x} y (Err f) w m g s = search (rules, second_stops)
+  second_at y (Ok t) w m g s = search (rules, second_on)
+  second_at y (Err f) w m g s = search (rules, second_stops)
 
   pub first_advances : (x y : A) (others : List (Either A B)) (n : ℕ)
       (r : Result (Unit {0}) LoadFault) → n ≡ 0 → OnOk r (GoesOn a x y) → IfErr r (StopsAt a x y)

@@ -1,21 +1,21 @@
 -- Reading on in a journal advances its stream (specs/JournalStreams).
 use Rattle.std.proofs.Common.{rules}
 use Rattle.flute_streams.proofs.Common.{journal_framing, Behaviour, Bool, Consumes-kept, Continues}
-use Rattle.flute_streams.proofs.Common.{Ended, Items, Err, Fact, Failed, FailsIf, FailsSince, Gives}
-use Rattle.flute_streams.proofs.Common.{GivesEnd, GoesOn, HasFault, Header, IfSome}
-use Rattle.flute_streams.proofs.Common.{IsFactIn, IsJournalOfAll, IsJournalWithin, IsRising}
+use Rattle.flute_streams.proofs.Common.{Ended, Err, Fact, Failed, FailsIf, FailsSince, Gives}
+use Rattle.flute_streams.proofs.Common.{GivesEnd, GoesOn, HasFault, IfSome}
+use Rattle.flute_streams.proofs.Common.{IsJournalOfAll, IsJournalWithin, IsRising}
 use Rattle.flute_streams.proofs.Common.{IsSized, IsTrue, Keeps, LentStream, List, LoadFault, None}
 use Rattle.flute_streams.proofs.Common.{Ok, Option, ReadAt, ReadFault, ReadWhole, ReadsEntries}
 use Rattle.flute_streams.proofs.Common.{Result}
 use Rattle.flute_streams.proofs.Common.{SameLoans, Sofar, Some, ReaderState, Before, StopsAt, []}
-use Rattle.flute_streams.proofs.Common.{ap, append-nil, arith, count_at, false, inl, inr, is_open}
+use Rattle.flute_streams.proofs.Common.{ap, append-nil, arith, is_open}
 use Rattle.flute_streams.proofs.Common.{journal_behaviour, length, limit_of, option_list, refl}
-use Rattle.flute_streams.proofs.Common.{room, source_of, spelling_in, state_of, subst, sym, true}
-use Rattle.flute_streams.proofs.Common.{unread_of, ℕ, ◌++◌, ◌+◌, ◌-◌, ◌∙◌}
+use Rattle.flute_streams.proofs.Common.{room, source_of, state_of, subst, sym}
+use Rattle.flute_streams.proofs.Common.{unread_of, ℕ, ◌++◌, ◌+◌, ◌∙◌}
 use Rattle.flute_streams.proofs.Common.{◌∷◌, ◌≡◌, ◌≤◌}
 use Rattle.flute_journal.proofs.Public.{ahead-sofar, reads-side, reads-sofar, reads-fault, AtEnd}
-use Rattle.flute_journal.proofs.Public.{whole-at, side-from, open_after, sofar-fault, journal_sound}
-use Rattle.flute_journal.proofs.Public.{one_given, all_split, fact_sized, spelling-injective}
+use Rattle.flute_journal.proofs.Public.{whole-at, side-from, sofar-fault, journal_sound}
+use Rattle.flute_journal.proofs.Public.{all_split, fact_sized, spelling-injective}
 use Rattle.flute_journal.proofs.Public.{BeginsWithJournal}
 use Rattle.flute_journal.specs.HeldEntries.{HoldsNext}
 use Rattle.flute_journal.specs.declared.fault.LoadFault.TheVariants as load
@@ -32,7 +32,7 @@ whole_at : (limit : ℕ) (u w : Option (List ℕ)) (F : List Fact) → AtEnd jou
     → ReadWhole limit u w F
 whole_at limit u w F s = record {
   are_items = s.are_items;
-  whole = whole-at journal_sound limit u w F s;
+  whole = whole-at journal_sound _ u w F s;
   read = reads-side limit u w Ended F None s;
 }
 
@@ -51,18 +51,18 @@ read_from : {limit : ℕ} {u v : Option (List ℕ)} (w : Option (List ℕ)) {old
     (new : ReaderState Before) {es : List Fact} (o : Option Fact) → Sofar journal_framing limit u v
     old es → Gives journal_framing limit old new v w (Ok o) → Read limit u w new es o
 read_from w new (Some f) s g = side-from journal_sound w new (Some f) s g
-read_from {limit = limit} {u = u} w new {es = es} None s g =
-    (whole_at limit u w es (side-from journal_sound w new None s g), g.ended)
+read_from {limit} {u} w new {es} None s g =
+    (whole_at _ u w es (side-from journal_sound w new None s g), g.ended)
 
 -- after the end, the next call gives the end again
 end_again : {limit : ℕ} {u v w : Option (List ℕ)} {new : ReaderState Before} {F : List Fact}
     {held : Option Fact} → ReadWhole limit u v F → held ≡ None → GivesEnd journal_framing Ended new
     v w → Read limit u w new (F ++ option_list held) None
-end_again {limit = limit} {u = u} {v = v} {w = w} {F = F} r n g =
+end_again {limit} {u} {v} {w} {F} r n g =
     let k : Keeps v w = search rules in (
-      subst (ReadWhole limit u w)
-          (sym (ap (λ (h : Option Fact). F ++ option_list h) n ∙ append-nil F))
-          (whole_kept limit u v w F r k),
+      rw
+          (ap (λ h. F ++ option_list h) n ∙ append-nil F)
+          (whole_kept _ u v w F r k),
       g.ended,
     )
 
@@ -71,9 +71,9 @@ read_on : {limit : ℕ} {u v : Option (List ℕ)} (w : Option (List ℕ)) (old n
     {F : List Fact} {held : Option Fact} (o : Option Fact) → IsCalled limit limit u v w old new F
     held (Ok o) → Read limit u w new (F ++ option_list held) o
 read_on w (Failed f) new o c = absurd c.read
-read_on w Ended new (Some f) c = absurd (let g = c.gives in let e = g.open_before in cc)
+read_on w Ended new (Some f) c = absurd (let g = c.gives in cc)
 read_on w Ended new None c = end_again c.read.0 c.read.1 c.gives
-read_on w other new o c = read_from w new o c.read c.gives
+read_on w other new o c = read_from w _ o c.read c.gives
 
 -- what was read, in whatever state the reader is
 read_at : (limit : ℕ) (u w : Option (List ℕ)) (state : ReaderState Before) (F : List Fact)
@@ -89,7 +89,7 @@ reads_of limit u w state F None r = r.0.read
 
 reads_with : (limit : ℕ) (u w : Option (List ℕ)) (state : ReaderState Before) (F : List Fact)
     (o : Option Fact) → Read limit u w state F o → ReadsEntries u w (F ++ option_list o)
-reads_with limit u w state F (Some f) r = reads-sofar limit u w state (F ++ f ∷ []) r
+reads_with limit u w state F (Some f) r = reads-sofar _ u w _ _ r
 reads_with limit u w state F None r = subst (ReadsEntries u w) (sym (append-nil F)) r.0.read
 
 rising_of : (limit : ℕ) (u w : Option (List ℕ)) (state : ReaderState Before) (F : List Fact)
@@ -104,11 +104,10 @@ ended_of limit u w state F o r e = grind (arith)
 -- a journal has no entries but those that were read to its end
 only_entries : (limit : ℕ) (u : Option (List ℕ)) (F K : List Fact)
     → IfSome u (λ xs. IsJournalWithin limit xs F) → IsJournalOfAll u K → K ≡ F
-only_entries limit None F K h k = absurd (let e = k.bytes_are in cc)
+only_entries limit None F K h k = absurd (cc)
 only_entries limit (Some xs) F K h k =
     let v = h.are_items.told in
     let w = k.version in
-    let e : xs ≡ spelling_in w K = (let q = k.bytes_are in cc) in
     let first : BeginsWithJournal v F [] xs = search rules in
     let second : BeginsWithJournal w K [] xs = search rules in
     (spelling-injective first second).1
@@ -116,12 +115,12 @@ only_entries limit (Some xs) F K h k =
 known_of : (limit : ℕ) {u : Option (List ℕ)} (w : Option (List ℕ)) (state : ReaderState Before)
     (F : List Fact) (o : Option Fact) → Read limit u w state F o → (K : List Fact) → IsJournalOfAll
     u K → Continues K (F ++ option_list o) o
-known_of limit {u = u} w state F (Some f) r K k =
-    let a = ahead-sofar limit u w state (F ++ f ∷ []) r k.version K k.valid k.rising k.bytes_are in
-    record { rest = a.0; is = a.1; rising = k.rising; ended = λ e. absurd (let h = e in cc) }
-known_of limit {u = u} w state F None r K k = record {
+known_of limit {u} w state F (Some f) r K k =
+    let a = ahead-sofar _ u w _ _ r k.version K k.valid k.rising k.bytes_are in
+    record { rest = a.0; is = a.1; rising = k.rising; ended = λ e. absurd (cc) }
+known_of limit {u} w state F None r K k = record {
   rest = [];
-  is = only_entries limit u F K r.0.whole k ∙ sym (append-nil F) ∙ sym (append-nil (F ++ []));
+  is = only_entries _ u F K r.0.whole k ∙ sym (append-nil F) ∙ sym (append-nil _);
   rising = k.rising;
   ended = λ e. refl;
 }
@@ -136,7 +135,7 @@ fewer x0 x1 x2 x3 x4 x5 x6 x7 = search rules
 sized_of : (limit : ℕ) (u w : Option (List ℕ)) (state : ReaderState Before) (F : List Fact)
     (o : Option Fact) → Read limit u w state F o → IfSome o IsSized
 sized_of limit u w state F (Some f) r =
-    fact_sized f (all_split (IsFactIn r.are_items.told) F (f ∷ []) r.are_items.valid).1.0.0
+    fact_sized f (all_split _ F _ r.are_items.valid).1.0.0
 sized_of limit u w state F None r = tt
 
 -- what a stream has given by these reads
@@ -154,23 +153,23 @@ pub record GivesOn (limit : ℕ) (u w : Option (List ℕ)) (state : ReaderState 
 with_limit : {limit own : ℕ} {u v w : Option (List ℕ)} {old new : ReaderState Before}
     {F : List Fact} {held : Option Fact} {result : Result (Option Fact) ReadFault} → IsCalled limit
     own u v w old new F held result → IsCalled limit limit u v w old new F held result
-with_limit {v = v} {w = w} {old = old} {new = new} {result = result} c = search rules
+with_limit c = search rules
 
 -- the state after a call that gave an entry or the end
 pub gives_on : {limit own : ℕ} {u v w : Option (List ℕ)} {old new : ReaderState Before}
     {F : List Fact} {held o : Option Fact} → IsCalled limit own u v w old new F held (Ok o)
     → GivesOn limit u w new (F ++ option_list held) o
-gives_on {limit = limit} {u = u} {w = w} {old = old} {new = new} {F = F} {held = held} {o = o} c =
+gives_on {limit} {u} {w} {old} {new} {F} {held} {o} c =
     let G = F ++ option_list held in
-    let r = read_on w old new o (with_limit c) in
+    let r = read_on w _ _ o (with_limit c) in
     record {
-      read = read_at limit u w new G o r;
-      reads = reads_of limit u w new G o r;
-      reads_held = reads_with limit u w new G o r;
-      rising = rising_of limit u w new G o r;
-      sized = sized_of limit u w new G o r;
-      ended = ended_of limit u w new G o r;
-      known = known_of limit w new G o r;
+      read = read_at _ u w _ G o r;
+      reads = reads_of _ u w _ G o r;
+      reads_held = reads_with _ u w _ G o r;
+      rising = rising_of _ u w _ G o r;
+      sized = sized_of _ u w _ G o r;
+      ended = ended_of _ u w _ G o r;
+      known = known_of _ w _ G o r;
     }
 
 -- A call that stops at a fault.
@@ -186,13 +185,13 @@ fault_at : {limit : ℕ} {u v w : Option (List ℕ)} (old : ReaderState Before)
     {new : ReaderState Before} {F : List Fact} {held : Option Fact} {f : ReadFault} → IsCalled limit
     limit u v w old new F held (Err f) → StopsOn limit u w old (F ++ option_list held) f
 fault_at (Failed h) c = absurd c.read
-fault_at Ended c = let g = c.gives in grind (arith)
+fault_at Ended c = grind (arith)
 fault_at other c = search (rules, reads-fault, sofar-fault, journal_sound)
 
 pub stops_on : {limit own : ℕ} {u v w : Option (List ℕ)} {old new : ReaderState Before}
     {F : List Fact} {held : Option Fact} {f : ReadFault} → IsCalled limit own u v w old new F held
     (Err f) → StopsOn limit u w old (F ++ option_list held) f
-stops_on {old = old} c = fault_at old (with_limit c)
+stops_on {old = old} c = fault_at _ (with_limit c)
 
 -- a call that gave an entry or the end had no failure
 pub never : (b : Bool) (x y : ℕ) (o : Option Fact) → FailsIf {T = Option Fact} b x y (Ok o) → y ≡ x
@@ -226,18 +225,18 @@ module _ {R : Type 0} (unread : R → Option (List ℕ)) (buffered : R → List 
 
     none_failed : {s t : JournalState R} → HoldsOn s t (Ok tt)
         → FailsSince unread buffered failures s t None
-    none_failed {s = s} {t = t} h = search rules
+    none_failed h = search rules
 
     one_failed : {s t : JournalState R} (f : ReadFault) → HoldsOn s t (Err f) → IsTrue
         (is_open (state_of s.reader)) → FailsSince unread buffered failures s t (Some (load.Read f))
-    one_failed {s = s} {t = t} f h o = search rules
+    one_failed f h o = search rules
 
     -- the stream is advanced, or stops, as the trait's clauses say (specs/Streams)
     pub stream_goes_on : {s t : JournalState R} → HoldsOn s t (Ok tt) → GoesOn b s t
-    stream_goes_on {s = s} {t = t} h = record {
+    stream_goes_on {s} {t} h = record {
       gave = λ start F p. let call : Called start s t F (Ok (b.held t)) = search rules in
           let r = gives_on call in
-          let fails = since start s t None p.fails (none_failed h) in
+          let fails = since _ s t _ p.fails (none_failed h) in
           record {
             passes = search rules;
             reads = r.reads;
@@ -255,7 +254,7 @@ module _ {R : Type 0} (unread : R → Option (List ℕ)) (buffered : R → List 
 
     pub stream_stops : {s t : JournalState R} (f : ReadFault) → HoldsOn s t (Err f)
         → StopsAt b s t (load.Read f)
-    stream_stops {s = s} {t = t} f h = λ start F p. let call : Called start s t F (Err f) = search
+    stream_stops {s} {t} f h = λ start F p. let call : Called start s t F (Err f) = search
         rules in
         let r = stops_on call in
         record { reads = r.reads; fails = search rules; stops = r.has_fault }

@@ -1,5 +1,4 @@
 -- WalkStream and FactStream: facts in memory are a stream.
-use Rattle.std.proofs.lemmas.Grind.{common_steps}
 use Rattle.std.proofs.Common.{rules}
 use Rattle.flute_journal.specs.HeldEntries.{IsSpelling}
 use Rattle.flute_streams.proofs.Common.{◌≡◌, List, [], ◌∷◌, ◌++◌, length, Option}
@@ -7,7 +6,6 @@ use Rattle.flute_streams.proofs.Common.{Some, None, refl}
 use Rattle.flute_streams.proofs.Common.{sym, ap, ◌∙◌, subst, inl, inr, append_assoc}
 use Rattle.flute_streams.proofs.Common.{append-nil}
 use Rattle.flute_streams.proofs.Common.{arith, length-append, IfSome, ◌⊎◌, AllByRecursion}
-use Rattle.flute_streams.proofs.Common.{address}
 use Rattle.flute_streams.proofs.Common.{IsRising, Address, Fact, FactRef, IsSized, YieldsFact}
 use Rattle.flute_streams.proofs.Common.{fact_in, option_list, GoesOn}
 use Rattle.flute_journal.proofs.Public.{all_split}
@@ -16,10 +14,10 @@ use Rattle.flute_streams.specs.Listed.{listed_behaviour}
 
 rises_front : (l : Option Address) (xs ys : List Fact) → Rises l (xs ++ ys) → Rises l xs
 rises_front l [] ys r = tt
-rises_front l (x ∷ xs) ys r = (r.0, rises_front (Some (address x)) xs ys r.1)
+rises_front l (x ∷ xs) ys r = (r.0, rises_front _ xs ys r.1)
 
 rising_front : (xs ys : List Fact) → IsRising (xs ++ ys) → IsRising xs
-rising_front xs ys r = rises-rising xs (rises_front None xs ys (rising-rises (xs ++ ys) r))
+rising_front xs ys r = rises-rising xs (rises_front _ xs ys (rising-rises _ r))
 
 some_of : (P : Fact → Type 0) (o : Option Fact) → AllByRecursion P (option_list o) → IfSome o P
 some_of P o h = grind (arith)
@@ -27,10 +25,10 @@ some_of P o h = grind (arith)
 -- the next fact of a walk
 walked : (r : Option FactRef) (xs ys : List Fact) → YieldsFact (λ (l : List Fact). l) xs r ys →
     (xs ≡ option_list (fact_in r) ++ ys) × (fact_in r ≡ None → ys ≡ []) × IfSome (fact_in r) IsSized
-walked r xs ys h = grind (arith)
+walked = grind (arith)
 
 spells_none : (o : Option Fact) → IsSpelling [] o
-spells_none x0 = search rules
+spells_none = search rules
 
 module _ {S : Type 0} (held : S → Option Fact) (rest : S → List Fact) (is_sound : S → Type 0) where
   -- it holds the next fact, or none is left
@@ -90,6 +88,6 @@ pub walk_goes_on : {S : Type 0} (held : S → Option Fact) (rest : S → List Fa
     (r : Option FactRef) → YieldsFact (λ (l : List Fact). l) (rest s) r (rest t)
     → held t ≡ fact_in r → GoesOn (listed_behaviour held rest (λ _. Unit {0})) s t
 walk_goes_on held rest s t r yields is =
-    let w = walked r (rest s) (rest t) yields in
-    listed_goes_on held rest (λ _. Unit {0}) s t (w.0 ∙ ap (λ o. option_list o ++ rest t) (sym is))
-    (λ e. w.1 (sym is ∙ e)) (inr (subst (λ o. IfSome o IsSized) (sym is) w.2))
+    let w = walked r _ _ yields in
+    listed_goes_on _ _ (λ _. Unit) s t (w.0 ∙ ap (λ o. option_list o ++ rest t) (sym is))
+    (λ e. w.1 (sym is ∙ e)) (inr (rw is w.2))

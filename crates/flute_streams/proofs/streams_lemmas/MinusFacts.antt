@@ -1,37 +1,24 @@
 -- Minus: how its streams go on (specs/MinusStreams).
-use Rattle.std.proofs.Common.{◌≡◌, true, false, cond, Bool, not, List, [], ◌∷◌, ◌++◌, filter}
-use Rattle.std.proofs.Common.{refl, sym, ap, ◌∙◌, subst, inl, inr, ◌⊎◌}
+use Rattle.std.proofs.Common.{◌≡◌, true, false, List, [], ◌++◌}
+use Rattle.std.proofs.Common.{refl, sym, ap, ◌∙◌, subst, inl, inr}
 use Rattle.std.proofs.Common.{Result, Err, IfErr, Option, Some, None, append-nil, length, arith}
-use Rattle.std.proofs.Common.{◌+◌, ◌≤◌, is_eq}
-use Rattle.std.proofs.lemmas.Bool.{cases_Bool, false≢true}
+use Rattle.std.proofs.lemmas.Bool.{false≢true}
 use Rattle.std.proofs.lemmas.Option.{none-some}
 use Rattle.std.proofs.lemmas.List.Elements.{filter-append}
-use Rattle.std.specs.declared.cmp.Ordering.{Ordering}
-use Rattle.std.specs.declared.cmp.Ordering.TheVariants.{Less, Equal, Greater}
-use Rattle.std.specs.Ordering.{ordering_reverse}
-use Rattle.flute_parts.specs.Addresses.{address}
-use Rattle.flute_parts.specs.Equality.{address_same}
-use Rattle.flute_parts.specs.Facts.{IsRising, StandAfter, fact_at}
-use Rattle.flute_parts.specs.Order.{address_cmp, same_address}
-use Rattle.flute_parts.specs.Totality.{address_total}
+use Rattle.flute_parts.specs.Facts.{IsRising}
 use Rattle.flute_parts.specs.declared.address.Address.{Address}
 use Rattle.flute_parts.specs.declared.fact.Fact.{Fact}
-use Rattle.flute_parts.proofs.Public.{alone, alone-at, alone-elsewhere, fact_at-append, fact_at-nil}
-use Rattle.flute_parts.proofs.Public.{fact_at-elsewhere, fact_at-after, joined, joined-none}
-use Rattle.flute_parts.proofs.Public.{StandAfter-before}
 use Rattle.flute_journal.specs.declared.fault.LoadFault.{LoadFault}
 use Rattle.flute_streams.specs.Streams.{Behaviour, Continues, Gave, GoesOn, Stopped, StopsAt}
 use Rattle.flute_streams.specs.Streams.{option_list, address_of}
 use Rattle.flute_streams.specs.declared.streams.minus.Minus.{Minus}
 use Rattle.flute_streams.specs.declared.streams.minus.Turn.TheVariants.{Stay, First, Second}
-use Rattle.flute_streams.specs.Behind.{Behind, UpTo}
-use Rattle.flute_streams.proofs.streams_lemmas.Before.{back, before_later, before_more}
-use Rattle.flute_streams.proofs.streams_lemmas.Before.{before_value, behind_new, rising_after}
-use Rattle.flute_streams.proofs.streams_lemmas.Before.{turned}
+use Rattle.flute_streams.specs.Behind.{UpTo}
+use Rattle.flute_streams.proofs.streams_lemmas.Before.{behind_new, rising_after}
 use Rattle.flute_streams.proofs.streams_lemmas.ChosenFacts.{rising_filter}
-use Rattle.flute_streams.specs.Minus.{has, changes, minus}
-use Rattle.flute_streams.specs.MinusStreams.{turn_at, turn_of, StillNew, Between, Passed}
-use Rattle.flute_streams.specs.MinusStreams.{FailsIn, minus_behaviour, Walks, Moves}
+use Rattle.flute_streams.specs.Minus.{minus}
+use Rattle.flute_streams.specs.MinusStreams.{turn_of, StillNew, Between, Passed}
+use Rattle.flute_streams.specs.MinusStreams.{minus_behaviour, Walks, Moves}
 use Rattle.flute_streams.proofs.streams_lemmas.MinusTurns.{behind_goes, behind_second, first_holds}
 use Rattle.flute_streams.proofs.streams_lemmas.MinusTurns.{left_second, second_holds, some_length}
 use Rattle.flute_streams.proofs.streams_lemmas.MinusTurns.{stay_ended, untouched, up_to_first}
@@ -45,7 +32,7 @@ module _ {S T : Type 0} (a : Behaviour S) (b : Behaviour T) where
   as_new : {A : Type 0} (c : Behaviour A) (start x y : A) → StillNew c start x → GoesOn c x y
       → Gave c start y []
   as_new c start x y n g =
-      subst (λ h. Gave c start y ([] ++ option_list h)) n.held (g.gave start [] n.passes)
+      subst (λ h. Gave c start y ([] ++ option_list h)) n.held (g.gave _ [] n.passes)
 
   no_stop : {A : Type 0} (c : Behaviour A) (start x y : A) (fault : LoadFault) → StillNew c start x
       → StopsAt c x y fault → Stopped c start y [] fault
@@ -64,14 +51,13 @@ module _ {S T : Type 0} (a : Behaviour S) (b : Behaviour T) where
         → Continues L (others ++ option_list other) other → Continues (minus K L) F held
     known K L F e u t k l =
         let A = all ++ option_list held in
-        let C = others ++ option_list other in
         record {
-          rest = minus k.rest L;
-          is = ap (λ z. minus z L) k.is ∙ filter-append (changes L) A k.rest
+          rest = minus _ L;
+          is = ap (λ z. minus z L) k.is ∙ filter-append _ A _
               ∙ ap (λ z. z ++ minus k.rest L)
-              (ap (λ z. minus A z) l.is ∙ same_left other others A l.rest u
-              (subst IsRising l.is l.rising) l.ended ∙ sym e);
-          rising = rising_filter (changes L) K k.rising;
+              (ap (λ z. minus A z) l.is ∙ same_left _ _ A _ u
+              (rw (← l.is) l.rising) l.ended ∙ sym e);
+          rising = rising_filter _ K k.rising;
           ended = λ n. ap (λ z. minus z L) (k.ended n);
         }
       where
@@ -80,43 +66,43 @@ module _ {S T : Type 0} (a : Behaviour S) (b : Behaviour T) where
             → minus A ((others ++ option_list other) ++ R) ≡ minus A (others ++ option_list other)
         same_left None others A R u r n =
             ap (λ z. minus A ((others ++ []) ++ z)) (n refl)
-            ∙ ap (λ z. minus A z) (append-nil (others ++ []))
+            ∙ ap (λ z. minus A z) (append-nil _)
         same_left (Some g) others A R u r n =
-            untouched g A (others ++ g ∷ []) R u (rising_after others g R r)
+            untouched g A _ R u (rising_after _ g R r)
 
   pub first_never : (x t : Minus S T) {fault : LoadFault} → x.begun ≡ false → StopsAt a x.first t.first fault
       → t.second ≡ x.second → t.in_second ≡ false → StopsAt w x t fault
-  first_never x t {fault = fault} e g same sound = λ start facts p.
+  first_never x t {fault} e g same sound = λ start facts p.
       let q = subst (λ z. Passed a b z start x facts) e p in
-      let r = no_stop a start.first x.first t.first fault q.0 g in
+      let r = no_stop a _ _ _ _ q.0 g in
       record {
         reads = record {
           all = [];
           others = [];
           first = r.reads;
-          second = subst (λ s. b.reads start.second s []) (sym same) q.1.reads;
-          left = nothing (a.held x.first) facts q.0.held q.2;
+          second = rw same q.1.reads;
+          left = nothing _ _ q.0.held q.2;
         };
-        fails = subst (λ z. FailsIn a b z start t fault) (sym sound)
-            (r.stops, r.fails, subst (λ s. b.fails start.second s None) (sym same) q.1.fails);
+        fails = rw sound
+            (r.stops, r.fails, rw same q.1.fails);
         stops = inl r.stops;
       }
 
   pub second_never : (x t : Minus S T) {fault : LoadFault} → x.begun ≡ false → GoesOn a x.first t.first
       → StopsAt b x.second t.second fault → t.in_second ≡ true → StopsAt w x t fault
-  second_never x t {fault = fault} e g h sound = λ start facts p.
+  second_never x t {fault} e g h sound = λ start facts p.
       let q = subst (λ z. Passed a b z start x facts) e p in
-      let v = as_new a start.first x.first t.first q.0 g in
-      let r = no_stop b start.second x.second t.second fault q.1 h in
+      let v = as_new a _ _ _ q.0 g in
+      let r = no_stop b _ _ _ _ q.1 h in
       record {
         reads = record {
           all = [];
           others = [];
           first = v.reads;
           second = r.reads;
-          left = nothing (a.held x.first) facts q.0.held q.2;
+          left = nothing _ _ q.0.held q.2;
         };
-        fails = subst (λ z. FailsIn a b z start t fault) (sym sound) (r.stops, r.fails, v.fails);
+        fails = rw sound (r.stops, r.fails, v.fails);
         stops = inr r.stops;
       }
 
@@ -133,11 +119,11 @@ module _ {S T : Type 0} (a : Behaviour S) (b : Behaviour T) where
           (record {
             all = [];
             others = [];
-            first = as_new a start.first x.first t.first q.0 g;
-            second = as_new b start.second x.second t.second q.1 h;
+            first = as_new a _ _ _ q.0 g;
+            second = as_new b _ _ _ q.1 h;
             left = refl;
-            up_to = up_to_none (b.held t.second);
-            behind = behind_new (a.held t.first);
+            up_to = up_to_none _;
+            behind = behind_new _;
             begun = begun;
             sound = sound;
           });
@@ -152,16 +138,15 @@ module _ {S T : Type 0} (a : Behaviour S) (b : Behaviour T) where
           → UpTo (b.held x.second) (B.all ++ option_list (a.held x.first)) → t.second ≡ x.second
           → t.begun ≡ true → t.in_second ≡ false → Between a b start t G
       first_goes n g left up same begun sound =
-          let v = g.gave start.first B.all B.first.passes in
+          let v = g.gave _ _ B.first.passes in
           record {
-            all = B.all ++ option_list (a.held x.first);
+            all = B.all ++ option_list (a.held _);
             others = B.others;
             first = v;
-            second = subst (λ s. Gave b start.second s B.others) (sym same) B.second;
-            left = subst (λ s. G ≡ minus (B.all ++ option_list (a.held x.first))
-                (B.others ++ option_list (b.held s))) (sym same) left;
-            up_to = subst (λ s. UpTo (b.held s) (B.all ++ option_list (a.held x.first))) (sym same) up;
-            behind = behind_goes (a.held x.first) (a.held t.first) B.all B.others n v.rising B.behind;
+            second = rw same B.second;
+            left = rw same left;
+            up_to = rw same up;
+            behind = behind_goes _ _ _ _ n v.rising B.behind;
             begun = begun;
             sound = sound;
           }
@@ -171,19 +156,19 @@ module _ {S T : Type 0} (a : Behaviour S) (b : Behaviour T) where
         → G ≡ minus (B.all ++ option_list (a.held x.first))
         (B.others ++ option_list (b.held x.second))
         → t.second ≡ x.second → t.in_second ≡ false → Stopped w start t G fault
-    first_stops start F G {fault = fault} B g left same sound =
+    first_stops start F G {fault} B g left same sound =
         let r = g start.first B.all B.first.passes in
-        let C = B.others ++ option_list (b.held x.second) in
+        let C = B.others ++ option_list (b.held _) in
         record {
           reads = record {
-            all = B.all ++ option_list (a.held x.first);
+            all = B.all ++ option_list (a.held _);
             others = C;
             first = r.reads;
-            second = subst (λ s. b.reads start.second s C) (sym same) B.second.reads_held;
+            second = rw same B.second.reads_held;
             left = left;
           };
-          fails = subst (λ z. FailsIn a b z start t fault) (sym sound)
-              (r.stops, r.fails, subst (λ s. b.fails start.second s None) (sym same) B.second.fails);
+          fails = rw sound
+              (r.stops, r.fails, rw same B.second.fails);
           stops = inl r.stops;
         }
 
@@ -193,9 +178,9 @@ module _ {S T : Type 0} (a : Behaviour S) (b : Behaviour T) where
       between = λ start facts p.
           let q = subst (λ z. Passed a b z start x facts) e p in
           let B = q.0 in
-          first_goes start facts (facts ++ option_list (a.held x.first)) B n g
-          (with_held (a.held x.first) (b.held x.second) facts B.all B.others B.left B.behind q.1)
-          (up_to_stay (a.held x.first) (b.held x.second) B.all q.1 B.up_to) same begun
+          first_goes _ _ _ B n g
+          (with_held _ _ _ B.all _ B.left B.behind q.1)
+          (up_to_stay _ _ _ q.1 B.up_to) same begun
           (sound ∙ B.sound);
       begun = begun;
       fewer = g.fewer;
@@ -206,42 +191,42 @@ module _ {S T : Type 0} (a : Behaviour S) (b : Behaviour T) where
     lets_go_not e g same sound = λ start facts p.
         let q = subst (λ z. Passed a b z start x facts) e p in
         let B = q.0 in
-        first_stops start facts (facts ++ option_list (a.held x.first)) B g
-        (with_held (a.held x.first) (b.held x.second) facts B.all B.others B.left B.behind q.1) same
+        first_stops _ _ _ B g
+        (with_held _ _ _ B.all _ B.left B.behind q.1) same
         (sound ∙ B.sound)
 
     pub passes_first : turn_of (a.held x.first) (b.held x.second) ≡ First
         → GoesOn a x.first t.first → t.second ≡ x.second → t.begun ≡ x.begun
         → t.in_second ≡ x.in_second → Moves a b x t true
     passes_first turn g same begun sound =
-        let n = first_holds (a.held x.first) (b.held x.second) turn in
+        let n = first_holds _ _ turn in
         record {
           walks = λ y v. record {
             between = λ start facts p.
-                let B = v.between start facts p in
-                let F = facts ++ option_list (a.held y.first) in
-                first_goes start F F B n g
-                (without_held (a.held x.first) (b.held x.second) F B.all B.others B.left B.behind turn)
-                (up_to_first (a.held x.first) (b.held x.second) B.all turn B.up_to) same
+                let B = v.between _ _ p in
+                let F = facts ++ option_list (a.held _) in
+                first_goes _ F F B n g
+                (without_held _ _ F _ _ B.left B.behind turn)
+                (up_to_first _ _ _ turn B.up_to) same
                 (begun ∙ v.begun) (sound ∙ B.sound);
             begun = begun ∙ v.begun;
-            fewer = omega (arith, v.fewer, g.fewer);
+            fewer = omega (arith);
           };
           stays = λ e. absurd (false≢true (sym e));
           less = λ e.
-              let one = some_length (a.held x.first) n in
+              let one = some_length _ n in
               let m = ap (λ s. b.most s) same in
-              omega (arith, g.fewer, one, m);
+              omega (arith);
         }
 
     pub passes_first_not : {fault : LoadFault} → turn_of (a.held x.first) (b.held x.second) ≡ First
         → StopsAt a x.first t.first fault → t.second ≡ x.second → t.in_second ≡ x.in_second
         → (y : Minus S T) → Walks a b y x → StopsAt w y t fault
     passes_first_not turn g same sound y v = λ start facts p.
-        let B = v.between start facts p in
-        let F = facts ++ option_list (a.held y.first) in
-        first_stops start F F B g
-        (without_held (a.held x.first) (b.held x.second) F B.all B.others B.left B.behind turn) same
+        let B = v.between _ _ p in
+        let F = facts ++ option_list (a.held _) in
+        first_stops _ F F B g
+        (without_held _ _ F _ _ B.left B.behind turn) same
         (sound ∙ B.sound)
 
     -- the second goes on
@@ -249,55 +234,55 @@ module _ {S T : Type 0} (a : Behaviour S) (b : Behaviour T) where
         → GoesOn b x.second t.second → t.first ≡ x.first → t.begun ≡ x.begun
         → t.in_second ≡ false → Moves a b x t true
     passes_second turn g same begun sound =
-        let n = second_holds (a.held x.first) (b.held x.second) turn in
+        let n = second_holds _ _ turn in
         record {
           walks = λ y v. record {
             between = λ start facts p.
-                let B = v.between start facts p in
-                let F = facts ++ option_list (a.held y.first) in
-                let r = g.gave start.second B.others B.second.passes in
+                let B = v.between _ _ p in
+                let F = facts ++ option_list (a.held _) in
+                let r = g.gave _ _ B.second.passes in
                 record {
                   all = B.all;
-                  others = B.others ++ option_list (b.held x.second);
-                  first = subst (λ s. Gave a start.first s B.all) (sym same) B.first;
+                  others = B.others ++ option_list (b.held _);
+                  first = rw same B.first;
                   second = r;
-                  left = left_second (b.held t.second) F B.all B.others (b.held x.second) n r.rising
+                  left = left_second _ F _ _ _ n r.rising
                       B.up_to B.left;
-                  up_to = up_to_goes (b.held x.second) (b.held t.second) B.all B.others n r.rising
+                  up_to = up_to_goes _ _ _ _ n r.rising
                       B.up_to;
-                  behind = subst (λ s. Behind (a.held s) (B.others ++ option_list (b.held x.second)))
-                      (sym same)
-                      (behind_second (a.held x.first) (b.held x.second) B.others turn B.behind);
+                  behind = rw
+                      same
+                      (behind_second _ _ _ turn B.behind);
                   begun = begun ∙ v.begun;
                   sound = sound;
                 };
             begun = begun ∙ v.begun;
-            fewer = subst (λ s. a.most s + length (option_list (a.held y.first)) ≤ a.most y.first)
-                (sym same) v.fewer;
+            fewer = rw
+                same v.fewer;
           };
           stays = λ e. absurd (false≢true (sym e));
           less = λ e.
-              let one = some_length (b.held x.second) n in
+              let one = some_length _ n in
               let m = ap (λ s. a.most s) same in
-              omega (arith, g.fewer, one, m);
+              omega (arith);
         }
 
     pub passes_second_not : {fault : LoadFault}
         → StopsAt b x.second t.second fault → t.first ≡ x.first → t.in_second ≡ true
         → (y : Minus S T) → Walks a b y x → StopsAt w y t fault
-    passes_second_not {fault = fault} g same sound y v = λ start facts p.
-        let B = v.between start facts p in
+    passes_second_not {fault} g same sound y v = λ start facts p.
+        let B = v.between _ _ p in
         let r = g start.second B.others B.second.passes in
         record {
           reads = record {
             all = B.all;
-            others = B.others ++ option_list (b.held x.second);
-            first = subst (λ s. a.reads start.first s B.all) (sym same) B.first.reads;
+            others = B.others ++ option_list (b.held _);
+            first = rw same B.first.reads;
             second = r.reads;
             left = B.left;
           };
-          fails = subst (λ z. FailsIn a b z start t fault) (sym sound)
-              (r.stops, r.fails, subst (λ s. a.fails start.first s None) (sym same) B.first.fails);
+          fails = rw sound
+              (r.stops, r.fails, rw same B.first.fails);
           stops = inr r.stops;
         }
 
@@ -305,14 +290,14 @@ module _ {S T : Type 0} (a : Behaviour S) (b : Behaviour T) where
     pub settled : Walks a b x t → turn_of (a.held t.first) (b.held t.second) ≡ Stay → GoesOn w x t
     settled v stay = record {
       gave = λ start facts p.
-          let F = facts ++ option_list (a.held x.first) in
-          let B = v.between start facts p in
-          let held = a.held t.first in
-          let other = b.held t.second in
-          let e = with_held held other F B.all B.others B.left B.behind stay in
+          let F = facts ++ option_list (a.held _) in
+          let B = v.between _ _ p in
+          let held = a.held _ in
+          let other = b.held _ in
+          let e = with_held _ _ F _ _ B.left B.behind stay in
           let all_left : other ≡ None → F ≡ minus B.all B.others =
           λ n. B.left ∙ ap (λ z. minus B.all z)
-          (ap (λ h. B.others ++ option_list h) n ∙ append-nil B.others) in
+          (ap (λ h. B.others ++ option_list h) n ∙ append-nil _) in
           record {
             passes = subst (λ z. Passed a b z start t F) (sym B.begun) (B, stay);
             reads = record {
@@ -330,13 +315,13 @@ module _ {S T : Type 0} (a : Behaviour S) (b : Behaviour T) where
               left = e;
             };
             fails = (B.first.fails, B.second.fails);
-            rising = subst IsRising (sym e)
-                (rising_filter (changes (B.others ++ option_list other)) (B.all ++ option_list held)
+            rising = rw e
+                (rising_filter _ _
                 B.first.rising);
             sized = B.first.sized;
             spelled = B.first.spelled;
             ended = λ n.
-                let m = stay_ended held other stay n in record {
+                let m = stay_ended _ _ stay n in record {
                   all = B.all;
                   others = B.others;
                   first = B.first.ended n;
@@ -344,7 +329,7 @@ module _ {S T : Type 0} (a : Behaviour S) (b : Behaviour T) where
                   left = all_left m;
                 };
             ends = λ n.
-                let m = stay_ended held other stay n in record {
+                let m = stay_ended _ _ stay n in record {
                   all = B.all;
                   others = B.others;
                   first = B.first.ends n;
@@ -352,8 +337,8 @@ module _ {S T : Type 0} (a : Behaviour S) (b : Behaviour T) where
                   left = all_left m;
                 };
             known = λ K k.
-                subst (λ z. Continues z (F ++ option_list held) held) (sym k.left)
-                (known held other B.all B.others k.all k.others (F ++ option_list held) e
+                rw k.left
+                (known _ _ _ _ _ _ _ e
                 (up_to_stay held other B.all stay B.up_to) stay
                 (B.first.known k.all k.first) (B.second.known k.others k.second));
           };
@@ -362,20 +347,20 @@ module _ {S T : Type 0} (a : Behaviour S) (b : Behaviour T) where
 
   -- nothing is left to let go of
   pub stays_ended : {x : Minus S T} → x.begun ≡ true → a.held x.first ≡ None → Walks a b x x
-  stays_ended {x = x} e n = record {
+  stays_ended {x} e n = record {
     between = λ start facts p.
         let q = subst (λ z. Passed a b z start x facts) e p in
-        subst (λ l. Between a b start x l)
-        (sym (ap (λ h. facts ++ option_list h) n ∙ append-nil facts)) q.0;
+        rw
+        (ap (λ h. facts ++ option_list h) n ∙ append-nil _) q.0;
     begun = e;
-    fewer = let z = ap (λ h. length (option_list h)) n in omega (arith, z);
+    fewer = let z = ap (λ h. length (option_list h)) n in omega (arith);
   }
 
 -- something is held if its address is lent
 pub is_held : {place : Address} {held : Option Fact} → Some place ≡ address_of held → held ≡ None → ⊥
-is_held {place = place} e n = none-some place (sym (e ∙ ap address_of n))
+is_held {place} e n = none-some _ (sym (e ∙ ap address_of n))
 
 -- what holds of the fault that is told
 pub told : {A E : Type 0} (P : E → Type 0) (r : Result A E) {y : E}
     → (x : E) × (r ≡ Err x) × (x ≡ y) → P y → IfErr r P
-told P r e p = subst (λ q. IfErr q P) (sym (e.1 ∙ ap Err e.2)) p
+told P r e p = rw (e.1 ∙ ap Err e.2) p

@@ -1,37 +1,30 @@
 -- What is left of facts, as the streams of a Minus take turns (specs/MinusStreams).
-use Rattle.std.proofs.Common.{◌≡◌, true, false, cond, Bool, not, List, [], ◌∷◌, ◌++◌, filter}
-use Rattle.std.proofs.Common.{refl, sym, ap, ◌∙◌, subst, inl, inr, ◌⊎◌}
-use Rattle.std.proofs.Common.{Result, Err, IfErr, Option, Some, None, append-nil, length, arith}
-use Rattle.std.proofs.Common.{◌+◌, ◌≤◌, is_eq}
-use Rattle.std.proofs.lemmas.Bool.{cases_Bool, false≢true}
+use Rattle.std.proofs.Common.{◌≡◌, true, false, cond, not, List, [], ◌∷◌, ◌++◌}
+use Rattle.std.proofs.Common.{refl, sym, ap, ◌∙◌, inl, inr, ◌⊎◌}
+use Rattle.std.proofs.Common.{Option, Some, None, append-nil, length}
+use Rattle.std.proofs.Common.{is_eq}
+use Rattle.std.proofs.lemmas.Bool.{cases_Bool}
 use Rattle.std.proofs.lemmas.Option.{none-some}
 use Rattle.std.proofs.lemmas.List.Elements.{filter-append}
 use Rattle.std.specs.declared.cmp.Ordering.{Ordering}
 use Rattle.std.specs.declared.cmp.Ordering.TheVariants.{Less, Equal, Greater}
-use Rattle.std.specs.Ordering.{ordering_reverse}
 use Rattle.flute_parts.specs.Addresses.{address}
 use Rattle.flute_parts.specs.Equality.{address_same}
-use Rattle.flute_parts.specs.Facts.{IsRising, StandAfter, fact_at}
-use Rattle.flute_parts.specs.Order.{address_cmp, same_address}
+use Rattle.flute_parts.specs.Facts.{IsRising, StandAfter}
+use Rattle.flute_parts.specs.Order.{address_cmp}
 use Rattle.flute_parts.specs.Totality.{address_total}
-use Rattle.flute_parts.specs.declared.address.Address.{Address}
 use Rattle.flute_parts.specs.declared.fact.Fact.{Fact}
 use Rattle.flute_parts.proofs.Public.{alone, alone-at, alone-elsewhere, fact_at-append, fact_at-nil}
-use Rattle.flute_parts.proofs.Public.{fact_at-elsewhere, fact_at-after, joined, joined-none}
+use Rattle.flute_parts.proofs.Public.{fact_at-after, joined, joined-none}
 use Rattle.flute_parts.proofs.Public.{StandAfter-before}
-use Rattle.flute_journal.specs.declared.fault.LoadFault.{LoadFault}
-use Rattle.flute_streams.specs.Streams.{Behaviour, Continues, Gave, GoesOn, Stopped, StopsAt}
-use Rattle.flute_streams.specs.Streams.{option_list, address_of}
-use Rattle.flute_streams.specs.declared.streams.minus.Minus.{Minus}
+use Rattle.flute_streams.specs.Streams.{option_list}
 use Rattle.flute_streams.specs.declared.streams.minus.Turn.TheVariants.{Stay, First, Second}
 use Rattle.flute_streams.specs.Behind.{Behind, UpTo}
 use Rattle.flute_streams.proofs.streams_lemmas.Before.{back, before_later, before_more}
-use Rattle.flute_streams.proofs.streams_lemmas.Before.{before_value, behind_new, rising_after}
+use Rattle.flute_streams.proofs.streams_lemmas.Before.{before_value, rising_after}
 use Rattle.flute_streams.proofs.streams_lemmas.Before.{turned}
-use Rattle.flute_streams.proofs.streams_lemmas.ChosenFacts.{rising_filter}
 use Rattle.flute_streams.specs.Minus.{has, changes, minus}
-use Rattle.flute_streams.specs.MinusStreams.{turn_at, turn_of, StillNew, Between, Passed}
-use Rattle.flute_streams.specs.MinusStreams.{FailsIn, minus_behaviour, Walks, Moves}
+use Rattle.flute_streams.specs.MinusStreams.{turn_at, turn_of}
 
 -- order
 
@@ -43,11 +36,11 @@ Before f g = address_cmp (address f) (address g) ≡ Less
 stay_at : (f g : Fact) (o : Ordering) → address_cmp (address f) (address g) ≡ o
     → turn_at o (has (Some g) f) ≡ Stay → not (has (alone (address f) g) f) ≡ true
 stay_at f g Less l t =
-    ap (λ x. not (has x f)) (alone-elsewhere g (address f) (back (address f) (address g) l))
+    ap (λ x. not (has x f)) (alone-elsewhere g _ (back _ (address g) l))
 stay_at f g Equal l t = elim (cases_Bool (has (Some g) f)) [
   | inl h ↦ absurd (first_stay (rw h at t))
   | inr n ↦ ap (λ x. not (has x f))
-      (alone-at g (address f) (sym (address_same (address f) (address g) (ap is_eq l)))) ∙ ap not n
+      (alone-at g _ (sym (address_same (address f) (address g) (ap is_eq l)))) ∙ ap not n
 ]
   where
     first_stay : First ≡ Stay → ⊥
@@ -66,8 +59,8 @@ first_at f g Less l t = absurd (apart t)
     apart e = cc
 first_at f g Equal l t =
     let p = address_same (address f) (address g) (ap is_eq l) in
-    elim (cases_Bool (has (Some g) f)) [
-      | inl h ↦ (ap (λ x. not (has x f)) (alone-at g (address f) (sym p)) ∙ ap not h, p)
+    elim (cases_Bool _) [
+      | inl h ↦ (ap (λ x. not (has x f)) (alone-at g _ (sym p)) ∙ ap not h, p)
       | inr n ↦ absurd (apart (rw n at t))
     ]
   where
@@ -108,10 +101,10 @@ not_after f g Greater l t = absurd (apart t)
 stay_changes : (f : Fact) (G : List Fact) (held : Option Fact) → Behind (Some f) G
     → turn_of (Some f) held ≡ Stay → changes (G ++ option_list held) f ≡ true
 stay_changes f G None s t =
-    ap (λ x. not (has x f)) (before_value (address f) G [] s ∙ fact_at-nil (address f))
+    ap (λ x. not (has x f)) (before_value _ G [] s ∙ fact_at-nil _)
 stay_changes f G (Some g) s t =
-    ap (λ x. not (has x f)) (before_value (address f) G (g ∷ []) s)
-    ∙ stay_at f g (address_cmp (address f) (address g)) refl t
+    ap (λ x. not (has x f)) (before_value _ G (g ∷ []) s)
+    ∙ stay_at f g _ refl t
 
 first_keeps : (f : Fact) (G : List Fact) (held : Option Fact) → Behind (Some f) G
     → turn_of (Some f) held ≡ First → changes (G ++ option_list held) f ≡ false
@@ -120,8 +113,8 @@ first_keeps f G None s t = absurd (apart t)
     apart : Stay ≡ First → ⊥
     apart e = cc
 first_keeps f G (Some g) s t =
-    ap (λ x. not (has x f)) (before_value (address f) G (g ∷ []) s)
-    ∙ (first_at f g (address_cmp (address f) (address g)) refl t).0
+    ap (λ x. not (has x f)) (before_value _ G (g ∷ []) s)
+    ∙ (first_at f g _ refl t).0
 
 -- what is left
 
@@ -132,11 +125,11 @@ untouched g [] X R u s = refl
 untouched g (f ∷ F) X R u s =
     let a = address f in
     let after : StandAfter a R = elim u.0 [
-      | inl l ↦ StandAfter-before a (address g) R l s
-      | inr e ↦ subst (λ x. StandAfter x R) (sym e) s
+      | inl l ↦ StandAfter-before a _ R l s
+      | inr e ↦ rw e s
     ] in
-    let e = ap (λ x. not (has x f)) (fact_at-append X R a ∙ ap (joined a (fact_at X a))
-    (fact_at-after a R after) ∙ joined-none a (fact_at X a)) in
+    let e = ap (λ x. not (has x f)) (fact_at-append X R a ∙ ap (joined a _)
+    (fact_at-after a R after) ∙ joined-none a _) in
     ap (λ b. cond b (f ∷ minus F (X ++ R)) (minus F (X ++ R))) e
     ∙ ap (λ l. cond (changes X f) (f ∷ l) l) (untouched g F X R u.1 s)
 
@@ -145,12 +138,12 @@ pub with_held : (held other : Option Fact) (F all others : List Fact)
     → turn_of held other ≡ Stay
     → F ++ option_list held ≡ minus (all ++ option_list held) (others ++ option_list other)
 with_held None other F all others e s t =
-    append-nil F ∙ e ∙ ap (λ l. minus l (others ++ option_list other)) (sym (append-nil all))
+    append-nil F ∙ e ∙ ap (λ l. minus l (others ++ option_list other)) (sym (append-nil _))
 with_held (Some f) other F all others e s t =
     let C = others ++ option_list other in
     ap (λ l. l ++ f ∷ []) e
     ∙ ap (λ l. minus all C ++ l)
-    (sym (ap (λ b. cond b (f ∷ []) []) (stay_changes f others other s t)))
+    (sym (ap (λ b. cond b (f ∷ []) []) (stay_changes f _ _ s t)))
     ∙ sym (filter-append (changes C) all (f ∷ []))
 
 pub without_held : (held other : Option Fact) (F all others : List Fact)
@@ -167,9 +160,9 @@ without_held None (Some g) F all others e s t = absurd (apart t)
     apart e = cc
 without_held (Some f) other F all others e s t =
     let C = others ++ option_list other in
-    e ∙ sym (append-nil (minus all C))
+    e ∙ sym (append-nil _)
     ∙ ap (λ l. minus all C ++ l)
-    (sym (ap (λ b. cond b (f ∷ []) []) (first_keeps f others other s t)))
+    (sym (ap (λ b. cond b (f ∷ []) []) (first_keeps f _ _ s t)))
     ∙ sym (filter-append (changes C) all (f ∷ []))
 
 -- rising facts
@@ -183,7 +176,7 @@ up_to_next g h [] l u = tt
 up_to_next g h (f ∷ F) l u = (
   elim u.0 [
     | inl m ↦ inl (address_total.trans (address f) (address g) (address h) m l)
-    | inr e ↦ inl (subst (λ a. address_cmp a (address h) ≡ Less) (sym e) l)
+    | inr e ↦ inl (rw e l)
   ],
   up_to_next g h F l u.1,
 )
@@ -202,7 +195,7 @@ up_to_stay None (Some g) F t u = absurd (apart t)
     apart : Second ≡ Stay → ⊥
     apart e = cc
 up_to_stay (Some f) (Some g) F t u =
-    up_to_more g f F (not_after f g (address_cmp (address f) (address g)) refl t) u
+    up_to_more g f F (not_after f g _ refl t) u
 
 pub up_to_first : (held other : Option Fact) (F : List Fact) → turn_of held other ≡ First
     → UpTo other F → UpTo other (F ++ option_list held)
@@ -212,20 +205,20 @@ up_to_first None (Some g) F t u = absurd (apart t)
     apart : Second ≡ First → ⊥
     apart e = cc
 up_to_first (Some f) (Some g) F t u =
-    up_to_more g f F (inr (first_at f g (address_cmp (address f) (address g)) refl t).1) u
+    up_to_more g f F (inr (first_at f g _ refl t).1) u
 
 pub behind_goes : (held next : Option Fact) (F G : List Fact) → (held ≡ None → ⊥)
     → IsRising ((F ++ option_list held) ++ option_list next) → Behind held G → Behind next G
 behind_goes held None F G n r s = tt
 behind_goes None (Some h) F G n r s = absurd (n refl)
-behind_goes (Some f) (Some h) F G n r s = before_later (address f) (address h) G (rising_after F f (h ∷ []) r).0 s
+behind_goes (Some f) (Some h) F G n r s = before_later _ _ G (rising_after F f _ r).0 s
 
 -- once the second goes on
 pub up_to_goes : (other next : Option Fact) (F G : List Fact) → (other ≡ None → ⊥)
     → IsRising ((G ++ option_list other) ++ option_list next) → UpTo other F → UpTo next F
 up_to_goes other None F G n r u = tt
 up_to_goes None (Some h) F G n r u = absurd (n refl)
-up_to_goes (Some g) (Some h) F G n r u = up_to_next g h F (rising_after G g (h ∷ []) r).0 u
+up_to_goes (Some g) (Some h) F G n r u = up_to_next g h F (rising_after G g _ r).0 u
 
 pub behind_second : (held other : Option Fact) (G : List Fact) → turn_of held other ≡ Second
     → Behind held G → Behind held (G ++ option_list other)
@@ -235,7 +228,7 @@ behind_second (Some f) None G t s = absurd (apart t)
     apart : Stay ≡ Second → ⊥
     apart e = cc
 behind_second (Some f) (Some g) G t s =
-    before_more (address f) g G (second_at f g (address_cmp (address f) (address g)) refl t) s
+    before_more _ g G (second_at f g _ refl t) s
 
 module _ (next : Option Fact) (F all G : List Fact) where
   pub left_second : (other : Option Fact) → (other ≡ None → ⊥)
@@ -244,7 +237,7 @@ module _ (next : Option Fact) (F all G : List Fact) where
       → F ≡ minus all ((G ++ option_list other) ++ option_list next)
   left_second None n r u e = absurd (n refl)
   left_second (Some g) n r u e =
-      e ∙ sym (untouched g all (G ++ g ∷ []) (option_list next) u (rising_after G g (option_list next) r))
+      e ∙ sym (untouched g _ _ _ u (rising_after G g _ r))
 
 pub first_holds : (held other : Option Fact) → turn_of held other ≡ First → held ≡ None → ⊥
 first_holds None None t e = cc

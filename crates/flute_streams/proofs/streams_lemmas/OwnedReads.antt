@@ -1,12 +1,11 @@
 -- OwnedJournalStream: reading on in a journal advances the stream.
 use Rattle.std.proofs.Common.{rules}
-use Rattle.flute_streams.proofs.Common.{◌≡◌, ℕ, List, length, Option, Some, Ok, Err, Bool}
+use Rattle.flute_streams.proofs.Common.{◌≡◌, ℕ, List, Option, Ok, Err}
 use Rattle.flute_streams.proofs.Common.{Result}
-use Rattle.flute_streams.proofs.Common.{ap, ◌∙◌, subst, arith, Fact, ReadFault, FailsIf}
-use Rattle.flute_streams.proofs.Common.{is_open, Behaviour, option_list}
-use Rattle.flute_streams.proofs.Common.{GoesOn, StopsAt, room, FailsBy}
-use Rattle.flute_streams.proofs.streams_lemmas.JournalReads.{IsCalled, gives_on, stops_on, never}
-use Rattle.flute_streams.proofs.streams_lemmas.JournalReads.{fewer}
+use Rattle.flute_streams.proofs.Common.{Fact, ReadFault}
+use Rattle.flute_streams.proofs.Common.{Behaviour}
+use Rattle.flute_streams.proofs.Common.{GoesOn, StopsAt}
+use Rattle.flute_streams.proofs.streams_lemmas.JournalReads.{IsCalled, gives_on, stops_on}
 use Rattle.flute_journal.specs.declared.fault.LoadFault.TheVariants as load
 use Rattle.flute_streams.specs.declared.streams.owned_journal_stream.OwnedJournalStream.{OwnedJournalStream}
 use Rattle.flute_journal.specs.HeldEntries.{HoldsNext}
@@ -52,5 +51,4 @@ module _ {R : Type 0} (unread : R → Option (List ℕ)) (buffered : R → List 
   pub owned_stops : (f : ReadFault) → Holds (Err f) → StopsAt b s t (load.Read f)
   owned_stops f h = λ start F p. let call : Called start F (Err f) = search rules in
       let r = stops_on call in
-      let failed : FailsBy (failures s.source) (failures t.source) (Some (load.Read f)) = search
-      rules in record { reads = r.reads; fails = search rules; stops = r.has_fault }
+      record { reads = r.reads; fails = search rules; stops = r.has_fault }

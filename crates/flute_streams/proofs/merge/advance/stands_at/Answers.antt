@@ -1,5 +1,4 @@
 -- stands_at: the stream is where its address was read.
-use Rattle.std.proofs.Common.{rules}
 use Rattle.flute_streams.proofs.Common.{address_of, arith}
 use Rattle.flute_streams.proofs.merge_lemmas.Places.{read-at}
 use Rattle.std.proofs.lemmas.Grind.{common_steps}

@@ -1,10 +1,9 @@
 -- merge_into: each exit follows by a lemma on the state of the merge before it.
 use Rattle.std.proofs.Common.{rules}
 use Rattle.flute_streams.proofs.Common.{◌≡◌, ◌≢◌, ◌⊎◌, ◌+◌, ℕ, Bool, Fact, List, [], ◌∷◌, ◌++◌}
-use Rattle.flute_streams.proofs.Common.{true, false, false≢true, IfSome, Some, ap, arith}
-use Rattle.flute_streams.proofs.Common.{inl, inr, option_copied, subst, sym, ◌∙◌}
-use Rattle.flute_streams.proofs.Common.{header, entry, end, GoOnAt, StopsIn, IsCounted}
-use Rattle.flute_streams.proofs.Common.{Input, NoneFails, OneFails, Write}
+use Rattle.flute_streams.proofs.Common.{true, false, IfSome, Some, ap, arith}
+use Rattle.flute_streams.proofs.Common.{option_copied, subst, sym, ◌∙◌}
+use Rattle.flute_streams.proofs.Common.{header, entry, end, GoOnAt, IsCounted}
 use Rattle.flute_journal.proofs.Public.{puts-part, left_out}
 use Rattle.flute_streams.proofs.merge_lemmas.Finished.{cut_journal}
 use Rattle.flute_streams.proofs.merge_lemmas.Places.{at_lowest, none-new, placed, stands-within}
@@ -13,7 +12,7 @@ use Rattle.flute_streams.proofs.merge_lemmas.StreamStates.{stop_first, stop_head
 use Rattle.flute_streams.proofs.merge_lemmas.StreamStates.{turn-falls, sized-lowest, few-joined}
 use Rattle.flute_streams.proofs.merge_lemmas.StreamStates.{no_failure, stop_entry, stop_input}
 use Rattle.flute_streams.proofs.merge_lemmas.StreamStates.{stop_end, finished, spelled_now}
-use Rattle.flute_streams.proofs.merge_lemmas.StreamStates.{State, Stopping, counted, over_more}
+use Rattle.flute_streams.proofs.merge_lemmas.StreamStates.{State, counted, over_more}
 use Rattle.flute_store.specs.Walk.{IsSized}
 use Rattle.flute_streams.proofs.merge.all_streams.merge_into.Given.{Over}
 use Rattle.flute_streams.proofs.merge.all_streams.merge_into.Goals.{then-within, else-within}
@@ -32,51 +31,55 @@ address-requires g c = stands-within g.G.Streams.behaviour
     (g.G.Streams.streams c.loop-lowest.streams) c.in-Some.lowest c.in-Some.ensures.stands
 
 -- an input stopped before the header was written
-first_stop : (g : Over) (c : goal.In-Err g)
-    → Stopping g.G.Streams.behaviour c.args.patient (g.G.Streams.streams c.args.streams.now)
+pub returns-in-Err : goal.returns-in-Err
+returns-in-Err g c =
+    let s = stop_first g.G.Streams.behaviour c.args.patient (g.G.Streams.streams c.args.streams.now)
     (g.G.Streams.streams c.advance_at.new.streams) (g.W.Sink.written c.args.writer.now.sink.now)
-    (g.W.Sink.written c.args.writer.now.sink.now) (Input c.in-Err.fault)
-    × OneFails g.G.Streams.behaviour c.in-Err.fault.number c.in-Err.fault.fault
-    (g.G.Streams.streams c.args.streams.now) (g.G.Streams.streams c.advance_at.new.streams)
-first_stop g c = stop_first g.G.Streams.behaviour c.args.patient
-    (g.G.Streams.streams c.args.streams.now) (g.G.Streams.streams c.advance_at.new.streams)
-    (g.W.Sink.written c.args.writer.now.sink.now) c.in-Err.fault c.requires.new
-    c.in-Err.ensures.stops
-
-pub returns-in-Err-clause-short : goal.returns-in-Err-clause-short
-returns-in-Err-clause-short g c = (first_stop g c).0.short
-
-pub returns-in-Err-clause-reads_ahead : goal.returns-in-Err-clause-reads_ahead
-returns-in-Err-clause-reads_ahead g c = (first_stop g c).0.reads_ahead
-
-pub returns-in-Err-clause-fault : goal.returns-in-Err-clause-fault
-returns-in-Err-clause-fault g c = (first_stop g c).0.names
-
-pub returns-in-Err-clause-can_go_on : goal.returns-in-Err-clause-can_go_on
-returns-in-Err-clause-can_go_on g c = (first_stop g c).0.can_go_on
-
-pub returns-in-Err-clause-failures : goal.returns-in-Err-clause-failures
-returns-in-Err-clause-failures g c = (first_stop g c).1
+    c.in-Err.fault c.requires.new c.in-Err.ensures.stops in
+    record {
+      merged = tt;
+      told = tt;
+      told_all = tt;
+      over = tt;
+      cut = tt;
+      ended = tt;
+      short = s.0.short;
+      reads_ahead = s.0.reads_ahead;
+      eager = search rules;
+      patience = search rules;
+      fault = s.0.names;
+      can_go_on = s.0.can_go_on;
+      failures = s.1;
+      sink_failures = search rules;
+      same_sink = search rules;
+      names = search rules;
+    }
 
 -- the header could not be written
-header_stop : (g : Over) (c : goal.Then-not-patient g) → Stopping g.G.Streams.behaviour
-    c.args.patient (g.G.Streams.streams c.args.streams.now)
-    (g.G.Streams.streams c.advance_at.new.streams) (g.W.Sink.written c.args.writer.now.sink.now)
-    (g.W.Sink.written c.header.new.self.sink.now) Write × NoneFails g.G.Streams.behaviour
-    (g.G.Streams.streams c.args.streams.now) (g.G.Streams.streams c.advance_at.new.streams)
-header_stop g c = stop_header g.G.Streams.behaviour c.args.patient
-    (g.G.Streams.streams c.args.streams.now) (g.G.Streams.streams c.advance_at.new.streams)
-    c.requires.new c.in_default.ensures.go_on (puts-part c.args.writer.now.failed
-    c.header.new.self.failed _ _ header c.requires.good c.if-writer.true c.header.ensures.puts)
-
-pub returns-then-not-patient-clause-short : goal.returns-then-not-patient-clause-short
-returns-then-not-patient-clause-short g c = (header_stop g c).0.short
-
-pub returns-then-not-patient-clause-reads_ahead : goal.returns-then-not-patient-clause-reads_ahead
-returns-then-not-patient-clause-reads_ahead g c = (header_stop g c).0.reads_ahead
-
-pub returns-then-not-patient-clause-failures : goal.returns-then-not-patient-clause-failures
-returns-then-not-patient-clause-failures g c = (header_stop g c).1
+pub returns-then-not-patient : goal.returns-then-not-patient
+returns-then-not-patient g c =
+    let s = stop_header g.G.Streams.behaviour c.args.patient (g.G.Streams.streams c.args.streams.now)
+    (g.G.Streams.streams c.advance_at.new.streams) c.requires.new c.in_default.ensures.go_on
+    (puts-part c.args.writer.now.failed c.header.new.self.failed _ _ header c.requires.good
+    c.if-writer.true c.header.ensures.puts) in
+    record {
+      merged = tt;
+      told = tt;
+      told_all = tt;
+      over = tt;
+      cut = tt;
+      ended = tt;
+      short = s.0.short;
+      reads_ahead = s.0.reads_ahead;
+      eager = search rules;
+      patience = search rules;
+      fault = s.0.names;
+      can_go_on = s.0.can_go_on;
+      failures = s.1;
+      sink_failures = search rules;
+      same_sink = search rules;
+      names = search rules;
+    }
 
 pub lowest-requires-clause-spelled : goal.lowest-requires-clause-spelled
 lowest-requires-clause-spelled g c = search (rules, spelled_now)
@@ -91,63 +94,66 @@ write_lowest-requires-clause-sized g c =
     (sym v.value.is) (sized-lowest g.G.Streams.behaviour c.loop-lowest.invariant.state v.lowest)
 
 -- an entry could not be written
-entry_stop : (g : Over) (c : goal.Then-not-patient-2 g)
-    → Stopping g.G.Streams.behaviour c.args.patient (g.G.Streams.streams c.args.streams.now)
-    (g.G.Streams.streams c.loop-lowest.streams) (g.W.Sink.written c.args.writer.now.sink.now)
-    (g.W.Sink.written c.write_lowest.new.writer.sink.now) Write
-entry_stop g c =
+pub returns-then-not-patient-2 : goal.returns-then-not-patient-2
+returns-then-not-patient-2 g c =
+    let i = c.loop-lowest.invariant in
     let v = written_at g.G.Streams.behaviour (g.G.Streams.streams c.loop-lowest.streams)
     c.in-Some.ensures.stands c.in-Some.ensures.lowest c.write_lowest.ensures.valid
     c.write_lowest.ensures.puts in
-    let good = c.loop-lowest.invariant.eager c.if-not-patient-2.true in
-    stop_entry g.G.Streams.behaviour c.loop-lowest.invariant.state v.lowest v.valid c.args.patient
+    let good = i.eager c.if-not-patient-2.true in
+    let s = stop_entry g.G.Streams.behaviour i.state v.lowest v.valid c.args.patient
     good (puts-part c.loop-lowest.writer.failed c.write_lowest.new.writer.failed _ _
-    (entry v.value.fact) good c.if-writer-2.true v.puts.puts)
-
-pub returns-then-not-patient-2-clause-short : goal.returns-then-not-patient-2-clause-short
-returns-then-not-patient-2-clause-short g c = (entry_stop g c).short
-
-pub returns-then-not-patient-2-clause-reads_ahead :
-    goal.returns-then-not-patient-2-clause-reads_ahead
-returns-then-not-patient-2-clause-reads_ahead g c = (entry_stop g c).reads_ahead
-
-pub returns-then-not-patient-2-clause-failures : goal.returns-then-not-patient-2-clause-failures
-returns-then-not-patient-2-clause-failures g c = search (rules, no_failure)
+    (entry v.value.fact) good c.if-writer-2.true v.puts.puts) in
+    record {
+      merged = tt;
+      told = tt;
+      told_all = tt;
+      over = tt;
+      cut = tt;
+      ended = tt;
+      short = s.short;
+      reads_ahead = s.reads_ahead;
+      eager = search rules;
+      patience = search rules;
+      fault = s.names;
+      can_go_on = s.can_go_on;
+      failures = no_failure g.G.Streams.behaviour i.state;
+      sink_failures = omega (arith, i.sink_failures, v.puts.fails);
+      same_sink = v.puts.same_sink ∙ i.same_sink;
+      names = search rules;
+    }
 
 -- an input stopped after an entry was written
-input_stop : (g : Over) (c : goal.In-Err-advance g) → Stopping g.G.Streams.behaviour c.args.patient
-    (g.G.Streams.streams c.args.streams.now) (g.G.Streams.streams c.advance.new.streams)
-    (g.W.Sink.written c.args.writer.now.sink.now)
-    (g.W.Sink.written c.write_lowest.new.writer.sink.now) (Input c.in-Err-advance.fault) × OneFails
-    g.G.Streams.behaviour c.in-Err-advance.fault.number c.in-Err-advance.fault.fault
-    (g.G.Streams.streams c.args.streams.now) (g.G.Streams.streams c.advance.new.streams)
-input_stop g c =
+pub returns-in-Err-advance : goal.returns-in-Err-advance
+returns-in-Err-advance g c =
+    let i = c.loop-lowest.invariant in
     let v = written_at g.G.Streams.behaviour (g.G.Streams.streams c.loop-lowest.streams)
     c.in-Some.ensures.stands c.in-Some.ensures.lowest c.write_lowest.ensures.valid
     c.write_lowest.ensures.puts in
     let at = placed g.G.Streams.behaviour (g.G.Streams.streams c.loop-lowest.streams) v.value
-    c.in-Some.ensures.stands c.address.ensures (ap option_copied c.in-Some-address.is) in stop_input
-    g.G.Streams.behaviour c.loop-lowest.invariant.state v.lowest v.valid c.args.patient
+    c.in-Some.ensures.stands c.address.ensures (ap option_copied c.in-Some-address.is) in
+    let s = stop_input g.G.Streams.behaviour i.state v.lowest v.valid c.args.patient
     c.write_lowest.new.writer.failed (g.G.Streams.streams c.advance.new.streams) _
-    c.in-Err-advance.fault v.puts.puts (goes_on c.else-writer-2.either) (subst (λ a. StopsIn
-    g.G.Streams.behaviour (Some a) (g.G.Streams.streams c.loop-lowest.streams)
-    (g.G.Streams.streams c.advance.new.streams) c.in-Err-advance.fault) (sym at)
-    c.in-Err-advance.ensures.stops)
-
-pub returns-in-Err-advance-clause-short : goal.returns-in-Err-advance-clause-short
-returns-in-Err-advance-clause-short g c = (input_stop g c).0.short
-
-pub returns-in-Err-advance-clause-reads_ahead : goal.returns-in-Err-advance-clause-reads_ahead
-returns-in-Err-advance-clause-reads_ahead g c = (input_stop g c).0.reads_ahead
-
-pub returns-in-Err-advance-clause-fault : goal.returns-in-Err-advance-clause-fault
-returns-in-Err-advance-clause-fault g c = (input_stop g c).0.names
-
-pub returns-in-Err-advance-clause-can_go_on : goal.returns-in-Err-advance-clause-can_go_on
-returns-in-Err-advance-clause-can_go_on g c = (input_stop g c).0.can_go_on
-
-pub returns-in-Err-advance-clause-failures : goal.returns-in-Err-advance-clause-failures
-returns-in-Err-advance-clause-failures g c = (input_stop g c).1
+    c.in-Err-advance.fault v.puts.puts (goes_on c.else-writer-2.either)
+    (rw (← at) at c.in-Err-advance.ensures.stops) in
+    record {
+      merged = tt;
+      told = tt;
+      told_all = tt;
+      over = tt;
+      cut = tt;
+      ended = tt;
+      short = s.0.short;
+      reads_ahead = s.0.reads_ahead;
+      eager = search rules;
+      patience = search rules;
+      fault = s.0.names;
+      can_go_on = s.0.can_go_on;
+      failures = s.1;
+      sink_failures = omega (arith, i.sink_failures, v.puts.fails);
+      same_sink = v.puts.same_sink ∙ i.same_sink;
+      names = search rules;
+    }
 
 -- the merge after one turn more
 next : (g : Over) (c : goal.In_default-advance g)
@@ -211,58 +217,84 @@ loop-lowest-smaller g c =
     (sym at) c.in_default-advance.ensures.go_on)
 
 -- the end could not be written
-end_stop : (g : Over) (c : goal.Then-not-patient-3 g)
-    → Stopping g.G.Streams.behaviour c.args.patient (g.G.Streams.streams c.args.streams.now)
-    (g.G.Streams.streams c.loop-lowest.streams) (g.W.Sink.written c.args.writer.now.sink.now)
-    (g.W.Sink.written c.end.new.self.sink.now) Write
-end_stop g c =
-    let good = c.loop-lowest.invariant.eager c.if-not-patient-3.true in
-    stop_end g.G.Streams.behaviour c.loop-lowest.invariant.state c.in_default-lowest.ensures.lowest
-    c.args.patient good (puts-part c.loop-lowest.writer.failed c.end.new.self.failed _ _
-    (end c.loop-lowest.entries) good c.if-writer-3.true c.end.ensures.puts)
+pub returns-then-not-patient-3 : goal.returns-then-not-patient-3
+returns-then-not-patient-3 g c =
+    let i = c.loop-lowest.invariant in
+    let good = i.eager c.if-not-patient-3.true in
+    let s = stop_end g.G.Streams.behaviour i.state c.in_default-lowest.ensures.lowest c.args.patient
+    good (puts-part c.loop-lowest.writer.failed c.end.new.self.failed _ _
+    (end c.loop-lowest.entries) good c.if-writer-3.true c.end.ensures.puts) in
+    record {
+      merged = tt;
+      told = tt;
+      told_all = tt;
+      over = tt;
+      cut = tt;
+      ended = tt;
+      short = s.short;
+      reads_ahead = s.reads_ahead;
+      eager = search rules;
+      patience = search rules;
+      fault = s.names;
+      can_go_on = s.can_go_on;
+      failures = no_failure g.G.Streams.behaviour i.state;
+      sink_failures = search rules;
+      same_sink = search rules;
+      names = search rules;
+    }
 
-pub returns-then-not-patient-3-clause-short : goal.returns-then-not-patient-3-clause-short
-returns-then-not-patient-3-clause-short g c = (end_stop g c).short
-
-pub returns-then-not-patient-3-clause-reads_ahead :
-    goal.returns-then-not-patient-3-clause-reads_ahead
-returns-then-not-patient-3-clause-reads_ahead g c = (end_stop g c).reads_ahead
-
-pub returns-then-not-patient-3-clause-failures : goal.returns-then-not-patient-3-clause-failures
-returns-then-not-patient-3-clause-failures g c = search (rules, no_failure)
-
-pub returns-clause-ended : goal.returns-clause-ended
-returns-clause-ended g c = finished g.G.Streams.behaviour c.loop-lowest.tally c.loop-lowest.within
-    c.end.new.self.failed c.loop-lowest.invariant.state _ c.requires.few
-    c.in_default-lowest.ensures.lowest c.end.ensures.puts
-
-pub returns-clause-merged : goal.returns-clause-merged
-returns-clause-merged g c = (returns-clause-ended g c).merged
-
-pub returns-clause-failures : goal.returns-clause-failures
-returns-clause-failures g c = search (rules, no_failure)
-
-pub returns-clause-cut : goal.returns-clause-cut
-returns-clause-cut g c = λ e.
-    cut_journal _ _ _ _ c.end.new.self.failed e (returns-clause-merged g c).puts
+pub returns : goal.returns
+returns g c =
+    let i = c.loop-lowest.invariant in
+    let e = finished g.G.Streams.behaviour c.loop-lowest.tally c.loop-lowest.within
+    c.end.new.self.failed i.state _ c.requires.few c.in_default-lowest.ensures.lowest
+    c.end.ensures.puts in
+    record {
+      merged = e.merged;
+      told = search rules;
+      told_all = search rules;
+      over = search rules;
+      cut = λ d. cut_journal _ _ _ _ c.end.new.self.failed d e.merged.puts;
+      ended = e;
+      short = tt;
+      reads_ahead = search rules;
+      eager = search rules;
+      patience = tt;
+      fault = tt;
+      can_go_on = tt;
+      failures = no_failure g.G.Streams.behaviour i.state;
+      sink_failures = search rules;
+      same_sink = search rules;
+      names = search rules;
+    }
 
 -- after a failed write the end was not written
 
 some_end : (n : ℕ) → end n ≢ []
 some_end n e = cc
 
-pub returns-then-not-within-clause-ended : goal.returns-then-not-within-clause-ended
-returns-then-not-within-clause-ended g c = finished g.G.Streams.behaviour c.loop-lowest.tally
-    c.loop-lowest.within true c.loop-lowest.invariant.state _ c.requires.few
+pub returns-then-not-within : goal.returns-then-not-within
+returns-then-not-within g c =
+    let i = c.loop-lowest.invariant in
+    let e = finished g.G.Streams.behaviour c.loop-lowest.tally
+    c.loop-lowest.within true i.state _ c.requires.few
     c.in_default-lowest.ensures.lowest (left_out c.loop-lowest.writer.failed _
-    (end c.loop-lowest.entries) (some_end c.loop-lowest.entries))
-
-pub returns-then-not-within-clause-merged : goal.returns-then-not-within-clause-merged
-returns-then-not-within-clause-merged g c = (returns-then-not-within-clause-ended g c).merged
-
-pub returns-then-not-within-clause-failures : goal.returns-then-not-within-clause-failures
-returns-then-not-within-clause-failures g c = search (rules, no_failure)
-
-pub returns-then-not-within-clause-cut : goal.returns-then-not-within-clause-cut
-returns-then-not-within-clause-cut g c = λ e.
-    cut_journal _ _ _ _ true e (returns-then-not-within-clause-merged g c).puts
+    (end c.loop-lowest.entries) (some_end c.loop-lowest.entries)) in
+    record {
+      merged = e.merged;
+      told = search rules;
+      told_all = search rules;
+      over = search rules;
+      cut = λ d. cut_journal _ _ _ _ true d e.merged.puts;
+      ended = e;
+      short = tt;
+      reads_ahead = search rules;
+      eager = search rules;
+      patience = tt;
+      fault = tt;
+      can_go_on = tt;
+      failures = no_failure g.G.Streams.behaviour i.state;
+      sink_failures = search rules;
+      same_sink = search rules;
+      names = search rules;
+    }

@@ -1,6 +1,6 @@
 use Rattle.std.proofs.Common.{rules}
 use Rattle.flute_streams.proofs.Common.{Fact, FactRef, Option, Some, ap, fact_in, fact_of}
-use Rattle.flute_streams.proofs.Common.{same_Some, same_fact, sym, ◌∙◌, ◌≡◌}
+use Rattle.flute_streams.proofs.Common.{same_fact, ◌∙◌, ◌≡◌}
 use Rattle.flute_streams.proofs.merge_lemmas.Places.{read-at}
 use Rattle.flute_streams.proofs.merge.lowest.hold_same_facts.Goals as goal
 

@@ -1,12 +1,11 @@
 -- lowest_held: one stream more.
 use Rattle.std.proofs.Common.{rules}
-use Rattle.flute_streams.proofs.Common.{IsLowest, List, Fact, append-nil, arith, heads}
-use Rattle.flute_streams.proofs.Common.{length, option_list, address_of, subst, sym, take}
-use Rattle.flute_streams.proofs.Common.{◌++◌, ◌<◌}
+use Rattle.flute_streams.proofs.Common.{append-nil, arith, heads}
+use Rattle.flute_streams.proofs.Common.{length, address_of, sym, take}
+use Rattle.flute_streams.proofs.Common.{◌<◌}
 use Rattle.flute_streams.proofs.Common.{ap, option_copied, ◌∙◌}
 use Rattle.flute_streams.proofs.merge_lemmas.LowestFacts.{heads-more}
 use Rattle.flute_streams.proofs.merge_lemmas.Places.{place-none, read-at}
-use Rattle.flute_streams.specs.Lowest.{value_of}
 use Rattle.flute_streams.proofs.merge.lowest.lowest_held.Goals.{in-Some, in_default}
 use Rattle.flute_streams.proofs.merge.lowest.lowest_held.Goals as goal
 
@@ -32,23 +31,17 @@ loop-number-preserved g c =
     let before = heads b (take k xs) in
     let within : k < length xs =
     omega (arith, c.loop-number-test.true, c.count-number-end.ensures) in
-    let now = c.match-address.lowest in
-    let P : List Fact → Type 0 = λ l. IsLowest l (value_of b xs now) in
     elim c.match-address.branch [
-      | in-Some w ↦ record {
-        lowest = subst P (sym (heads-more b xs k within))
-            (rw w.lowest-is (w.with_more.ensures.lowest before c.loop-number.invariant.lowest));
-        stands = rw w.lowest-is w.with_more.ensures.stands;
-      }
+      | in-Some w ↦ rw (w.lowest-is, heads-more b xs k within) (record {
+          lowest = w.with_more.ensures.lowest before c.loop-number.invariant.lowest;
+          stands = w.with_more.ensures.stands;
+        })
       | in_default w ↦
           let none = place-none _
           (sym (read-at b xs k address_of within c.address.ensures)
           ∙ ap option_copied w.in_default.is) in
-          record {
-            lowest = subst P (sym (heads-more b xs k within))
-                (subst (λ o. P (before ++ option_list o)) (sym none)
-                (subst P (sym (append-nil before))
-                (rw w.lowest-is c.loop-number.invariant.lowest)));
-            stands = rw w.lowest-is c.loop-number.invariant.stands;
-          }
+          rw (w.lowest-is, heads-more b xs k within, none, append-nil before) (record {
+            lowest = c.loop-number.invariant.lowest;
+            stands = c.loop-number.invariant.stands;
+          })
     ]

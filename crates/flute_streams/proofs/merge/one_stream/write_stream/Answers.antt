@@ -1,7 +1,4 @@
 -- write_stream: all that is written of it is a part of its journal.
-use Rattle.std.proofs.Common.{arith}
-use Rattle.std.proofs.lemmas.Grind.{common_steps}
-use Rattle.std.proofs.Common.{rules}
 use Rattle.flute_streams.proofs.Common.{List, [], ◌∷◌, append-nil, sym, subst, Fact, Journal}
 use Rattle.flute_streams.proofs.merge.one_stream.write_stream.Goals as goal
 

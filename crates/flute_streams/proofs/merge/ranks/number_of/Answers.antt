@@ -1,5 +1,5 @@
 use Rattle.std.proofs.Common.{rules}
-use Rattle.flute_streams.proofs.Common.{◌<◌, arith, sym, ◌∙◌}
+use Rattle.flute_streams.proofs.Common.{sym, ◌∙◌}
 use Rattle.flute_streams.proofs.merge_lemmas.RankFacts.{rank-info, rank-symbol}
 use Rattle.flute_streams.proofs.merge.ranks.number_of.Goals as goal
 

@@ -1,5 +1,4 @@
 use Rattle.std.proofs.Common.{rules}
-use Rattle.flute_streams.proofs.Common.{arith}
 use Rattle.flute_streams.proofs.merge_lemmas.SameBytes.{same-more}
 use Rattle.flute_streams.proofs.merge.same_bytes.same_piece.Goals as goal
 

@@ -1,6 +1,6 @@
 -- same_pieces: a piece and the rest of each decide, and at last a piece that holds all the rest.
 use Rattle.std.proofs.Common.{rules}
-use Rattle.flute_streams.proofs.Common.{arith, ap, refl, sym, ◌∙◌, ◌&&◌, [], Bool, bytes_eq}
+use Rattle.flute_streams.proofs.Common.{arith, ap, sym, ◌∙◌, ◌&&◌, Bool, bytes_eq}
 use Rattle.flute_streams.proofs.merge_lemmas.SameBytes.{same-last, same-left, same-on, same-split}
 use Rattle.flute_streams.proofs.merge.same_bytes.same_pieces.Goals as goal
 

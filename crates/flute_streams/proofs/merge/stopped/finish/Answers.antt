@@ -1,5 +1,5 @@
 use Rattle.std.proofs.Common.{rules}
-use Rattle.flute_streams.proofs.Common.{◌∙◌, fact_in}
+use Rattle.flute_streams.proofs.Common.{fact_in}
 use Rattle.flute_streams.proofs.merge_lemmas.Finished.{read-more, read-falls, read-told, some_held}
 use Rattle.flute_streams.proofs.merge_lemmas.Finished.{none_held}
 use Rattle.flute_streams.proofs.merge.stopped.finish.Goals as goal

@@ -1,5 +1,5 @@
 use Rattle.std.proofs.Common.{rules}
-use Rattle.flute_streams.proofs.Common.{◌∙◌, arith}
+use Rattle.flute_streams.proofs.Common.{arith}
 use Rattle.flute_streams.proofs.merge_lemmas.Finished.{reached-more, reached-stop}
 use Rattle.flute_streams.proofs.merge.stopped.first_fault.Goals as goal
 

@@ -1,5 +1,4 @@
 -- merge_new: what the merge of the two streams gives, once what they hold was let go of.
-use Rattle.std.proofs.Common.{rules}
 use Rattle.flute_streams.proofs.Common.{Err, FirstFails, SecondFails, subst, sym}
 use Rattle.flute_streams.proofs.merge_lemmas.LetGo.{lets_go, nothing_held}
 use Rattle.flute_streams.proofs.merge_lemmas.Twos.{merged_two, stopped_two, fail_two}

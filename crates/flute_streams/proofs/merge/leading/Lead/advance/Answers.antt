@@ -1,11 +1,10 @@
 -- Lead::advance: the stream that leads is advanced alone, and may lead on.
 use Rattle.std.proofs.Common.{rules}
-use Rattle.flute_streams.proofs.Common.{Address, Behaviour, IfSome, List, Some, StandsAt, address_of}
-use Rattle.flute_streams.proofs.Common.{ap, arith, slice_get_within, subst, sym, ℕ, ◌∙◌, ◌≡◌}
+use Rattle.flute_streams.proofs.Common.{Address, Behaviour, List, Some, StandsAt, address_of}
+use Rattle.flute_streams.proofs.Common.{arith, slice_get_within, ℕ, ◌≡◌}
 use Rattle.flute_streams.proofs.merge_lemmas.GoingOn.{same_length}
 use Rattle.flute_streams.proofs.merge_lemmas.LeadFacts.{lead-goes, lead-stops, still-leads}
-use Rattle.flute_streams.specs.Lowest.{held_at, held_in}
-use Rattle.flute_streams.specs.Ranks.{AreRanked}
+use Rattle.flute_streams.specs.Lowest.{held_at}
 use Rattle.flute_streams.proofs.merge.leading.Lead.advance.Goals as goal
 
 -- the stream with the number of the first one at the address is there

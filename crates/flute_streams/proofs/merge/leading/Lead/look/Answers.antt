@@ -1,5 +1,4 @@
 -- Lead::look: one stream more: it holds nothing before the next address, or is the one to lead.
-use Rattle.std.proofs.Common.{rules}
 use Rattle.flute_streams.proofs.Common.{◌≤◌, length, option_copied, sym, subst, arith, Leads}
 use Rattle.flute_streams.proofs.merge_lemmas.LeadFacts.{lead-new}
 use Rattle.flute_streams.proofs.merge.leading.Lead.look.Goals as goal

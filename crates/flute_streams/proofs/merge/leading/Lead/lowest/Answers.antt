@@ -1,4 +1,3 @@
-use Rattle.std.proofs.Common.{rules}
 use Rattle.flute_streams.proofs.Common.{ap, option_copied, address_of, slice_get_within, sym, ◌∙◌}
 use Rattle.flute_streams.proofs.merge_lemmas.LeadFacts.{lead-lowest}
 use Rattle.flute_streams.proofs.merge_lemmas.Places.{read-at}

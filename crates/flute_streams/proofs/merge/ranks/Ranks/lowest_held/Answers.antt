@@ -1,5 +1,4 @@
 -- One stream more: those before it are passed over, and what it holds is joined.
-use Rattle.std.proofs.Common.{rules}
 use Rattle.flute_streams.proofs.Common.{IfSome, IsLowest, Key, Lowest, Some, arith, heads, length}
 use Rattle.flute_streams.proofs.Common.{refl, subst, sym, take, take_all, ◌<◌, ◌∙◌, ◌≡◌, ◌≤◌, ◌/◌}
 use Rattle.flute_streams.proofs.merge_lemmas.Places.{comes-alone, comes-joined, has_value}

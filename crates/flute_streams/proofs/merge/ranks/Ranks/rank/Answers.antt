@@ -1,5 +1,4 @@
 -- Ranks::rank: one stream more is ranked, or none is.
-use Rattle.std.proofs.Common.{rules}
 use Rattle.flute_streams.proofs.Common.{◌≤◌, length, arith, option_copied, set, subst, sym}
 use Rattle.flute_streams.proofs.merge_lemmas.RankedStreams.{ranked_more, ranked_all}
 use Rattle.flute_streams.specs.Ranks.{StandsFrom}

@@ -1,4 +1,3 @@
-use Rattle.std.proofs.Common.{rules}
 use Rattle.flute_streams.proofs.Common.{address_of}
 use Rattle.flute_streams.proofs.streams_lemmas.Chaining.{far, other_is}
 use Rattle.flute_streams.specs.Eithers.{held_either}

@@ -1,10 +1,7 @@
 -- Chained::advance: stream 0 is advanced, or the other one with the number before.
 use Rattle.std.proofs.Common.{rules}
-use Rattle.flute_streams.proofs.Common.{Second}
 use Rattle.flute_streams.proofs.streams_lemmas.Eithers.{first_advances}
 use Rattle.flute_streams.proofs.streams_lemmas.Chaining.{far, other_advances}
-use Rattle.std.specs.Prelude.{map}
-use Rattle.flute_streams.specs.Chains.{taken}
 use Rattle.flute_streams.proofs.streams.chained.ChainedStreams.advance.Goals as goal
 
 pub advance-requires-else-number-eq0 : goal.advance-requires-else-number-eq0

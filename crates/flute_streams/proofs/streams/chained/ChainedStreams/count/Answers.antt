@@ -1,4 +1,3 @@
-use Rattle.std.proofs.Common.{rules}
 use Rattle.flute_streams.proofs.Common.{◌+◌, ap, sym, ◌∙◌}
 use Rattle.std.specs.Prelude.{min}
 use Rattle.flute_streams.proofs.streams_lemmas.Chaining.{chained_many}

@@ -1,4 +1,3 @@
-use Rattle.std.proofs.Common.{rules}
 use Rattle.flute_streams.proofs.streams_lemmas.Chaining.{far, other_is}
 use Rattle.flute_streams.specs.Eithers.{spelled_either}
 use Rattle.flute_streams.proofs.streams.chained.ChainedStreams.spelled.Goals as goal

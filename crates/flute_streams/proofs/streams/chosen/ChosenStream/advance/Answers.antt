@@ -1,5 +1,4 @@
 -- Chosen::advance: its loop passes over facts that are not taken, up to the next that is.
-use Rattle.std.proofs.Common.{rules}
 use Rattle.flute_streams.proofs.Common.{refl}
 use Rattle.flute_streams.proofs.streams_lemmas.ChosenFacts.{answered, counts_first, counts_other}
 use Rattle.flute_streams.proofs.streams_lemmas.ChosenFacts.{chosen_goes_on}

@@ -1,5 +1,4 @@
 -- The next entry is held, or the reader has a fault.
-use Rattle.std.proofs.Common.{rules}
 use Rattle.flute_streams.proofs.Common.{Err, Read, ap, refl, ◌∙◌, err_from_is_err_and}
 use Rattle.flute_streams.proofs.streams_lemmas.JournalReads.{stream_goes_on, stream_stops, loans}
 use Rattle.flute_streams.proofs.streams_lemmas.Loans.{lent_goes_on, lent_stops}

@@ -1,5 +1,4 @@
 -- The next entry is held, or the reader has a fault.
-use Rattle.std.proofs.Common.{rules}
 use Rattle.flute_streams.proofs.Common.{Err, ap, refl, ◌∙◌, err_from_is_err_and}
 use Rattle.flute_streams.proofs.streams_lemmas.OwnedReads.{owned_goes_on, owned_stops}
 use Rattle.flute_streams.proofs.streams.owned_journal_stream.OwnedJournalStreamStream.advance.Goals as goal

@@ -1,5 +1,5 @@
 use Rattle.std.proofs.Common.{rules}
-use Rattle.flute_streams.proofs.Common.{◌≡◌, ap, fact_in, sym}
+use Rattle.flute_streams.proofs.Common.{◌≡◌, fact_in}
 use Rattle.flute_streams.proofs.streams_lemmas.ListedFacts.{walk_goes_on}
 use Rattle.flute_streams.specs.WalkStreams.{held_fact}
 use Rattle.flute_streams.proofs.streams.walk_stream.WalkStreamStream.advance.Goals.{in-Some, in-None}
