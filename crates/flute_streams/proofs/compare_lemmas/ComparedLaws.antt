@@ -81,7 +81,7 @@ one_value : (a : Address) (f : Fact) (y : Option Fact) → is_other y f ≡ fals
 one_value a f None h = refl
 one_value a f (Some g) h = elim (cases_Bool _) [
   | inl t ↦ ap Some (joined-same a f g (fact_same f g t))
-  | inr n ↦ absurd (false≢true (sym h ∙ ap not n))
+  | inr n ↦ absurd cc
 ]
 
 -- where no symbol at such an address differs, a join has there what one of both has
@@ -119,20 +119,20 @@ same_information_there a None y h = inr refl
 same_information_there a (Some f) None h = inl refl
 same_information_there a (Some f) (Some g) h = elim (cases_Bool _) [
   | inl t ↦ inl (ap Some (joined-same a f g (fact_same f g t)))
-  | inr n ↦ absurd (false≢true (sym (rw n at h)))
+  | inr n ↦ absurd cc
 ]
 
 zero_is : (n : ℕ) → not (n == 0) ≡ false → n ≡ 0
 zero_is n h = elim (cases_Bool _) [
   | inl t ↦ eqb-true n 0 t
-  | inr u ↦ absurd (false≢true (sym (ap not (sym u) ∙ h)))
+  | inr u ↦ absurd cc
 ]
 
 -- of a listed object nothing differs
 not_apart : (facts others : List Fact) (key : Key) (keys : List Key) → is_listed key keys ≡ true
     → list_any differs (map (row_of facts others) keys) ≡ false
     → differs (row_of facts others key) ≡ false
-not_apart facts others key [] l h = absurd (false≢true l)
+not_apart facts others key [] l h = absurd cc
 not_apart facts others key (k ∷ keys) l h =
     let n = or_none _ _ h in
     elim (cases_Bool _) [

@@ -215,8 +215,8 @@ module _ {S T : Type 0} (a : Behaviour S) (b : Behaviour T) where
         second_ends = c.second.ends n.1;
         first_quiet = c.first.fails;
         second_quiet = c.second.fails;
-        first_few = omega (arith);
-        second_few = omega (arith);
+        first_few = omega  arith ;
+        second_few = omega  arith ;
         rows = map _ _;
         are = record {
           keys = c.before ++ keys_at c.last;
@@ -230,7 +230,7 @@ module _ {S T : Type 0} (a : Behaviour S) (b : Behaviour T) where
             ∙ ap (λ l. map R c.before ++ l) (row_keys c.all c.others c.last)
             ∙ sym (map-append R c.before (keys_at c.last))
             ∙ told_rows _ _ _
-            (omega (arith)) (omega (arith)));
+            (omega  arith ) (omega  arith ));
       }
     where
       row_keys : (F G : List Fact) (last : Option Address)
@@ -240,8 +240,8 @@ module _ {S T : Type 0} (a : Behaviour S) (b : Behaviour T) where
 
   goes_less : {A : Type 0} (c : Behaviour A) (s t : A) (g : Bool) → GoesIf c g s t
       → (g ≡ true → c.held s ≡ None → ⊥) → c.most t + cond g 1 0 ≤ c.most s
-  goes_less c s t true v n = let l = some_length _ (n refl) in omega (arith)
-  goes_less c s t false v n = let l = ap (λ z. c.most z) v in omega (arith)
+  goes_less c s t true v n = let l = some_length _ (n refl) in omega  arith 
+  goes_less c s t false v n = let l = ap (λ z. c.most z) v in omega  arith 
 
   one_goes : (side : Side) → (first_goes side ≡ true) ⊎ (second_goes side ≡ true)
   one_goes Same = inl refl

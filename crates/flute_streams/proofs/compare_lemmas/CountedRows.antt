@@ -42,7 +42,7 @@ pub count_first : {X : Type 0} (p : X → Bool) (x : X) (xs : List X)
     → count_by p (x ∷ xs) ≡ cond (p x) 1 0 + count_by p xs
 count_first p x xs =
     sum_by-append (λ z. cond (p z) 1 0) (x ∷ []) xs
-    ∙ ap (λ n. n + count_by p xs) (zero_plus (cond (p x) 1 0))
+    ∙ ap (λ n. n + count_by p xs) (zero_plus _)
 
 -- the value of what is held, at its address and before it
 held_here : (p : Address) (g : Option Fact) → At p g → fact_at (option_list g) p ≡ g
@@ -53,18 +53,18 @@ held_off : (p a : Address) (g : Option Fact) → At p g → same_address p a ≡
     → fact_at (option_list g) a ≡ None
 held_off p a None e n = fact_at-nil a
 held_off p a (Some g) e n =
-    alone-elsewhere g a (subst (λ y. same_address y a ≡ false) (sym e) n)
+    alone-elsewhere g a (rw e n)
 
 value_here : (p : Address) (G : List Fact) (g : Option Fact) → StandBefore p G → At p g
     → fact_at (G ++ option_list g) p ≡ g
-value_here p G g s e = before_value p G (option_list g) s ∙ held_here p g e
+value_here p G g s e = before_value p G _ s ∙ held_here p g e
 
 -- and at other addresses
 value_off : (p a : Address) (G : List Fact) (g : Option Fact) → At p g → same_address p a ≡ false
     → fact_at (G ++ option_list g) a ≡ fact_at G a
 value_off p a G g e n =
-    fact_at-append G (option_list g) a ∙ ap (joined a (fact_at G a)) (held_off p a g e n)
-    ∙ joined-none a (fact_at G a)
+    fact_at-append G _ a ∙ ap (joined a _) (held_off p a g e n)
+    ∙ joined-none a _
 
 -- how much one fact more counts
 abbrev pub one : (Address → Bool) → (Option Fact → Fact → Bool) → Option Fact → Option Fact → ℕ
@@ -192,7 +192,7 @@ rows_same r v a b c = λ i. record { key = a i; information = b i; symbols = c i
 
 off : (a b : Bool) → a ≡ false → (a && b) ≡ false
 off false b e = refl
-off true b e = absurd (false≢true (sym e))
+off true b e = absurd cc
 
 side_is : (f g : Option Fact) → (f ≡ None → g ≡ None → ⊥) → side_at f g ≡ Some (side_of f g)
 side_is None None n = absurd (n refl refl)
@@ -210,7 +210,7 @@ key_apart p a n = elim (cases_Bool (same_address p a)) [
 
 part_apart : (p : Address) (id : SymbolId) → p.part ≡ SymbolPart id
     → same_address p (info_address p.key) ≡ false
-part_apart p id i = elim (cases_Bool (same_address p (info_address p.key))) [
+part_apart p id i = elim (cases_Bool _) [
   | inl t ↦ absurd (no_part (sym i ∙ ap (λ x. x.part) (address_same p (info_address p.key) t)))
   | inr m ↦ m
 ]
@@ -263,7 +263,7 @@ module _ {p : Address} {F G : List Fact} {f g : Option Fact} (w : IsNext p F G f
 -- of an object that is not named nothing is counted
 pub or_none : (a b : Bool) → (a || b) ≡ false → (a ≡ false) × (b ≡ false)
 or_none false b e = (refl, e)
-or_none true b e = absurd (false≢true (sym e))
+or_none true b e = absurd cc
 
 none_counted : (k : Key) (r : Option Fact → Fact → Bool) (F G : List Fact)
     → is_named k F ≡ false → tally (is_symbol_of k) r F G ≡ 0
@@ -278,8 +278,8 @@ none_counted k r (f ∷ F) G n =
 pub none_there : (a : Address) (F : List Fact) → is_named a.key F ≡ false → fact_at F a ≡ None
 none_there a [] n = fact_at-nil a
 none_there a (f ∷ F) n =
-    let h = or_none (same_key a.key (address f).key) (is_named a.key F) n in
-    fact_at-elsewhere f F a (key_apart (address f) a h.0) ∙ none_there a F h.1
+    let h = or_none _ _ n in
+    fact_at-elsewhere f F a (key_apart _ a h.0) ∙ none_there a F h.1
 
 zero_capped : (n : ℕ) → n ≡ 0 → capped n ≡ 0
 zero_capped n e = omega arith

@@ -39,7 +39,7 @@ pub record Met (h k : Option Fact) (m : Meeting) (all others : List Fact) : Type
   pub after : (x : Address) → StandAfter x (option_list h) → StandAfter x (option_list k) → address_cmp x m.at ≡ Less
 
 true_false : {X : Type 0} → true ≡ false → X
-true_false e = absurd (false≢true (sym e))
+true_false e = absurd cc
 
 pub no_some : (f : Fact) → Some f ≡ None → ⊥
 no_some f e = none-some f (sym e)

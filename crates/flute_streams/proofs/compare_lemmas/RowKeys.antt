@@ -26,7 +26,7 @@ key_of x p l n = by _ _ l n
   where
     by : (o q : Ordering) → ordering_then o q ≡ Less → is_eq o ≡ false → o ≡ Less
     by Less q l n = refl
-    by Equal q l n = absurd (false≢true (sym n))
+    by Equal q l n = absurd cc
     by Greater q l n = l
 
 after_more : (y k : Key) (ks : List Key) → KeysAfter y ks → key_cmp y k ≡ Less

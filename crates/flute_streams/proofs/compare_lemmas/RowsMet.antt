@@ -36,6 +36,9 @@ module _ {p : Address} {F G : List Fact} {f g : Option Fact} (w : IsNext p F G f
   abbrev m : Meeting
   m = record { at = p; side = side_of f g }
 
+  abbrev AreNamed : List Key → Type 0
+  AreNamed ks = (key : Key) → is_listed key ks ≡ (is_named key F || is_named key G)
+
   rows_stay : (ks : List Key) → ((k : Key) → is_listed k ks ≡ true → same_key k p.key ≡ false)
       → map rows_were ks ≡ map rows_are ks
   rows_stay [] h = refl
@@ -82,8 +85,7 @@ module _ {p : Address} {F G : List Fact} {f g : Option Fact} (w : IsNext p F G f
 
   module _ (old told told' : List Row) (row : Row) (ks : List Key) where
     pub rows_first : ks ≡ [] → told ≡ old ++ map rows_were ks → told' ≡ told ++ []
-        → row ≡ counted (new_row p.key) m → ((key : Key)
-        → is_listed key (ks ++ []) ≡ (is_named key F || is_named key G)) → RowsMet old told' row
+        → row ≡ counted (new_row p.key) m → AreNamed (ks ++ []) → RowsMet old told' row
     rows_first none is is' r named =
         let empty : (key : Key) → (is_named key F || is_named key G) ≡ false =
         λ key. sym (named key) ∙ ap (λ l. is_listed key (l ++ [])) none in
@@ -99,8 +101,7 @@ module _ {p : Address} {F G : List Fact} {f g : Option Fact} (w : IsNext p F G f
         }
 
     pub rows_same_key : (x : Key) → x ≡ p.key → told ≡ old ++ map rows_were ks → told' ≡ told ++ []
-        → row ≡ counted (rows_were x) m → KeysRise (ks ++ x ∷ []) → ((key : Key)
-        → is_listed key (ks ++ x ∷ []) ≡ (is_named key F || is_named key G)) → RowsMet old told' row
+        → row ≡ counted (rows_were x) m → KeysRise (ks ++ x ∷ []) → AreNamed (ks ++ x ∷ []) → RowsMet old told' row
     rows_same_key x same is is' r rise named = record {
       before = ks;
       told_is = is' ∙ append-nil told ∙ is
@@ -121,8 +122,7 @@ module _ {p : Address} {F G : List Fact} {f g : Option Fact} (w : IsNext p F G f
 
     pub rows_next_key : (x : Key) → key_cmp x p.key ≡ Less → told ≡ old ++ map rows_were ks
         → told' ≡ told ++ rows_were x ∷ [] → row ≡ counted (new_row p.key) m
-        → KeysRise (ks ++ x ∷ []) → ((key : Key)
-        → is_listed key (ks ++ x ∷ []) ≡ (is_named key F || is_named key G)) → RowsMet old told' row
+        → KeysRise (ks ++ x ∷ []) → AreNamed (ks ++ x ∷ []) → RowsMet old told' row
     rows_next_key x less is is' r rise named =
         let off = or_none (is_named p.key F) (is_named p.key G)
         (sym (named p.key) ∙ not_listed p.key x ks rise less) in
@@ -150,8 +150,7 @@ module _ {p : Address} {F G : List Fact} {f g : Option Fact} (w : IsNext p F G f
         → ((x : Address) → last ≡ Some x → address_cmp x p ≡ Less) → told ≡ old ++ map rows_were ks
         → row ≡ row_at F G last
         → (told' ≡ told ++ to_tell row p.key) × (row' ≡ counted (row_for row p.key) m)
-        → KeysRise (ks ++ keys_at last) → ((key : Key)
-        → is_listed key (ks ++ keys_at last) ≡ (is_named key F || is_named key G))
+        → KeysRise (ks ++ keys_at last) → AreNamed (ks ++ keys_at last)
         → RowsMet old told' row'
     rows_met None first past is i o rise named =
         rows_first old told told' row' ks (first refl) is

@@ -102,11 +102,11 @@ module _ {S : Type 0} (b : Behaviour S) where
 
   pub gave_at : (n k : ℕ) (start now : List S) → GaveBefore b n start now → k < n
       → GaveAt start now k
-  gave_at zero k start now g l = absurd (omega (arith))
+  gave_at zero k start now g l = absurd (omega  arith )
   gave_at (suc n) zero (s ∷ start) (t ∷ now) g l =
       record { new = s; stream = t; was = refl; is = refl; given = g.0.0; gave = g.0.1 }
   gave_at (suc n) (suc k) (s ∷ start) (t ∷ now) g l =
-      let r = gave_at n k start now g.1 (omega (arith)) in
+      let r = gave_at n k start now g.1 (omega  arith ) in
       record {
         new = r.new;
         stream = r.stream;
@@ -150,7 +150,7 @@ module _ {S : Type 0} (b : Behaviour S) where
       → ((start s : S) (F : List Fact) → slice_get now k ≡ Some s → Gave b start s F → IsStopOf b
       start k new f) → (start : List S) → GaveBefore b n start old → HasStopped b start new
       (record { number = k; fault = f })
-  reached-stop {n} {k} {old} {new} l r stops start g =
+  reached-stop {n} {k} {new} l r stops start g =
       let a = gave_at n k _ _ g l in
       record { new = a.new; was = a.was; stop = search rules }
 

@@ -67,7 +67,7 @@ module _ {S : Type 0} (b : Behaviour S) (place : Option Address) where
   -- a stream that was not reached is the same
   pub not_reached : {k : ℕ} {old now : List S} → WentSoFar k old now → k < length now
       → slice_get now k ≡ slice_get old k
-  not_reached {k} {old} {now} w within =
+  not_reached {k} {now} w within =
       let x = item_at _ k within in
       x.1 ∙ sym (slice_get_read _ _ k _ refl (shorter k _ now w.rest within)
       (sym (as_it_was k _ now _ w.rest x.1).0))
@@ -89,15 +89,15 @@ module _ {S : Type 0} (b : Behaviour S) (place : Option Address) where
   pub more_stay : (n : ℕ) {k m : ℕ} {old now : List S} → m ≡ k + n → m ≤ length now
       → NoneAt k m now → WentSoFar k old now → WentSoFar m old now
   more_stay zero {k} {m} {old} {now} e within apart w =
-      let same : k ≡ m = omega (arith) in
+      let same : k ≡ m = omega  arith  in
       rw (← same) w
   more_stay (suc n) {k} {m} {old} {now} e within apart w =
       let j = k + n in
-      let l : j < m = omega (arith) in
-      let x = item_at now j (omega (arith)) in
-      let before = more_stay n refl (omega (arith))
-      (λ i s p q g. apart i s p (omega (arith)) g) w in
-      let same : j + 1 ≡ m = omega (arith) in
+      let l : j < m = omega  arith  in
+      let x = item_at now j (omega  arith ) in
+      let before = more_stay n refl (omega  arith )
+      (λ i s p q g. apart i s p (omega  arith ) g) w in
+      let same : j + 1 ≡ m = omega  arith  in
       rw (← same) (one_stays before x.1 (apart j _ (omega arith) l x.1))
 
   -- stream k holds that address, and is advanced

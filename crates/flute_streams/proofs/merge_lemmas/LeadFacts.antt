@@ -28,7 +28,7 @@ lower-first next p None h = tt
 lower-first None p (Some q) h = absurd h
 lower-first (Some a) p (Some q) h = elim (cases_Bool (is_lt (address_cmp a p))) [
   | inl e ↦ search rules
-  | inr e ↦ subst (λ t. address_cmp (if t then a else p) q ≢ Greater) (sym e)
+  | inr e ↦ rw e
       (up_to-trans p a q refl refl (up_to_turned a p (address_cmp a p) refl e) h)
 ]
 
@@ -36,9 +36,9 @@ pub lower-second : (next : Option Address) (p : Address)
     → NoneBefore (Some (lower_of next p)) (Some p)
 lower-second None p = up_to_itself p
 lower-second (Some a) p = elim (cases_Bool (is_lt (address_cmp a p))) [
-  | inl e ↦ subst (λ t. address_cmp (if t then a else p) p ≢ Greater) (sym e)
+  | inl e ↦ rw e
       (less (address_cmp a p) refl e)
-  | inr e ↦ subst (λ t. address_cmp (if t then a else p) p ≢ Greater) (sym e) (up_to_itself p)
+  | inr e ↦ rw e (up_to_itself p)
 ]
   where
     less : (o : Ordering) → address_cmp a p ≡ o → is_lt o ≡ true
@@ -59,8 +59,7 @@ module _ {S : Type 0} (b : Behaviour S) {number k : ℕ} {streams : List S}
       streams next → FirstsFrom b number (k + 1) streams (lower_next next o)
   firsts_more o held h = record {
     none_before = λ j s l i n. elim (cases_Bool (eqb j k)) [
-      | inl e ↦ subst (λ x. NoneBefore (lower_next next o) x)
-          (held s (subst (λ m. slice_get streams m ≡ Some s) (eqb-true j k e) i)) (next-held o)
+      | inl e ↦ rw (← held s (rw (eqb-true j k e) at i)) (next-held o)
       | inr e ↦ lowered o (address_of (b.held s))
           (h.none_before j s (omega (arith, l, eqb-false j k e)) i n)
     ];
@@ -84,7 +83,7 @@ module _ {S : Type 0} (b : Behaviour S) {number k : ℕ} {streams : List S}
         is = x.1;
         below = search rules;
         others = λ j s i n. h.none_before j s
-            (let p = slice_get_within _ j s i in omega (arith)) i n;
+            (let p = slice_get_within _ j s i in omega  arith ) i n;
       }
 
   pub firsts_passed : k ≡ number → FirstsFrom b number k streams next
@@ -109,7 +108,7 @@ over_place : (g : Fact) (o : Option Fact) → IsOver g o → address_of o ≢ So
 over_place g None h e = cc
 over_place g (Some f) h e =
     let p = same_Some _ _ e in
-    up_not (subst (λ x. address_cmp (address g) x ≡ Less) p h)
+    up_not (rw p at h)
   where
     up_not : address_cmp (address g) (address g) ≡ Less → ⊥
     up_not l = let m = address_total.antisymm (address g) (address g) in absurd cc
@@ -127,10 +126,10 @@ suc_is : (j k : ℕ) → suc j ≡ suc k → j ≡ k
 suc_is j k e = omega (arith)
 
 zero_apart : (k : ℕ) → suc k ≢ zero
-zero_apart k e = absurd (omega (arith))
+zero_apart k e = absurd cc
 
 apart_zero : (k : ℕ) → zero ≢ suc k
-apart_zero k e = absurd (omega (arith))
+apart_zero k e = absurd cc
 
 module _ {S : Type 0} (b : Behaviour S) where
   -- all streams but one hold what is above g
@@ -170,7 +169,7 @@ module _ {S : Type 0} (b : Behaviour S) where
   lead_lowest g k s [] e held h = absurd cc
   lead_lowest g zero s (t ∷ streams) e held h =
       let p : option_list (b.held t) ≡ g ∷ [] = search rules in
-      subst (λ (l : List Fact). Lowest (l ++ heads b streams) g) (sym p)
+      rw p
       (lowest_first g (heads b streams) (all_after g streams (behind_zero g t streams h)))
   lead_lowest g (suc k) s (t ∷ streams) e held h =
       lowest_behind g (option_list (b.held t)) (heads b streams)
@@ -183,14 +182,14 @@ module _ {S : Type 0} (b : Behaviour S) where
   pub lead-lowest : (streams : List S) (number : ℕ) (next : Option Address) (o : Option Fact) →
       (l : Leads b streams number next) → o ≡ b.held l.stream → IsLowest (heads b streams) o
   lead-lowest streams number next None l e =
-      absurd (subst (λ x. IsBelowNext (address_of x) next) (sym e) l.below)
+      absurd (rw (← e) at l.below)
   lead-lowest streams number next (Some g) l e =
       lead_lowest g number l.stream streams l.is (sym e) (others_over g (sym e))
     where
       others_over : (g : Fact) → b.held l.stream ≡ Some g → OthersOver g number streams
       others_over g e j s i n =
-          over g next (b.held s) (subst (λ x. IsBelowNext (address_of x) next) e l.below)
-          (l.others j s i n)
+          over g next (b.held s) (rw e at l.below) (l.others j s i n)
+
 
   -- Only the leading stream is advanced.
 
@@ -224,7 +223,7 @@ module _ {S : Type 0} (b : Behaviour S) where
       slice_get streams k ≡ Some x → address_of (b.held x) ≡ a → StopsAt b x y f → OthersElsewhere a
       k streams → StopAt b a k f streams (set streams k y)
   stops k [] y e p g h = absurd cc
-  stops zero (s ∷ streams) y e p g h = grind (arith)
+  stops zero (s ∷ streams) y e p g h = grind  arith 
   stops (suc k) (s ∷ streams) y e p g h = (
     inr (h 0 s refl (apart_zero k), refl),
     stops k streams y
@@ -237,12 +236,12 @@ module _ {S : Type 0} (b : Behaviour S) where
   elsewhere streams number next a l at = by_held _ refl
     where
       by_held : (o : Option Fact) → b.held l.stream ≡ o → OthersElsewhere (Some a) number streams
-      by_held None e = absurd (subst (λ x. IsBelowNext (address_of x) next) e l.below)
+      by_held None e = absurd (rw e at l.below)
       by_held (Some g) e = λ j s i n.
           let p = ap address_of (sym e) ∙ at l.stream l.is in
           rw (← p)
           (over_place g _ (over g _ _
-          (subst (λ x. IsBelowNext (address_of x) next) e l.below) (l.others j s i n)))
+          (rw e at l.below) (l.others j s i n)))
 
   pub lead-goes : {streams new : List S} {number : ℕ} {next : Option Address} (a : Address)
       → Leads b streams number next → StandsAt b (Some a) streams number

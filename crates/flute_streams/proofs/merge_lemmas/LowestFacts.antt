@@ -85,65 +85,64 @@ conflict-place = search rules
 pub lowest_alone : (facts : List Fact) (f : Fact) → facts ≡ [] → Lowest (facts ++ f ∷ []) f
 lowest_alone = search (rules, alone-at, up_to_itself)
 
--- that fact is below the others, and becomes the lowest
-pub lowest_turns : (facts : List Fact) (f g : Fact) → Lowest facts g
-    → address_cmp (address f) (address g) ≡ Less → Lowest (facts ++ f ∷ []) f
-lowest_turns facts f g h less = search (
-  rules,
-  stand_after,
-  fact_at-append,
-  fact_at-after,
-  alone-at,
-  all_append,
-  all_map,
-  up_to-trans,
-  up_to_less,
-  up_to_itself,
-)
+module _ (facts : List Fact) (f g : Fact) (h : Lowest facts g) where
+  -- that fact is below the others, and becomes the lowest
+  pub lowest_turns : address_cmp (address f) (address g) ≡ Less → Lowest (facts ++ f ∷ []) f
+  lowest_turns less = search (
+    rules,
+    stand_after,
+    fact_at-append,
+    fact_at-after,
+    alone-at,
+    all_append,
+    all_map,
+    up_to-trans,
+    up_to_less,
+    up_to_itself,
+  )
 
--- that fact is above the lowest, which remains
-pub lowest_stays : (facts : List Fact) (f g : Fact) → Lowest facts g
-    → address_cmp (address f) (address g) ≡ Greater → Lowest (facts ++ f ∷ []) g
-lowest_stays facts f g h greater =
-    let a = address g in
-    record {
-      comes = fact_at-append _ _ a ∙ ap (joined a _)
-          (alone-elsewhere f a (ap is_eq greater)) ∙ joined-none a _ ∙ h.comes;
-      first = all_append _ _ _ h.first
-          (up_to_turned _ a _ greater refl, tt);
-    }
+  -- that fact is above the lowest, which remains
+  pub lowest_stays : address_cmp (address f) (address g) ≡ Greater → Lowest (facts ++ f ∷ []) g
+  lowest_stays greater =
+      let a = address g in
+      record {
+        comes = fact_at-append _ _ a ∙ ap (joined a _)
+            (alone-elsewhere f a (ap is_eq greater)) ∙ joined-none a _ ∙ h.comes;
+        first = all_append _ _ _ h.first
+            (up_to_turned _ a _ greater refl, tt);
+      }
 
--- a fact at the lowest address is joined with its value
-with_more : (facts : List Fact) (f g : Fact) → Lowest facts g → address f ≡ address g
-    → fact_at (facts ++ f ∷ []) (address g) ≡ joined (address g) (Some g) (Some f)
-with_more = grind (arith, fact_at-append, joined, alone-at)
+  -- a fact at the lowest address is joined with its value
+  with_more : address f ≡ address g
+      → fact_at (facts ++ f ∷ []) (address g) ≡ joined (address g) (Some g) (Some f)
+  with_more = grind (arith, fact_at-append, joined, alone-at)
 
-first_more : (facts : List Fact) (f g : Fact) → Lowest facts g → address f ≡ address g
-    → AllByRecursion (IsNotBefore (address g)) (facts ++ f ∷ [])
-first_more = search (rules, all_append, up_to_itself)
+  first_more : address f ≡ address g
+      → AllByRecursion (IsNotBefore (address g)) (facts ++ f ∷ [])
+  first_more = search (rules, all_append, up_to_itself)
 
--- that fact has the same value, which remains
-pub lowest_same : (facts : List Fact) (f g : Fact) → Lowest facts g → address_cmp (address f)
-    (address g) ≡ Equal → same_fact g f ≡ true → Lowest (facts ++ f ∷ []) g
-lowest_same facts f g h equal same =
-    let e = address_same (address f) (address g) (ap is_eq equal) in
-    record {
-      comes = with_more _ f g h e ∙ ap Some (joined-same _ g f (fact_same g f same));
-      first = first_more _ f g h e;
-    }
+  -- that fact has the same value, which remains
+  pub lowest_same : address_cmp (address f)
+      (address g) ≡ Equal → same_fact g f ≡ true → Lowest (facts ++ f ∷ []) g
+  lowest_same equal same =
+      let e = address_same (address f) (address g) (ap is_eq equal) in
+      record {
+        comes = with_more e ∙ ap Some (joined-same _ g f (fact_same g f same));
+        first = first_more e;
+      }
 
--- that fact has another value: the result is a conflict
-pub lowest_apart : (facts : List Fact) (f g : Fact) → Lowest facts g → address_cmp (address f)
-    (address g) ≡ Equal → same_fact g f ≡ false → Lowest (facts ++ f ∷ []) (conflict_at (address f))
-lowest_apart facts f g h equal apart =
-    let e = address_same (address f) (address g) (ap is_eq equal) in
-    let is = conflict-place _ ∙ e in
-    record {
-      comes = ap (fact_at (facts ++ f ∷ [])) is ∙ with_more _ f g h e
-          ∙ ap Some (joined-apart _ g f apart ∙ ap conflict_at (sym e));
-      first = rw is
-          (first_more _ f g h e);
-    }
+  -- that fact has another value: the result is a conflict
+  pub lowest_apart : address_cmp (address f)
+      (address g) ≡ Equal → same_fact g f ≡ false → Lowest (facts ++ f ∷ []) (conflict_at (address f))
+  lowest_apart equal apart =
+      let e = address_same (address f) (address g) (ap is_eq equal) in
+      let is = conflict-place _ ∙ e in
+      record {
+        comes = ap (fact_at (facts ++ f ∷ [])) is ∙ with_more e
+            ∙ ap Some (joined-apart _ g f apart ∙ ap conflict_at (sym e));
+        first = rw is
+            (first_more e);
+      }
 
 -- the value of two facts at one address
 

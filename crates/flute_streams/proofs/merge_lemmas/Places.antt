@@ -28,30 +28,11 @@ use Rattle.flute_streams.specs.Lowest.{conflict_of, first_at, held_at, held_in, 
 use Rattle.flute_streams.specs.Lowest.{value_at}
 use Rattle.flute_streams.specs.declared.merge.lowest.LowestValue.{LowestValue}
 
--- what is read of the stream with that number
-pub read-at : {S X : Type 0} (b : Behaviour S) (streams : List S) (k : ℕ) (read : Option Fact → X)
-    {o : X} → k < length streams → ((s : S) → slice_get streams k ≡ Some s → o ≡ read (b.held s)) →
-    o ≡ read (held_at b streams k)
-read-at b streams k read within h =
-    let x = item_at streams k within in
-    h x.0 x.1 ∙ ap (λ s. read (held_in b s)) (sym x.1)
-
 all_at : {X : Type 0} (P : X → Type 0) (xs : List X) (k : ℕ) {x : X} → AllByRecursion P xs
     → slice_get xs k ≡ Some x → P x
 all_at P [] k h e = absurd cc
 all_at P (y ∷ ys) zero h e = rw (← same_Some _ _ e) h.0
 all_at P (y ∷ ys) (suc k) h e = all_at P ys k h.1 e
-
--- the bytes that one stream has of what it holds
-pub spelled-at : {S : Type 0} (b : Behaviour S) (streams : List S) (k : ℕ) {bytes : List ℕ}
-    → AreSpelled b streams → k < length streams
-    → ((s : S) → slice_get streams k ≡ Some s → bytes ≡ b.spelled s)
-    → IsSpelling bytes (held_at b streams k)
-spelled-at b streams k {bytes = bytes} all within spelled =
-    let x = item_at streams k within in
-    let own = all_at (λ s. IsSpelling (b.spelled s) (b.held s)) streams k all x.1 in
-    subst (λ s. IsSpelling bytes (held_in b s)) (sym x.1)
-    (subst (λ l. IsSpelling l (b.held x.0)) (sym (spelled x.0 x.1)) own)
 
 pub held-within : {S : Type 0} (b : Behaviour S) (streams : List S) (k : ℕ) {f : Fact}
     → held_at b streams k ≡ Some f → k < length streams
@@ -62,27 +43,6 @@ held-within b (s ∷ streams) (suc k) e = search (rules, held-within b streams k
 pub place-some : (o : Option Fact) (a : Address) → address_of o ≡ Some a
     → (f : Fact) × (o ≡ Some f) × (address f ≡ a)
 place-some = search rules
-
--- the value where a stream stands
-pub record HasValue {S : Type 0} (b : Behaviour S) (streams : List S)
-    (l : LowestValue) : Type 0 where
-  pub fact : Fact
-  pub is : value_at b streams l ≡ Some fact
-  pub at : place_at b streams l ≡ Some (address fact)
-
-pub has_value : {S : Type 0} (b : Behaviour S) (streams : List S) (l : LowestValue)
-    → Stands b streams l → HasValue b streams l
-has_value b streams l stands =
-    let held = held_at b streams l.number in
-    let h = place-some held stands.0 stands.1 in
-    elim (cases_Bool l.conflict) [
-      | inl e ↦ record { fact = conflict_at (address h.0); is = search rules; at = search rules }
-      | inr e ↦ search rules
-    ]
-
-pub stands-within : {S : Type 0} (b : Behaviour S) (streams : List S) (l : LowestValue)
-    → Stands b streams l → l.number < length streams
-stands-within b streams l stands = search (rules, held-within, place-some, held_at)
 
 pub place-none : (o : Option Fact) → address_of o ≡ None → o ≡ None
 place-none = search rules
@@ -117,70 +77,7 @@ pub spelled-same : {one other : List ℕ} {o p : Option Fact} (g f : Fact) → I
     → bytes_eq one other ≡ same_fact g f
 spelled-same {one} {other} g f h k some any e d =
     same_spelled g f _ _ (spelled_some _ g some (subst (IsSpelling one) e h))
-    (spelled_some _ f any (subst (IsSpelling other) d k))
-
--- the order of the place of a stream, which holds a fact, and that of a value
-pub record Compared {S : Type 0} (b : Behaviour S) (streams : List S) (k : ℕ) (l : LowestValue)
-    (order : Ordering) : Type 0 where
-  pub fact : Fact
-  pub here : held_at b streams k ≡ Some fact
-  pub value : HasValue b streams l
-  pub is : address_cmp (address fact) (address value.fact) ≡ order
-
--- as the addresses that were read of them have it
-pub compared : {S : Type 0} (b : Behaviour S) (streams : List S) (l : LowestValue) {k : ℕ}
-    {p q : Option Address} {order : Ordering} → Stands b streams l → Stands b streams (first_at k) →
-    ((s : S) → slice_get streams k ≡ Some s → p ≡ address_of (b.held s)) →
-    ((s : S) → slice_get streams l.number ≡ Some s → q ≡ address_of (b.held s)) →
-    ((a c : Address) → p ≡ Some a → q ≡ Some c → order ≡ address_cmp a c) → Compared b streams k l
-    order
-compared b streams l {k} stands here first second is =
-    let f = place-some _ _ here.1 in
-    let v = has_value b _ l stands in
-    record { fact = f.0; here = f.1; value = v; is = search rules }
-
--- the value at the lowest address
-pub record AtLowest {S : Type 0} (b : Behaviour S) (streams : List S)
-    (l : LowestValue) : Type 0 where
-  pub value : HasValue b streams l
-  pub lowest : Lowest (heads b streams) value.fact
-
-pub at_lowest : {S : Type 0} (b : Behaviour S) (streams : List S) {l : LowestValue} → Stands b
-    streams l → IsLowest (heads b streams) (value_at b streams l) → AtLowest b streams l
-at_lowest b streams {l} stands h =
-    let v = has_value b _ l stands in
-    record { value = v; lowest = subst (IsLowest (heads b streams)) v.is h }
-
--- it was written
-pub record WrittenAt {S W : Type 0} (b : Behaviour S) (streams : List S) (l : LowestValue)
-    (written : W → Option (List ℕ)) (failures : W → ℕ) (old new : JournalWriter W)
-    : Type 0 where
-  pub value : HasValue b streams l
-  pub lowest : Lowest (heads b streams) value.fact
-  pub valid : IsFact value.fact
-  pub puts : Puts written failures (entry value.fact) old new
-
-pub written_at : {S W : Type 0} (b : Behaviour S) (streams : List S) {l : LowestValue}
-    {written : W → Option (List ℕ)} {failures : W → ℕ} {old new : JournalWriter W} → Stands b
-    streams l → IsLowest (heads b streams) (value_at b streams l) → IfSome (value_at b streams l)
-    IsFact → IfSome (value_at b streams l) (λ f. Puts written failures (entry f) old new) →
-    WrittenAt b streams l written failures old new
-written_at b streams stands h
-    valid puts =
-    let v = at_lowest b _ stands h in
-    record {
-      value = v.value;
-      lowest = v.lowest;
-      valid = some-of _ v.value.is valid;
-      puts = search rules;
-    }
-
--- its address is that of the stream
-pub placed : {S : Type 0} (b : Behaviour S) (streams : List S) {l : LowestValue}
-    {o : Option Address} {a : Address} (v : HasValue b streams l) → Stands b streams l
-    → ((s : S) → slice_get streams l.number ≡ Some s → o ≡ address_of (b.held s))
-    → o ≡ Some a → address v.fact ≡ a
-placed b streams v stands h e = search rules
+    (spelled_some _ f any (rw d at k))
 
 -- the first of new streams holds nothing
 pub none-new : {S : Type 0} (b : Behaviour S) (streams : List S) → AreNew b streams
@@ -189,6 +86,106 @@ none-new b [] new = refl
 none-new b (s ∷ streams) new = ap address_of new.0.held
 
 module _ {S : Type 0} (b : Behaviour S) (streams : List S) where
+  -- what is read of the stream with that number
+  pub read-at : {X : Type 0} (k : ℕ) (read : Option Fact → X)
+      {o : X} → k < length streams → ((s : S) → slice_get streams k ≡ Some s → o ≡ read (b.held s)) →
+      o ≡ read (held_at b streams k)
+  read-at k read within h =
+      let x = item_at streams k within in
+      h x.0 x.1 ∙ ap (λ s. read (held_in b s)) (sym x.1)
+
+  -- the bytes that one stream has of what it holds
+  pub spelled-at : (k : ℕ) {bytes : List ℕ}
+      → AreSpelled b streams → k < length streams
+      → ((s : S) → slice_get streams k ≡ Some s → bytes ≡ b.spelled s)
+      → IsSpelling bytes (held_at b streams k)
+  spelled-at k {bytes = bytes} all within spelled =
+      let x = item_at streams k within in
+      let own = all_at (λ s. IsSpelling (b.spelled s) (b.held s)) streams k all x.1 in
+      rw (x.1, spelled x.0 x.1) own
+
+  -- the value where a stream stands
+  pub record HasValue (l : LowestValue) : Type 0 where
+    pub fact : Fact
+    pub is : value_at b streams l ≡ Some fact
+    pub at : place_at b streams l ≡ Some (address fact)
+
+  pub has_value : (l : LowestValue)
+      → Stands b streams l → HasValue l
+  has_value l stands =
+      let held = held_at b streams l.number in
+      let h = place-some held stands.0 stands.1 in
+      elim (cases_Bool l.conflict) [
+        | inl e ↦ record { fact = conflict_at (address h.0); is = search rules; at = search rules }
+        | inr e ↦ search rules
+      ]
+
+  pub stands-within : (l : LowestValue)
+      → Stands b streams l → l.number < length streams
+  stands-within l stands = search (rules, held-within, place-some, held_at)
+
+  -- the order of the place of a stream, which holds a fact, and that of a value
+  pub record Compared (k : ℕ) (l : LowestValue)
+      (order : Ordering) : Type 0 where
+    pub fact : Fact
+    pub here : held_at b streams k ≡ Some fact
+    pub value : HasValue l
+    pub is : address_cmp (address fact) (address value.fact) ≡ order
+
+  -- as the addresses that were read of them have it
+  pub compared : (l : LowestValue) {k : ℕ}
+      {p q : Option Address} {order : Ordering} → Stands b streams l → Stands b streams (first_at k) →
+      ((s : S) → slice_get streams k ≡ Some s → p ≡ address_of (b.held s)) →
+      ((s : S) → slice_get streams l.number ≡ Some s → q ≡ address_of (b.held s)) →
+      ((a c : Address) → p ≡ Some a → q ≡ Some c → order ≡ address_cmp a c) → Compared k l
+      order
+  compared l {k} stands here first second is =
+      let f = place-some _ _ here.1 in
+      let v = has_value l stands in
+      record { fact = f.0; here = f.1; value = v; is = search rules }
+
+  -- the value at the lowest address
+  pub record AtLowest (l : LowestValue) : Type 0 where
+    pub value : HasValue l
+    pub lowest : Lowest (heads b streams) value.fact
+
+  pub at_lowest : {l : LowestValue} → Stands b
+      streams l → IsLowest (heads b streams) (value_at b streams l) → AtLowest l
+  at_lowest {l} stands h =
+      let v = has_value l stands in
+      record { value = v; lowest = rw v.is at h }
+
+  -- it was written
+  pub record WrittenAt {W : Type 0} (l : LowestValue)
+      (written : W → Option (List ℕ)) (failures : W → ℕ) (old new : JournalWriter W)
+      : Type 0 where
+    pub value : HasValue l
+    pub lowest : Lowest (heads b streams) value.fact
+    pub valid : IsFact value.fact
+    pub puts : Puts written failures (entry value.fact) old new
+
+  pub written_at : {W : Type 0} {l : LowestValue}
+      {written : W → Option (List ℕ)} {failures : W → ℕ} {old new : JournalWriter W} → Stands b
+      streams l → IsLowest (heads b streams) (value_at b streams l) → IfSome (value_at b streams l)
+      IsFact → IfSome (value_at b streams l) (λ f. Puts written failures (entry f) old new) →
+      WrittenAt l written failures old new
+  written_at stands h
+      valid puts =
+      let v = at_lowest stands h in
+      record {
+        value = v.value;
+        lowest = v.lowest;
+        valid = some-of _ v.value.is valid;
+        puts = search rules;
+      }
+
+  -- its address is that of the stream
+  pub placed : {l : LowestValue}
+      {o : Option Address} {a : Address} (v : HasValue l) → Stands b streams l
+      → ((s : S) → slice_get streams l.number ≡ Some s → o ≡ address_of (b.held s))
+      → o ≡ Some a → address v.fact ≡ a
+  placed v stands h e = search rules
+
   pub place-joined : (l : LowestValue) (k : ℕ) (r : LowestValue) → Joins b streams l k r
       → place_at b streams r ≡ place_at b streams l
   place-joined = search rules
@@ -241,11 +238,11 @@ module _ {S : Type 0} (b : Behaviour S) (streams : List S) where
           → Joins b streams l k r
           → IsLowest (facts ++ option_list (held_at b streams k)) (value_at b streams r)
       lowest-joined equal r j =
-          subst (λ o. IsLowest (facts ++ option_list o) (value_at b streams r)) (sym here)
+          rw here
           (elim (cases_Bool (same_fact g f)) [
-            | inl e ↦ subst (IsLowest (facts ++ f ∷ [])) (sym (j.same g f is here e))
+            | inl e ↦ rw (j.same g f is here e)
                 (lowest_same facts f g low equal e)
-            | inr e ↦ subst (IsLowest (facts ++ f ∷ [])) (sym (j.apart g f is here e))
+            | inr e ↦ rw (j.apart g f is here e)
                 (lowest_apart facts f g low equal e)
           ])
 
@@ -267,14 +264,12 @@ module _ {S : Type 0} (b : Behaviour S) (streams : List S) where
         → ComesTo a facts (value_at b streams l)
         → ComesTo a (facts ++ option_list (held_at b streams k)) (value_at b streams r)
     comes-joined l r stands j h =
-        let v = has_value b streams l (a, stands) in
-        let low = subst (ComesTo a facts) v.is h in
-        subst (λ o. ComesTo a (facts ++ option_list o) (value_at b streams r)) (sym held.1) (elim
+        let v = has_value l (a, stands) in
+        let low = rw v.is at h in
+        rw held.1 (elim
         (cases_Bool (same_fact v.fact held.0)) [
-          | inl e ↦ subst (ComesTo a (facts ++ held.0 ∷ []))
-              (sym (j.same v.fact held.0 v.is held.1 e))
+          | inl e ↦ rw (j.same v.fact held.0 v.is held.1 e)
               (comes-same a facts v.fact held.0 held.2 not_before e low)
-          | inr e ↦ subst (ComesTo a (facts ++ held.0 ∷ []))
-              (sym (j.apart v.fact held.0 v.is held.1 e))
+          | inr e ↦ rw (j.apart v.fact held.0 v.is held.1 e)
               (comes-apart a facts v.fact held.0 held.2 not_before e low)
         ])

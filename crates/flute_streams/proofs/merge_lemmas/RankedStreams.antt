@@ -42,11 +42,9 @@ module _ {S : Type 0} (b : Behaviour S) (key : Key) where
   ranked_more k {streams = streams} new o held from stay h = record {
     from = λ j s l i. elim (cases_Bool (eqb j k)) [
       | inl e ↦ let same = eqb-true j k e in
-          let at = held s (subst (λ n. slice_get streams n ≡ Some s) same i) in
-          subst (λ n. StandsFrom key (slice_index new n) (address_of (b.held s))) (sym same)
-          (subst (StandsFrom key (slice_index new k)) at from)
-      | inr e ↦ let apart = eqb-false j k e in subst
-          (λ r. StandsFrom key r (address_of (b.held s))) (sym (stay j apart))
+          let at = held s (rw same at i) in
+          rw (same, ← at) from
+      | inr e ↦ let apart = eqb-false j k e in rw (stay j apart)
           (h.from j s (omega (arith, l, apart)) i)
     ];
   }
@@ -101,14 +99,11 @@ module _ {S : Type 0} (b : Behaviour S) (key : Key) where
           let all : now ≡ true = elim w [
             | inl l ↦ absurd (omega (arith, l, same))
             | inr n ↦ n
-          ] in subst (λ n. StandsFrom key (slice_index others n) (address_of (b.held s)))
-          (sym same)
-          (m.ranked (both all).1 s (subst (λ n. slice_get new n ≡ Some s) same i))
+          ] in rw same (m.ranked (both all).1 s (rw same at i))
       | inr e ↦ let apart = eqb-false j k e in
-          let was : slice_get old j ≡ Some s = sym
+          let was = sym
           (set_elsewhere b old k j m.advanced.after apart) ∙ ap (λ l. slice_get l j)
-          (sym m.advanced.now) ∙ i in subst (λ r. StandsFrom key r (address_of (b.held s)))
-          (sym (m.stay j apart)) (h.from j s
+          (sym m.advanced.now) ∙ i in rw (m.stay j apart) (h.from j s
           (elim w [ inl l ↦ inl (omega (arith, l)) | inr n ↦ inr (both n).0 ]) was)
     ];
   }
@@ -140,7 +135,7 @@ module _ {S : Type 0} (b : Behaviour S) (streams : List S) (a : Address) where
       (heads b (take (k + n) streams)) v
   comes_passed k zero {v = v} within at above ranked h =
       let same : k ≡ k + 0 = omega arith in
-      subst (λ j. ComesTo a (heads b (take j streams)) v) same h
+      rw (← same) h
   comes_passed k (suc n) {v = v} {rank = rank} {key = key} {ranks = ranks} within at above ranked h
       =
       let j = k + n in
@@ -150,9 +145,7 @@ module _ {S : Type 0} (b : Behaviour S) (streams : List S) (a : Address) where
       let behind = comes-behind a (heads b (take j streams)) key rank (slice_index ranks j)
       (b.held x.0) at (above j (omega arith) (omega arith)) (ranked.from j x.0 x.1).from before in
       let same : j + 1 ≡ k + suc n = omega arith in
-      subst (λ i. ComesTo a (heads b (take i streams)) v) same (comes-more b streams j a v
-      (omega (arith, within)) (subst
-      (λ s. ComesTo a (heads b (take j streams) ++ option_list (held_in b s)) v) (sym x.1) behind))
+      rw (← same) (comes-more b streams j a v (omega (arith, within)) (rw x.1 behind))
 
   -- none of those up to m stands there
   pub comes-up-to : (k m : ℕ) {v : Option Fact} {rank : ℕ} {key : Key} {ranks lows : List ℕ} → k ≤ m
@@ -160,6 +153,6 @@ module _ {S : Type 0} (b : Behaviour S) (streams : List S) (a : Address) where
       streams key ranks lows → ComesTo a (heads b (take k streams)) v → ComesTo a
       (heads b (take m streams)) v
   comes-up-to k m {v} p within at above ranked h =
-      let same : k + (m - k) ≡ m = omega (arith) in
+      let same : k + (m - k) ≡ m = omega  arith  in
       rw (← same) (comes_passed k _
-      (omega (arith)) at (λ i l q. above i l (omega (arith))) ranked h)
+      (omega  arith ) at (λ i l q. above i l (omega  arith )) ranked h)

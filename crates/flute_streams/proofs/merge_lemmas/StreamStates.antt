@@ -97,13 +97,10 @@ module _ {S : Type 0} (b : Behaviour S) where
       → AreNew b old → StopsIn b None old new fault
       → Stopping patient old new w w (Input fault) × OneFails b fault.number fault.fault old new
   stop_first patient old new w fault n h =
-      let s : StoppedAll b None fault.number fault.fault (new_runs b old) new = stopped_all b None
-      fault.number fault.fault (new_runs b old) new (new_stays b old n)
-      (subst (λ (l : List S). StopsIn b None l new fault) (sym (new_nows b old)) h) in subst (λ
-      (l : List S). Stopping patient l new w w (Input fault) × OneFails b fault.number fault.fault l
-      new) (new_starts b old) (at_input s (short_header b [] header (Appends-nil w) refl)
-      (subst (λ (l : List Fact). Collects l []) (sym (new_givens b old)) none_collects)
-      (λ p. Appends-nil w))
+      let s = stopped_all b None fault.number fault.fault (new_runs b old) new (new_stays b old n)
+      (rw (new_nows b old) h) in
+      rw (← new_starts b old) (at_input {entries = []} s (short_header b [] header (Appends-nil w) refl)
+      (rw (new_givens b old) none_collects) (λ p. Appends-nil w))
 
   -- What the streams gave was appended, merged. What they hold is above it.
   pub record State (failed : Bool) (Also : List Fact → Type 0) (old now : List S)
@@ -122,7 +119,7 @@ module _ {S : Type 0} (b : Behaviour S) where
   first_turn : (old now : List S) → AreNew b old → GoOnAt b None old now
       → Turned b None (new_runs b old) now
   first_turn old now n h = turn b None (new_runs b old) now (new_stays b old n)
-      (subst (λ (l : List S). GoOnAt b None l now) (sym (new_nows b old)) h)
+      (rw (new_nows b old) h)
 
   pub state_start : {failed : Bool} {Also : List Fact → Type 0} {old now : List S}
       {w w' : Option (List ℕ)} → Also [] → AreNew b old → GoOnAt b None old now → Written failed w
@@ -148,23 +145,26 @@ module _ {S : Type 0} (b : Behaviour S) where
   stays place [] w = tt
   stays place (r ∷ runs) w = grind (arith, stays place runs w.1)
 
+  -- what holds of streams by their runs
+  of_runs : (P : List S → List S → Type 0) (runs : List (Run S)) {old now : List S}
+      → starts runs ≡ old → nows runs ≡ now → P (starts runs) (nows runs) → P old now
+  of_runs P runs e f h = rw (← e, ← f) h
+
   -- a failed write of the header
   pub stop_header : (patient : Bool) (old now : List S) {w w' : Option (List ℕ)} → AreNew b old
       → GoOnAt b None old now → AppendsPart w w' header
       → Stopping patient old now w w' Write × NoneFails b old now
-  stop_header patient old now {w = w} {w' = w'} n h a =
+  stop_header patient old now {w} {w'} n h a =
       let t = first_turn old now n h in
-      let e : all_of (givens t.next) ≡ [] = ap all_of t.givens_are ∙ new_givens b old in
+      let e = ap all_of t.givens_are ∙ new_givens b old in
       let s = stays None t.next t.went in
-      let P : List S → Type 0 = λ l. Stopping patient l now w w' Write × NoneFails b l now in
-      let Q : List S → Type 0 = λ l. Stopping patient (starts t.next) l w w' Write × NoneFails b
-      (starts t.next) l in subst P (t.starts_are ∙ new_starts b old) (subst Q t.nows_are (
-        at_write
-            (givens t.next) (short_header b a.part a.rest a.appended (sym a.whole))
-            (reads_now b None t.next s) (subst (λ (l : List Fact). Collects l []) (sym e) none_collects)
-            a.appended (cut_header refl (a.rest, a.cut, sym a.whole)),
+      of_runs (λ l m. Stopping patient l m w w' Write × NoneFails b l m) t.next
+      (t.starts_are ∙ new_starts b old) t.nows_are (
+        at_write (givens t.next) (short_header b a.part a.rest a.appended (sym a.whole))
+            (reads_now b None t.next s) (rw e none_collects) a.appended
+            (cut_header refl (a.rest, a.cut, sym a.whole)),
         none_fails b None t.next s,
-      ))
+      )
 
   heads-above : (place : Option Address) (runs : List (Run S)) → AllByRecursion (Went b place) runs
       → AllByRecursion (λ f. IsTrue (is_after place (address f))) (heads b (nows runs))
@@ -245,11 +245,8 @@ module _ {S : Type 0} (b : Behaviour S) where
         collects_next = record {
           valid = all_more IsFact state.joined g state.collects.valid valid;
           rising = rising_next;
-          same = Same-trans (all_of (givens_at b (Some (address g)) state.runs))
-              (all_of (givens state.runs) ++ taken_at (address g) (heads b (nows state.runs)))
-              (state.joined ++ g ∷ []) (given_same b (address g) state.runs) (Same-append
-              (all_of (givens state.runs)) state.joined
-              (taken_at (address g) (heads b (nows state.runs))) (g ∷ []) state.collects.same
+          same = Same-trans _ _ _ (given_same b (address g) state.runs)
+              (Same-append _ _ _ _ state.collects.same
               (taken_same (heads b (nows state.runs)) g low.comes));
         }
 
@@ -268,18 +265,15 @@ module _ {S : Type 0} (b : Behaviour S) where
             → State next Next old new w w'' (count + 1)
         state_turn next Next new w'' k a h =
             let t = turn b (Some (address g)) state.runs new next_stays
-            (subst (λ (l : List S). GoOnAt b (Some (address g)) l new) (sym state.nows_are) h) in
-            let given : length (all_of (givens t.next)) ≡ length
-            (all_of (givens_at b (Some (address g)) state.runs)) = ap (λ l. length (all_of l))
-            t.givens_are in record {
+            (rw state.nows_are h) in
+            let given = ap (λ l. length (all_of l)) t.givens_are in
+            record {
               runs = t.next;
               starts_are = t.starts_are ∙ state.starts_are;
               nows_are = t.nows_are;
               joined = state.joined ++ g ∷ [];
-              went = subst (λ p. AllByRecursion (Went b p) t.next)
-                  (sym (last_of-snoc None state.joined g)) t.went;
-              collects = subst (λ l. Collects (all_of l) (state.joined ++ g ∷ []))
-                  (sym t.givens_are) collects_next;
+              went = rw (last_of-snoc None state.joined g) t.went;
+              collects = rw t.givens_are collects_next;
               few = omega (
                 arith,
                 given,
@@ -303,7 +297,7 @@ module _ {S : Type 0} (b : Behaviour S) where
             a.part (whole_yet good) a.appended in stopped_here patient appended
             (cut_entry g valid a.part (a.rest, a.cut, sym a.whole) refl) (short_entry b state.joined
             g bs a.rest from_next collects_next appended (append_assoc (without_end state.joined)
-            a.part a.rest ∙ ap (λ (l : List ℕ). without_end state.joined ++ l) (sym a.whole) ∙
+            a.part a.rest ∙ ap (λ l. without_end state.joined ++ l) (sym a.whole) ∙
             without_end-snoc state.joined g))
 
         pub stop_input : (patient next : Bool) (new : List S) (w'' : Option (List ℕ))
@@ -313,15 +307,12 @@ module _ {S : Type 0} (b : Behaviour S) where
         stop_input patient next new w'' fault a eager h =
             let s : StoppedAll b (Some (address g)) fault.number fault.fault state.runs new =
             grind (arith, stopped_all, next_stays) in
-            let bs : List ℕ = without_end (state.joined ++ g ∷ []) in
-            let part = written-part next w w'' bs (next_bytes next w'' a) in
-            subst (λ (l : List S). Stopping patient l new w w'' (Input fault)
-            × OneFails b fault.number fault.fault l new) state.starts_are
-            (at_input s
+            let bytes = next_bytes next w'' a in
+            let part = written-part next w w'' _ bytes in
+            rw (← state.starts_are) (at_input s
             (short_entry b state.joined g part.bytes part.more from_next collects_next
             part.appended part.whole) collects_next
-            (λ p. subst (Appends w w'') (written-snoc state.joined g)
-            (written-whole next w w'' bs (eager p) (next_bytes next w'' a))))
+            (λ p. rw (← written-snoc state.joined g) (written-whole next w w'' _ (eager p) bytes)))
 
       pub turn-falls : (new : List S) → GoOnAt b (Some (address g)) now new
           → most_of b new < most_of b now
@@ -346,8 +337,7 @@ module _ {S : Type 0} (b : Behaviour S) where
           (short_end b bs (record { went = state.went; none = none_left }) state.collects appended
           a.cut
           (append_assoc (without_end state.joined) a.part a.rest
-          ∙ ap (λ (l : List ℕ). without_end state.joined ++ l) (sym a.whole)
-          ∙ ap (λ n. without_end state.joined ++ end n) state.count_is))
+          ∙ ap (λ l. without_end state.joined ++ l) (sym a.whole ∙ ap end state.count_is)))
 
       whole : (next : Bool) (w'' : Option (List ℕ)) → PutsBytes failed next w' w'' (end count)
           → Written next w w'' (spelling state.joined)
@@ -374,8 +364,8 @@ module _ {S : Type 0} (b : Behaviour S) where
       → (w'' : Option (List ℕ)) → most_of b old < 2 ^ 64 → heads b now ≡ []
       → PutsBytes failed next w' w'' (end count)
       → EndsMerged b old now s o y (record { entries = count; within = within; cut = next }) w w''
-  finished {s = s} {o = o} {y = y} tally within next {failed} {old} {now} {w} {w'} {count} state w''
-      few none a = moved state (λ (l m : List S). EndsMerged b l m s o y
+  finished {s} {o} {y} tally within next {failed} {old} {now} {w} {w'} {count} state w''
+      few none a = moved state (λ l m. EndsMerged b l m s o y
       (record { entries = count; within = within; cut = next }) w w'') (record {
         merged = record {
           told = givens state.runs;

@@ -40,8 +40,7 @@ module _ {S : Type 0} (b : Behaviour S) where
   stands p r w = by_given p (b.held r.now) w.reads_held
     where
       none : (l : List Fact) → l ≡ [] → b.reads r.start r.now (r.given ++ l)
-      none l e = subst (λ (x : List Fact). b.reads r.start r.now (r.given ++ x)) (sym e)
-          (subst (b.reads r.start r.now) (sym (append-nil r.given)) w.reads)
+      none l e = rw (e, append-nil r.given) w.reads
 
       by_given : (p : Option Address) (o : Option Fact)
           → b.reads r.start r.now (r.given ++ option_list o)
@@ -49,16 +48,14 @@ module _ {S : Type 0} (b : Behaviour S) where
       by_given None o h = none [] refl
       by_given (Some a) None h = h
       by_given (Some a) (Some f) h = elim (cases_Bool (same_address (address f) a)) [
-        | inl e ↦ subst (λ (x : List Fact). b.reads r.start r.now (r.given ++ x))
-            (sym (ap (λ t. taken_by t f) e)) h
-        | inr e ↦ none (taken_by (same_address (address f) a) f) (ap (λ t. taken_by t f) e)
+        | inl e ↦ rw e h
+        | inr e ↦ none _ (ap (λ t. taken_by t f) e)
       ]
 
   all_stand : (p : Option Address) (runs : List (Run S)) (new : List S) → new ≡ nows runs →
       AllByRecursion (Stays b p) runs → EachSince b.reads (starts runs) new (givens_at b p runs)
   all_stand p runs new e w =
-      subst (λ (l : List S). EachSince b.reads (starts runs) l (givens_at b p runs)) (sym e)
-      (stand runs w)
+      rw e (stand runs w)
     where
       stand : (runs : List (Run S)) → AllByRecursion (Stays b p) runs
           → EachSince b.reads (starts runs) (nows runs) (givens_at b p runs)
@@ -108,8 +105,8 @@ module _ {S : Type 0} (b : Behaviour S) where
 
   behind : (F K : List Fact) (f : Fact) (c : Continues K (F ++ f ∷ []) (Some f))
       → Rises (Some (address f)) c.rest
-  behind F K f c = subst (λ x. Rises x c.rest) (last_of-snoc None F f)
-      (Rises-second None (F ++ f ∷ []) c.rest (subst (Rises None) c.is (rising-rises K c.rising)))
+  behind F K f c = rw (← last_of-snoc None F f)
+      (Rises-second None (F ++ f ∷ []) c.rest (rw (← c.is) (rising-rises K c.rising)))
 
   apart : (f : Fact) (a : Address) → same_address (address f) a ≡ false
       → Some (address f) ≡ Some a → ⊥
@@ -121,17 +118,16 @@ module _ {S : Type 0} (b : Behaviour S) where
       (F ++ option_list held) held → (address_of held ≢ Some a → IsAbove (Some a) held) → Above
       (Some a) K (F ++ given_at (Some a) held)
   above_held a F K None c n =
-      record { rest = c.rest; is = c.is; rises = subst (Rises (Some a)) (sym (c.ended refl)) tt }
+      record { rest = c.rest; is = c.is; rises = rw (c.ended refl) tt }
   above_held a F K (Some f) c n = elim (cases_Bool (same_address (address f) a)) [
-    | inl e ↦ subst (λ t. Above (Some a) K (F ++ taken_by t f)) (sym e) (record {
+    | inl e ↦ rw e (record {
       rest = c.rest;
       is = c.is;
-      rises = subst (λ x. Rises (Some x) c.rest) (address_same (address f) a e)
-          (behind F K f c);
+      rises = rw (← address_same (address f) a e) (behind F K f c);
     })
-    | inr e ↦ subst (λ t. Above (Some a) K (F ++ taken_by t f)) (sym e) (record {
+    | inr e ↦ rw e (record {
       rest = f ∷ c.rest;
-      is = c.is ∙ append_assoc F (f ∷ []) c.rest ∙ ap (λ (l : List Fact). l ++ f ∷ c.rest)
+      is = c.is ∙ append_assoc F (f ∷ []) c.rest ∙ ap (λ l. l ++ f ∷ c.rest)
           (sym (append-nil F));
       rises = (n (apart f a e), behind F K f c);
     })
@@ -156,7 +152,7 @@ module _ {S : Type 0} (b : Behaviour S) where
       let F = r.given ++ given_at (Some a) (b.held r.now) in
       let c = above_held a r.given K (b.held r.now) (w.0.gave.known K k.0)
       (λ e. above_other a (b.held r.now) e both.0) in fact_at-append K (all_of known) z ∙ ap
-      (λ (l : List Fact). joined z (fact_at l z) (fact_at (all_of known) z)) c.is ∙ ap
+      (λ l. joined z (fact_at l z) (fact_at (all_of known) z)) c.is ∙ ap
       (λ x. joined z x (fact_at (all_of known) z))
       (fact_at-second_none F c.rest z (rising-none (Some a) c.rest z c.rises h)) ∙ ap
       (joined z (fact_at F z)) (known_at z runs known rest h k.1) ∙ sym
@@ -176,10 +172,10 @@ module _ {S : Type 0} (b : Behaviour S) where
       known → all_of known ≡ all_of (givens runs)
   known_whole place [] [] w e k = refl
   known_whole place (r ∷ runs) (K ∷ known) w e k =
-      let n = none_held (b.held r.now) (heads b (nows runs)) e in
-      ap (λ (l : List Fact). l ++ all_of known)
-      (only r.given K (b.held r.now) n.0 (w.0.gave.known K k.0))
-      ∙ ap (λ (l : List Fact). r.given ++ l) (known_whole place runs known w.1 n.1 k.1)
+      let n = none_held _ _ e in
+      ap (λ l. l ++ all_of known)
+      (only _ K (b.held r.now) n.0 (w.0.gave.known K k.0))
+      ∙ ap (λ l. r.given ++ l) (known_whole place runs known w.1 n.1 k.1)
   known_whole place runs known w e k = absurd k
 
   -- each stream contains just what it gave, once none holds a fact
@@ -259,7 +255,7 @@ module _ {S : Type 0} (b : Behaviour S) where
     appended = a;
     no_journal = no_whole_end M bs more c.valid s e;
     prefix = λ known k whole j. let given = all_of (givens runs) in
-        let same = subst (λ (l : List Fact). Same l j.0)
+        let same = subst (λ l. Same l j.0)
         (known_whole place runs known all.went all.none k) j.1.same in
         let one = rising_unique M j.0 c.rising j.1.rising
         (Same-trans M given j.0 (Same-sym given M c.same) same) in

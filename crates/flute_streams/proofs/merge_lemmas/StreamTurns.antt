@@ -83,12 +83,12 @@ taken_elsewhere a b (f ∷ fs) n = elim (cases_Bool _) [
 pub taken_same : (fs : List Fact) (g : Fact) → fact_at fs (address g) ≡ Some g
     → Same (taken_at (address g) fs) (g ∷ [])
 taken_same fs g h = record {
-  each = λ b. elim (cases_Bool (same_address (address g) b)) [
+  each = λ b. elim (cases_Bool _) [
     | inl e ↦
         let p = address_same (address g) b e in
         let P : Address → Type 0 = λ x. fact_at (taken_at (address g) fs) x ≡ fact_at (g ∷ []) x in
-        subst P p (taken_here (address g) fs ∙ h ∙ sym (alone-at g (address g) refl))
-    | inr e ↦ taken_elsewhere (address g) b fs e ∙ sym (alone-elsewhere g b e)
+        rw (← p) (taken_here _ fs ∙ h ∙ sym (alone-at g _ refl))
+    | inr e ↦ taken_elsewhere _ b fs e ∙ sym (alone-elsewhere g b e)
   ];
 }
 
@@ -166,7 +166,7 @@ above_other a (Some f) n h = by_order _ refl
 -- what follows a fact in a rising list is above its address
 above_next : (F : List Fact) (held o : Option Fact) (p : Option Address) → address_of held ≡ p
     → IsRising ((F ++ option_list held) ++ option_list o) → IsAbove p o
-above_next F held o None e r = grind (arith)
+above_next F held o None e r = grind  arith 
 above_next F held None (Some a) e r = tt
 above_next F None (Some h) (Some a) e r = absurd (let q = e in cc)
 above_next F (Some f) (Some h) (Some a) e r =
@@ -283,14 +283,13 @@ module _ {S : Type 0} (b : Behaviour S) where
   given_same a (r ∷ runs) =
       let here = taken_from a (b.held r.now) in
       let rest = taken_at a (heads b (nows runs)) in
-      subst (λ (l : List Fact). Same ((r.given ++ here) ++ all_of (givens_at (Some a) runs))
-      ((r.given ++ all_of (givens runs)) ++ l))
-      (sym (taken_split a (b.held r.now) (heads b (nows runs))))
-      (Same-trans ((r.given ++ here) ++ all_of (givens_at (Some a) runs))
-      ((r.given ++ here) ++ (all_of (givens runs) ++ rest))
-      ((r.given ++ all_of (givens runs)) ++ (here ++ rest))
-      (Same-append (r.given ++ here) (r.given ++ here) (all_of (givens_at (Some a) runs))
-      (all_of (givens runs) ++ rest) (Same-itself (r.given ++ here)) (given_same a runs))
+      rw
+      (taken_split a _ _)
+      (Same-trans _
+      _
+      _
+      (Same-append _ _ _
+      _ (Same-itself _) (given_same a runs))
       (Same-crossed r.given here (all_of (givens runs)) rest))
 
   pub given_length : (a : Address) (runs : List (Run S)) → length (all_of (givens_at (Some a) runs))
@@ -304,7 +303,7 @@ module _ {S : Type 0} (b : Behaviour S) where
       (given_here _ _ h.0) h.1.fewer
   fewer_one a t u (inr h) = rw
       (given_elsewhere _ _ h.0)
-      (let e = ap b.most h.1 in omega (arith))
+      (let e = ap b.most h.1 in omega  arith )
 
   -- how many facts they may still hold
   pub fewer_all : (a : Address) (now new : List S) → GoOnAt b (Some a) now new

@@ -195,4 +195,4 @@ module _ {C : Type 0} (takes : C → Fact → Bool) (s : C) where
 pub answered : {C : Type 0} (takes : C → Fact → Bool) {s z : C} (held : Option Fact)
     {result is : Bool} → result ≡ is_passed_over takes z held → z ≡ s → result ≡ is
     → is_passed_over takes s held ≡ is
-answered takes held r e i = search rules
+answered = search rules

@@ -58,7 +58,7 @@ read_from {limit} {u} w new {es} None s g =
 end_again : {limit : ℕ} {u v w : Option (List ℕ)} {new : ReaderState Before} {F : List Fact}
     {held : Option Fact} → ReadWhole limit u v F → held ≡ None → GivesEnd journal_framing Ended new
     v w → Read limit u w new (F ++ option_list held) None
-end_again {limit} {u} {v} {w} {F} r n g =
+end_again {u} {v} {w} {F} r n g =
     let k : Keeps v w = search rules in (
       rw
           (ap (λ h. F ++ option_list h) n ∙ append-nil F)
@@ -75,36 +75,10 @@ read_on w Ended new (Some f) c = absurd (let g = c.gives in cc)
 read_on w Ended new None c = end_again c.read.0 c.read.1 c.gives
 read_on w other new o c = read_from w _ o c.read c.gives
 
--- what was read, in whatever state the reader is
-read_at : (limit : ℕ) (u w : Option (List ℕ)) (state : ReaderState Before) (F : List Fact)
-    (o : Option Fact) → Read limit u w state F o → ReadAt limit u w state F o
-read_at x0 x1 x2 x3 x4 x5 x6 = search rules
-
--- What follows of the stream's clauses: reads, rises, ends, contains, and is sized.
-
-reads_of : (limit : ℕ) (u w : Option (List ℕ)) (state : ReaderState Before) (F : List Fact)
-    (o : Option Fact) → Read limit u w state F o → ReadsEntries u w F
-reads_of limit u w state F (Some f) r = reads-side limit u w state F (Some f) r
-reads_of limit u w state F None r = r.0.read
-
-reads_with : (limit : ℕ) (u w : Option (List ℕ)) (state : ReaderState Before) (F : List Fact)
-    (o : Option Fact) → Read limit u w state F o → ReadsEntries u w (F ++ option_list o)
-reads_with limit u w state F (Some f) r = reads-sofar _ u w _ _ r
-reads_with limit u w state F None r = subst (ReadsEntries u w) (sym (append-nil F)) r.0.read
-
-rising_of : (limit : ℕ) (u w : Option (List ℕ)) (state : ReaderState Before) (F : List Fact)
-    (o : Option Fact) → Read limit u w state F o → IsRising (F ++ option_list o)
-rising_of limit u w state F o r = grind (arith, append-nil)
-
-ended_of : (limit : ℕ) (u w : Option (List ℕ)) (state : ReaderState Before) (F : List Fact)
-    (o : Option Fact) → Read limit u w state F o → o ≡ None
-    → IfSome u (λ xs. IsJournalWithin limit xs F)
-ended_of limit u w state F o r e = grind (arith)
-
 -- a journal has no entries but those that were read to its end
 only_entries : (limit : ℕ) (u : Option (List ℕ)) (F K : List Fact)
     → IfSome u (λ xs. IsJournalWithin limit xs F) → IsJournalOfAll u K → K ≡ F
-only_entries limit None F K h k = absurd (cc)
+only_entries limit None F K h k = absurd cc
 only_entries limit (Some xs) F K h k =
     let v = h.are_items.told in
     let w = k.version in
@@ -112,31 +86,12 @@ only_entries limit (Some xs) F K h k =
     let second : BeginsWithJournal w K [] xs = search rules in
     (spelling-injective first second).1
 
-known_of : (limit : ℕ) {u : Option (List ℕ)} (w : Option (List ℕ)) (state : ReaderState Before)
-    (F : List Fact) (o : Option Fact) → Read limit u w state F o → (K : List Fact) → IsJournalOfAll
-    u K → Continues K (F ++ option_list o) o
-known_of limit {u} w state F (Some f) r K k =
-    let a = ahead-sofar _ u w _ _ r k.version K k.valid k.rising k.bytes_are in
-    record { rest = a.0; is = a.1; rising = k.rising; ended = λ e. absurd (cc) }
-known_of limit {u} w state F None r K k = record {
-  rest = [];
-  is = only_entries _ u F K r.0.whole k ∙ sym (append-nil F) ∙ sym (append-nil _);
-  rising = k.rising;
-  ended = λ e. refl;
-}
-
 -- within the limit a reader that is open may give one fact more
 
 pub fewer : (limit n : ℕ) (v w : Option (List ℕ)) (old new : ReaderState Before) (o : Option Fact)
     → Gives journal_framing limit old new v w (Ok o)
     → (length (option_list o) + room limit new) + n ≤ n + room limit old
 fewer x0 x1 x2 x3 x4 x5 x6 x7 = search rules
-
-sized_of : (limit : ℕ) (u w : Option (List ℕ)) (state : ReaderState Before) (F : List Fact)
-    (o : Option Fact) → Read limit u w state F o → IfSome o IsSized
-sized_of limit u w state F (Some f) r =
-    fact_sized f (all_split _ F _ r.are_items.valid).1.0.0
-sized_of limit u w state F None r = tt
 
 -- what a stream has given by these reads
 pub record GivesOn (limit : ℕ) (u w : Option (List ℕ)) (state : ReaderState Before) (G : List Fact)
@@ -149,28 +104,47 @@ pub record GivesOn (limit : ℕ) (u w : Option (List ℕ)) (state : ReaderState 
   pub ended : held ≡ None → IfSome u (λ bytes. IsJournalWithin limit bytes G)
   pub known : (K : List Fact) → IsJournalOfAll u K → Continues K (G ++ option_list held) held
 
+-- as the stream's clauses say
+gives : (limit : ℕ) (u w : Option (List ℕ)) (state : ReaderState Before) (F : List Fact)
+    (o : Option Fact) → Read limit u w state F o → GivesOn limit u w state F o
+gives limit u w state F (Some f) r = record {
+  read = search rules;
+  reads = reads-side limit u w state F (Some f) r;
+  reads_held = reads-sofar _ u w _ _ r;
+  rising = r.are_items.in_order;
+  sized = fact_sized f (all_split _ F _ r.are_items.valid).1.0.0;
+  ended = λ e. absurd cc;
+  known = λ K k.
+      let a = ahead-sofar _ u w _ _ r k.version K k.valid k.rising k.bytes_are in
+      record { rest = a.0; is = a.1; rising = k.rising; ended = λ e. absurd cc };
+}
+gives limit u w state F None r = record {
+  read = search rules;
+  reads = r.0.read;
+  reads_held = rw (append-nil F) r.0.read;
+  rising = rw (append-nil F) r.0.are_items.in_order;
+  sized = tt;
+  ended = λ e. r.0.whole;
+  known = λ K k. record {
+    rest = [];
+    is = only_entries _ u F K r.0.whole k ∙ sym (append-nil F) ∙ sym (append-nil _);
+    rising = k.rising;
+    ended = λ e. refl;
+  };
+}
+
 -- a call with the limit that it was made with
 with_limit : {limit own : ℕ} {u v w : Option (List ℕ)} {old new : ReaderState Before}
     {F : List Fact} {held : Option Fact} {result : Result (Option Fact) ReadFault} → IsCalled limit
     own u v w old new F held result → IsCalled limit limit u v w old new F held result
-with_limit c = search rules
+with_limit = search rules
 
 -- the state after a call that gave an entry or the end
 pub gives_on : {limit own : ℕ} {u v w : Option (List ℕ)} {old new : ReaderState Before}
     {F : List Fact} {held o : Option Fact} → IsCalled limit own u v w old new F held (Ok o)
     → GivesOn limit u w new (F ++ option_list held) o
-gives_on {limit} {u} {w} {old} {new} {F} {held} {o} c =
-    let G = F ++ option_list held in
-    let r = read_on w _ _ o (with_limit c) in
-    record {
-      read = read_at _ u w _ G o r;
-      reads = reads_of _ u w _ G o r;
-      reads_held = reads_with _ u w _ G o r;
-      rising = rising_of _ u w _ G o r;
-      sized = sized_of _ u w _ G o r;
-      ended = ended_of _ u w _ G o r;
-      known = known_of _ w _ G o r;
-    }
+gives_on {w = w} {old = old} {new = new} {o = o} c =
+    gives _ _ w new _ o (read_on w old new o (with_limit c))
 
 -- A call that stops at a fault.
 
@@ -185,7 +159,7 @@ fault_at : {limit : ℕ} {u v w : Option (List ℕ)} (old : ReaderState Before)
     {new : ReaderState Before} {F : List Fact} {held : Option Fact} {f : ReadFault} → IsCalled limit
     limit u v w old new F held (Err f) → StopsOn limit u w old (F ++ option_list held) f
 fault_at (Failed h) c = absurd c.read
-fault_at Ended c = grind (arith)
+fault_at Ended c = grind  arith 
 fault_at other c = search (rules, reads-fault, sofar-fault, journal_sound)
 
 pub stops_on : {limit own : ℕ} {u v w : Option (List ℕ)} {old new : ReaderState Before}
@@ -225,11 +199,11 @@ module _ {R : Type 0} (unread : R → Option (List ℕ)) (buffered : R → List 
 
     none_failed : {s t : JournalState R} → HoldsOn s t (Ok tt)
         → FailsSince unread buffered failures s t None
-    none_failed h = search rules
+    none_failed = search rules
 
     one_failed : {s t : JournalState R} (f : ReadFault) → HoldsOn s t (Err f) → IsTrue
         (is_open (state_of s.reader)) → FailsSince unread buffered failures s t (Some (load.Read f))
-    one_failed f h o = search rules
+    one_failed = search rules
 
     -- the stream is advanced, or stops, as the trait's clauses say (specs/Streams)
     pub stream_goes_on : {s t : JournalState R} → HoldsOn s t (Ok tt) → GoesOn b s t

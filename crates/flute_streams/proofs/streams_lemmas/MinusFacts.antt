@@ -72,7 +72,7 @@ module _ {S T : Type 0} (a : Behaviour S) (b : Behaviour T) where
 
   pub first_never : (x t : Minus S T) {fault : LoadFault} → x.begun ≡ false → StopsAt a x.first t.first fault
       → t.second ≡ x.second → t.in_second ≡ false → StopsAt w x t fault
-  first_never x t {fault} e g same sound = λ start facts p.
+  first_never x t e g same sound = λ start facts p.
       let q = subst (λ z. Passed a b z start x facts) e p in
       let r = no_stop a _ _ _ _ q.0 g in
       record {
@@ -156,7 +156,7 @@ module _ {S T : Type 0} (a : Behaviour S) (b : Behaviour T) where
         → G ≡ minus (B.all ++ option_list (a.held x.first))
         (B.others ++ option_list (b.held x.second))
         → t.second ≡ x.second → t.in_second ≡ false → Stopped w start t G fault
-    first_stops start F G {fault} B g left same sound =
+    first_stops start F G B g left same sound =
         let r = g start.first B.all B.first.passes in
         let C = B.others ++ option_list (b.held _) in
         record {
@@ -210,13 +210,13 @@ module _ {S T : Type 0} (a : Behaviour S) (b : Behaviour T) where
                 (up_to_first _ _ _ turn B.up_to) same
                 (begun ∙ v.begun) (sound ∙ B.sound);
             begun = begun ∙ v.begun;
-            fewer = omega (arith);
+            fewer = omega  arith ;
           };
           stays = λ e. absurd (false≢true (sym e));
           less = λ e.
               let one = some_length _ n in
               let m = ap (λ s. b.most s) same in
-              omega (arith);
+              omega  arith ;
         }
 
     pub passes_first_not : {fault : LoadFault} → turn_of (a.held x.first) (b.held x.second) ≡ First
@@ -264,13 +264,13 @@ module _ {S T : Type 0} (a : Behaviour S) (b : Behaviour T) where
           less = λ e.
               let one = some_length _ n in
               let m = ap (λ s. a.most s) same in
-              omega (arith);
+              omega  arith ;
         }
 
     pub passes_second_not : {fault : LoadFault}
         → StopsAt b x.second t.second fault → t.first ≡ x.first → t.in_second ≡ true
         → (y : Minus S T) → Walks a b y x → StopsAt w y t fault
-    passes_second_not {fault} g same sound y v = λ start facts p.
+    passes_second_not g same sound y v = λ start facts p.
         let B = v.between _ _ p in
         let r = g start.second B.others B.second.passes in
         record {
@@ -353,12 +353,12 @@ module _ {S T : Type 0} (a : Behaviour S) (b : Behaviour T) where
         rw
         (ap (λ h. facts ++ option_list h) n ∙ append-nil _) q.0;
     begun = e;
-    fewer = let z = ap (λ h. length (option_list h)) n in omega (arith);
+    fewer = let z = ap (λ h. length (option_list h)) n in omega  arith ;
   }
 
 -- something is held if its address is lent
 pub is_held : {place : Address} {held : Option Fact} → Some place ≡ address_of held → held ≡ None → ⊥
-is_held {place} e n = none-some _ (sym (e ∙ ap address_of n))
+is_held e n = none-some _ (sym (e ∙ ap address_of n))
 
 -- what holds of the fault that is told
 pub told : {A E : Type 0} (P : E → Type 0) (r : Result A E) {y : E}

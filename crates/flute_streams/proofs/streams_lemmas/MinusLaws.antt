@@ -22,9 +22,9 @@ use Rattle.flute_streams.specs.Minus.{has, changes, minus}
 
 -- a conflict is the conflict of its address, and conversely
 pub conflict_is : (g : Fact) (a : Address) → address g ≡ a → is_conflict g ≡ true → g ≡ conflict_at a
-conflict_is (Info k i) a e h = absurd (false≢true h)
+conflict_is (Info k i) a e h = absurd cc
 conflict_is (InfoConflict k) a e h = ap conflict_at e
-conflict_is (Symbol k i b) a e h = absurd (false≢true h)
+conflict_is (Symbol k i b) a e h = absurd cc
 conflict_is (SymbolConflict k i) a e h = ap conflict_at e
 
 pub is_conflict-at : (f : Fact) → is_conflict (conflict_at (address f)) ≡ true
@@ -36,7 +36,7 @@ is_conflict-at (SymbolConflict k i) = refl
 -- a value that has the fact stays when it is joined with it, and conversely
 has_stays : (f : Fact) (y : Option Fact) → ((g : Fact) → y ≡ Some g → address g ≡ address f)
     → not (has y f) ≡ false → joined (address f) (Some f) y ≡ y
-has_stays f None at h = absurd (false≢true (sym h))
+has_stays f None at h = absurd cc
 has_stays f (Some g) at h = elim (cases_Bool _) [
   | inl c ↦
       let e = conflict_is g _ (at g refl) c in
@@ -46,7 +46,7 @@ has_stays f (Some g) at h = elim (cases_Bool _) [
     | inl t ↦
         let e = fact_same f g t in
         ap Some (joined-same _ f g e ∙ e)
-    | inr m ↦ absurd (false≢true (sym (rw (n, m) at h)))
+    | inr m ↦ absurd cc
   ]
 ]
 

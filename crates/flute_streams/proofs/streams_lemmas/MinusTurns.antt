@@ -19,6 +19,8 @@ use Rattle.flute_parts.proofs.Public.{fact_at-after, joined, joined-none}
 use Rattle.flute_parts.proofs.Public.{StandAfter-before}
 use Rattle.flute_streams.specs.Streams.{option_list}
 use Rattle.flute_streams.specs.declared.streams.minus.Turn.TheVariants.{Stay, First, Second}
+use Rattle.flute_streams.specs.declared.streams.minus.Turn.{Turn}
+use Rattle.std.proofs.Common.{subst}
 use Rattle.flute_streams.specs.Behind.{Behind, UpTo}
 use Rattle.flute_streams.proofs.streams_lemmas.Before.{back, before_later, before_more}
 use Rattle.flute_streams.proofs.streams_lemmas.Before.{before_value, rising_after}
@@ -31,72 +33,27 @@ use Rattle.flute_streams.specs.MinusStreams.{turn_at, turn_of}
 abbrev Before : Fact → Fact → Type 0
 Before f g = address_cmp (address f) (address g) ≡ Less
 
--- values
+-- values, by whose turn it is
 
-stay_at : (f g : Fact) (o : Ordering) → address_cmp (address f) (address g) ≡ o
-    → turn_at o (has (Some g) f) ≡ Stay → not (has (alone (address f) g) f) ≡ true
-stay_at f g Less l t =
-    ap (λ x. not (has x f)) (alone-elsewhere g _ (back _ (address g) l))
-stay_at f g Equal l t = elim (cases_Bool (has (Some g) f)) [
-  | inl h ↦ absurd (first_stay (rw h at t))
-  | inr n ↦ ap (λ x. not (has x f))
-      (alone-at g _ (sym (address_same (address f) (address g) (ap is_eq l)))) ∙ ap not n
-]
-  where
-    first_stay : First ≡ Stay → ⊥
-    first_stay e = cc
-stay_at f g Greater l t = absurd (second_stay t)
-  where
-    second_stay : Second ≡ Stay → ⊥
-    second_stay e = cc
+abbrev InTurn : Fact → Fact → Turn → Type 0
+InTurn f g Stay = (not (has (alone (address f) g) f) ≡ true) × (Before f g ⊎ (address f ≡ address g))
+InTurn f g First = (not (has (alone (address f) g) f) ≡ false) × (address f ≡ address g)
+InTurn f g Second = Before g f
 
-first_at : (f g : Fact) (o : Ordering) → address_cmp (address f) (address g) ≡ o
-    → turn_at o (has (Some g) f) ≡ First
-    → (not (has (alone (address f) g) f) ≡ false) × (address f ≡ address g)
-first_at f g Less l t = absurd (apart t)
-  where
-    apart : Stay ≡ First → ⊥
-    apart e = cc
-first_at f g Equal l t =
+in_turn_at : (f g : Fact) (o : Ordering) → address_cmp (address f) (address g) ≡ o
+    → InTurn f g (turn_at o (has (Some g) f))
+in_turn_at f g Less l =
+    (ap (λ x. not (has x f)) (alone-elsewhere g _ (back _ (address g) l)), inl l)
+in_turn_at f g Equal l =
     let p = address_same (address f) (address g) (ap is_eq l) in
-    elim (cases_Bool _) [
-      | inl h ↦ (ap (λ x. not (has x f)) (alone-at g _ (sym p)) ∙ ap not h, p)
-      | inr n ↦ absurd (apart (rw n at t))
+    elim (cases_Bool (has (Some g) f)) [
+      | inl h ↦ rw h (ap (λ x. not (has x f)) (alone-at g _ (sym p)) ∙ ap not h, p)
+      | inr n ↦ rw n (ap (λ x. not (has x f)) (alone-at g _ (sym p)) ∙ ap not n, inr p)
     ]
-  where
-    apart : Stay ≡ First → ⊥
-    apart e = cc
-first_at f g Greater l t = absurd (apart t)
-  where
-    apart : Second ≡ First → ⊥
-    apart e = cc
+in_turn_at f g Greater l = turned (address f) (address g) l
 
-second_at : (f g : Fact) (o : Ordering) → address_cmp (address f) (address g) ≡ o
-    → turn_at o (has (Some g) f) ≡ Second → Before g f
-second_at f g Less l t = absurd (apart t)
-  where
-    apart : Stay ≡ Second → ⊥
-    apart e = cc
-second_at f g Equal l t = elim (cases_Bool (has (Some g) f)) [
-  | inl h ↦ absurd (one (rw h at t))
-  | inr n ↦ absurd (other (rw n at t))
-]
-  where
-    one : First ≡ Second → ⊥
-    one e = cc
-
-    other : Stay ≡ Second → ⊥
-    other e = cc
-second_at f g Greater l t = turned (address f) (address g) l
-
-not_after : (f g : Fact) (o : Ordering) → address_cmp (address f) (address g) ≡ o
-    → turn_at o (has (Some g) f) ≡ Stay → Before f g ⊎ (address f ≡ address g)
-not_after f g Less l t = inl l
-not_after f g Equal l t = inr (address_same (address f) (address g) (ap is_eq l))
-not_after f g Greater l t = absurd (apart t)
-  where
-    apart : Second ≡ Stay → ⊥
-    apart e = cc
+in_turn : (f g : Fact) {turn : Turn} → turn_of (Some f) (Some g) ≡ turn → InTurn f g turn
+in_turn f g e = subst (InTurn f g) e (in_turn_at f g (address_cmp (address f) (address g)) refl)
 
 stay_changes : (f : Fact) (G : List Fact) (held : Option Fact) → Behind (Some f) G
     → turn_of (Some f) held ≡ Stay → changes (G ++ option_list held) f ≡ true
@@ -104,17 +61,14 @@ stay_changes f G None s t =
     ap (λ x. not (has x f)) (before_value _ G [] s ∙ fact_at-nil _)
 stay_changes f G (Some g) s t =
     ap (λ x. not (has x f)) (before_value _ G (g ∷ []) s)
-    ∙ stay_at f g _ refl t
+    ∙ (in_turn f g t).0
 
 first_keeps : (f : Fact) (G : List Fact) (held : Option Fact) → Behind (Some f) G
     → turn_of (Some f) held ≡ First → changes (G ++ option_list held) f ≡ false
-first_keeps f G None s t = absurd (apart t)
-  where
-    apart : Stay ≡ First → ⊥
-    apart e = cc
+first_keeps f G None s t = absurd cc
 first_keeps f G (Some g) s t =
     ap (λ x. not (has x f)) (before_value _ G (g ∷ []) s)
-    ∙ (first_at f g _ refl t).0
+    ∙ (in_turn f g t).0
 
 -- what is left
 
@@ -150,14 +104,8 @@ pub without_held : (held other : Option Fact) (F all others : List Fact)
     → F ≡ minus all (others ++ option_list other) → Behind held others
     → turn_of held other ≡ First
     → F ≡ minus (all ++ option_list held) (others ++ option_list other)
-without_held None None F all others e s t = absurd (apart t)
-  where
-    apart : Stay ≡ First → ⊥
-    apart e = cc
-without_held None (Some g) F all others e s t = absurd (apart t)
-  where
-    apart : Second ≡ First → ⊥
-    apart e = cc
+without_held None None F all others e s t = absurd cc
+without_held None (Some g) F all others e s t = absurd cc
 without_held (Some f) other F all others e s t =
     let C = others ++ option_list other in
     e ∙ sym (append-nil _)
@@ -190,22 +138,16 @@ up_to_more g f (x ∷ F) o u = (u.0, up_to_more g f F o u.1)
 pub up_to_stay : (held other : Option Fact) (F : List Fact) → turn_of held other ≡ Stay
     → UpTo other F → UpTo other (F ++ option_list held)
 up_to_stay held None F t u = tt
-up_to_stay None (Some g) F t u = absurd (apart t)
-  where
-    apart : Second ≡ Stay → ⊥
-    apart e = cc
+up_to_stay None (Some g) F t u = absurd cc
 up_to_stay (Some f) (Some g) F t u =
-    up_to_more g f F (not_after f g _ refl t) u
+    up_to_more g f F ((in_turn f g t).1) u
 
 pub up_to_first : (held other : Option Fact) (F : List Fact) → turn_of held other ≡ First
     → UpTo other F → UpTo other (F ++ option_list held)
 up_to_first held None F t u = tt
-up_to_first None (Some g) F t u = absurd (apart t)
-  where
-    apart : Second ≡ First → ⊥
-    apart e = cc
+up_to_first None (Some g) F t u = absurd cc
 up_to_first (Some f) (Some g) F t u =
-    up_to_more g f F (inr (first_at f g _ refl t).1) u
+    up_to_more g f F (inr (in_turn f g t).1) u
 
 pub behind_goes : (held next : Option Fact) (F G : List Fact) → (held ≡ None → ⊥)
     → IsRising ((F ++ option_list held) ++ option_list next) → Behind held G → Behind next G
@@ -223,12 +165,9 @@ up_to_goes (Some g) (Some h) F G n r u = up_to_next g h F (rising_after G g _ r)
 pub behind_second : (held other : Option Fact) (G : List Fact) → turn_of held other ≡ Second
     → Behind held G → Behind held (G ++ option_list other)
 behind_second None other G t s = tt
-behind_second (Some f) None G t s = absurd (apart t)
-  where
-    apart : Stay ≡ Second → ⊥
-    apart e = cc
+behind_second (Some f) None G t s = absurd cc
 behind_second (Some f) (Some g) G t s =
-    before_more _ g G (second_at f g _ refl t) s
+    before_more _ g G (in_turn f g t) s
 
 module _ (next : Option Fact) (F all G : List Fact) where
   pub left_second : (other : Option Fact) → (other ≡ None → ⊥)
@@ -251,11 +190,8 @@ second_holds held (Some g) t e = cc
 
 pub stay_ended : (held other : Option Fact) → turn_of held other ≡ Stay → held ≡ None → other ≡ None
 stay_ended None None t e = refl
-stay_ended None (Some g) t e = absurd (apart t)
-  where
-    apart : Second ≡ Stay → ⊥
-    apart e = cc
-stay_ended (Some f) other t e = absurd (none-some f (sym e))
+stay_ended None (Some g) t e = absurd cc
+stay_ended (Some f) other t e = absurd cc
 
 pub some_length : (held : Option Fact) → (held ≡ None → ⊥) → length (option_list held) ≡ 1
 some_length None n = absurd (n refl)

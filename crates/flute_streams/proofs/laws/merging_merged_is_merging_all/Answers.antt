@@ -11,7 +11,7 @@ all_same [] [] h = Same-itself []
 all_same [] (E ∷ joined) h = absurd h
 all_same (F ∷ groups) [] h = absurd h
 all_same (F ∷ groups) (E ∷ joined) h =
-    Same-append F E (all_of groups) (all_of joined) h.0.same (all_same groups joined h.1)
+    Same-append F E _ _ h.0.same (all_same groups joined h.1)
 
 pub returns : goal.returns
 returns c v groups joined h bytes =

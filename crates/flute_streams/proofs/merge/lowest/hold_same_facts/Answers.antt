@@ -7,7 +7,7 @@ use Rattle.flute_streams.proofs.merge.lowest.hold_same_facts.Goals as goal
 -- what a stream holds is the fact that it lends
 lent : {head : Option FactRef} {fact : FactRef} {held : Option Fact} {f : Fact}
     → head ≡ Some fact → fact_in head ≡ held → held ≡ Some f → fact_of fact ≡ f
-lent {fact = fact} {f = f} is h e = search rules
+lent is h e = search rules
 
 pub returns-in-Some-Some : goal.returns-in-Some-Some
 returns-in-Some-Some g c = λ g' f e d. let b = g.G.Streams.behaviour in

@@ -10,7 +10,7 @@ use Rattle.flute_streams.proofs.merge.lowest.lowest_held.Goals.{in-Some, in_defa
 use Rattle.flute_streams.proofs.merge.lowest.lowest_held.Goals as goal
 
 pub with_more-requires-clause-stands : goal.with_more-requires-clause-stands
-with_more-requires-clause-stands g c = search rules
+with_more-requires-clause-stands = search rules
 
 pub with_more-requires-clause-here : goal.with_more-requires-clause-here
 with_more-requires-clause-here g c =

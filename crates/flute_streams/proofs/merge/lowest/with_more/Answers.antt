@@ -45,4 +45,4 @@ returns-in-Equal-clause-lowest g c = λ facts h.
     (v.is ∙ c.in-Equal.is) c.joined.result c.joined.ensures
 
 pub returns-in-Equal-clause-stands : goal.returns-in-Equal-clause-stands
-returns-in-Equal-clause-stands g c = search rules
+returns-in-Equal-clause-stands = search rules

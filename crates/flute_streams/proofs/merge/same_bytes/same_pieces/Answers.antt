@@ -5,7 +5,7 @@ use Rattle.flute_streams.proofs.merge_lemmas.SameBytes.{same-last, same-left, sa
 use Rattle.flute_streams.proofs.merge.same_bytes.same_pieces.Goals as goal
 
 pub loop-left-init : goal.loop-left-init
-loop-left-init c = search rules
+loop-left-init = search rules
 
 pub returns-then-not-same_piece : goal.returns-then-not-same_piece
 returns-then-not-same_piece c =

@@ -13,8 +13,8 @@ loop-alloc-preserved g c = record {
 
 pub loop-alloc-smaller : goal.loop-alloc-smaller
 loop-alloc-smaller g c =
-    read-falls g.G.Streams.behaviour c.args.number _ _ (fact_in c.head.result) c.head.ensures
-    (some_held c.head.result c.is_some.result c.is_some.ensures c.loop-alloc-test.true)
+    read-falls _ _ _ _ _ c.head.ensures
+    (some_held _ _ c.is_some.ensures c.loop-alloc-test.true)
     c.in_ok-advance.ensures.advances
 
 pub returns-clause-told : goal.returns-clause-told

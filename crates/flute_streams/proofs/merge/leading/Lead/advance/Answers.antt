@@ -11,7 +11,7 @@ use Rattle.flute_streams.proofs.merge.leading.Lead.advance.Goals as goal
 stands_there : {S : Type 0} (b : Behaviour S) (xs : List S) {place : Address} {first number : ℕ}
     → first ≡ number → address_of (held_at b xs first) ≡ Some place
     → StandsAt b (Some place) xs number
-stands_there b xs is here = search rules
+stands_there = search rules
 
 pub returns-in-Err-clause-stops : goal.returns-in-Err-clause-stops
 returns-in-Err-clause-stops g c = search (rules, stands_there, lead-stops)

@@ -7,7 +7,7 @@ use Rattle.flute_streams.proofs.streams.chained.ChainedStreams.advance.Goals as 
 pub advance-requires-else-number-eq0 : goal.advance-requires-else-number-eq0
 advance-requires-else-number-eq0 g c =
     far g.A.Stream.behaviour g.G.Streams.behaviour c.args.self.now.first.now
-    (g.G.Streams.streams c.args.self.now.others) c.args.number c.requires c.if-number-eq0.false
+    _ _ c.requires c.if-number-eq0.false
 
 pub returns-then-number-eq0-clause-advances : goal.returns-then-number-eq0-clause-advances
 returns-then-number-eq0-clause-advances g c = search (rules, first_advances)

@@ -5,7 +5,7 @@ use Rattle.flute_streams.proofs.streams.chained.ChainedStreams.spelled.Goals as 
 pub spelled-requires-else-number-eq0 : goal.spelled-requires-else-number-eq0
 spelled-requires-else-number-eq0 g c =
     far g.A.Stream.behaviour g.G.Streams.behaviour c.args.self.now.first.now
-    (g.G.Streams.streams c.args.self.now.others) c.args.number c.requires c.if-number-eq0.false
+    _ _ c.requires c.if-number-eq0.false
 
 pub returns-else-number-eq0 : goal.returns-else-number-eq0
 returns-else-number-eq0 g c = other_is g.A.Stream.behaviour g.G.Streams.behaviour
