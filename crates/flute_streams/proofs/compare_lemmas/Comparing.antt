@@ -185,20 +185,6 @@ module _ {S T : Type 0} (a : Behaviour S) (b : Behaviour T) where
               c.second_few;
         }
 
-    pub counts_stop : (s' : S) (t' : T) (fault : StreamsFault) → StopsOne a b m.side s t s' t' fault
-        → StopsComparing a b s0 t0 s' t' fault
-    counts_stop s' t' Write h = absurd h
-    counts_stop s' t' (Input fault) h = by _ h
-      where
-        by : (k : ℕ) → StopAs a b m.side k fault.fault s t s' t' → StopIn a b k fault.fault s0 t0 s' t'
-        by zero h =
-            let r = h.0 s0 _ c.first.passes in
-            (r.stops, r.fails, rw h.1 c.second.fails)
-        by (suc (suc k)) h = absurd h
-        by (suc zero) h =
-            let r = h.1 t0 _ c.second.passes in
-            (r.stops, r.fails, (gave_on a s0 s s' _ _ _ c.first h.0 M.takes_f).fails)
-
   pub counts_end : {s0 s : S} {t0 t : T} {old told told' : List Row} {row : Option Row}
       → a.most s0 < 2 ^ 64 → b.most t0 < 2 ^ 64
       → Counts a b s0 t0 s t old told row → meeting_of (a.held s) (b.held t) ≡ None
@@ -237,35 +223,6 @@ module _ {S T : Type 0} (a : Behaviour S) (b : Behaviour T) where
           → option_row (row_at F G last) ≡ map (told_of F G) (keys_at last)
       row_keys F G None = refl
       row_keys F G (Some x) = refl
-
-  goes_less : {A : Type 0} (c : Behaviour A) (s t : A) (g : Bool) → GoesIf c g s t
-      → (g ≡ true → c.held s ≡ None → ⊥) → c.most t + cond g 1 0 ≤ c.most s
-  goes_less c s t true v n = let l = some_length _ (n refl) in omega  arith 
-  goes_less c s t false v n = let l = ap (λ z. c.most z) v in omega  arith 
-
-  one_goes : (side : Side) → (first_goes side ≡ true) ⊎ (second_goes side ≡ true)
-  one_goes Same = inl refl
-  one_goes Differ = inl refl
-  one_goes First = inl refl
-  one_goes Second = inr refl
-
-  cond_is : (b : Bool) (n : ℕ) → b ≡ true → cond b n 0 ≡ n
-  cond_is b n e = ap (λ z. cond z n 0) e
-
-  pub less_left : {s0 s : S} {t0 t : T} {old told : List Row} {row : Option Row} {m : Meeting}
-      (s' : S) (t' : T) → Counts a b s0 t0 s t old told row → meeting_of (a.held s) (b.held t) ≡ Some m
-      → GoesOnBoth a b m.side s t s' t' → a.most s' + b.most t' < a.most s + b.most t
-  less_left {s = s} {t = t} {m = m} s' t' c e g =
-      let v = met_of m c.all c.others (a.held s) (b.held t) e c.first_behind c.second_behind
-      c.first.rising c.second.rising in
-      let x = goes_less a s s' (first_goes m.side) g.0
-      (λ i n. v.some_f i (v.takes_f ∙ ap (λ z. cond z (a.held s) None) i ∙ n)) in
-      let y = goes_less b t t' (second_goes m.side) g.1
-      (λ i n. v.some_g i (v.takes_g ∙ ap (λ z. cond z (b.held t) None) i ∙ n)) in
-      elim (one_goes m.side) [
-        | inl i ↦ let z = cond_is (first_goes m.side) 1 i in omega (arith, x, y, z)
-        | inr i ↦ let z = cond_is (second_goes m.side) 1 i in omega (arith, x, y, z)
-      ]
 
 -- what was told before a stream stopped
 module _ {S T V : Type 0} (a : Behaviour S) (b : Behaviour T) (side : Side)

@@ -56,10 +56,6 @@ not_listed k x (y ∷ ks) r l =
     (keys_apart y k (key_total.trans y x k (after_last y x ks r.0) l))
     ∙ not_listed k x ks r.1 l
 
-or_assoc : (a b c : Bool) → ((a || b) || c) ≡ (a || (b || c))
-or_assoc true b c = refl
-or_assoc false b c = refl
-
 pub or_nil : (a : Bool) → (a || false) ≡ a
 or_nil true = refl
 or_nil false = refl
@@ -70,9 +66,6 @@ held_named : (key : Key) (p : Address) (f : Option Fact) → At p f → (f ≡ N
 held_named key p None d n = absurd (n refl)
 held_named key p (Some f) d n =
     or_nil _ ∙ ap (λ a. same_key key a.key) d
-
-none_named : (key : Key) (f : Option Fact) → f ≡ None → is_named key (option_list f) ≡ false
-none_named key f e = ap (λ f. is_named key (option_list f)) e
 
 module _ (key : Key) (p : Address) where
   pub named_step : (F G : List Fact) (f g : Option Fact) → At p f → At p g → (f ≡ None → g ≡ None

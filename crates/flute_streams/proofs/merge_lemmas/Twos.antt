@@ -21,10 +21,6 @@ same_entries : (es fs ws F G : List Fact) → Same F es → Same G fs → Same (
     → Same (es ++ fs) ws
 same_entries es fs ws F G p q r = search (rules, Same-trans, Same-append, Same-sym)
 
-begins_at : (k : ℕ) (f : ReadFault) (bytes : List ℕ) (entries : List Fact)
-    → bytes ≡ written_up_to entries → AppendedUpTo (fault_at k f) bytes entries
-begins_at = search rules
-
 begins : (k : ℕ) (f : LoadFault) (merge : MergeFault) (bytes : List ℕ) (entries : List Fact)
     → IsFaultAt k f merge → bytes ≡ written_up_to entries → AppendedUpTo merge bytes entries
 begins = search rules
@@ -132,20 +128,10 @@ module _ {A B : Type 0} (ua : A → Option (List ℕ)) (ba : A → List ℕ) (fa
 
     -- the fault that is reported is that of the input it names
 
-    names_of : (k : ℕ) (f : LoadFault) (merge : MergeFault) → IsFaultAt k f merge → limit_of
-        t.reader.now ≡ limit_of s.reader.now → (x : Either (LentStream A) (LentStream B)) →
-        slice_get inputs k ≡ Some x → both.stops x f → NamesFault (limit_of s.reader.now) u v merge
-    names_of = search rules
-
     names_two : (fault : StreamsFault) (merge : MergeFault) → IsFaultOfTwo fault merge
         → limit_of t.reader.now ≡ limit_of s.reader.now → NamesInput both inputs fault
         → NamesFault (limit_of s.reader.now) u v merge
     names_two = search rules
-
-    -- an input stopped where it could not be read
-    reading_of : (x : Either (LentStream A) (LentStream B)) (number : ℕ) (f : LoadFault)
-        → both.stops x f → IsOfReading (Input (record { number = number; fault = f }))
-    reading_of = search rules
 
     pub reading_two : (fault : StreamsFault) → NamesInput both inputs fault → IsOfReading fault
     reading_two = search rules

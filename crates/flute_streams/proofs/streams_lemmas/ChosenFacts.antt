@@ -28,15 +28,6 @@ module _ (p : Fact → Bool) where
   rising_filter (f ∷ facts) r = search (rules, after_filter, rising_filter facts r.1)
 
 module _ {C : Type 0} (takes : C → Fact → Bool) (s : C) where
-  -- what is held and not passed over is chosen, and else nothing of it is
-  held_chosen : (held : Option Fact) → is_passed_over takes s held ≡ false
-      → filter (takes s) (option_list held) ≡ option_list held
-  held_chosen = search rules
-
-  held_other : (held : Option Fact) → is_passed_over takes s held ≡ true
-      → filter (takes s) (option_list held) ≡ []
-  held_other = search rules
-
   -- what is held counts as passed over if it is not taken, and not if it is
   held_counts : (held : Option Fact) → is_passed_over takes s held ≡ false
       → others_of (takes s) (option_list held) ≡ 0
@@ -117,10 +108,6 @@ module _ {C : Type 0} (takes : C → Fact → Bool) (s : C) where
       passed : OfAll (takes s) (λ all. b.passes start.stream x.stream all
           × CountsOthers takes start x all) F
       passed = search rules
-
-      not_over : (held : Option Fact) → is_passed_over takes s held ≡ false
-          → is_passed_over takes start.choice held ≡ false
-      not_over = search rules
 
       was_held : is_passed_over takes s (b.held x.stream) ≡ false
       was_held = search rules

@@ -201,10 +201,6 @@ module _ {R : Type 0} (unread : R → Option (List ℕ)) (buffered : R → List 
         → FailsSince unread buffered failures s t None
     none_failed = search rules
 
-    one_failed : {s t : JournalState R} (f : ReadFault) → HoldsOn s t (Err f) → IsTrue
-        (is_open (state_of s.reader)) → FailsSince unread buffered failures s t (Some (load.Read f))
-    one_failed = search rules
-
     -- the stream is advanced, or stops, as the trait's clauses say (specs/Streams)
     pub stream_goes_on : {s t : JournalState R} → HoldsOn s t (Ok tt) → GoesOn b s t
     stream_goes_on {s} {t} h = record {

@@ -34,15 +34,6 @@ module _ {S T : Type 0} (a : Behaviour S) (b : Behaviour T) where
   as_new c start x y n g =
       subst (λ h. Gave c start y ([] ++ option_list h)) n.held (g.gave _ [] n.passes)
 
-  no_stop : {A : Type 0} (c : Behaviour A) (start x y : A) (fault : LoadFault) → StillNew c start x
-      → StopsAt c x y fault → Stopped c start y [] fault
-  no_stop c start x y fault n g =
-      subst (λ h. Stopped c start y ([] ++ option_list h) fault) n.held (g start [] n.passes)
-
-  nothing : (h : Option Fact) (facts : List Fact) → h ≡ None → facts ≡ []
-      → facts ++ option_list h ≡ []
-  nothing h facts n e = ap (λ l. l ++ option_list h) e ∙ ap (λ z. option_list z) n
-
   -- what both streams are known to have goes on as what is left of it
   module _ (held other : Option Fact) (all others : List Fact) where
     known : (K L F : List Fact) → F ≡ minus (all ++ option_list held) (others ++ option_list other)
@@ -69,42 +60,6 @@ module _ {S T : Type 0} (a : Behaviour S) (b : Behaviour T) where
             ∙ ap (λ z. minus A z) (append-nil _)
         same_left (Some g) others A R u r n =
             untouched g A _ R u (rising_after _ g R r)
-
-  pub first_never : (x t : Minus S T) {fault : LoadFault} → x.begun ≡ false → StopsAt a x.first t.first fault
-      → t.second ≡ x.second → t.in_second ≡ false → StopsAt w x t fault
-  first_never x t e g same sound = λ start facts p.
-      let q = subst (λ z. Passed a b z start x facts) e p in
-      let r = no_stop a _ _ _ _ q.0 g in
-      record {
-        reads = record {
-          all = [];
-          others = [];
-          first = r.reads;
-          second = rw same q.1.reads;
-          left = nothing _ _ q.0.held q.2;
-        };
-        fails = rw sound
-            (r.stops, r.fails, rw same q.1.fails);
-        stops = inl r.stops;
-      }
-
-  pub second_never : (x t : Minus S T) {fault : LoadFault} → x.begun ≡ false → GoesOn a x.first t.first
-      → StopsAt b x.second t.second fault → t.in_second ≡ true → StopsAt w x t fault
-  second_never x t {fault} e g h sound = λ start facts p.
-      let q = subst (λ z. Passed a b z start x facts) e p in
-      let v = as_new a _ _ _ q.0 g in
-      let r = no_stop b _ _ _ _ q.1 h in
-      record {
-        reads = record {
-          all = [];
-          others = [];
-          first = v.reads;
-          second = r.reads;
-          left = nothing _ _ q.0.held q.2;
-        };
-        fails = rw sound (r.stops, r.fails, v.fails);
-        stops = inr r.stops;
-      }
 
   module _ {x t : Minus S T} where
     -- new ones take their first facts
@@ -267,25 +222,6 @@ module _ {S T : Type 0} (a : Behaviour S) (b : Behaviour T) where
               omega  arith ;
         }
 
-    pub passes_second_not : {fault : LoadFault}
-        → StopsAt b x.second t.second fault → t.first ≡ x.first → t.in_second ≡ true
-        → (y : Minus S T) → Walks a b y x → StopsAt w y t fault
-    passes_second_not g same sound y v = λ start facts p.
-        let B = v.between _ _ p in
-        let r = g start.second B.others B.second.passes in
-        record {
-          reads = record {
-            all = B.all;
-            others = B.others ++ option_list (b.held _);
-            first = rw same B.first.reads;
-            second = r.reads;
-            left = B.left;
-          };
-          fails = rw sound
-              (r.stops, r.fails, rw same B.first.fails);
-          stops = inr r.stops;
-        }
-
     -- no more is passed over
     pub settled : Walks a b x t → turn_of (a.held t.first) (b.held t.second) ≡ Stay → GoesOn w x t
     settled v stay = record {
@@ -344,17 +280,6 @@ module _ {S T : Type 0} (a : Behaviour S) (b : Behaviour T) where
           };
       fewer = v.fewer;
     }
-
-  -- nothing is left to let go of
-  pub stays_ended : {x : Minus S T} → x.begun ≡ true → a.held x.first ≡ None → Walks a b x x
-  stays_ended {x} e n = record {
-    between = λ start facts p.
-        let q = subst (λ z. Passed a b z start x facts) e p in
-        rw
-        (ap (λ h. facts ++ option_list h) n ∙ append-nil _) q.0;
-    begun = e;
-    fewer = let z = ap (λ h. length (option_list h)) n in omega  arith ;
-  }
 
 -- something is held if its address is lent
 pub is_held : {place : Address} {held : Option Fact} → Some place ≡ address_of held → held ≡ None → ⊥
