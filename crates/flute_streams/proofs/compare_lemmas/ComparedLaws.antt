@@ -94,7 +94,7 @@ same_symbols q (f ∷ facts) others r h a t = elim (cases_Bool (same_address (ad
   | inl u ↦
       let e = address_same (address f) a u in
       let here = fact_at-here f facts (fact_at-after (address f) facts r.0) in
-      let not_other = first_not (subst (λ x. q x ≡ true) (sym e) t)
+      let not_other = first_not (rw (← e) at t)
       (none_head (λ f. q (address f) && is_other (fact_at others (address f)) f) f facts h) in
       inl (subst (λ x. joined x (fact_at (f ∷ facts) x) (fact_at others x) ≡ fact_at (f ∷ facts) x) e
       (ap (λ x. joined (address f) x (fact_at others (address f))) here
@@ -137,7 +137,7 @@ not_apart facts others key (k ∷ keys) l h =
     let n = or_none _ _ h in
     elim (cases_Bool _) [
       | inl t ↦ rw (key_same key k t) n.0
-      | inr u ↦ not_apart facts others key keys (subst (λ b. (b || is_listed key keys) ≡ true) u l) n.1
+      | inr u ↦ not_apart facts others key keys (rw u at l) n.1
     ]
 
 module _ (facts others : List Fact) (rises : IsRising facts) where

@@ -160,8 +160,8 @@ module _ {S T : Type 0} (a : Behaviour S) (b : Behaviour T) where
         let y = after_on b t0 t t' c.others M.g m.at (second_goes m.side) g.1 M.next.at_others M.some_g M.stays_g w in
         let rows = rows_met M.next M.some
         old told told' row' c.before c.last c.first_met
-        (λ z i. M.after z (subst (λ l. Past l (a.held s)) i c.first_past)
-        (subst (λ l. Past l (b.held t)) i c.second_past))
+        (λ z i. M.after z (rw i at c.first_past)
+        (rw i at c.second_past))
         c.told_is c.row_is
         (is, r ∙ ap (λ d. counted_at (row_for row m.at.key) m.at.part d) M.side) c.rise c.named in
         record {
@@ -201,8 +201,8 @@ module _ {S T : Type 0} (a : Behaviour S) (b : Behaviour T) where
         second_ends = c.second.ends n.1;
         first_quiet = c.first.fails;
         second_quiet = c.second.fails;
-        first_few = omega  arith ;
-        second_few = omega  arith ;
+        first_few = omega arith ;
+        second_few = omega arith ;
         rows = map _ _;
         are = record {
           keys = c.before ++ keys_at c.last;
@@ -216,7 +216,7 @@ module _ {S T : Type 0} (a : Behaviour S) (b : Behaviour T) where
             ∙ ap (λ l. map R c.before ++ l) (row_keys c.all c.others c.last)
             ∙ sym (map-append R c.before (keys_at c.last))
             ∙ told_rows _ _ _
-            (omega  arith ) (omega  arith ));
+            (omega arith) (omega arith));
       }
     where
       row_keys : (F G : List Fact) (last : Option Address)

@@ -117,11 +117,11 @@ module _ (q : Address → Bool) (r : Option Fact → Fact → Bool) where
   pub one_off : (p : Address) (f g : Option Fact) → At p f → q p ≡ false → one q r f g ≡ 0
   one_off p None g d e = refl
   one_off p (Some f) g d e =
-      ap (λ b. cond (b && r g f) 1 0) (subst (λ x. q x ≡ false) (sym d) e)
+      ap (λ b. cond (b && r g f) 1 0) (rw (← d) at e)
 
   pub one_on : (p : Address) (f : Fact) (g : Option Fact) → address f ≡ p → q p ≡ true
       → one q r (Some f) g ≡ cond (r g f) 1 0
-  one_on p f g d e = ap (λ b. cond (b && r g f) 1 0) (subst (λ x. q x ≡ true) (sym d) e)
+  one_on p f g d e = ap (λ b. cond (b && r g f) 1 0) (rw (← d) at e)
 
 -- sides, by their counts
 pub sides : (s t : Sides) → s.same ≡ t.same → s.differ ≡ t.differ → s.first ≡ t.first

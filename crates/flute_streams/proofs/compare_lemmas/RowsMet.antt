@@ -134,7 +134,7 @@ module _ {p : Address} {F G : List Fact} {f g : Option Fact} (w : IsNext p F G f
               ∙ rows_stay (ks ++ x ∷ []) (λ k l. elim (cases_Bool (same_key k p.key)) [
                 | inr u ↦ u
                 | inl u ↦ absurd (false≢true (sym (not_listed p.key x ks rise less)
-                    ∙ subst (λ z. is_listed z (ks ++ x ∷ []) ≡ true) (key_same k p.key u) l))
+                    ∙ (rw (key_same k p.key u) at l)))
               ]));
           row_is = row_new off.0 off.1 row r;
           rise = rise_more x p.key ks rise less;

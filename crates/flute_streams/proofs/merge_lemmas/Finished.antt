@@ -102,11 +102,11 @@ module _ {S : Type 0} (b : Behaviour S) where
 
   pub gave_at : (n k : ℕ) (start now : List S) → GaveBefore b n start now → k < n
       → GaveAt start now k
-  gave_at zero k start now g l = absurd (omega  arith )
+  gave_at zero k start now g l = absurd (omega arith)
   gave_at (suc n) zero (s ∷ start) (t ∷ now) g l =
       record { new = s; stream = t; was = refl; is = refl; given = g.0.0; gave = g.0.1 }
   gave_at (suc n) (suc k) (s ∷ start) (t ∷ now) g l =
-      let r = gave_at n k start now g.1 (omega  arith ) in
+      let r = gave_at n k start now g.1 (omega arith) in
       record {
         new = r.new;
         stream = r.stream;

@@ -77,7 +77,7 @@ module _ {S : Type 0} (b : Behaviour S) (place : Option Address) where
       x → address_of (b.held x) ≢ place → WentSoFar (k + 1) old now
   one_stays {k = k} {old = old} {now = now} {x = x} w is n = record {
     done =
-        subst (λ l. GoOnAt b place l (take (k + 1) now)) (sym (old_more k old now x w.rest is))
+        rw (old_more k old now x w.rest is)
         (subst (λ l. GoOnAt b place (take k old ++ x ∷ []) l)
         (sym (take_more now k x (slice_get_within now k x is)
         ∙ ap (λ y. take k now ++ y ∷ []) (get_or_from_slice_get now k x x is)))
@@ -89,15 +89,15 @@ module _ {S : Type 0} (b : Behaviour S) (place : Option Address) where
   pub more_stay : (n : ℕ) {k m : ℕ} {old now : List S} → m ≡ k + n → m ≤ length now
       → NoneAt k m now → WentSoFar k old now → WentSoFar m old now
   more_stay zero {k} {m} {old} {now} e within apart w =
-      let same : k ≡ m = omega  arith  in
+      let same : k ≡ m = omega arith in
       rw (← same) w
   more_stay (suc n) {k} {m} {old} {now} e within apart w =
       let j = k + n in
-      let l : j < m = omega  arith  in
-      let x = item_at now j (omega  arith ) in
-      let before = more_stay n refl (omega  arith )
-      (λ i s p q g. apart i s p (omega  arith ) g) w in
-      let same : j + 1 ≡ m = omega  arith  in
+      let l : j < m = omega arith in
+      let x = item_at now j (omega arith) in
+      let before = more_stay n refl (omega arith)
+      (λ i s p q g. apart i s p (omega arith) g) w in
+      let same : j + 1 ≡ m = omega arith in
       rw (← same) (one_stays before x.1 (apart j _ (omega arith) l x.1))
 
   -- stream k holds that address, and is advanced

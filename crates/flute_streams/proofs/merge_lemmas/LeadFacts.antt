@@ -83,7 +83,7 @@ module _ {S : Type 0} (b : Behaviour S) {number k : ℕ} {streams : List S}
         is = x.1;
         below = search rules;
         others = λ j s i n. h.none_before j s
-            (let p = slice_get_within _ j s i in omega  arith ) i n;
+            (let p = slice_get_within _ j s i in omega arith) i n;
       }
 
   pub firsts_passed : k ≡ number → FirstsFrom b number k streams next
@@ -223,7 +223,7 @@ module _ {S : Type 0} (b : Behaviour S) where
       slice_get streams k ≡ Some x → address_of (b.held x) ≡ a → StopsAt b x y f → OthersElsewhere a
       k streams → StopAt b a k f streams (set streams k y)
   stops k [] y e p g h = absurd cc
-  stops zero (s ∷ streams) y e p g h = grind  arith 
+  stops zero (s ∷ streams) y e p g h = grind arith
   stops (suc k) (s ∷ streams) y e p g h = (
     inr (h 0 s refl (apart_zero k), refl),
     stops k streams y

@@ -32,9 +32,8 @@ pub up_to-trans : (a b c : Address) {o p : Ordering} → address_cmp a b ≡ o
 up_to-trans a b c {o = Less} {p = Less} e f h k =
     up_to_less (address_cmp a c) (address_total.trans a b c e f)
 up_to-trans a b c {o = Less} {p = Equal} e f h k = up_to_less (address_cmp a c)
-    (subst (λ x. address_cmp a x ≡ Less) (address_same b c (ap is_eq f)) e)
-up_to-trans a b c {o = Equal} e f h k = subst (λ x. IsUpTo (address_cmp x c))
-    (sym (address_same a b (ap is_eq e))) (subst IsUpTo (sym f) k)
+    (rw (address_same b c (ap is_eq f)) at e)
+up_to-trans a b c {o = Equal} e f h k = rw (address_same a b (ap is_eq e), f) k
 up_to-trans a b c {o = Less} {p = Greater} e f h k = absurd (k refl)
 up_to-trans a b c {o = Greater} e f h k = absurd (h refl)
 

@@ -153,6 +153,6 @@ module _ {S : Type 0} (b : Behaviour S) (streams : List S) (a : Address) where
       streams key ranks lows → ComesTo a (heads b (take k streams)) v → ComesTo a
       (heads b (take m streams)) v
   comes-up-to k m {v} p within at above ranked h =
-      let same : k + (m - k) ≡ m = omega  arith  in
+      let same : k + (m - k) ≡ m = omega arith in
       rw (← same) (comes_passed k _
-      (omega  arith ) at (λ i l q. above i l (omega  arith )) ranked h)
+      (omega arith) at (λ i l q. above i l (omega arith)) ranked h)

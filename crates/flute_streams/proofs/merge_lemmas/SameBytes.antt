@@ -12,10 +12,10 @@ use Rattle.std.proofs.Math.Bool.{and_assoc, and-true}
 pub same-append : (xs ys us vs : List ℕ) → length xs ≡ length ys
     → bytes_eq (xs ++ us) (ys ++ vs) ≡ (bytes_eq xs ys && bytes_eq us vs)
 same-append [] [] us vs e = refl
-same-append [] (y ∷ ys) us vs e = absurd (omega  arith )
-same-append (x ∷ xs) [] us vs e = absurd (omega  arith )
+same-append [] (y ∷ ys) us vs e = absurd (omega arith)
+same-append (x ∷ xs) [] us vs e = absurd (omega arith)
 same-append (x ∷ xs) (y ∷ ys) us vs e =
-    ap (λ b. nat_eq x y && b) (same-append xs ys us vs (omega  arith ))
+    ap (λ b. nat_eq x y && b) (same-append xs ys us vs (omega arith))
     ∙ sym (and_assoc (nat_eq x y) (bytes_eq xs ys) (bytes_eq us vs))
 
 -- one byte more of each

@@ -166,7 +166,7 @@ above_other a (Some f) n h = by_order _ refl
 -- what follows a fact in a rising list is above its address
 above_next : (F : List Fact) (held o : Option Fact) (p : Option Address) → address_of held ≡ p
     → IsRising ((F ++ option_list held) ++ option_list o) → IsAbove p o
-above_next F held o None e r = grind  arith 
+above_next F held o None e r = grind arith
 above_next F held None (Some a) e r = tt
 above_next F None (Some h) (Some a) e r = absurd (let q = e in cc)
 above_next F (Some f) (Some h) (Some a) e r =
@@ -303,7 +303,7 @@ module _ {S : Type 0} (b : Behaviour S) where
       (given_here _ _ h.0) h.1.fewer
   fewer_one a t u (inr h) = rw
       (given_elsewhere _ _ h.0)
-      (let e = ap b.most h.1 in omega  arith )
+      (let e = ap b.most h.1 in omega arith)
 
   -- how many facts they may still hold
   pub fewer_all : (a : Address) (now new : List S) → GoOnAt b (Some a) now new

@@ -159,7 +159,7 @@ fault_at : {limit : ℕ} {u v w : Option (List ℕ)} (old : ReaderState Before)
     {new : ReaderState Before} {F : List Fact} {held : Option Fact} {f : ReadFault} → IsCalled limit
     limit u v w old new F held (Err f) → StopsOn limit u w old (F ++ option_list held) f
 fault_at (Failed h) c = absurd c.read
-fault_at Ended c = grind  arith 
+fault_at Ended c = grind arith
 fault_at other c = search (rules, reads-fault, sofar-fault, journal_sound)
 
 pub stops_on : {limit own : ℕ} {u v w : Option (List ℕ)} {old new : ReaderState Before}

@@ -55,7 +55,7 @@ module _ {S : Type 0} (held : S → Option Fact) (rest : S → List Fact) (is_so
           );
           reads_held = (rest t, all);
           fails = refl;
-          rising = rising_front (G ++ option_list (held t)) (rest t) (subst IsRising all p.rising);
+          rising = rising_front (G ++ option_list (held t)) (rest t) (rw all at p.rising);
           sized = elim v [
             | inl h ↦ some_of IsSized (held t)
                 (all_split IsSized G (option_list (held t))

@@ -67,7 +67,7 @@ module _ {S T : Type 0} (a : Behaviour S) (b : Behaviour T) where
         → t.begun ≡ true → t.in_second ≡ false → Walks a b x t
     begins e g h begun sound = record {
       between = λ start facts p.
-          let q = subst (λ z. Passed a b z start x facts) e p in
+          let q = rw e at p in
           subst (λ l. Between a b start t l)
           (sym (ap (λ l. l ++ option_list (a.held x.first)) q.2
           ∙ ap (λ h. option_list h) q.0.held))
@@ -165,13 +165,13 @@ module _ {S T : Type 0} (a : Behaviour S) (b : Behaviour T) where
                 (up_to_first _ _ _ turn B.up_to) same
                 (begun ∙ v.begun) (sound ∙ B.sound);
             begun = begun ∙ v.begun;
-            fewer = omega  arith ;
+            fewer = omega arith ;
           };
           stays = λ e. absurd (false≢true (sym e));
           less = λ e.
               let one = some_length _ n in
               let m = ap (λ s. b.most s) same in
-              omega  arith ;
+              omega arith ;
         }
 
     pub passes_first_not : {fault : LoadFault} → turn_of (a.held x.first) (b.held x.second) ≡ First
@@ -219,7 +219,7 @@ module _ {S T : Type 0} (a : Behaviour S) (b : Behaviour T) where
           less = λ e.
               let one = some_length _ n in
               let m = ap (λ s. a.most s) same in
-              omega  arith ;
+              omega arith ;
         }
 
     -- no more is passed over

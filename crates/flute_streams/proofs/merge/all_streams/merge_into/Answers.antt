@@ -90,8 +90,8 @@ write_lowest-requires-clause-spelled g c = search (rules, spelled_now)
 pub write_lowest-requires-clause-sized : goal.write_lowest-requires-clause-sized
 write_lowest-requires-clause-sized g c =
     let v = at_lowest g.G.Streams.behaviour (g.G.Streams.streams c.loop-lowest.streams)
-    c.in-Some.ensures.stands c.in-Some.ensures.lowest in subst (λ o. IfSome o IsSized)
-    (sym v.value.is) (sized-lowest g.G.Streams.behaviour c.loop-lowest.invariant.state v.lowest)
+    c.in-Some.ensures.stands c.in-Some.ensures.lowest in
+    rw v.value.is (sized-lowest _ c.loop-lowest.invariant.state v.lowest)
 
 -- an entry could not be written
 pub returns-then-not-patient-2 : goal.returns-then-not-patient-2
@@ -101,7 +101,7 @@ returns-then-not-patient-2 g c =
     c.in-Some.ensures.stands c.in-Some.ensures.lowest c.write_lowest.ensures.valid
     c.write_lowest.ensures.puts in
     let good = i.eager c.if-not-patient-2.true in
-    let s = stop_entry g.G.Streams.behaviour i.state v.lowest v.valid c.args.patient
+    let s = stop_entry _ i.state v.lowest v.valid c.args.patient
     good (puts-part c.loop-lowest.writer.failed c.write_lowest.new.writer.failed _ _
     (entry v.value.fact) good c.if-writer-2.true v.puts.puts) in
     record {
@@ -117,7 +117,7 @@ returns-then-not-patient-2 g c =
       patience = search rules;
       fault = s.names;
       can_go_on = s.can_go_on;
-      failures = no_failure g.G.Streams.behaviour i.state;
+      failures = no_failure _ i.state;
       sink_failures = omega (arith, i.sink_failures, v.puts.fails);
       same_sink = v.puts.same_sink ∙ i.same_sink;
       names = search rules;
@@ -130,9 +130,9 @@ returns-in-Err-advance g c =
     let v = written_at g.G.Streams.behaviour (g.G.Streams.streams c.loop-lowest.streams)
     c.in-Some.ensures.stands c.in-Some.ensures.lowest c.write_lowest.ensures.valid
     c.write_lowest.ensures.puts in
-    let at = placed g.G.Streams.behaviour (g.G.Streams.streams c.loop-lowest.streams) v.value
+    let at = placed g.G.Streams.behaviour _ v.value
     c.in-Some.ensures.stands c.address.ensures (ap option_copied c.in-Some-address.is) in
-    let s = stop_input g.G.Streams.behaviour i.state v.lowest v.valid c.args.patient
+    let s = stop_input _ i.state v.lowest v.valid c.args.patient
     c.write_lowest.new.writer.failed (g.G.Streams.streams c.advance.new.streams) _
     c.in-Err-advance.fault v.puts.puts (goes_on c.else-writer-2.either)
     (rw (← at) at c.in-Err-advance.ensures.stops) in
@@ -166,29 +166,21 @@ next g c =
     let v = written_at g.G.Streams.behaviour (g.G.Streams.streams c.loop-lowest.streams)
     c.in-Some.ensures.stands c.in-Some.ensures.lowest c.write_lowest.ensures.valid
     c.write_lowest.ensures.puts in
-    let at = placed g.G.Streams.behaviour (g.G.Streams.streams c.loop-lowest.streams) v.value
+    let at = placed g.G.Streams.behaviour _ v.value
     c.in-Some.ensures.stands c.address.ensures (ap option_copied c.in-Some-address.is) in
     let f = v.value.fact in
-    let Before : Bool → List Fact → Type 0 = λ b F. IsCounted g.row.SESSIONS g.row.OBJECTS
-    g.row.SYMBOLS c.loop-lowest.tally b F in state_turn g.G.Streams.behaviour
-    c.loop-lowest.invariant.state v.lowest v.valid c.write_lowest.new.writer.failed
-    (IsCounted g.row.SESSIONS g.row.OBJECTS g.row.SYMBOLS c.if-within.tally c.if-within.within)
-    (g.G.Streams.streams c.advance.new.streams) _ (λ F r k. elim c.if-within.branch [
-      | then-within w ↦ let before = subst (λ b. Before b F) w.if-within.true k in rw
-          (w.tally-is, w.within-is) (counted g.row.SESSIONS g.row.OBJECTS g.row.SYMBOLS
-          w.count-within.new.self w.count-within.result (F ++ f ∷ [])
+    state_turn _ c.loop-lowest.invariant.state v.lowest v.valid _ _ _ _ (λ F r k. elim c.if-within.branch [
+      | then-within w ↦ let before = rw w.if-within.true at k in
+          rw (w.tally-is, w.within-is) (counted _ _ _ w.count-within.new.self _ _
           (w.count-within.ensures.within F f at r before)
           (w.count-within.ensures.over F f at r before))
-      | else-within w ↦ rw (w.tally-is, w.within-is) (subst (λ b. Before b (F ++ f ∷ []))
-          (sym w.if-within.false) (over_more F f g.row.SESSIONS g.row.OBJECTS g.row.SYMBOLS
-          (subst (λ b. Before b F) w.if-within.false k)))
-    ]) v.puts.puts (subst (λ a. GoOnAt g.G.Streams.behaviour (Some a)
-    (g.G.Streams.streams c.loop-lowest.streams) (g.G.Streams.streams c.advance.new.streams))
-    (sym at) c.in_default-advance.ensures.go_on)
+      | else-within w ↦ rw (w.tally-is, w.within-is, w.if-within.false)
+          (over_more F f _ _ _ (rw w.if-within.false at k))
+    ]) v.puts.puts (rw at c.in_default-advance.ensures.go_on)
 
 pub overflow_add-entries : goal.overflow_add-entries
 overflow_add-entries g c =
-    omega (arith, few-joined g.G.Streams.behaviour (next g c), c.requires.few)
+    omega (arith, few-joined _ (next g c), c.requires.few)
 
 pub loop-lowest-preserved : goal.loop-lowest-preserved
 loop-lowest-preserved g c =
@@ -209,19 +201,16 @@ pub loop-lowest-smaller : goal.loop-lowest-smaller
 loop-lowest-smaller g c =
     let v = at_lowest g.G.Streams.behaviour (g.G.Streams.streams c.loop-lowest.streams)
     c.in-Some.ensures.stands c.in-Some.ensures.lowest in
-    let at = placed g.G.Streams.behaviour (g.G.Streams.streams c.loop-lowest.streams) v.value
-    c.in-Some.ensures.stands c.address.ensures (ap option_copied c.in-Some-address.is) in turn-falls
-    g.G.Streams.behaviour c.loop-lowest.invariant.state v.lowest
-    (g.G.Streams.streams c.advance.new.streams) (subst (λ a. GoOnAt g.G.Streams.behaviour (Some a)
-    (g.G.Streams.streams c.loop-lowest.streams) (g.G.Streams.streams c.advance.new.streams))
-    (sym at) c.in_default-advance.ensures.go_on)
+    let at = placed g.G.Streams.behaviour _ v.value
+    c.in-Some.ensures.stands c.address.ensures (ap option_copied c.in-Some-address.is) in
+    turn-falls _ c.loop-lowest.invariant.state v.lowest _ (rw at c.in_default-advance.ensures.go_on)
 
 -- the end could not be written
 pub returns-then-not-patient-3 : goal.returns-then-not-patient-3
 returns-then-not-patient-3 g c =
     let i = c.loop-lowest.invariant in
     let good = i.eager c.if-not-patient-3.true in
-    let s = stop_end g.G.Streams.behaviour i.state c.in_default-lowest.ensures.lowest c.args.patient
+    let s = stop_end _ i.state c.in_default-lowest.ensures.lowest c.args.patient
     good (puts-part c.loop-lowest.writer.failed c.end.new.self.failed _ _
     (end c.loop-lowest.entries) good c.if-writer-3.true c.end.ensures.puts) in
     record {
@@ -237,7 +226,7 @@ returns-then-not-patient-3 g c =
       patience = search rules;
       fault = s.names;
       can_go_on = s.can_go_on;
-      failures = no_failure g.G.Streams.behaviour i.state;
+      failures = no_failure _ i.state;
       sink_failures = search rules;
       same_sink = search rules;
       names = search rules;
@@ -246,7 +235,7 @@ returns-then-not-patient-3 g c =
 pub returns : goal.returns
 returns g c =
     let i = c.loop-lowest.invariant in
-    let e = finished g.G.Streams.behaviour c.loop-lowest.tally c.loop-lowest.within
+    let e = finished _ _ _
     c.end.new.self.failed i.state _ c.requires.few c.in_default-lowest.ensures.lowest
     c.end.ensures.puts in
     record {
@@ -262,7 +251,7 @@ returns g c =
       patience = tt;
       fault = tt;
       can_go_on = tt;
-      failures = no_failure g.G.Streams.behaviour i.state;
+      failures = no_failure _ i.state;
       sink_failures = search rules;
       same_sink = search rules;
       names = search rules;
@@ -276,8 +265,7 @@ some_end n e = cc
 pub returns-then-not-within : goal.returns-then-not-within
 returns-then-not-within g c =
     let i = c.loop-lowest.invariant in
-    let e = finished g.G.Streams.behaviour c.loop-lowest.tally
-    c.loop-lowest.within true i.state _ c.requires.few
+    let e = finished _ _ _ true i.state _ c.requires.few
     c.in_default-lowest.ensures.lowest (left_out c.loop-lowest.writer.failed _
     (end c.loop-lowest.entries) (some_end c.loop-lowest.entries)) in
     record {
@@ -293,7 +281,7 @@ returns-then-not-within g c =
       patience = tt;
       fault = tt;
       can_go_on = tt;
-      failures = no_failure g.G.Streams.behaviour i.state;
+      failures = no_failure _ i.state;
       sink_failures = search rules;
       same_sink = search rules;
       names = search rules;

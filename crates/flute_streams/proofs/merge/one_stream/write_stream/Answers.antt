@@ -10,5 +10,5 @@ returns-in-Err-clause-short g c =
       appended = part.appended;
       no_journal = part.no_journal;
       prefix = λ known is whole journal. part.prefix (known ∷ []) (is, tt) whole
-          (subst (λ (facts : List Fact). Journal whole facts) (sym (append-nil known)) journal);
+          (rw (append-nil known) journal);
     }

@@ -8,6 +8,6 @@ returns g c = λ below. let b = g.G.Streams.behaviour in
     let streams = g.G.Streams.streams c.args.streams.now in
     let h = c.loop-other.invariant in
     let all : length streams ≤ c.loop-other.other = omega (arith, h.all, c.loop-other-test.false) in
-    subst (λ n. Leads b streams n c.loop-other.self.next) (sym h.number) (lead-new b
+    rw h.number (lead-new b
     (option_copied c.address-place.result) c.requires all c.address-place.ensures h.firsts
     (c.is_below-self.ensures below))
